@@ -1,0 +1,134 @@
+-- What a segment answers, by the tests that the code makes, and the walk over the rows from word i on.
+use mathlib.Core.Path.{_≡_, refl, sym, ap, _∙_}
+use mathlib.Core.Bool.{Bool, true, false, _&&_, and-false}
+use mathlib.Core.List.{List, [], _∷_}
+use Prim.Native.Nat.{ℕ, suc, _+_, _-_, _^_, min, _≤_, _<_}
+use native.Mathlib.Omega.{arith}
+use lib.Dec.{leb, ltb}
+use lib.ListN.{length, drop}
+use borrow.Author.Tests.{leb-true, leb-false, ltb-true, le-leb, lt-leb, lt-ltb, le-ltb}
+use Rattle.reads.specs.Outcome.{Outcome, value, absent, choose, sum64}
+use Rattle.reads.specs.Segment.{segmentAt, rows, ends, holds, placeAt, placed, lookup, mappedSize, endsInFile, carries, addressOf}
+use Rattle.reads.specs.declared.segment.Segment.{Segment}
+use Rattle.reads.proofs.Outcomes.{sum-fits, sum-over}
+use Rattle.reads.proofs.SegmentRows.{rows-more, rows-none}
+use Rattle.reads.proofs.Tests.{le-same}
+
+-- A sum over 64 bits, as the code tests it.
+pub over-by : (a b : ℕ) → a < 2 ^ 64 → ltb (2 ^ 64 - 1 - a) b ≡ leb (2 ^ 64) (a + b)
+over-by a b h = le-same (suc (2 ^ 64 - 1 - a)) b (2 ^ 64) (a + b) (λ u. omega arith) (λ u. omega arith)
+
+-- A number in [from, from + size), as the code tests it.
+pub inside-by : (from size x : ℕ) → from ≤ x → ltb (x - from) size ≡ leb from x && ltb x (from + size)
+inside-by from size x h =
+    simp (le-leb from x h) (le-same (suc (x - from)) size (suc x) (from + size) (λ u. omega arith) (λ u. omega arith))
+
+both : (a b c : Bool) → a && (b && c) ≡ true → (a ≡ true) × (b ≡ true) × (c ≡ true)
+both true true true e = (refl, refl, refl)
+both true true false e = let z : true ≡ false = cc in (refl, refl, cc)
+both true false c e = (refl, cc, cc)
+both false b c e = (cc, cc, cc)
+
+module _ (s : Segment) where
+  pub ends-by : s .vmaddr < 2 ^ 64 → ltb (2 ^ 64 - 1 - s .vmaddr) (s .vmsize) ≡ ends s
+  unfolding ends
+  ends-by h = over-by (s .vmaddr) (s .vmsize) h
+
+  pub ends-not : ends s ≡ false → s .vmaddr + s .vmsize < 2 ^ 64
+  unfolding ends
+  ends-not e = leb-false (2 ^ 64) (s .vmaddr + s .vmsize) e
+
+  pub holds-none : (va : ℕ) → s .filesize ≡ 0 → false ≡ holds s va
+  unfolding holds
+  holds-none va e = rw (le-ltb 0 (s .filesize) (omega arith))
+
+  pub holds-before : (va : ℕ) → va < s .vmaddr → false ≡ holds s va
+  unfolding holds
+  holds-before va l = simp (lt-leb (s .vmaddr) va l, and-false)
+
+  pub holds-by : (va : ℕ) → (s .filesize ≡ 0 → ⊥) → s .vmaddr ≤ va → ltb (va - s .vmaddr) (s .vmsize) ≡ holds s va
+  unfolding holds
+  holds-by va p l = simp (lt-ltb 0 (s .filesize) (omega arith)) (inside-by (s .vmaddr) (s .vmsize) va l)
+
+  -- An address that the segment holds is at or above vmaddr and below its end, and the segment has bytes in the file.
+  pub holds-is : (va : ℕ) → holds s va ≡ true → (0 < s .filesize) × (s .vmaddr ≤ va) × (va < s .vmaddr + s .vmsize)
+  unfolding holds
+  holds-is va e =
+      let b = both (ltb 0 (s .filesize)) (leb (s .vmaddr) va) (ltb va (s .vmaddr + s .vmsize)) e in
+      (ltb-true _ _ (b .0), leb-true _ _ (b .1), ltb-true _ _ (b .2))
+
+  pub placed-past : (va : ℕ) → s .filesize ≤ va - s .vmaddr → absent ≡ placed s va
+  unfolding placed choose
+  placed-past va h = simp (le-leb (s .filesize) (va - s .vmaddr) h)
+
+  pub placed-over : (va : ℕ) → va - s .vmaddr < s .filesize → 2 ^ 64 ≤ s .fileoff + (va - s .vmaddr) → absent ≡ placed s va
+  unfolding placed choose
+  placed-over va h l = simp (lt-leb (s .filesize) (va - s .vmaddr) h, sum-over (s .fileoff) (va - s .vmaddr) l)
+
+  pub placed-at : (va : ℕ) → va - s .vmaddr < s .filesize → s .fileoff + (va - s .vmaddr) < 2 ^ 64
+      → value (placeAt (s .fileoff + (va - s .vmaddr))) ≡ placed s va
+  unfolding placed choose
+  placed-at va h l = simp (lt-leb (s .filesize) (va - s .vmaddr) h, sum-fits (s .fileoff) (va - s .vmaddr) l)
+
+  pub mapped-vm : s .vmsize < s .filesize → s .vmsize ≡ mappedSize s
+  unfolding mappedSize
+  mapped-vm h = omega arith
+
+  pub mapped-file : s .filesize ≤ s .vmsize → s .filesize ≡ mappedSize s
+  unfolding mappedSize
+  mapped-file h = omega arith
+
+  pub carries-before : (offset : ℕ) → offset < s .fileoff → false ≡ carries s offset
+  unfolding carries
+  carries-before offset l = simp (lt-leb (s .fileoff) offset l)
+
+  pub carries-by : (offset m : ℕ) → m ≡ mappedSize s → s .fileoff ≤ offset → ltb (offset - s .fileoff) m ≡ carries s offset
+  unfolding carries
+  carries-by offset m e l = rw e (inside-by (s .fileoff) (mappedSize s) offset l)
+
+  pub carries-is : (offset : ℕ) → carries s offset ≡ true → s .fileoff ≤ offset
+  unfolding carries
+  carries-is offset e = leb-true _ _ (both true (leb (s .fileoff) offset) (ltb offset (s .fileoff + mappedSize s)) e .1)
+
+  pub ends-in-file-by : (m : ℕ) → m ≡ mappedSize s → s .fileoff < 2 ^ 64 → ltb (2 ^ 64 - 1 - s .fileoff) m ≡ endsInFile s
+  unfolding endsInFile
+  ends-in-file-by m e h = rw e (over-by (s .fileoff) (mappedSize s) h)
+
+pub lookup-out : (ws : List ℕ) (i va : ℕ) → length ws < i + 4 → lookup (rows (drop i ws)) va ≡ absent
+unfolding lookup
+lookup-out ws i va h = simp (rows-none ws i h)
+
+pub address-out : (ws : List ℕ) (i offset : ℕ) → length ws < i + 4 → addressOf (rows (drop i ws)) offset ≡ absent
+unfolding addressOf
+address-out ws i offset h = simp (rows-none ws i h)
+
+-- The row at word i, as the code has it.
+module _ (ws : List ℕ) (i : ℕ) (fits : i + 3 < length ws) (s : Segment) (at : s ≡ segmentAt ws i) where
+  row : rows (drop i ws) ≡ s ∷ rows (drop (i + 4) ws)
+  row = rows-more ws i fits ∙ ap (λ (r : Segment). r ∷ rows (drop (i + 4) ws)) (sym at)
+
+  pub lookup-ends : (va : ℕ) → ends s ≡ true → lookup (rows (drop i ws)) va ≡ absent
+  unfolding lookup choose
+  lookup-ends va e = simp (row, e)
+
+  pub lookup-holds : (va : ℕ) → ends s ≡ false → holds s va ≡ true → lookup (rows (drop i ws)) va ≡ placed s va
+  unfolding lookup choose
+  lookup-holds va e h = simp (row, e, h)
+
+  pub lookup-on : (va : ℕ) → ends s ≡ false → holds s va ≡ false → lookup (rows (drop i ws)) va ≡ lookup (rows (drop (i + 4) ws)) va
+  unfolding lookup choose
+  lookup-on va e h = simp (row, e, h)
+
+  pub address-ends : (offset : ℕ) → endsInFile s ≡ true → addressOf (rows (drop i ws)) offset ≡ absent
+  unfolding addressOf choose
+  address-ends offset e = simp (row, e)
+
+  pub address-carries : (offset : ℕ) → endsInFile s ≡ false → carries s offset ≡ true
+      → addressOf (rows (drop i ws)) offset ≡ sum64 (s .vmaddr) (offset - s .fileoff)
+  unfolding addressOf choose
+  address-carries offset e h = simp (row, e, h)
+
+  pub address-on : (offset : ℕ) → endsInFile s ≡ false → carries s offset ≡ false
+      → addressOf (rows (drop i ws)) offset ≡ addressOf (rows (drop (i + 4) ws)) offset
+  unfolding addressOf choose
+  address-on offset e h = simp (row, e, h)

@@ -1,0 +1,115 @@
+-- Laws of outcomes, in the form in which a proof of code uses them: w is an answer of the code whose outcome is x.
+use Prim.Native.Nat.{ℕ, _+_, _^_, _<_, _≤_}
+use mathlib.Core.Path.{_≡_, refl, ap, _∙_}
+use mathlib.Core.Bool.{Bool, true, false}
+use borrow.Author.Tests.{lt-ltb, le-ltb, ne-eqb}
+use Rattle.reads.specs.Outcome.{Outcome, value, absent, number, andThen, orElse, orZero, orEmpty, choose, sum64, nonzero}
+use Rattle.reads.specs.Answer.{missed, wordOutcome, placeOutcome, textOutcome}
+use Rattle.reads.specs.declared.answer.Missing.{Missing}
+use Rattle.reads.specs.declared.answer.Missing.the-variants.{Absent, Refused}
+use Rattle.reads.specs.declared.answer.Place.{Place}
+use Rattle.reads.specs.declared.answer.Placed.{Placed}
+use Rattle.reads.specs.declared.answer.Placed.the-variants as placed
+use Rattle.reads.specs.declared.answer.Text.{Text}
+use Rattle.reads.specs.declared.answer.TextAnswer.{TextAnswer}
+use Rattle.reads.specs.declared.answer.TextAnswer.the-variants as text
+use Rattle.reads.specs.declared.answer.Word.{Word}
+use Rattle.reads.specs.declared.answer.Word.the-variants as word
+
+-- What holds of both, each under its test, holds of the choice.
+pub by-choose : {A : Type 0} (P : A → Type 0) {b : Bool} {x y : A} → (b ≡ true → P x) → (b ≡ false → P y) → P (choose b x y)
+unfolding choose
+by-choose P {b = true} p q = p refl
+by-choose P {b = false} p q = q refl
+
+pub choose-true : {A : Type 0} {b : Bool} (x y : A) → b ≡ true → choose b x y ≡ x
+unfolding choose
+choose-true x y e = rw e
+
+pub choose-false : {A : Type 0} {b : Bool} (x y : A) → b ≡ false → choose b x y ≡ y
+unfolding choose
+choose-false x y e = rw e
+
+pub sum-fits : (a b : ℕ) → a + b < 2 ^ 64 → sum64 a b ≡ value (a + b)
+unfolding sum64 choose
+sum-fits a b h = simp (lt-ltb _ _ h)
+
+pub sum-over : (a b : ℕ) → 2 ^ 64 ≤ a + b → sum64 a b ≡ absent
+unfolding sum64 choose
+sum-over a b h = simp (le-ltb _ _ h)
+
+pub nonzero-zero : nonzero 0 ≡ absent
+unfolding nonzero choose
+nonzero-zero = refl
+
+pub nonzero-else : (x : ℕ) → (x ≡ 0 → ⊥) → nonzero x ≡ value x
+unfolding nonzero choose
+nonzero-else x h = simp (ne-eqb x 0 h)
+
+-- andThen groups either way, and a value is its unit on both sides.
+pub then-then : {A B C : Type 0} (o : Outcome A) (f : A → Outcome B) (g : B → Outcome C)
+    → andThen (andThen o f) g ≡ andThen o (λ a. andThen (f a) g)
+then-then (value a) f g = refl
+then-then absent f g = refl
+then-then (number k) f g = refl
+
+pub then-value : {A : Type 0} (o : Outcome A) → andThen o (λ a. value a) ≡ o
+then-value (value a) = refl
+then-value absent = refl
+then-value (number k) = refl
+
+missed-then : {A B : Type 0} (m : Missing) (f : A → Outcome B) → missed m ≡ andThen (missed m) f
+missed-then Absent f = refl
+missed-then (Refused k) f = refl
+
+-- An answer that was matched takes a chain of lookups one further.
+module _ {W A B : Type 0} (out : W → Outcome A) (f : A → Outcome B) where
+  pub on-value : {w v : W} {x : Outcome A} {a : A} {y : Outcome B} → out w ≡ x → w ≡ v → out v ≡ value a → y ≡ f a → y ≡ andThen x f
+  on-value e g h r = rw (← e, g, h) r
+
+  pub on-missing : {w v : W} {x : Outcome A} (m : Missing) → out w ≡ x → w ≡ v → out v ≡ missed m → missed m ≡ andThen x f
+  on-missing m e g h = rw (← e, g, h) (missed-then m f)
+
+module _ {B : Type 0} where
+  pub word-value : (w : Word) (x : Outcome ℕ) (f : ℕ → Outcome B) (n : ℕ) (y : Outcome B)
+      → wordOutcome w ≡ x → w ≡ word.Value n → y ≡ f n → y ≡ andThen x f
+  word-value w x f n y e g h = on-value wordOutcome f e g refl h
+
+  pub word-missing : (w : Word) (x : Outcome ℕ) (f : ℕ → Outcome B) (m : Missing)
+      → wordOutcome w ≡ x → w ≡ word.Missing m → missed m ≡ andThen x f
+  word-missing w x f m e g = on-missing wordOutcome f m e g refl
+
+  pub place-value : (w : Placed) (x : Outcome Place) (f : Place → Outcome B) (p : Place) (y : Outcome B)
+      → placeOutcome w ≡ x → w ≡ placed.At p → y ≡ f p → y ≡ andThen x f
+  place-value w x f p y e g h = on-value placeOutcome f e g refl h
+
+  pub place-missing : (w : Placed) (x : Outcome Place) (f : Place → Outcome B) (m : Missing)
+      → placeOutcome w ≡ x → w ≡ placed.Missing m → missed m ≡ andThen x f
+  place-missing w x f m e g = on-missing placeOutcome f m e g refl
+
+  pub text-value : (w : TextAnswer) (x : Outcome Text) (f : Text → Outcome B) (t : Text) (y : Outcome B)
+      → textOutcome w ≡ x → w ≡ text.Found t → y ≡ f t → y ≡ andThen x f
+  text-value w x f t y e g h = on-value textOutcome f e g refl h
+
+  pub text-missing : (w : TextAnswer) (x : Outcome Text) (f : Text → Outcome B) (m : Missing)
+      → textOutcome w ≡ x → w ≡ text.Missing m → missed m ≡ andThen x f
+  text-missing w x f m e g = on-missing textOutcome f m e g refl
+
+-- A second lookup where the first is absent.
+pub or-value : (w : Word) (x y : Outcome ℕ) (n : ℕ) → wordOutcome w ≡ x → w ≡ word.Value n → value n ≡ orElse x y
+or-value w x y n e g = rw (← e, g)
+
+pub or-absent : (w : Word) (x y z : Outcome ℕ) → wordOutcome w ≡ x → wordOutcome w ≡ absent → z ≡ y → z ≡ orElse x y
+or-absent w x y z e g h = rw (← e, g) h
+
+pub or-number : (w : Word) (x y : Outcome ℕ) (k : ℕ) → wordOutcome w ≡ x → wordOutcome w ≡ number k → number k ≡ orElse x y
+or-number w x y k e g = rw (← e, g)
+
+-- "or 0" and "or empty" of an answer whose outcome is x.
+pub or-zero-of : (r w : Word) (x : Outcome ℕ) → wordOutcome r ≡ orZero (wordOutcome w) → wordOutcome w ≡ x → wordOutcome r ≡ orZero x
+or-zero-of r w x e g = e ∙ ap orZero g
+
+pub or-empty-of : (r w : TextAnswer) (x : Outcome Text) → textOutcome r ≡ orEmpty (textOutcome w) → textOutcome w ≡ x → textOutcome r ≡ orEmpty x
+or-empty-of r w x e g = e ∙ ap orEmpty g
+
+pub ruleset outcomes = (or-zero-of, or-empty-of, word-value, word-missing, place-value, place-missing, text-value, text-missing, or-value)

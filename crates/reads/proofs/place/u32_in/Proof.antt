@@ -1,0 +1,25 @@
+use Prim.Native.Nat.{_+_}
+use lib.ListN.{length}
+use mathlib.Core.Path.{_∙_, sym}
+use native.Mathlib.Omega.{arith}
+use borrow.Author.Tests.{leb-true, leb-false}
+use Rattle.reads.proofs.Numbers.{word-in, word-out}
+use borrow.Author.Needs.{needs}
+use Rattle.reads.proofs.place.u32_in.Statement.{statement}
+use Rattle.reads.proofs.place.u32_in.Tie as tie
+
+add-at : tie.Need-add-at
+add-at c = omega (arith, leb-true (c .before .before .before .before .args .p .offset + c .before .before .before .before .args .i + 4) (length (c .before .before .before .before .args .image .now)) (sym (c .before .before .inside .ensures) ∙ c .before .if1 .taken))
+
+le4-requires : tie.Need-le4-requires
+le4-requires c κs = leb-true _ _ (sym (c .before .before .inside .ensures) ∙ c .before .if1 .taken)
+
+returns : tie.Need-returns
+returns c = c .le4 .ensures .0 ∙ word-in _ _ _ _ (leb-true _ _ (sym (c .before .before .before .inside .ensures) ∙ c .before .before .if1 .taken))
+
+returns-2 : tie.Need-returns-2
+returns-2 c = word-out _ _ _ _ (leb-false _ _ (sym (c .before .inside .ensures) ∙ c .if1 .left))
+
+pub u32-in-spec : {M : Type 1} → statement M
+u32-in-spec =
+    tie.close (tie.spec (λ c κs. search needs) add-at le4-requires (λ c. search needs) returns returns-2)

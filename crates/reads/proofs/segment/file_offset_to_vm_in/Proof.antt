@@ -1,0 +1,50 @@
+use Prim.Native.Nat.{_≤_, _-_}
+use mathlib.Core.Path.{_≡_}
+use native.Mathlib.Omega.{arith}
+use lib.ListN.{length, drop}
+use Rattle.reads.specs.Segment.{rows, addressOf}
+use Rattle.reads.proofs.Lookups.{carries-is, address-ends, address-carries, address-on, address-out}
+use borrow.Author.Needs.{needs}
+use Rattle.reads.proofs.segment.file_offset_to_vm_in.Statement.{statement}
+use Rattle.reads.proofs.segment.file_offset_to_vm_in.Tie as tie
+
+abbrev Inv-loop : tie.InvT-loop
+Inv-loop segments offset i₀ i = (i ≤ length segments) × (addressOf (rows (drop i segments)) offset ≡ addressOf (rows segments) offset)
+
+abbrev μ-loop : tie.MeasureT-loop
+μ-loop segments offset i₀ i = length segments - i
+
+returns : tie.Need-returns Inv-loop μ-loop
+returns c = cc (address-ends (c .before .before .before .before .before .before .args .segments .now) (c .before .before .before .before .loop .i) (omega arith) (c .before .before .at .result) (c .before .before .at .ensures) (c .before .before .before .before .before .before .args .offset) (cc))
+
+sub-checked-add : tie.Need-sub-checked-add Inv-loop μ-loop
+sub-checked-add c = carries-is (c .before .before .before .before .before .at .result) (c .before .before .before .before .before .before .before .before .before .args .offset) (cc)
+
+returns-2 : tie.Need-returns-2 Inv-loop μ-loop
+returns-2 c = cc (address-carries (c .before .before .before .before .before .before .before .before .before .before .args .segments .now) (c .before .before .before .before .before .before .before .before .loop .i) (omega arith) (c .before .before .before .before .before .before .at .result) (c .before .before .before .before .before .before .at .ensures) (c .before .before .before .before .before .before .before .before .before .before .args .offset) (cc) (cc))
+
+loop-again : tie.Need-loop-again Inv-loop μ-loop
+loop-again c = (omega arith, cc (address-on (c .before .before .before .before .before .before .before .before .args .segments .now) (c .before .before .before .before .before .before .loop .i) (omega arith) (c .before .before .before .before .at .result) (c .before .before .before .before .at .ensures) (c .before .before .before .before .before .before .before .before .args .offset) (cc) (cc)))
+
+returns-3 : tie.Need-returns-3 Inv-loop μ-loop
+returns-3 c = cc (address-out (c .before .before .before .args .segments .now) (c .before .loop .i) (c .before .before .before .args .offset) (omega arith))
+
+pub file-offset-to-vm-in-spec : {M : Type 1} → statement M
+file-offset-to-vm-in-spec =
+    tie.close
+    (tie.spec
+    Inv-loop
+    μ-loop
+    (λ c. search needs)
+    (λ c. search needs)
+    (λ c κs. search needs)
+    (λ c κs. search needs)
+    returns
+    (λ c κs. search needs)
+    sub-checked-add
+    (λ c κs. search needs)
+    returns-2
+    (λ c. search needs)
+    (λ c. search needs)
+    loop-again
+    returns-3)

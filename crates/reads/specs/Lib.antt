@@ -1,0 +1,6 @@
+-- The definitions that the contracts of reads cite.
+pub mod Outcome
+pub mod Answer
+pub mod Segment
+pub mod Place
+pub mod Ptrauth

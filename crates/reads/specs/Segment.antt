@@ -1,0 +1,66 @@
+-- The segment table and the lookup of an address (document 01, Reading rules, first point; util.rs, vm_to_file_offset_in).
+use Prim.Native.Nat.{ℕ, _+_, _-_, _^_, min}
+use mathlib.Core.Bool.{Bool, _&&_}
+use mathlib.Core.List.{List, [], _∷_}
+use lib.ListN.{getD}
+use lib.Dec.{leb, ltb}
+use Rattle.reads.specs.Outcome.{Outcome, value, absent, andThen, choose, sum64}
+use Rattle.reads.specs.declared.answer.Place.{Place}
+use Rattle.reads.specs.declared.segment.Segment.{Segment}
+
+abbrev pub segment : ℕ → ℕ → ℕ → ℕ → Segment
+segment a b c d = record { vmaddr = a; vmsize = b; fileoff = c; filesize = d }
+
+-- The row whose words start at word i.
+abbrev pub segmentAt : List ℕ → ℕ → Segment
+segmentAt ws i = segment (getD ws i 0) (getD ws (i + 1) 0) (getD ws (i + 2) 0) (getD ws (i + 3) 0)
+
+-- Four words are a row; a last partial row is none.
+unfoldable pub rows : List ℕ → List Segment
+rows [] = []
+rows (a ∷ []) = []
+rows (a ∷ b ∷ []) = []
+rows (a ∷ b ∷ c ∷ []) = []
+rows (a ∷ b ∷ c ∷ d ∷ ws) = segment a b c d ∷ rows ws
+
+-- vmaddr + vmsize exceeds 64 bits.
+unfoldable pub ends : Segment → Bool
+ends s = leb (2 ^ 64) (s .vmaddr + s .vmsize)
+
+-- filesize is above 0, and the address is in [vmaddr, vmaddr + vmsize).
+unfoldable pub holds : Segment → ℕ → Bool
+holds s va = ltb 0 (s .filesize) && (leb (s .vmaddr) va && ltb va (s .vmaddr + s .vmsize))
+
+abbrev pub placeAt : ℕ → Place
+placeAt offset = record { offset = offset }
+
+-- Absent if the distance from vmaddr is at least filesize, else fileoff + distance, absent over 64 bits.
+unfoldable pub placed : Segment → ℕ → Outcome Place
+placed s va =
+    choose (leb (s .filesize) (va - s .vmaddr)) absent
+    (andThen (sum64 (s .fileoff) (va - s .vmaddr)) (λ offset. value (placeAt offset)))
+
+-- Segments in order: one that exceeds 64 bits ends the lookup, the first that holds the address decides.
+unfoldable pub lookup : List Segment → ℕ → Outcome Place
+lookup [] va = absent
+lookup (s ∷ ss) va = choose (ends s) absent (choose (holds s va) (placed s va) (lookup ss va))
+
+-- How many bytes of the file are mapped, from fileoff to vmaddr on.
+unfoldable pub mappedSize : Segment → ℕ
+mappedSize s = min (s .filesize) (s .vmsize)
+
+-- fileoff and what is mapped from there exceed 64 bits.
+unfoldable pub endsInFile : Segment → Bool
+endsInFile s = leb (2 ^ 64) (s .fileoff + mappedSize s)
+
+-- The offset is among the bytes mapped from the file.
+unfoldable pub carries : Segment → ℕ → Bool
+carries s offset = leb (s .fileoff) offset && ltb offset (s .fileoff + mappedSize s)
+
+-- The address of an offset (util.rs, file_offset_to_vm_in): segments in order, one that exceeds 64 bits ends, the first that maps the
+-- offset decides.
+unfoldable pub addressOf : List Segment → ℕ → Outcome ℕ
+addressOf [] offset = absent
+addressOf (s ∷ ss) offset =
+    choose (endsInFile s) absent
+    (choose (carries s offset) (sum64 (s .vmaddr) (offset - s .fileoff)) (addressOf ss offset))

@@ -1,0 +1,140 @@
+// The segment table, lent as words, and the translation between addresses and offsets.
+use crate::answer::Missing;
+use crate::answer::Place;
+use crate::answer::Placed;
+use crate::answer::Word;
+use crate::answer::checked_add;
+ghost use mathlib.Core.Path.{_≡_};
+ghost use Prim.Native.Nat.{_+_, _≤_, _<_};
+ghost use lib.ListN.{length};
+ghost use Rattle.reads.specs.Answer.{wordOutcome, placeOutcome};
+ghost use Rattle.reads.specs.Segment.{segmentAt, rows, ends, holds, placed, lookup, endsInFile, mappedSize, carries, addressOf};
+
+// A row of the segment table.
+pub struct Segment {
+    pub vmaddr: u64,
+    pub vmsize: u64,
+    pub fileoff: u64,
+    pub filesize: u64,
+}
+
+impl Segment {
+    // The greatest number of 64 bits.
+    pub const MAX: u64 = 0xFFFF_FFFF_FFFF_FFFF;
+
+    // The row whose words start at word i.
+    pub(crate) fn at(segments: &[u64], i: usize) -> Segment
+        requires { ⌜ i + 3 < length (now segments) ⌝ }
+        ensures { λ r. ⌜ r ≡ segmentAt (now (segments .entry)) i ⌝ }
+    {
+        Segment {
+            vmaddr: segments[i],
+            vmsize: segments[i + 1],
+            fileoff: segments[i + 2],
+            filesize: segments[i + 3],
+        }
+    }
+
+    // vmaddr + vmsize exceeds 64 bits, which ends every lookup.
+    pub fn ends(self) -> bool
+        ensures { λ r. ⌜ r ≡ ends self ⌝ }
+    {
+        Segment::MAX - self.vmaddr < self.vmsize
+    }
+
+    // The segment has bytes in the file, and the address is in it.
+    pub fn holds(self, va: u64) -> bool
+        ensures { λ r. ⌜ r ≡ holds self va ⌝ }
+    {
+        if self.filesize == 0 {
+            return false;
+        }
+        if va < self.vmaddr {
+            return false;
+        }
+        va - self.vmaddr < self.vmsize
+    }
+
+    // The place of an address that the segment holds.
+    pub(crate) fn place(self, va: u64) -> Placed
+        requires { ⌜ self .vmaddr ≤ va ⌝ }
+        ensures { λ r. ⌜ placeOutcome r ≡ placed self va ⌝ }
+    {
+        let distance = va - self.vmaddr;
+        if self.filesize <= distance {
+            return Placed::Missing(Missing::Absent);
+        }
+        if Segment::MAX - self.fileoff < distance {
+            return Placed::Missing(Missing::Absent);
+        }
+        Placed::At(Place {
+            offset: self.fileoff + distance,
+        })
+    }
+}
+
+// The place of an address. Segments count in order: one that exceeds 64 bits ends the lookup, the first that holds the
+// address decides.
+pub fn vm_to_file_offset_in(segments: &[u64], va: u64) -> Placed
+    ensures { λ r. ⌜ placeOutcome r ≡ lookup (rows (now (segments .entry))) va ⌝ }
+{
+    let mut i = 0;
+    while 4 <= segments.len() - i {
+        let s = Segment::at(segments, i);
+        if s.ends() {
+            return Placed::Missing(Missing::Absent);
+        }
+        if s.holds(va) {
+            return s.place(va);
+        }
+        i += 4;
+    }
+    Placed::Missing(Missing::Absent)
+}
+
+impl Segment {
+    // fileoff and the bytes mapped from the file exceed 64 bits, which ends the way back too.
+    pub fn ends_in_file(self) -> bool
+        ensures { λ r. ⌜ r ≡ endsInFile self ⌝ }
+    {
+        Segment::MAX - self.fileoff < self.mapped()
+    }
+
+    // How many bytes of the file are mapped: a segment's file bytes stand at the start of its addresses.
+    pub fn mapped(self) -> u64
+        ensures { λ r. ⌜ r ≡ mappedSize self ⌝ }
+    {
+        if self.vmsize < self.filesize {
+            return self.vmsize;
+        }
+        self.filesize
+    }
+
+    // The offset is among the bytes mapped from the file.
+    pub fn carries(self, offset: u64) -> bool
+        ensures { λ r. ⌜ r ≡ carries self offset ⌝ }
+    {
+        if offset < self.fileoff {
+            return false;
+        }
+        offset - self.fileoff < self.mapped()
+    }
+}
+
+// The address of an offset: the inverse of `vm_to_file_offset_in`. The first segment that maps the offset decides.
+pub fn file_offset_to_vm_in(segments: &[u64], offset: u64) -> Word
+    ensures { λ r. ⌜ wordOutcome r ≡ addressOf (rows (now (segments .entry))) offset ⌝ }
+{
+    let mut i = 0;
+    while 4 <= segments.len() - i {
+        let s = Segment::at(segments, i);
+        if s.ends_in_file() {
+            return Word::Missing(Missing::Absent);
+        }
+        if s.carries(offset) {
+            return checked_add(s.vmaddr, offset - s.fileoff);
+        }
+        i += 4;
+    }
+    Word::Missing(Missing::Absent)
+}
