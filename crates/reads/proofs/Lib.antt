@@ -5,3 +5,8 @@ pub mod Masks
 pub mod Numbers
 pub mod SegmentRows
 pub mod Lookups
+pub mod LeastAbove
+pub mod BreakSteps
+pub mod Breakpoints
+pub mod CanRead
+pub mod BreakCases

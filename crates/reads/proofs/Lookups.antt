@@ -12,7 +12,7 @@ use Rattle.reads.specs.Segment.{segmentAt, rows, ends, holds, placeAt, p
 use Rattle.reads.specs.declared.segment.Segment.{Segment}
 use Rattle.reads.proofs.Outcomes.{sum-fits, sum-over}
 use Rattle.reads.proofs.SegmentRows.{rows-more, rows-none}
-use Rattle.reads.proofs.Tests.{le-same}
+use Rattle.reads.proofs.Tests.{le-same, both-true}
 
 -- A sum over 64 bits, as the code tests it.
 pub over-by : (a b : ℕ) → a < 2 ^ 64 → ltb (2 ^ 64 - 1 - a) b ≡ leb (2 ^ 64) (a + b)
@@ -22,12 +22,6 @@ over-by a b h = le-same (suc (2 ^ 64 - 1 - a)) b (2 ^ 64) (a + b) (λ u. omega a
 pub inside-by : (from size x : ℕ) → from ≤ x → ltb (x - from) size ≡ leb from x && ltb x (from + size)
 inside-by from size x h =
     simp (le-leb from x h) (le-same (suc (x - from)) size (suc x) (from + size) (λ u. omega arith) (λ u. omega arith))
-
-both : (a b c : Bool) → a && (b && c) ≡ true → (a ≡ true) × (b ≡ true) × (c ≡ true)
-both true true true e = (refl, refl, refl)
-both true true false e = let z : true ≡ false = cc in (refl, refl, cc)
-both true false c e = (refl, cc, cc)
-both false b c e = (cc, cc, cc)
 
 module _ (s : Segment) where
   pub ends-by : s .vmaddr < 2 ^ 64 → ltb (2 ^ 64 - 1 - s .vmaddr) (s .vmsize) ≡ ends s
@@ -54,8 +48,9 @@ module _ (s : Segment) where
   pub holds-is : (va : ℕ) → holds s va ≡ true → (0 < s .filesize) × (s .vmaddr ≤ va) × (va < s .vmaddr + s .vmsize)
   unfolding holds
   holds-is va e =
-      let b = both (ltb 0 (s .filesize)) (leb (s .vmaddr) va) (ltb va (s .vmaddr + s .vmsize)) e in
-      (ltb-true _ _ (b .0), leb-true _ _ (b .1), ltb-true _ _ (b .2))
+      let p = both-true (ltb 0 (s .filesize)) (leb (s .vmaddr) va && ltb va (s .vmaddr + s .vmsize)) e in
+      let q = both-true (leb (s .vmaddr) va) (ltb va (s .vmaddr + s .vmsize)) (p .1) in
+      (ltb-true _ _ (p .0), leb-true _ _ (q .0), ltb-true _ _ (q .1))
 
   pub placed-past : (va : ℕ) → s .filesize ≤ va - s .vmaddr → absent ≡ placed s va
   unfolding placed choose
@@ -88,7 +83,7 @@ module _ (s : Segment) where
 
   pub carries-is : (offset : ℕ) → carries s offset ≡ true → s .fileoff ≤ offset
   unfolding carries
-  carries-is offset e = leb-true _ _ (both true (leb (s .fileoff) offset) (ltb offset (s .fileoff + mappedSize s)) e .1)
+  carries-is offset e = leb-true _ _ (both-true (leb (s .fileoff) offset) (ltb offset (s .fileoff + mappedSize s)) e .0)
 
   pub ends-in-file-by : (m : ℕ) → m ≡ mappedSize s → s .fileoff < 2 ^ 64 → ltb (2 ^ 64 - 1 - s .fileoff) m ≡ endsInFile s
   unfolding endsInFile

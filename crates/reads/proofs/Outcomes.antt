@@ -1,7 +1,6 @@
 -- Laws of outcomes, in the form in which a proof of code uses them: w is an answer of the code whose outcome is x.
 use Prim.Native.Nat.{ℕ, _+_, _^_, _<_, _≤_}
 use mathlib.Core.Path.{_≡_, refl, ap, _∙_}
-use mathlib.Core.Bool.{Bool, true, false}
 use borrow.Author.Tests.{lt-ltb, le-ltb, ne-eqb}
 use Rattle.reads.specs.Outcome.{Outcome, value, absent, number, andThen, orElse, orZero, orEmpty, choose, sum64, nonzero}
 use Rattle.reads.specs.Answer.{missed, wordOutcome, placeOutcome, textOutcome}
@@ -15,20 +14,6 @@ use Rattle.reads.specs.declared.answer.TextAnswer.{TextAnswer}
 use Rattle.reads.specs.declared.answer.TextAnswer.the-variants as text
 use Rattle.reads.specs.declared.answer.Word.{Word}
 use Rattle.reads.specs.declared.answer.Word.the-variants as word
-
--- What holds of both, each under its test, holds of the choice.
-pub by-choose : {A : Type 0} (P : A → Type 0) {b : Bool} {x y : A} → (b ≡ true → P x) → (b ≡ false → P y) → P (choose b x y)
-unfolding choose
-by-choose P {b = true} p q = p refl
-by-choose P {b = false} p q = q refl
-
-pub choose-true : {A : Type 0} {b : Bool} (x y : A) → b ≡ true → choose b x y ≡ x
-unfolding choose
-choose-true x y e = rw e
-
-pub choose-false : {A : Type 0} {b : Bool} (x y : A) → b ≡ false → choose b x y ≡ y
-unfolding choose
-choose-false x y e = rw e
 
 pub sum-fits : (a b : ℕ) → a + b < 2 ^ 64 → sum64 a b ≡ value (a + b)
 unfolding sum64 choose

@@ -3,4 +3,5 @@ pub mod Outcome
 pub mod Answer
 pub mod Segment
 pub mod Place
+pub mod Breaks
 pub mod Ptrauth

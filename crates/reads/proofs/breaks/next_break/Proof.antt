@@ -1,0 +1,58 @@
+-- The invariant: the best so far and the rows from word i on give what all rows give.
+use Rattle.reads.proofs.BreakSteps.{lowest, lowest-is-next-break, lowest-out, lowest-ends, lowest-more, readable-part-size}
+use Rattle.reads.proofs.Lookups.{ends-not}
+use mathlib.Core.Path.{_≡_}
+use Prim.Native.Nat.{_≤_, _-_}
+use native.Mathlib.Omega.{arith}
+use lib.ListN.{length, drop}
+use Rattle.reads.specs.Segment.{rows}
+use Rattle.reads.specs.Breaks.{nextBreak, breaks}
+use borrow.Author.Needs.{needs}
+use Rattle.reads.proofs.breaks.next_break.Statement.{statement}
+use Rattle.reads.proofs.breaks.next_break.Tie as tie
+
+abbrev Inv-loop : tie.InvT-loop
+Inv-loop image segments least va n best₀ i₀ best i = (i ≤ length segments) × (lowest va best (breaks n least (rows (drop i segments))) ≡ nextBreak (breaks n least (rows segments)) va)
+
+abbrev μ-loop : tie.MeasureT-loop
+μ-loop image segments least va n best₀ i₀ best i = length segments - i
+
+loop-holds : tie.Need-loop-holds Inv-loop μ-loop
+loop-holds c = (omega arith, lowest-is-next-break _ _)
+
+returns : tie.Need-returns Inv-loop μ-loop
+returns c = lowest-ends (c .before .before .before .before .before .before .before .args .segments .now) (c .before .before .before .before .loop .i) _ _ _ _ _ (c .before .before .before .before .loop .inv .1) (omega arith) _ (c .before .before .at .ensures) (cc)
+
+add-lower : tie.Need-add-lower Inv-loop μ-loop
+add-lower c = omega (arith, ends-not (c .before .before .before .before .before .at .result) (cc), readable-part-size (c .before .before .before .before .before .at .result) (length (c .before .before .before .before .before .before .before .before .before .before .args .image .now)) (c .before .before .before .before .before .before .before .before .before .before .args .least))
+
+add-lower-2 : tie.Need-add-lower-2 Inv-loop μ-loop
+add-lower-2 c = omega (arith, ends-not (c .before .before .before .before .before .before .before .at .result) (cc))
+
+loop-again : tie.Need-loop-again Inv-loop μ-loop
+loop-again c = (omega arith, lowest-more (c .before .before .before .before .before .before .before .before .before .before .before .before .before .args .segments .now) (c .before .before .before .before .before .before .before .before .before .before .loop .i) _ _ _ _ _ (c .before .before .before .before .before .before .before .before .before .before .loop .inv .1) (omega arith) _ (c .before .before .before .before .before .before .before .before .at .ensures) (cc) _ _ _ _ (c .before .before .before .before .before .readable-part .ensures) (c .before .before .before .before .lower .ensures) (c .before .before .lower2 .ensures) (c .lower3 .ensures))
+
+returns-2 : tie.Need-returns-2 Inv-loop μ-loop
+returns-2 c = lowest-out (c .before .before .before .before .args .segments .now) (c .before .loop .i) _ _ _ _ _ (c .before .loop .inv .1) (omega arith)
+
+pub next-break-spec : {M : Type 1} → statement M
+next-break-spec =
+    tie.close
+    (tie.spec
+    Inv-loop
+    μ-loop
+    loop-holds
+    (λ c. search needs)
+    (λ c κs. search needs)
+    (λ c κs. search needs)
+    returns
+    (λ c κs. search needs)
+    (λ c κs. search needs)
+    add-lower
+    (λ c κs. search needs)
+    add-lower-2
+    (λ c κs. search needs)
+    (λ c. search needs)
+    (λ c. search needs)
+    loop-again
+    returns-2)
