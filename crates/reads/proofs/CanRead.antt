@@ -1,30 +1,12 @@
 -- canRead, by what readable gives: a value or absent, never a number.
-use mathlib.Core.Path.{_≡_, refl}
-use mathlib.Core.Bool.{true, false, true≢false}
-use mathlib.Core.List.{List, [], _∷_}
+use mathlib.Core.Path.{_≡_}
+use mathlib.Core.Bool.{true, false}
 use Prim.Native.Nat.{ℕ}
-use Rattle.reads.specs.Outcome.{Outcome, value, absent, number, andThen, sum64}
-use Rattle.reads.specs.Segment.{rows, placeAt, placed, lookup}
-use Rattle.reads.specs.Place.{Image, readableAt, readable}
+use Rattle.reads.specs.Outcome.{value, absent}
+use Rattle.reads.specs.Place.{Image, readable}
+use Rattle.reads.specs.Breaks.{canRead}
 use Rattle.reads.specs.declared.answer.Place.{Place}
-use Rattle.reads.specs.declared.segment.Segment.{Segment}
-use Rattle.reads.specs.Breaks.{isValue, canRead}
-use Rattle.reads.proofs.Tests.{by-choose}
-
-abbrev NoNumber : Outcome Place → Type 0
-NoNumber o = isValue o ≡ false → o ≡ absent
-
-placed-no-number : (s : Segment) (va : ℕ) → NoNumber (placed s va)
-unfolding placed sum64
-placed-no-number s va =
-    by-choose NoNumber (λ e f. refl)
-    (λ e. by-choose (λ o. NoNumber (andThen o (λ offset. value (placeAt offset)))) (λ u f. absurd (true≢false f)) (λ u f. refl))
-
-lookup-no-number : (ss : List Segment) (va : ℕ) → NoNumber (lookup ss va)
-unfolding lookup
-lookup-no-number [] va = λ f. refl
-lookup-no-number (s ∷ ss) va =
-    by-choose NoNumber (λ e f. refl) (λ e. by-choose NoNumber (λ h. placed-no-number s va) (λ h. lookup-no-number ss va))
+use Rattle.reads.proofs.Unrefused.{unrefused-absent, readable-unrefused}
 
 module _ (m : Image) (k va : ℕ) where
   pub can-read-value : (p : Place) → readable m va k ≡ value p → canRead m k va ≡ true
@@ -36,10 +18,5 @@ module _ (m : Image) (k va : ℕ) where
   can-read-absent e = simp e
 
   pub readable-absent : canRead m k va ≡ false → readable m va k ≡ absent
-  unfolding canRead readable readableAt
-  readable-absent = go (lookup (rows (m .words)) va) (lookup-no-number (rows (m .words)) va)
-    where
-      go : (o : Outcome Place) → NoNumber o → NoNumber (andThen o (λ p. readableAt (m .bytes) (p .offset) k))
-      go (value p) f = by-choose NoNumber (λ u g. absurd (true≢false g)) (λ u g. refl)
-      go absent f = λ g. refl
-      go (number j) f = f
+  unfolding canRead
+  readable-absent e = unrefused-absent (readable-unrefused m va k) e

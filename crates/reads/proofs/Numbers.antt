@@ -100,3 +100,9 @@ module _ (bs : List ℕ) (k : ℕ) (p : Place) (i : ℕ) where
   pub word-out : length bs < p .offset + i + k → 0 ≡ wordIn bs k p i
   unfolding wordIn choose
   word-out h = simp (lt-leb _ _ h)
+
+-- At the place itself.
+pub word-at : (bs : List ℕ) (k : ℕ) (p : Place) → p .offset + k ≤ length bs → wordIn bs k p 0 ≡ le (part bs (p .offset) k)
+word-at bs k p h =
+    let z : p .offset + 0 ≡ p .offset = omega arith in
+    sym (word-in bs k p 0 (omega arith)) ∙ ap (λ (n : ℕ). le (part bs n k)) z

@@ -43,7 +43,8 @@ then-value (value a) = refl
 then-value absent = refl
 then-value (number k) = refl
 
-missed-then : {A B : Type 0} (m : Missing) (f : A → Outcome B) → missed m ≡ andThen (missed m) f
+-- What is missing stays so.
+pub missed-then : {A B : Type 0} (m : Missing) (f : A → Outcome B) → missed m ≡ andThen (missed m) f
 missed-then Absent f = refl
 missed-then (Refused k) f = refl
 

@@ -4,4 +4,9 @@ pub mod Answer
 pub mod Segment
 pub mod Place
 pub mod Breaks
+pub mod Utf8
+pub mod Text
+pub mod Signed
+pub mod Relative
 pub mod Ptrauth
+pub mod Leb128

@@ -9,6 +9,11 @@ pub data Outcome (A : Type 0) : Type 0 where
   absent : Outcome A
   number : ℕ → Outcome A
 
+-- No question refuses: a value or absent.
+pub data Unrefused {A : Type 0} : Outcome A → Type 0 where
+  is-value : (a : A) → Unrefused (value a)
+  is-absent : Unrefused absent
+
 -- A value goes on to the next question; absent and a number end.
 abbrev pub andThen : {A B : Type 0} → Outcome A → (A → Outcome B) → Outcome B
 andThen (value a) f = f a

@@ -2,6 +2,9 @@
 // question of document 01, and equals a definition in specs/.
 pub mod answer;
 pub mod breaks;
+pub mod leb128;
 pub mod place;
 pub mod ptrauth;
+pub mod relative;
 pub mod segment;
+pub mod text;

@@ -1,0 +1,98 @@
+-- The reads ask no question: none of them gives a number. What is made of unrefused outcomes is unrefused.
+use mathlib.Core.Path.{_≡_, refl}
+use mathlib.Core.Bool.{Bool, true, false, true≢false}
+use mathlib.Core.List.{List, [], _∷_}
+use Prim.Native.Nat.{ℕ, _+_, _-_}
+use lib.ListN.{length, drop}
+use Rattle.reads.specs.Outcome.{Outcome, value, absent, Unrefused, is-value, is-absent, andThen, orElse, orZero, orEmpty, choose, sum64, nonzero, textOf}
+use Rattle.reads.specs.Segment.{rows, placeAt, placed, lookup}
+use Rattle.reads.specs.Place.{Image, le, part, readableAt, readable, word}
+use Rattle.reads.specs.Text.{text, textLength, textAt, textIn}
+use Rattle.reads.specs.Ptrauth.{dataArm64e, data64, mapped, pickedWide, picked}
+use Rattle.reads.specs.Breaks.{isValue}
+use Rattle.reads.specs.declared.answer.Text.{Text}
+use Rattle.reads.specs.declared.segment.Segment.{Segment}
+use Rattle.reads.proofs.Tests.{by-choose}
+
+pub unrefused-then : {A B : Type 0} {o : Outcome A} (f : A → Outcome B) → Unrefused o → ((a : A) → Unrefused (f a)) → Unrefused (andThen o f)
+unrefused-then f (is-value a) v = v a
+unrefused-then f is-absent v = is-absent
+
+pub unrefused-else : {A : Type 0} {o p : Outcome A} → Unrefused o → Unrefused p → Unrefused (orElse o p)
+unrefused-else (is-value a) v = is-value a
+unrefused-else is-absent v = v
+
+pub unrefused-zero : {o : Outcome ℕ} → Unrefused o → Unrefused (orZero o)
+unrefused-zero u = unrefused-else u (is-value 0)
+
+pub unrefused-empty : {o : Outcome Text} → Unrefused o → Unrefused (orEmpty o)
+unrefused-empty u = unrefused-else u (is-value (textOf 0 0))
+
+pub unrefused-choose : {A : Type 0} (b : Bool) {o p : Outcome A} → Unrefused o → Unrefused p → Unrefused (choose b o p)
+unrefused-choose b u v = by-choose Unrefused (λ e. u) (λ e. v)
+
+pub sum-unrefused : (a b : ℕ) → Unrefused (sum64 a b)
+unfolding sum64
+sum-unrefused a b = by-choose Unrefused (λ e. is-value (a + b)) (λ e. is-absent)
+
+pub nonzero-unrefused : (x : ℕ) → Unrefused (nonzero x)
+unfolding nonzero
+nonzero-unrefused x = by-choose Unrefused (λ e. is-absent) (λ e. is-value x)
+
+placed-unrefused : (s : Segment) (va : ℕ) → Unrefused (placed s va)
+unfolding placed
+placed-unrefused s va =
+    by-choose Unrefused (λ e. is-absent)
+    (λ e. unrefused-then (λ offset. value (placeAt offset)) (sum-unrefused (s .fileoff) (va - s .vmaddr)) (λ offset. is-value (placeAt offset)))
+
+pub lookup-unrefused : (ss : List Segment) (va : ℕ) → Unrefused (lookup ss va)
+unfolding lookup
+lookup-unrefused [] va = is-absent
+lookup-unrefused (s ∷ ss) va =
+    by-choose Unrefused (λ e. is-absent) (λ e. by-choose Unrefused (λ h. placed-unrefused s va) (λ h. lookup-unrefused ss va))
+
+pub readable-at-unrefused : (bytes : List ℕ) (offset k : ℕ) → Unrefused (readableAt bytes offset k)
+unfolding readableAt
+readable-at-unrefused bytes offset k = by-choose Unrefused (λ e. is-value (placeAt offset)) (λ e. is-absent)
+
+module _ (m : Image) where
+  pub readable-unrefused : (va k : ℕ) → Unrefused (readable m va k)
+  unfolding readable
+  readable-unrefused va k =
+      unrefused-then (λ p. readableAt (m .bytes) (p .offset) k) (lookup-unrefused (rows (m .words)) va) (λ p. readable-at-unrefused (m .bytes) (p .offset) k)
+
+  pub word-unrefused : (k va : ℕ) → Unrefused (word m k va)
+  unfolding word
+  word-unrefused k va =
+      unrefused-then (λ p. value (le (part (m .bytes) (p .offset) k))) (readable-unrefused va k) (λ p. is-value (le (part (m .bytes) (p .offset) k)))
+
+pub text-length-unrefused : (s : List ℕ) → Unrefused (textLength s)
+unfolding textLength
+text-length-unrefused s = by-choose Unrefused (λ e. is-value (length (text s))) (λ e. is-absent)
+
+pub text-at-unrefused : (bytes : List ℕ) (offset : ℕ) → Unrefused (textAt bytes offset)
+unfolding textAt
+text-at-unrefused bytes offset =
+    by-choose Unrefused
+    (λ e. unrefused-then (λ n. value (textOf offset n)) (text-length-unrefused (drop offset bytes)) (λ n. is-value (textOf offset n)))
+    (λ e. is-absent)
+
+pub text-in-unrefused : (m : Image) (va : ℕ) → Unrefused (textIn m va)
+unfolding textIn
+text-in-unrefused m va =
+    unrefused-then (λ a. andThen (lookup (rows (m .words)) a) (λ p. textAt (m .bytes) (p .offset))) (nonzero-unrefused va)
+    (λ a. unrefused-then (λ p. textAt (m .bytes) (p .offset)) (lookup-unrefused (rows (m .words)) a) (λ p. text-at-unrefused (m .bytes) (p .offset)))
+
+pub mapped-unrefused : (words : List ℕ) (va : ℕ) → Unrefused (mapped words va)
+unfolding mapped
+mapped-unrefused words va = unrefused-then (λ p. value va) (lookup-unrefused (rows words) va) (λ p. is-value va)
+
+pub picked-unrefused : (words : List ℕ) (w : ℕ) → Unrefused (picked words w)
+unfolding picked pickedWide
+picked-unrefused words w =
+    unrefused-else (unrefused-then (mapped words) (nonzero-unrefused (dataArm64e w)) (mapped-unrefused words)) (nonzero-unrefused (data64 w))
+
+-- What is unrefused and no value is absent.
+pub unrefused-absent : {A : Type 0} {o : Outcome A} → Unrefused o → isValue o ≡ false → o ≡ absent
+unrefused-absent (is-value a) e = absurd (true≢false e)
+unrefused-absent is-absent e = refl

@@ -1,0 +1,120 @@
+-- UTF-8 by the ABNF of RFC 3629, section 4. Each alternative of a rule is a row of ranges, in the RFC's order.
+use Prim.Native.Nat.{ℕ, suc}
+use mathlib.Core.Path.{_≡_}
+use mathlib.Core.Bool.{Bool, true, false, _&&_}
+use mathlib.Core.List.{List, [], _∷_, _++_, List·Memᴰ}
+use mathlib.Core.Option.{Option, none, some}
+use lib.Dec.{leb}
+use lib.ListN.{length}
+use Rattle.reads.specs.Outcome.{choose}
+
+infix 90 _to_
+-- %xLO-HI
+pub data Range : Type 0 where
+  _to_ : ℕ → ℕ → Range
+
+abbrev pub inside : Range → ℕ → Bool
+inside (lo to hi) b = leb lo b && leb b hi
+
+-- UTF8-tail = %x80-BF
+abbrev pub tail : Range
+tail = 0x80 to 0xBF
+
+-- UTF8-1 = %x00-7F
+abbrev pub utf8-1 : List (List Range)
+utf8-1 = (0x00 to 0x7F ∷ []) ∷ []
+
+-- UTF8-2 = %xC2-DF UTF8-tail
+abbrev pub utf8-2 : List (List Range)
+utf8-2 = (0xC2 to 0xDF ∷ tail ∷ []) ∷ []
+
+-- UTF8-3 = %xE0 %xA0-BF UTF8-tail / %xE1-EC 2( UTF8-tail ) / %xED %x80-9F UTF8-tail / %xEE-EF 2( UTF8-tail )
+abbrev pub utf8-3 : List (List Range)
+utf8-3 =
+    (0xE0 to 0xE0 ∷ 0xA0 to 0xBF ∷ tail ∷ [])
+    ∷ (0xE1 to 0xEC ∷ tail ∷ tail ∷ [])
+    ∷ (0xED to 0xED ∷ 0x80 to 0x9F ∷ tail ∷ [])
+    ∷ (0xEE to 0xEF ∷ tail ∷ tail ∷ [])
+    ∷ []
+
+-- UTF8-4 = %xF0 %x90-BF 2( UTF8-tail ) / %xF1-F3 3( UTF8-tail ) / %xF4 %x80-8F 2( UTF8-tail )
+abbrev pub utf8-4 : List (List Range)
+utf8-4 =
+    (0xF0 to 0xF0 ∷ 0x90 to 0xBF ∷ tail ∷ tail ∷ [])
+    ∷ (0xF1 to 0xF3 ∷ tail ∷ tail ∷ tail ∷ [])
+    ∷ (0xF4 to 0xF4 ∷ 0x80 to 0x8F ∷ tail ∷ tail ∷ [])
+    ∷ []
+
+-- The rows of the characters of more than one octet.
+abbrev pub multi : List (List Range)
+multi = utf8-2 ++ utf8-3 ++ utf8-4
+
+-- UTF8-char = UTF8-1 / UTF8-2 / UTF8-3 / UTF8-4
+abbrev pub chars : List (List Range)
+chars = utf8-1 ++ multi
+
+-- Each byte in its range.
+pub data Fit : List Range → List ℕ → Type 0 where
+  fit-none : Fit [] []
+  fit-more : {r : Range} {rs : List Range} {b : ℕ} {bs : List ℕ} → inside r b ≡ true → Fit rs bs → Fit (r ∷ rs) (b ∷ bs)
+
+-- UTF8-octets = *( UTF8-char )
+pub data Octets : List ℕ → Type 0 where
+  octets-none : Octets []
+  octets-more : {t c s : List ℕ} {row : List Range} → List·Memᴰ row chars → Fit row c → Octets s → t ≡ c ++ s → Octets t
+
+-- The rest of the first row that b begins.
+abbrev pub begun : List (List Range) → ℕ → Option (List Range)
+begun [] b = none
+begun ([] ∷ rows) b = begun rows b
+begun ((r ∷ rs) ∷ rows) b = choose (inside r b) (some rs) (begun rows b)
+
+-- The ranges that are due after b, where w are due before it (none between characters), if any text goes on so.
+abbrev pub after : List Range → ℕ → Option (List Range)
+after [] b = begun chars b
+after (r ∷ rs) b = choose (inside r b) (some rs) none
+
+pub data Verdict : Type 0 where
+  good : Verdict
+  bad : ℕ → Verdict
+
+abbrev pub ended : List Range → ℕ → Verdict
+ended [] at = good
+ended (r ∷ rs) at = bad at
+
+abbrev pub goOn : Option (List Range) → Verdict → (List Range → Verdict) → Verdict
+goOn none v f = v
+goOn (some w) v f = f w
+
+-- The text s, of which `at` bytes came before and w are due: good, or bad at the offset of the first byte that no text of
+-- the grammar continues with, or at its length where it ends inside a character.
+unfoldable pub judge : ℕ → List Range → List ℕ → Verdict
+judge at w [] = ended w at
+judge at w (b ∷ s) = goOn (after w b) (bad at) (λ w′. judge (suc at) w′ s)
+
+abbrev pub verdict : List ℕ → Verdict
+verdict s = judge 0 [] s
+
+abbrev pub isGood : Verdict → Bool
+isGood good = true
+isGood (bad k) = false
+
+-- UTF8-octets, as a test; proofs/Grammar.antt shows that it accepts exactly `Octets`.
+unfoldable pub utf8 : List ℕ → Bool
+utf8 s = isGood (verdict s)
+
+-- The ranges w hold the first bytes of s.
+unfoldable pub fits : List Range → List ℕ → Bool
+fits [] s = true
+fits (r ∷ w) [] = false
+fits (r ∷ w) (b ∷ s) = inside r b && fits w s
+
+-- The length of a character whose first byte came before s and left w due, 0 where s does not go on so.
+abbrev pub lengthWith : Option (List Range) → List ℕ → ℕ
+lengthWith none s = 0
+lengthWith (some w) s = choose (fits w s) (suc (length w)) 0
+
+-- The length of the character of more than one octet in front of s, 0 where there is none.
+unfoldable pub multiLength : List ℕ → ℕ
+multiLength [] = 0
+multiLength (b ∷ s) = lengthWith (begun multi b) s

@@ -1,0 +1,164 @@
+// Texts in the image: UTF-8 up to a zero byte, or to the end.
+use crate::answer::Missing;
+use crate::answer::Placed;
+use crate::answer::Text;
+use crate::answer::TextAnswer;
+use crate::answer::Word;
+use crate::answer::nonzero;
+use crate::segment::vm_to_file_offset_in;
+ghost use mathlib.Core.Path.{_≡_};
+ghost use mathlib.Core.List.{[], _∷_};
+ghost use Prim.Native.Nat.{_+_, _≤_, _<_};
+ghost use lib.ListN.{length, drop, replicate};
+ghost use Rattle.reads.specs.Answer.{wordOutcome, textOutcome};
+ghost use Rattle.reads.specs.Outcome.{choose};
+ghost use Rattle.reads.specs.Utf8.{_to_, tail, fits, multiLength, utf8};
+ghost use Rattle.reads.specs.Place.{imageOf};
+ghost use Rattle.reads.specs.Text.{textLength, textAt, textIn, fixedLength, lengthPlusOne};
+
+// A byte stands at i, and lies between lo and hi.
+fn within(s: &[u8], i: usize, lo: u8, hi: u8) -> bool
+    ensures { λ r. ⌜ r ≡ fits (lo to hi ∷ []) (drop i (now (s .entry))) ⌝ }
+{
+    if s.len() <= i {
+        return false;
+    }
+    let b = s[i];
+    if b < lo {
+        return false;
+    }
+    b <= hi
+}
+
+// The length of a character whose second byte stands at i: that byte lies between lo and hi, and n of UTF8-tail follow.
+// 0 where it is malformed.
+fn rest(s: &[u8], i: usize, lo: u8, hi: u8, n: usize) -> usize
+    requires { ⌜ n ≤ 2 ⌝ }
+    ensures { λ r. ⌜ r ≡ choose (fits (lo to hi ∷ replicate n tail) (drop i (now (s .entry)))) (n + 2) 0 ⌝ }
+{
+    if !within(s, i, lo, hi) {
+        return 0;
+    }
+    let mut j = i + 1;
+    let mut k = n;
+    while 0 < k {
+        if !within(s, j, 0x80, 0xBF) {
+            return 0;
+        }
+        j += 1;
+        k -= 1;
+    }
+    n + 2
+}
+
+// The length of the character of more than one byte at i, 0 where there is none: a line for each row of the grammar.
+fn multi_length(s: &[u8], i: usize) -> usize
+    requires { ⌜ i < length (now s) ⌝ }
+    ensures { λ r. ⌜ r ≡ multiLength (drop i (now (s .entry))) ⌝ }
+{
+    let second = i + 1;
+    match s[i] {
+        0xC2..=0xDF => rest(s, second, 0x80, 0xBF, 0),
+        0xE0 => rest(s, second, 0xA0, 0xBF, 1),
+        0xE1..=0xEC => rest(s, second, 0x80, 0xBF, 1),
+        0xED => rest(s, second, 0x80, 0x9F, 1),
+        0xEE..=0xEF => rest(s, second, 0x80, 0xBF, 1),
+        0xF0 => rest(s, second, 0x90, 0xBF, 2),
+        0xF1..=0xF3 => rest(s, second, 0x80, 0xBF, 2),
+        0xF4 => rest(s, second, 0x80, 0x8F, 2),
+        _ => 0,
+    }
+}
+
+// The bytes are UTF-8.
+pub fn utf8(s: &[u8]) -> bool
+    ensures { λ r. ⌜ r ≡ utf8 (now (s .entry)) ⌝ }
+{
+    let mut i = 0;
+    while i < s.len() {
+        if s[i] < 0x80 {
+            i += 1;
+            continue;
+        }
+        let n = multi_length(s, i);
+        if n == 0 {
+            return false;
+        }
+        i += n;
+    }
+    true
+}
+
+// The length of the text in front of s, in one pass. A zero byte inside a character is no UTF8-tail, so such a text is absent.
+pub fn text_length(s: &[u8]) -> Word
+    ensures { λ r. ⌜ wordOutcome r ≡ textLength (now (s .entry)) ⌝ }
+{
+    let mut i = 0;
+    while i < s.len() {
+        let b = s[i];
+        let next = i + 1;
+        // Both tests are one signed compare of the byte, which is all that most names cost.
+        if 0 < b {
+            if b < 0x80 {
+                i = next;
+                continue;
+            }
+        }
+        if b == 0 {
+            return Word::Value(i as u64);
+        }
+        let n = multi_length(s, i);
+        if n == 0 {
+            return Word::Missing(Missing::Absent);
+        }
+        i += n;
+    }
+    Word::Value(i as u64)
+}
+
+// The text at an offset of the image.
+pub fn read_cstr_at(image: &[u8], offset: u64) -> TextAnswer
+    ensures { λ r. ⌜ textOutcome r ≡ textAt (now (image .entry)) offset ⌝ }
+{
+    if (image.len() as u64) < offset {
+        return TextAnswer::Missing(Missing::Absent);
+    }
+    match text_length(&image[offset as usize..image.len()]) {
+        Word::Value(len) => TextAnswer::Found(Text { offset, len }),
+        Word::Missing(m) => TextAnswer::Missing(m),
+    }
+}
+
+// The text at an address: absent at 0 and where nothing is mapped.
+pub fn read_cstr(image: &[u8], segments: &[u64], va: u64) -> TextAnswer
+    ensures { λ r. ⌜ textOutcome r ≡ textIn (imageOf (now (image .entry)) (now (segments .entry))) va ⌝ }
+{
+    match nonzero(va) {
+        Word::Value(a) => match vm_to_file_offset_in(segments, a) {
+            Placed::At(p) => read_cstr_at(image, p.offset),
+            Placed::Missing(m) => TextAnswer::Missing(m),
+        },
+        Word::Missing(m) => TextAnswer::Missing(m),
+    }
+}
+
+// The length of the text in a field of 16 bytes, as segname and sectname: 0 where it is not UTF-8.
+pub fn cstr_from_fixed(bytes: &[u8; 16]) -> u64
+    ensures { λ r. ⌜ r ≡ fixedLength (now (bytes .entry)) ⌝ }
+{
+    match text_length(bytes) {
+        Word::Value(len) => len,
+        Word::Missing(_) => 0,
+    }
+}
+
+// For callers in C or Rust: one more than the length of the text at an offset of the image, 0 where there is none.
+#[no_mangle]
+pub extern "C" fn reads_cstr_length_plus_one(image: &[u8], offset: u64) -> u64
+    ensures { λ r. ⌜ r ≡ lengthPlusOne (textAt (now (image .entry)) offset) ⌝ }
+{
+    match read_cstr_at(image, offset) {
+        TextAnswer::Found(t) => t.len + 1,
+        TextAnswer::Missing(_) => 0,
+    }
+}
