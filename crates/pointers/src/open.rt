@@ -1,0 +1,62 @@
+// Opening: asks the questions 1 to 8, then writes the index.
+use crate::imageinfo::ImageInfo;
+use crate::imageinfo::ImageInfoAnswer;
+use crate::index::fill_index;
+use crate::question::Asked;
+use crate::question::ask_tables;
+use crate::question::index_fits;
+use crate::question::names_fit;
+use reads::answer::Missing;
+ghost use mathlib.Core.Path.{_≡_};
+ghost use Rattle.pointers.specs.Tables.{lent};
+ghost use Rattle.pointers.specs.Question.{askedOutcome};
+ghost use Rattle.pointers.specs.ImageInfo.{infoOutcome};
+ghost use Rattle.pointers.specs.Open.{askedOpening, opening, openedIndex};
+
+// The questions 1 to 8, in order.
+fn ask_opening(
+    image: &[u8],
+    segments: &[u64],
+    sections: &[u64],
+    info: &[u8],
+    rebases: &[u64],
+    binds: &[u64],
+    index: &[u32],
+) -> Asked
+    ensures { λ r. ⌜ askedOutcome r ≡ askedOpening (lent (now (image .entry)) (now (segments .entry)) (now (sections .entry)) (now (info .entry)) (now (rebases .entry)) (now (binds .entry)) (now (index .entry))) ⌝ }
+{
+    match ask_tables(image, segments, sections, info, rebases, binds) {
+        Asked::Yes => {
+            if !names_fit(image, binds) {
+                return Asked::Missing(Missing::Refused(7));
+            }
+            if index_fits(rebases.len() / 2, binds.len() / 3, index.len()) {
+                return Asked::Yes;
+            }
+            Asked::Missing(Missing::Refused(8))
+        }
+        Asked::Missing(m) => Asked::Missing(m),
+    }
+}
+
+// The image info, with the index written; or the number of the first question that says no, with the index as it was.
+pub fn open(
+    image: &[u8],
+    segments: &[u64],
+    sections: &[u64],
+    info: &[u8],
+    rebases: &[u64],
+    binds: &[u64],
+    index: &mut [u32],
+) -> ImageInfoAnswer
+    ensures outcome { λ r. ⌜ infoOutcome r ≡ opening (lent (now (image .entry)) (now (segments .entry)) (now (sections .entry)) (now (info .entry)) (now (rebases .entry)) (now (binds .entry)) (now (index .entry))) ⌝ }
+    ensures contents { λ _. ⌜ now (index .exit) ≡ openedIndex (lent (now (image .entry)) (now (segments .entry)) (now (sections .entry)) (now (info .entry)) (now (rebases .entry)) (now (binds .entry)) (now (index .entry))) ⌝ }
+{
+    match ask_opening(image, segments, sections, info, rebases, binds, index) {
+        Asked::Yes => {
+            fill_index(rebases, binds, index);
+            ImageInfo::parse(info)
+        }
+        Asked::Missing(m) => ImageInfoAnswer::Missing(m),
+    }
+}

@@ -1,0 +1,76 @@
+// Symbol names of binds without the linker's prefix (mod.rs, strip_objc_symbol_prefix).
+use reads::answer::Text;
+ghost use mathlib.Core.Path.{_≡_};
+ghost use Prim.Native.Nat.{min};
+ghost use Rattle.pointers.specs.Symbol.{starts, fitting, prefixes, strippedName};
+
+// In the order in which they are tried, padded with zeros.
+const PREFIXES: [[u8; 24]; 5] = [
+    *b"_OBJC_CLASS_$_\0\0\0\0\0\0\0\0\0\0",
+    *b"_OBJC_METACLASS_$_\0\0\0\0\0\0",
+    *b"_OBJC_PROTOCOL_$_\0\0\0\0\0\0\0",
+    *b"_OBJC_REF_$_\0\0\0\0\0\0\0\0\0\0\0\0",
+    *b"_OBJC_LABEL_PROTOCOL_$_\0",
+];
+
+const PREFIX_LENGTHS: [usize; 5] = [14, 18, 17, 12, 23];
+
+// Whether s starts with p.
+fn starts_with(s: &[u8], p: &[u8]) -> bool
+    ensures { λ r. ⌜ r ≡ starts (now (p .entry)) (now (s .entry)) ⌝ }
+{
+    if s.len() < p.len() {
+        return false;
+    }
+    let mut j = 0;
+    while j < p.len() {
+        if p[j] != s[j] {
+            return false;
+        }
+        j += 1;
+    }
+    true
+}
+
+// The length of the first of the prefixes that s starts with, 0 where it starts with none.
+fn prefix_length(s: &[u8]) -> usize
+    ensures { λ r. ⌜ r ≡ fitting prefixes (now (s .entry)) ⌝ }
+{
+    let mut k = 0;
+    while k < 5 {
+        let row = PREFIXES[k];
+        let n = PREFIX_LENGTHS[k];
+        if starts_with(s, &row[0..n]) {
+            return n;
+        }
+        k += 1;
+    }
+    0
+}
+
+fn least(a: u64, b: u64) -> u64
+    ensures { λ r. ⌜ r ≡ min a b ⌝ }
+{
+    if a < b {
+        return a;
+    }
+    b
+}
+
+// A name of the image less the first of the prefixes that it starts with; what lies past the image's end matches none.
+pub fn strip_objc_symbol_prefix(image: &[u8], name: Text) -> Text
+    ensures { λ r. ⌜ r ≡ strippedName (now (image .entry)) name ⌝ }
+{
+    let total = image.len() as u64;
+    if total <= name.offset {
+        return name;
+    }
+    let there = least(name.len, total - name.offset);
+    let from = name.offset as usize;
+    let end = (name.offset + there) as usize;
+    let n = prefix_length(&image[from..end]) as u64;
+    Text {
+        offset: name.offset + n,
+        len: name.len - n,
+    }
+}
