@@ -6,6 +6,7 @@ pub mod Chains
 pub mod IndexWords
 pub mod IndexFolds
 pub mod Opens
+pub mod OpenedTables
 pub mod IndexCases
 pub mod Flags
 pub mod Infos

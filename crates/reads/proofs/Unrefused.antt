@@ -18,6 +18,11 @@ pub unrefused-then : {A B : Type 0} {o : Outcome A} (f : A → Outcome B) → Un
 unrefused-then f (is-value a) v = v a
 unrefused-then f is-absent v = is-absent
 
+-- The same where what follows is known of the value that came.
+pub unrefused-came : {A B : Type 0} {o : Outcome A} (f : A → Outcome B) → Unrefused o → ((a : A) → o ≡ value a → Unrefused (f a)) → Unrefused (andThen o f)
+unrefused-came f (is-value a) v = v a refl
+unrefused-came f is-absent v = is-absent
+
 pub unrefused-else : {A : Type 0} {o p : Outcome A} → Unrefused o → Unrefused p → Unrefused (orElse o p)
 unrefused-else (is-value a) v = is-value a
 unrefused-else is-absent v = v

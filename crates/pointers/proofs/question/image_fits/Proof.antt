@@ -1,10 +1,7 @@
 use mathlib.Core.Path.{refl}
 use Rattle.pointers.specs.Question.{imageFits}
-use borrow.Author.Needs.{needs}
 use Rattle.pointers.proofs.question.image_fits.Statement.{statement}
 use Rattle.pointers.proofs.question.image_fits.Tie as tie
-use Rattle.pointers.proofs.question.image_fits.Reads as reads
-use Rattle.pointers.proofs.question.image_fits.Lts as lts
 
 returns : tie.Need-returns
 unfolding imageFits

@@ -1,10 +1,7 @@
 use Rattle.pointers.proofs.Questions as laws
 use native.Mathlib.Omega.{arith}
-use borrow.Author.Needs.{needs}
 use Rattle.pointers.proofs.question.index_fits.Statement.{statement}
 use Rattle.pointers.proofs.question.index_fits.Tie as tie
-use Rattle.pointers.proofs.question.index_fits.Reads as reads
-use Rattle.pointers.proofs.question.index_fits.Lts as lts
 
 returns : tie.Need-returns
 returns c = laws.index-short _ _ _ (omega arith)

@@ -1,10 +1,7 @@
 use mathlib.Core.Path.{refl}
 use Rattle.pointers.specs.Question.{infoWhole}
-use borrow.Author.Needs.{needs}
 use Rattle.pointers.proofs.question.info_whole.Statement.{statement}
 use Rattle.pointers.proofs.question.info_whole.Tie as tie
-use Rattle.pointers.proofs.question.info_whole.Reads as reads
-use Rattle.pointers.proofs.question.info_whole.Lts as lts
 
 returns : tie.Need-returns
 unfolding infoWhole

@@ -7,30 +7,12 @@ use Rattle.reads.specs.Utf8.{utf8}
 use borrow.Author.Needs.{needs}
 use Rattle.pointers.proofs.question.name_fits.Statement.{statement}
 use Rattle.pointers.proofs.question.name_fits.Tie as tie
-use Rattle.pointers.proofs.question.name_fits.Reads as reads
-use Rattle.pointers.proofs.question.name_fits.Lts as lts
-use Rattle.reads.proofs.text.utf8.Reads as utf8-reads
 
 returns : tie.Need-returns
 returns c = laws.name-outside _ _ _ (omega arith)
 
 returns-2 : tie.Need-returns-2
 returns-2 c = laws.name-outside _ _ _ (omega arith)
-
-add-to : tie.Need-add-to
-add-to c = search needs
-
-sub-utf8 : tie.Need-sub-utf8
-sub-utf8 c = search needs
-
-part-utf8-start : tie.Need-part-utf8-start
-part-utf8-start c = search needs
-
-part-utf8-end : tie.Need-part-utf8-end
-part-utf8-end c = search needs
-
-utf8-requires : tie.Need-utf8-requires
-utf8-requires c κs = search needs
 
 returns-3 : tie.Need-returns-3
 returns-3 c = let e : c .before .before .before .before .before .args .offset + c .before .before .before .before .before .args .len - c .before .before .before .before .before .args .offset ≡ c .before .before .before .before .before .args .len = omega arith in c .utf8 .ensures ∙ ap (λ (n : ℕ). utf8 (take n (drop (c .before .before .before .before .before .args .offset) (c .before .before .before .before .before .args .image .now)))) e ∙ laws.name-by _ _ _ (omega arith)
@@ -41,9 +23,9 @@ name-fits-spec =
     (tie.spec
     returns
     returns-2
-    add-to
-    sub-utf8
-    part-utf8-start
-    part-utf8-end
-    utf8-requires
+    (λ c. search needs)
+    (λ c. search needs)
+    (λ c. search needs)
+    (λ c. search needs)
+    (λ c κs. search needs)
     returns-3)

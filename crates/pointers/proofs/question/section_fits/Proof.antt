@@ -2,8 +2,6 @@ use Rattle.pointers.proofs.Questions as laws
 use borrow.Author.Needs.{needs}
 use Rattle.pointers.proofs.question.section_fits.Statement.{statement}
 use Rattle.pointers.proofs.question.section_fits.Tie as tie
-use Rattle.pointers.proofs.question.section_fits.Reads as reads
-use Rattle.pointers.proofs.question.section_fits.Lts as lts
 
 returns : tie.Need-returns
 returns c = laws.section-none _ _ _ (search needs)

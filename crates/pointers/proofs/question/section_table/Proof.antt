@@ -8,9 +8,6 @@ use borrow.Author.Tests.{eq-eqb, ne-eqb, not-true, not-false}
 use borrow.Author.Needs.{needs}
 use Rattle.pointers.proofs.question.section_table.Statement.{statement}
 use Rattle.pointers.proofs.question.section_table.Tie as tie
-use Rattle.pointers.proofs.question.section_table.Reads as reads
-use Rattle.pointers.proofs.question.section_table.Lts as lts
-use Rattle.pointers.proofs.question.section_fits.Reads as section-fits-reads
 
 abbrev Inv-loop : tie.InvT-loop
 Inv-loop sections n i₀ i = (i ≤ length sections) × (everyRow (λ present va len. sectionFits n present len) (drop i sections) ≡ everyRow (λ present va len. sectionFits n present len) sections)
@@ -25,36 +22,9 @@ returns c = rw (ne-eqb (length (c .before .before .args .sections .now)) 15 (c .
 loop-holds : tie.Need-loop-holds Inv-loop μ-loop
 loop-holds c = (omega arith, refl)
 
-sub-loop : tie.Need-sub-loop Inv-loop μ-loop
-sub-loop c = search needs
-
-mul-section-fits : tie.Need-mul-section-fits Inv-loop μ-loop
-mul-section-fits c = search needs
-
-shared-slice-read-section-fits : tie.Need-shared-slice-read-section-fits Inv-loop μ-loop
-shared-slice-read-section-fits c = search needs
-
-add-section-fits : tie.Need-add-section-fits Inv-loop μ-loop
-add-section-fits c = search needs
-
-mul-section-fits-2 : tie.Need-mul-section-fits-2 Inv-loop μ-loop
-mul-section-fits-2 c = search needs
-
-shared-slice-read-section-fits-2 : tie.Need-shared-slice-read-section-fits-2 Inv-loop μ-loop
-shared-slice-read-section-fits-2 c = search needs
-
-section-fits-requires : tie.Need-section-fits-requires Inv-loop μ-loop
-section-fits-requires c κs = search needs
-
 returns-2 : tie.Need-returns-2 Inv-loop μ-loop
 unfolding sectionTable
 returns-2 c = rw (eq-eqb (length (c .before .before .before .before .before .before .before .before .args .sections .now)) 15 (c .before .before .before .before .before .before .if1 .left)) (laws.every-fails _ (c .before .before .before .before .before .before .before .before .args .sections .now) (c .before .before .before .before .before .loop .i) (omega arith) (c .before .before .before .before .before .loop .inv .1) (sym (c .before .section-fits .ensures) ∙ not-true _ (c .if2 .taken)))
-
-add-i : tie.Need-add-i Inv-loop μ-loop
-add-i c = search needs
-
-loop-less : tie.Need-loop-less Inv-loop μ-loop
-loop-less c = search needs
 
 loop-again : tie.Need-loop-again Inv-loop μ-loop
 loop-again c = (omega arith, laws.every-passes _ (c .before .before .before .before .before .before .before .before .args .sections .now) (c .before .before .before .before .before .loop .i) (omega arith) (c .before .before .before .before .before .loop .inv .1) (sym (c .before .section-fits .ensures) ∙ not-false _ (c .if2 .left)))
@@ -71,15 +41,15 @@ section-table-spec =
     μ-loop
     returns
     loop-holds
-    sub-loop
-    mul-section-fits
-    shared-slice-read-section-fits
-    add-section-fits
-    mul-section-fits-2
-    shared-slice-read-section-fits-2
-    section-fits-requires
+    (λ c. search needs)
+    (λ c. search needs)
+    (λ c. search needs)
+    (λ c. search needs)
+    (λ c. search needs)
+    (λ c. search needs)
+    (λ c κs. search needs)
     returns-2
-    add-i
-    loop-less
+    (λ c. search needs)
+    (λ c. search needs)
     loop-again
     returns-3)

@@ -9,28 +9,12 @@ use Rattle.pointers.specs.Slot.{bindAt}
 use borrow.Author.Needs.{needs}
 use Rattle.pointers.proofs.slot.bind_at.Statement.{statement}
 use Rattle.pointers.proofs.slot.bind_at.Tie as tie
-use Rattle.pointers.proofs.slot.bind_at.Reads as reads
-use Rattle.pointers.proofs.slot.bind_at.Lts as lts
-use Rattle.pointers.proofs.index.find.Reads as find-reads
-use Rattle.pointers.proofs.slot.name_of.Reads as name-of-reads
-
-add-find : tie.Need-add-find
-add-find c = search needs
-
-find-requires : tie.Need-find-requires
-find-requires c κs = search needs
-
-enum-known-number : tie.Need-enum-known-number
-enum-known-number c = search needs
 
 sub-name-of : tie.Need-sub-name-of
 sub-name-of c = omega (arith, (follow-value 3 (c .before .before .before .before .before .before .before .before .args .binds .now) 4096 (8192 + length (c .before .before .before .before .before .before .before .before .args .rebases .now) / 2) (c .before .before .before .before .before .before .before .before .args .slot) (c .before .before .before .before .before .before .before .before .args .index .now) (c .before .number .given .0 .0) (sym (c .before .before .before .find .ensures) ∙ ap wordOutcome (c .before .number .given .1))) .0)
 
 name-of-requires : tie.Need-name-of-requires
 name-of-requires c κs = omega (arith, (follow-value 3 (c .before .before .before .before .before .before .before .before .args .binds .now) 4096 (8192 + length (c .before .before .before .before .before .before .before .before .args .rebases .now) / 2) (c .before .before .before .before .before .before .before .before .args .slot) (c .before .before .before .before .before .before .before .before .args .index .now) (c .before .number .given .0 .0) (sym (c .before .before .before .find .ensures) ∙ ap wordOutcome (c .before .number .given .1))) .0, (follow-value 3 (c .before .before .before .before .before .before .before .before .args .binds .now) 4096 (8192 + length (c .before .before .before .before .before .before .before .before .args .rebases .now) / 2) (c .before .before .before .before .before .before .before .before .args .slot) (c .before .before .before .before .before .before .before .before .args .index .now) (c .before .number .given .0 .0) (sym (c .before .before .before .find .ensures) ∙ ap wordOutcome (c .before .number .given .1))) .1)
-
-enum-known-m : tie.Need-enum-known-m
-enum-known-m c = search needs
 
 returns : tie.Need-returns
 unfolding bindAt
@@ -44,11 +28,11 @@ pub bind-at-spec : {M : Type 1} → statement M
 bind-at-spec =
     tie.close
     (tie.spec
-    add-find
-    find-requires
-    enum-known-number
+    (λ c. search needs)
+    (λ c κs. search needs)
+    (λ c. search needs)
     sub-name-of
     name-of-requires
-    enum-known-m
+    (λ c. search needs)
     returns
     returns-2)

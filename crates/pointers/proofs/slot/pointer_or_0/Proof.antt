@@ -1,31 +1,10 @@
-use Rattle.reads.specs.Answer.{wordOutcome}
 use mathlib.Core.Path.{_∙_, ap}
 use Rattle.reads.specs.Outcome.{orZero}
-use Rattle.reads.proofs.Outcomes.{word-value, word-missing, or-zero-of}
+use Rattle.reads.proofs.Outcomes.{word-value, word-missing}
 use Rattle.pointers.specs.Slot.{pointerOr0At}
 use borrow.Author.Needs.{needs}
 use Rattle.pointers.proofs.slot.pointer_or_0.Statement.{statement}
 use Rattle.pointers.proofs.slot.pointer_or_0.Tie as tie
-use Rattle.pointers.proofs.slot.pointer_or_0.Reads as reads
-use Rattle.pointers.proofs.slot.pointer_or_0.Lts as lts
-use Rattle.pointers.proofs.slot.resolve_pointer.Reads as resolve-pointer-reads
-use Rattle.reads.proofs.answer.checked_add.Reads as checked-add-reads
-use Rattle.reads.proofs.answer.or_zero.Reads as or-zero-reads
-
-checked-add-requires : tie.Need-checked-add-requires
-checked-add-requires c κs = search needs
-
-enum-known-slot : tie.Need-enum-known-slot
-enum-known-slot c = search needs
-
-resolve-pointer-requires : tie.Need-resolve-pointer-requires
-resolve-pointer-requires c κs = search needs
-
-or-zero-requires : tie.Need-or-zero-requires
-or-zero-requires c κs = search needs
-
-enum-known-m : tie.Need-enum-known-m
-enum-known-m c = search needs
 
 returns : tie.Need-returns
 unfolding pointerOr0At
@@ -39,10 +18,10 @@ pub pointer-or-0-spec : {M : Type 1} → statement M
 pointer-or-0-spec =
     tie.close
     (tie.spec
-    checked-add-requires
-    enum-known-slot
-    resolve-pointer-requires
-    or-zero-requires
-    enum-known-m
+    (λ c κs. search needs)
+    (λ c. search needs)
+    (λ c κs. search needs)
+    (λ c κs. search needs)
+    (λ c. search needs)
     returns
     returns-2)

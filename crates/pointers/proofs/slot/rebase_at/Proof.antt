@@ -8,16 +8,6 @@ use Rattle.pointers.specs.Slot.{rebaseAt}
 use borrow.Author.Needs.{needs}
 use Rattle.pointers.proofs.slot.rebase_at.Statement.{statement}
 use Rattle.pointers.proofs.slot.rebase_at.Tie as tie
-use Rattle.pointers.proofs.slot.rebase_at.Reads as reads
-use Rattle.pointers.proofs.slot.rebase_at.Lts as lts
-use Rattle.pointers.proofs.index.find.Reads as find-reads
-use Rattle.pointers.proofs.slot.table_word.Reads as table-word-reads
-
-find-requires : tie.Need-find-requires
-find-requires c κs = search needs
-
-enum-known-number : tie.Need-enum-known-number
-enum-known-number c = search needs
 
 sub-table-word : tie.Need-sub-table-word
 sub-table-word c = omega (arith, (follow-value 2 (c .before .before .before .before .before .before .args .rebases .now) 0 8192 (c .before .before .before .before .before .before .args .slot) (c .before .before .before .before .before .before .args .index .now) (c .before .number .given .0 .0) (sym (c .before .before .before .find .ensures) ∙ ap wordOutcome (c .before .number .given .1))) .0)
@@ -27,12 +17,6 @@ mul-table-word c = omega (arith, (follow-value 2 (c .before .before .before .bef
 
 add-table-word : tie.Need-add-table-word
 add-table-word c = omega (arith, (follow-value 2 (c .before .before .before .before .before .before .args .rebases .now) 0 8192 (c .before .before .before .before .before .before .args .slot) (c .before .before .before .before .before .before .args .index .now) (c .before .number .given .0 .0) (sym (c .before .before .before .find .ensures) ∙ ap wordOutcome (c .before .number .given .1))) .1)
-
-table-word-requires : tie.Need-table-word-requires
-table-word-requires c κs = search needs
-
-enum-known-m : tie.Need-enum-known-m
-enum-known-m c = search needs
 
 returns : tie.Need-returns
 unfolding rebaseAt
@@ -46,12 +30,12 @@ pub rebase-at-spec : {M : Type 1} → statement M
 rebase-at-spec =
     tie.close
     (tie.spec
-    find-requires
-    enum-known-number
+    (λ c κs. search needs)
+    (λ c. search needs)
     sub-table-word
     mul-table-word
     add-table-word
-    table-word-requires
-    enum-known-m
+    (λ c κs. search needs)
+    (λ c. search needs)
     returns
     returns-2)

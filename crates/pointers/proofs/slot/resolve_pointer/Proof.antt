@@ -5,28 +5,6 @@ use Rattle.pointers.specs.Slot.{resolve}
 use borrow.Author.Needs.{needs}
 use Rattle.pointers.proofs.slot.resolve_pointer.Statement.{statement}
 use Rattle.pointers.proofs.slot.resolve_pointer.Tie as tie
-use Rattle.pointers.proofs.slot.resolve_pointer.Reads as reads
-use Rattle.pointers.proofs.slot.resolve_pointer.Lts as lts
-use Rattle.pointers.proofs.slot.rebase_at.Reads as rebase-at-reads
-use Rattle.pointers.proofs.slot.stored.Reads as stored-reads
-
-rebase-at-requires : tie.Need-rebase-at-requires
-rebase-at-requires c κs = search needs
-
-enum-known-target : tie.Need-enum-known-target
-enum-known-target c = search needs
-
-enum-known-m : tie.Need-enum-known-m
-enum-known-m c = search needs
-
-enum-told : tie.Need-enum-told
-enum-told c = search needs
-
-stored-requires : tie.Need-stored-requires
-stored-requires c κs = search needs
-
-enum-known-m-2 : tie.Need-enum-known-m-2
-enum-known-m-2 c = search needs
 
 returns : tie.Need-returns
 unfolding resolve
@@ -44,12 +22,12 @@ pub resolve-pointer-spec : {M : Type 1} → statement M
 resolve-pointer-spec =
     tie.close
     (tie.spec
-    rebase-at-requires
-    enum-known-target
-    enum-known-m
-    enum-told
-    stored-requires
-    enum-known-m-2
+    (λ c κs. search needs)
+    (λ c. search needs)
+    (λ c. search needs)
+    (λ c. search needs)
+    (λ c κs. search needs)
+    (λ c. search needs)
     returns
     returns-2
     returns-3)
