@@ -15,6 +15,7 @@ ghost use mathlib.Core.Path.{_≡_};
 ghost use Prim.Native.Nat.{_+_, _*_, _/_, _^_, _≤_, _<_};
 ghost use lib.ListN.{length, getD};
 ghost use Rattle.reads.specs.Answer.{wordOutcome, textOutcome};
+ghost use Rattle.reads.specs.Outcome.{orZero};
 ghost use Rattle.reads.specs.Place.{imageOf};
 ghost use Rattle.pointers.specs.Tables.{records};
 ghost use Rattle.pointers.specs.Slot.{rebaseAt, nameOf, bindAt, stored, resolve, symbolOf, pointerAt, pointerOr0At};
@@ -89,6 +90,13 @@ pub fn resolve_pointer(
             Missing::Refused(k) => Word::Missing(Missing::Refused(k)),
         },
     }
+}
+
+// The same, an absent slot counting as 0.
+pub fn slot_or_0(image: &[u8], segments: &[u64], rebases: &[u64], index: &[u32], slot: u64) -> Word
+    ensures { λ r. ⌜ wordOutcome r ≡ orZero (resolve (imageOf (now (image .entry)) (now (segments .entry))) (now (rebases .entry)) (now (index .entry)) slot) ⌝ }
+{
+    or_zero(resolve_pointer(image, segments, rebases, index, slot))
 }
 
 // The pointer in the field at va + k.

@@ -5,13 +5,14 @@ use crate::answer::Text;
 use crate::answer::TextAnswer;
 use crate::answer::Word;
 use crate::answer::nonzero;
+use crate::answer::or_empty;
 use crate::segment::vm_to_file_offset_in;
 ghost use mathlib.Core.Path.{_≡_};
 ghost use mathlib.Core.List.{[], _∷_};
 ghost use Prim.Native.Nat.{_+_, _≤_, _<_};
 ghost use lib.ListN.{length, drop, replicate};
 ghost use Rattle.reads.specs.Answer.{wordOutcome, textOutcome};
-ghost use Rattle.reads.specs.Outcome.{choose};
+ghost use Rattle.reads.specs.Outcome.{choose, orEmpty};
 ghost use Rattle.reads.specs.Utf8.{_to_, tail, fits, multiLength, utf8};
 ghost use Rattle.reads.specs.Place.{imageOf};
 ghost use Rattle.reads.specs.Text.{textLength, textAt, textIn, fixedLength, lengthPlusOne};
@@ -140,6 +141,13 @@ pub fn read_cstr(image: &[u8], segments: &[u64], va: u64) -> TextAnswer
         },
         Word::Missing(m) => TextAnswer::Missing(m),
     }
+}
+
+// The same, an absent text counting as the empty one.
+pub fn read_cstr_or_empty(image: &[u8], segments: &[u64], va: u64) -> TextAnswer
+    ensures { λ r. ⌜ textOutcome r ≡ orEmpty (textIn (imageOf (now (image .entry)) (now (segments .entry))) va) ⌝ }
+{
+    or_empty(read_cstr(image, segments, va))
 }
 
 // The length of the text in a field of 16 bytes, as segname and sectname: 0 where it is not UTF-8.
