@@ -89,14 +89,15 @@ module _ {B : Type 0} where
   text-missing w x f m e g = on-missing textOutcome f m e g refl
 
 -- A second lookup where the first is absent.
-pub or-value : (w : Word) (x y : Outcome ℕ) (n : ℕ) → wordOutcome w ≡ x → w ≡ word.Value n → value n ≡ orElse x y
-or-value w x y n e g = rw (← e, g)
+module _ {W A : Type 0} (out : W → Outcome A) (y : Outcome A) where
+  pub else-value : {w v : W} {x : Outcome A} {a : A} → out w ≡ x → w ≡ v → out v ≡ value a → value a ≡ orElse x y
+  else-value e g h = rw (← e, g, h)
 
-pub or-absent : (w : Word) (x y z : Outcome ℕ) → wordOutcome w ≡ x → wordOutcome w ≡ absent → z ≡ y → z ≡ orElse x y
-or-absent w x y z e g h = rw (← e, g) h
+  pub else-absent : {w v : W} {x z : Outcome A} → out w ≡ x → w ≡ v → out v ≡ absent → z ≡ y → z ≡ orElse x y
+  else-absent e g h k = rw (← e, g, h) k
 
-pub or-number : (w : Word) (x y : Outcome ℕ) (k : ℕ) → wordOutcome w ≡ x → wordOutcome w ≡ number k → number k ≡ orElse x y
-or-number w x y k e g = rw (← e, g)
+  pub else-number : {w v : W} {x : Outcome A} {k : ℕ} → out w ≡ x → w ≡ v → out v ≡ number k → number k ≡ orElse x y
+  else-number e g h = rw (← e, g, h)
 
 -- "or 0" and "or empty" of an answer whose outcome is x.
 pub or-zero-of : (r w : Word) (x : Outcome ℕ) → wordOutcome r ≡ orZero (wordOutcome w) → wordOutcome w ≡ x → wordOutcome r ≡ orZero x
@@ -105,4 +106,4 @@ or-zero-of r w x e g = e ∙ ap orZero g
 pub or-empty-of : (r w : TextAnswer) (x : Outcome Text) → textOutcome r ≡ orEmpty (textOutcome w) → textOutcome w ≡ x → textOutcome r ≡ orEmpty x
 or-empty-of r w x e g = e ∙ ap orEmpty g
 
-pub ruleset outcomes = (or-zero-of, or-empty-of, word-value, word-missing, place-value, place-missing, text-value, text-missing, or-value)
+pub ruleset outcomes = (or-zero-of, or-empty-of, word-value, word-missing, place-value, place-missing, text-value, text-missing)

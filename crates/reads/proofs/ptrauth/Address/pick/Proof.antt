@@ -1,23 +1,23 @@
-use mathlib.Core.Path.{ap, _∙_}
+use mathlib.Core.Path.{refl}
 use Rattle.reads.specs.Ptrauth.{picked}
 use Rattle.reads.specs.Answer.{wordOutcome}
 use Rattle.reads.proofs.Masks.{fast-data-mask-64}
-use Rattle.reads.proofs.Outcomes.{or-value, or-absent, or-number}
+use Rattle.reads.proofs.Outcomes.{else-value, else-absent, else-number}
 use borrow.Author.Needs.{needs}
 use Rattle.reads.proofs.ptrauth.Address.pick.Statement.{statement}
 use Rattle.reads.proofs.ptrauth.Address.pick.Tie as tie
 
 returns : tie.Need-returns
 unfolding picked
-returns c = or-value _ _ _ _ (c .before .before .before .pick-wide .ensures) (c .before .va .given .1)
+returns c = else-value wordOutcome _ (c .before .before .before .pick-wide .ensures) (c .before .va .given .1) refl
 
 returns-2 : tie.Need-returns-2
 unfolding picked
-returns-2 c = rw (← fast-data-mask-64 _) (or-absent (c .before .before .before .before .before .before .pick-wide .result) _ _ _ (c .before .before .before .before .before .before .pick-wide .ensures) (ap wordOutcome (c .before .before .before .before .m .given .1) ∙ rw (c .before .enum-told .given .1)) (c .nonzero .ensures))
+returns-2 c = rw (← fast-data-mask-64 _) (else-absent wordOutcome _ (c .before .before .before .before .before .before .pick-wide .ensures) (c .before .before .before .before .m .given .1) (rw (c .before .enum-told .given .1)) (c .nonzero .ensures))
 
 returns-3 : tie.Need-returns-3
 unfolding picked
-returns-3 c = or-number (c .before .before .before .before .before .before .pick-wide .result) _ _ _ (c .before .before .before .before .before .before .pick-wide .ensures) (ap wordOutcome (c .before .before .before .before .m .given .1) ∙ rw (c .before .m2 .given .1))
+returns-3 c = else-number wordOutcome _ (c .before .before .before .before .before .before .pick-wide .ensures) (c .before .before .before .before .m .given .1) (rw (c .before .m2 .given .1))
 
 pub pick-spec : {M : Type 1} → statement M
 pick-spec =
