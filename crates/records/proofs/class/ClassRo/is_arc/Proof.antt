@@ -1,0 +1,12 @@
+use Rattle.pointers.proofs.Flags.{bit-by}
+use borrow.Author.Needs.{needs}
+use Rattle.records.proofs.class.ClassRo.is_arc.Statement.{statement}
+use Rattle.records.proofs.class.ClassRo.is_arc.Tie as tie
+use Rattle.records.proofs.class.ClassRo.is_arc.Reads as reads
+use Rattle.records.proofs.class.ClassRo.is_arc.Lts as lts
+
+returns : tie.Need-returns
+returns c = bit-by 7 _
+
+pub is-arc-spec : {M : Type 1} → statement M
+is-arc-spec = tie.close (tie.spec returns)

@@ -1,0 +1,26 @@
+use mathlib.Core.Path.{refl}
+use Rattle.records.specs.Class.{decodedName}
+use Rattle.reads.specs.Answer.{wordOutcome}
+use Rattle.reads.proofs.Outcomes.{on-missing, on-value}
+use borrow.Author.Needs.{needs}
+use Rattle.records.proofs.class.decoded_name.Statement.{statement}
+use Rattle.records.proofs.class.decoded_name.Tie as tie
+
+returns : tie.Need-returns
+unfolding decodedName
+returns c = on-value wordOutcome _ (c .before .before .before .before .nonzero .ensures) (c .before .before .va .given .1) refl (c .class-name-at .ensures)
+
+returns-2 : tie.Need-returns-2
+unfolding decodedName
+returns-2 c = on-missing wordOutcome _ (c .before .m .given .0 .0) (c .before .before .before .nonzero .ensures) (c .before .m .given .1) refl
+
+pub decoded-name-spec : {M : Type 1} → statement M
+decoded-name-spec =
+    tie.close
+    (tie.spec
+    (λ c κs. search needs)
+    (λ c. search needs)
+    (λ c κs. search needs)
+    (λ c. search needs)
+    returns
+    returns-2)

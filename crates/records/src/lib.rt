@@ -1,0 +1,2 @@
+// Records, lists, rows and walks: class.rs, protocol.rs, category.rs, method.rs, ivar.rs and property.rs of the Rust.
+pub mod class;
