@@ -1,2 +1,4 @@
 -- The definitions that the contracts of records cite.
 pub mod Class
+pub mod Protocol
+pub mod Category
