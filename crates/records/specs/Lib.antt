@@ -2,3 +2,4 @@
 pub mod Class
 pub mod Protocol
 pub mod Category
+pub mod Row

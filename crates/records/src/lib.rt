@@ -1,4 +1,7 @@
 // Records, lists, rows and walks: class.rs, protocol.rs, category.rs, method.rs, ivar.rs and property.rs of the Rust.
 pub mod category;
 pub mod class;
+pub mod ivar;
+pub mod method;
+pub mod property;
 pub mod protocol;

@@ -1,0 +1,251 @@
+// Rows of method lists (objc-runtime-new.h, method_t and method_t::small).
+use pointers::slot::pointer;
+use pointers::slot::pointer_or_0;
+use pointers::slot::resolve_pointer;
+use reads::answer::Missing;
+use reads::answer::Place;
+use reads::answer::Placed;
+use reads::answer::Text;
+use reads::answer::TextAnswer;
+use reads::answer::Word;
+use reads::answer::checked_add;
+use reads::place::readable;
+use reads::place::u32_in;
+use reads::ptrauth::Address;
+use reads::relative::i32_in;
+use reads::relative::relative_pointer;
+use reads::relative::signed;
+use reads::text::read_cstr;
+use reads::text::read_cstr_or_empty;
+ghost use mathlib.Core.Path.{_≡_};
+ghost use Rattle.reads.specs.Answer.{wordOutcome, textOutcome};
+ghost use Rattle.reads.specs.Relative.{relative, signedIn};
+ghost use Rattle.pointers.specs.Tables.{lent};
+ghost use Rattle.records.specs.Row.{methodOutcome, legacyImp, legacyMethodAt, smallImp, selectorAt, typesAt, smallKind, smallMethodAt, isSmall};
+
+// Which form of method_t a row came from.
+pub enum MethodKind {
+    Legacy,
+    SmallIndirect,
+    SmallDirect,
+}
+
+// An implementation's address, or none: an implementation that is there can be 0 after masking.
+pub enum Imp {
+    At(u64),
+    Nothing,
+}
+
+// A row of a method list.
+pub struct Method {
+    pub selector: Text,
+    pub types: Text,
+    pub implementation: Imp,
+    pub kind: MethodKind,
+}
+
+pub enum MethodAnswer {
+    Row(Method),
+    Missing(Missing),
+}
+
+impl Method {
+    // The row is of the form of relative offsets.
+    pub fn is_small(self) -> bool
+        ensures { λ r. ⌜ r ≡ isSmall (self .kind) ⌝ }
+    {
+        let kind = self.kind;
+        match kind {
+            MethodKind::Legacy => false,
+            MethodKind::SmallIndirect => true,
+            MethodKind::SmallDirect => true,
+        }
+    }
+}
+
+// A legacy method's imp: 0 is none.
+fn legacy_imp(va: u64) -> Imp
+    ensures { λ r. ⌜ r ≡ legacyImp va ⌝ }
+{
+    if va == 0 {
+        return Imp::Nothing;
+    }
+    Imp::At(va)
+}
+
+// method_t, 24 bytes.
+pub(crate) fn legacy_method_at(
+    image: &[u8],
+    segments: &[u64],
+    sections: &[u64],
+    info: &[u8],
+    rebases: &[u64],
+    binds: &[u64],
+    index: &[u32],
+    va: u64,
+) -> MethodAnswer
+    ensures { λ r. ⌜ methodOutcome r ≡ legacyMethodAt (lent (now (image .entry)) (now (segments .entry)) (now (sections .entry)) (now (info .entry)) (now (rebases .entry)) (now (binds .entry)) (now (index .entry))) va ⌝ }
+{
+    let _p = match readable(image, segments, va, 24) {
+        Placed::At(p) => p,
+        Placed::Missing(m) => return MethodAnswer::Missing(m),
+    };
+    let name_va = match resolve_pointer(image, segments, rebases, index, va) {
+        Word::Value(name_va) => name_va,
+        Word::Missing(m) => return MethodAnswer::Missing(m),
+    };
+    let types_va = match pointer(image, segments, rebases, index, va, 8) {
+        Word::Value(types_va) => types_va,
+        Word::Missing(m) => return MethodAnswer::Missing(m),
+    };
+    let imp_va = match pointer_or_0(image, segments, rebases, index, va, 16) {
+        Word::Value(imp_va) => imp_va,
+        Word::Missing(m) => return MethodAnswer::Missing(m),
+    };
+    let selector = match read_cstr(image, segments, name_va) {
+        TextAnswer::Found(selector) => selector,
+        TextAnswer::Missing(m) => return MethodAnswer::Missing(m),
+    };
+    let types = match read_cstr_or_empty(image, segments, types_va) {
+        TextAnswer::Found(types) => types,
+        TextAnswer::Missing(m) => return MethodAnswer::Missing(m),
+    };
+    MethodAnswer::Row(Method {
+        selector,
+        types,
+        implementation: legacy_imp(imp_va),
+        kind: MethodKind::Legacy,
+    })
+}
+
+// A small method's imp: none exactly if its offset is 0, else masked to 48 bits.
+fn small_imp(raw: u32, field: u64) -> Imp
+    ensures { λ r. ⌜ r ≡ smallImp raw field ⌝ }
+{
+    if raw == 0 {
+        return Imp::Nothing;
+    }
+    Imp::At(Address::strip(relative_pointer(field, signed(raw))))
+}
+
+fn small_kind(direct: bool) -> MethodKind
+    ensures { λ r. ⌜ r ≡ smallKind direct ⌝ }
+{
+    if direct {
+        return MethodKind::SmallDirect;
+    }
+    MethodKind::SmallIndirect
+}
+
+// The target of the offset at i bytes from a place, counted from the offset's own field.
+fn target_of(image: &[u8], p: Place, i: u64, field: u64) -> u64
+    ensures { λ r. ⌜ r ≡ relative field (signedIn (now (image .entry)) p i) ⌝ }
+{
+    relative_pointer(field, i32_in(image, p, i))
+}
+
+// A small method's selector: its offset's target itself, or indirect, through one slot.
+fn selector_at(
+    image: &[u8],
+    segments: &[u64],
+    sections: &[u64],
+    info: &[u8],
+    rebases: &[u64],
+    binds: &[u64],
+    index: &[u32],
+    direct: bool,
+    field: u64,
+    p: Place,
+) -> Word
+    ensures { λ r. ⌜ wordOutcome r ≡ selectorAt (lent (now (image .entry)) (now (segments .entry)) (now (sections .entry)) (now (info .entry)) (now (rebases .entry)) (now (binds .entry)) (now (index .entry))) direct field p ⌝ }
+{
+    let target = target_of(image, p, 0, field);
+    if direct {
+        return Word::Value(target);
+    }
+    resolve_pointer(image, segments, rebases, index, target)
+}
+
+// A small method's types: the text at its offset's target.
+fn types_at(
+    image: &[u8],
+    segments: &[u64],
+    sections: &[u64],
+    info: &[u8],
+    rebases: &[u64],
+    binds: &[u64],
+    index: &[u32],
+    field: u64,
+    p: Place,
+) -> TextAnswer
+    ensures { λ r. ⌜ textOutcome r ≡ typesAt (lent (now (image .entry)) (now (segments .entry)) (now (sections .entry)) (now (info .entry)) (now (rebases .entry)) (now (binds .entry)) (now (index .entry))) field p ⌝ }
+{
+    read_cstr_or_empty(image, segments, target_of(image, p, 4, field))
+}
+
+// method_t::small, 12 bytes: both field addresses are tested before the first lookup.
+pub(crate) fn small_method_at(
+    image: &[u8],
+    segments: &[u64],
+    sections: &[u64],
+    info: &[u8],
+    rebases: &[u64],
+    binds: &[u64],
+    index: &[u32],
+    va: u64,
+    direct: bool,
+) -> MethodAnswer
+    ensures { λ r. ⌜ methodOutcome r ≡ smallMethodAt (lent (now (image .entry)) (now (segments .entry)) (now (sections .entry)) (now (info .entry)) (now (rebases .entry)) (now (binds .entry)) (now (index .entry))) va direct ⌝ }
+{
+    let p = match readable(image, segments, va, 12) {
+        Placed::At(p) => p,
+        Placed::Missing(m) => return MethodAnswer::Missing(m),
+    };
+    let types_field = match checked_add(va, 4) {
+        Word::Value(types_field) => types_field,
+        Word::Missing(m) => return MethodAnswer::Missing(m),
+    };
+    let imp_field = match checked_add(va, 8) {
+        Word::Value(imp_field) => imp_field,
+        Word::Missing(m) => return MethodAnswer::Missing(m),
+    };
+    let name_va = match selector_at(
+        image,
+        segments,
+        sections,
+        info,
+        rebases,
+        binds,
+        index,
+        direct,
+        va,
+        p,
+    ) {
+        Word::Value(name_va) => name_va,
+        Word::Missing(m) => return MethodAnswer::Missing(m),
+    };
+    let selector = match read_cstr(image, segments, name_va) {
+        TextAnswer::Found(selector) => selector,
+        TextAnswer::Missing(m) => return MethodAnswer::Missing(m),
+    };
+    let types = match types_at(
+        image,
+        segments,
+        sections,
+        info,
+        rebases,
+        binds,
+        index,
+        types_field,
+        p,
+    ) {
+        TextAnswer::Found(types) => types,
+        TextAnswer::Missing(m) => return MethodAnswer::Missing(m),
+    };
+    MethodAnswer::Row(Method {
+        selector,
+        types,
+        implementation: small_imp(u32_in(image, p, 8), imp_field),
+        kind: small_kind(direct),
+    })
+}
