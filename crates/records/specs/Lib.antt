@@ -2,4 +2,8 @@
 pub mod Class
 pub mod Protocol
 pub mod Category
+pub mod List
+pub mod Search
+pub mod Tries
 pub mod Row
+pub mod Walk

@@ -13,6 +13,12 @@ use Rattle.reads.specs.declared.answer.Place.{Place}
 use Rattle.reads.specs.declared.answer.Text.{Text}
 use Rattle.pointers.specs.Tables.{Tables, imageIn}
 use Rattle.pointers.specs.Slot.{slot, pointer, pointerOr0}
+use Rattle.records.specs.declared.row.Row.{Row}
+use Rattle.records.specs.declared.row.Row.the-variants as row
+use Rattle.records.specs.declared.list.RowKind.{RowKind}
+use Rattle.records.specs.declared.list.RowKind.the-variants as rows
+use Rattle.records.specs.declared.row.RowAnswer.{RowAnswer}
+use Rattle.records.specs.declared.row.RowAnswer.the-variants as answer
 use Rattle.records.specs.declared.method.Imp.{Imp}
 use Rattle.records.specs.declared.method.Imp.the-variants as imp
 use Rattle.records.specs.declared.method.Method.{Method}
@@ -28,6 +34,10 @@ use Rattle.records.specs.declared.ivar.IvarAnswer.the-variants as ivar
 use Rattle.records.specs.declared.property.Property.{Property}
 use Rattle.records.specs.declared.property.PropertyAnswer.{PropertyAnswer}
 use Rattle.records.specs.declared.property.PropertyAnswer.the-variants as property
+
+abbrev pub rowOutcome : RowAnswer → Outcome Row
+rowOutcome (answer.Row r) = value r
+rowOutcome (answer.Missing m) = missed m
 
 abbrev pub methodOutcome : MethodAnswer → Outcome Method
 methodOutcome (method.Row r) = value r
@@ -132,3 +142,20 @@ propertyAt t va =
     andThen (textIn (imageIn t) named) (λ name.
     andThen (orEmpty (textIn (imageIn t) told)) (λ attributes.
     value (record { name = name; attributes = attributes }))))))
+
+-- A row by what the entries of its list are.
+abbrev pub methodRow : Method → Outcome Row
+methodRow m = value (row.Method m)
+
+abbrev pub ivarRow : Ivar → Outcome Row
+ivarRow i = value (row.Ivar i)
+
+abbrev pub propertyRow : Property → Outcome Row
+propertyRow p = value (row.Property p)
+
+unfoldable pub rowAt : Tables → RowKind → ℕ → Outcome Row
+rowAt t rows.Legacy va = andThen (legacyMethodAt t va) methodRow
+rowAt t rows.SmallIndirect va = andThen (smallMethodAt t va false) methodRow
+rowAt t rows.SmallDirect va = andThen (smallMethodAt t va true) methodRow
+rowAt t rows.Ivar va = andThen (ivarAt t va) ivarRow
+rowAt t rows.Property va = andThen (propertyAt t va) propertyRow

@@ -2,6 +2,9 @@
 pub mod category;
 pub mod class;
 pub mod ivar;
+pub mod list;
 pub mod method;
 pub mod property;
 pub mod protocol;
+pub mod row;
+pub mod walk;

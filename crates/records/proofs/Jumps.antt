@@ -1,0 +1,135 @@
+-- Why the search may go from one breakpoint to the next, and why its budget suffices. Nothing is assumed of the segments' order.
+use Prim.Native.Nat.{ℕ, _+_, _-_, _*_, _/_, _^_, _≤_, _<_}
+use mathlib.Core.Path.{_≡_, refl, sym, _∙_}
+use mathlib.Core.Bool.{true, false, and-false}
+use native.Mathlib.Nat.{mul-zero, mul-le-mul, le-dest, mul-le-mul-right, div-mul-le-self, lt-div-mul-add}
+use native.Mathlib.Omega.{arith}
+use borrow.Author.Tests.{lt-ltb, le-ltb}
+use lib.ListN.{length}
+use Rattle.reads.specs.Answer.{missed, wordOutcome}
+use Rattle.reads.specs.Breaks.{isValue, canRead, breaksOf, nextBreak, above}
+use Rattle.reads.specs.Outcome.{value, absent}
+use Rattle.reads.specs.Place.{Image, readable}
+use Rattle.reads.specs.declared.answer.Missing.{Missing}
+use Rattle.reads.specs.declared.answer.Missing.the-variants.{Absent, Refused}
+use Rattle.reads.specs.declared.answer.Place.{Place}
+use Rattle.reads.specs.declared.answer.Word.{Word}
+use Rattle.reads.specs.declared.breaks.Break.the-variants.{At, Nothing}
+use Rattle.reads.proofs.Breakpoints.{can-read-until-break, unreadable-past-breaks, above-few}
+use Rattle.reads.proofs.LeastAbove.{next-break-above, above-falls}
+use Rattle.records.specs.List.{least, entryAddress, entry}
+use Rattle.records.specs.Search.{firstReadable}
+use Rattle.records.specs.Tries.{ahead, Tried}
+use Rattle.records.specs.declared.list.Layout.{Layout}
+use Rattle.records.specs.declared.list.Try.{Try}
+use Rattle.records.specs.declared.list.Try.the-variants.{Stop, Go}
+use Rattle.records.proofs.Firsts.{first-skip, first-past, first-here, first-none}
+
+-- An index times an entry size fits 64 bits.
+pub product-fits : (a b : ℕ) → a < 2 ^ 32 → b < 2 ^ 32 → a * b < 2 ^ 64
+product-fits a b p q = omega (arith, mul-le-mul {n₁ = a} {m₁ = b} {n₂ = 2 ^ 32 - 1} {m₂ = 2 ^ 32 - 1} (omega arith) (omega arith))
+
+-- What cannot be looked up cannot be read, whatever stands in its place.
+missed-no-value : (x : Missing) → isValue (missed {A = Place} x) ≡ false
+missed-no-value Absent = refl
+missed-no-value (Refused n) = refl
+
+pub can-read-missing : (m : Image) (k va : ℕ) (x : Missing) → missed x ≡ readable m va k → canRead m k va ≡ false
+unfolding canRead
+can-read-missing m k va x e = rw (← e) (missed-no-value x)
+
+-- How many entries after i start below b.
+abbrev pub gap : Layout → ℕ → ℕ → ℕ
+gap h i b = (b - entryAddress h i - 1) / h .size
+
+pub addresses-rise : (h : Layout) (i x : ℕ) → i ≤ x → entryAddress h i ≤ entryAddress h x
+addresses-rise h i x l = omega (arith, mul-le-mul-right (h .size) l)
+
+-- Entry i, by its address.
+module _ (m : Image) (h : Layout) (i : ℕ) where
+  pub entry-over : 2 ^ 64 ≤ entryAddress h i → entry m h i ≡ false
+  unfolding entry
+  entry-over w = simp (le-ltb (entryAddress h i) (2 ^ 64) w)
+
+  pub entry-unreadable : canRead m (least (h .kind)) (entryAddress h i) ≡ false → entry m h i ≡ false
+  unfolding entry
+  entry-unreadable e = rw (e, and-false)
+
+  pub entry-readable : entryAddress h i < 2 ^ 64 → canRead m (least (h .kind)) (entryAddress h i) ≡ true → entry m h i ≡ true
+  unfolding entry
+  entry-readable l e = rw (lt-ltb (entryAddress h i) (2 ^ 64) l, e)
+
+module _ (m : Image) (h : Layout) (i : ℕ) where
+  pub search-past : h .count ≤ i → absent ≡ firstReadable m h i
+  unfolding firstReadable
+  search-past l = sym (first-past (entry m h) (h .count) i l)
+
+  -- No entry from i on can be read.
+  none : i < h .count → ((x : ℕ) → i ≤ x → x < h .count → entry m h x ≡ false) → absent ≡ firstReadable m h i
+  unfolding firstReadable
+  none l f = sym (first-none (entry m h) (h .count) i f (omega arith))
+
+  -- The address of entry i is over 64 bits, and so is each later one.
+  pub search-over : i < h .count → 2 ^ 64 ≤ entryAddress h i → absent ≡ firstReadable m h i
+  search-over l w = none l (λ x p q. entry-over m h x (omega (arith, addresses-rise h i x p)))
+
+  pub search-here : i < h .count → entryAddress h i < 2 ^ 64 → canRead m (least (h .kind)) (entryAddress h i) ≡ true → value i ≡ firstReadable m h i
+  unfolding firstReadable
+  search-here l f e = sym (first-here (entry m h) (h .count) i l (entry-readable m h i f e))
+
+  -- No breakpoint is left above entry i, so no entry from there on can be read.
+  pub entries-past-breaks : nextBreak (breaksOf m (least (h .kind))) (entryAddress h i) ≡ Nothing → (x : ℕ) → i ≤ x → entry m h x ≡ false
+  entries-past-breaks e x l =
+      entry-unreadable m h x (unreadable-past-breaks m (least (h .kind)) (entryAddress h i) (entryAddress h x) e (addresses-rise h i x l))
+
+  pub search-past-breaks : i < h .count → nextBreak (breaksOf m (least (h .kind))) (entryAddress h i) ≡ Nothing → absent ≡ firstReadable m h i
+  search-past-breaks l e = none l (λ x p q. entries-past-breaks e x p)
+
+  module _ (low : i < h .count) (not : canRead m (least (h .kind)) (entryAddress h i) ≡ false) where
+    -- Entries of size 0 all have one address.
+    pub search-flat : h .size ≡ 0 → absent ≡ firstReadable m h i
+    search-flat z = none low (λ x p q. entry-unreadable m h x (rw (one-place x) not))
+      where
+        one-place : (x : ℕ) → entryAddress h x ≡ entryAddress h i
+        one-place x = simp (z, mul-zero)
+
+    -- The next breakpoint is b.
+    module _ (short : length (m .bytes) < 2 ^ 64) (sized : h .size ≡ 0 → ⊥) (b : ℕ) (next : nextBreak (breaksOf m (least (h .kind))) (entryAddress h i) ≡ At b) where
+      over : entryAddress h i < b
+      over = next-break-above (breaksOf m (least (h .kind))) (entryAddress h i) b next
+
+      below : (x : ℕ) → i ≤ x → x ≤ i + gap h i b → entryAddress h x < b
+      below x l u =
+          let d = le-dest l in
+          let s : d .0 * h .size ≤ gap h i b * h .size = mul-le-mul-right (h .size) (omega arith) in
+          rw (← d .1) (omega (arith, over, div-mul-le-self (b - entryAddress h i - 1) (h .size)))
+
+      fails : (x : ℕ) → i ≤ x → x ≤ i + gap h i b → entry m h x ≡ false
+      fails x l u =
+          entry-unreadable m h x (can-read-until-break m (least (h .kind)) (entryAddress h i) b (entryAddress h x) short next (addresses-rise h i x l) (below x l u) ∙ not)
+
+      pub jump-out : h .count - i - 1 ≤ gap h i b → absent ≡ firstReadable m h i
+      jump-out g = none low (λ x p q. fails x p (omega arith))
+
+      pub jump-same : gap h i b < h .count - i - 1 → firstReadable m h (i + gap h i b + 1) ≡ firstReadable m h i
+      unfolding firstReadable
+      jump-same g = sym (first-skip (entry m h) (h .count) i (i + gap h i b + 1) (omega arith) (omega arith) (λ x p q. fails x p (omega arith)))
+
+      pub jump-fewer : ahead m h (i + gap h i b + 1) < ahead m h i
+      unfolding ahead
+      jump-fewer =
+          above-falls (breaksOf m (least (h .kind))) (entryAddress h i) b (entryAddress h (i + gap h i b + 1)) next
+          (omega (arith, over, lt-div-mul-add {a = b - entryAddress h i - 1} {b = h .size} (omega arith)))
+
+  -- The budget of 3 x S + 1 covers the breakpoints ahead of any entry.
+  pub ahead-few : ahead m h i < 3 * (length (m .words) / 4) + 1
+  unfolding ahead
+  ahead-few = omega (arith, above-few m (least (h .kind)) (entryAddress h i))
+
+-- What trying an index leaves, by the case that came.
+module _ (m : Image) (h : Layout) (i : ℕ) (r : Try) (tried : Tried m h i r) where
+  pub stopped : (w : Word) → r ≡ Stop w → wordOutcome w ≡ firstReadable m h i
+  stopped w e = rw e at tried
+
+  pub went : (j : ℕ) → r ≡ Go j → (firstReadable m h j ≡ firstReadable m h i) × (ahead m h j < ahead m h i)
+  went j e = rw e at tried

@@ -1,0 +1,8 @@
+-- Laws that the proofs of records share, and that the crates above cite.
+pub mod Firsts
+pub mod Headers
+pub mod Jumps
+pub mod Windows
+pub mod Readables
+pub mod Steps
+pub mod ListCases

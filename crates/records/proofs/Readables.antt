@@ -1,0 +1,88 @@
+-- The readable entries of a list: how many there can be, and how those of a list of any count are computed.
+use Prim.Native.Nat.{ℕ, suc, _-_, _*_, _/_, _^_, _≤_, _<_}
+use mathlib.Core.Path.{_≡_, refl, _∙_}
+use mathlib.Core.Bool.{true, false}
+use mathlib.Core.List.{List, [], _∷_}
+use mathlib.Core.Logic.{inl}
+use native.Mathlib.Nat.{sub-zero, sub-self}
+use native.Mathlib.Omega.{arith}
+use lib.Dec.{ltb}
+use lib.ListN.{length}
+use Rattle.reads.specs.Breaks.{canRead, breaksOf, nextBreak}
+use Rattle.reads.specs.Outcome.{value, absent, Unrefused}
+use Rattle.reads.specs.Place.{Image}
+use Rattle.reads.specs.declared.breaks.Break.the-variants.{Nothing}
+use Rattle.reads.proofs.Tests.{both-true}
+use Rattle.records.specs.List.{least, entryAddress, entry}
+use Rattle.records.specs.Search.{allFrom, firstReadable, readables}
+use Rattle.records.specs.declared.list.Layout.{Layout}
+use Rattle.records.proofs.Firsts.{FirstOf, first-unrefused, first-value, first-absent, all-of-value, all-of-absent, all-of-none, all-of-less}
+use Rattle.records.proofs.Headers.{least-12}
+use Rattle.records.proofs.Jumps.{entries-past-breaks}
+use Rattle.records.proofs.Windows.{passing-either, reads-few}
+
+-- The readable entries from index i on.
+abbrev pub restFrom : Image → Layout → ℕ → List ℕ
+restFrom m h i = allFrom (entry m h) (h .count - i) i
+
+module _ (m : Image) (h : Layout) where
+  -- The bytes of a readable entry can be read.
+  pub entry-can-read : (j : ℕ) → entry m h j ≡ true → canRead m (least (h .kind)) (entryAddress h j) ≡ true
+  unfolding entry
+  entry-can-read j e = both-true (ltb (entryAddress h j) (2 ^ 64)) (canRead m (least (h .kind)) (entryAddress h j)) e .1
+
+  -- What a search from i on finds, and what is then left of the readable entries from there on.
+  module _ (i : ℕ) where
+    pub first-readable-unrefused : Unrefused (firstReadable m h i)
+    unfolding firstReadable
+    first-readable-unrefused = first-unrefused (entry m h) (h .count - i) i
+
+    pub found : (j : ℕ) → firstReadable m h i ≡ value j → FirstOf (entry m h) (h .count - i) i j
+    unfolding firstReadable
+    found j e = first-value (entry m h) (h .count - i) i j e
+
+    pub found-below-count : (j : ℕ) → firstReadable m h i ≡ value j → j < h .count
+    found-below-count j e = let f = found j e in omega (arith, f .from, f .below)
+
+    pub not-found : firstReadable m h i ≡ absent → (x : ℕ) → i ≤ x → x < h .count → entry m h x ≡ false
+    unfolding firstReadable
+    not-found e x l u = first-absent (entry m h) (h .count - i) i e x l (omega arith)
+
+    pub rest-of-value : (j : ℕ) → firstReadable m h i ≡ value j → restFrom m h i ≡ j ∷ restFrom m h (suc j)
+    unfolding firstReadable
+    rest-of-value j e =
+        let f = found j e in
+        let n : h .count - i - (suc j - i) ≡ h .count - suc j = omega (arith, f .from, f .below) in
+        all-of-value (entry m h) (h .count - i) i j e ∙ rw n
+
+    pub rest-of-absent : firstReadable m h i ≡ absent → restFrom m h i ≡ []
+    unfolding firstReadable
+    rest-of-absent e = all-of-absent (entry m h) (h .count - i) i e
+
+  -- From 0 on they are all, and from the count on none.
+  pub rest-from-0 : readables m h ≡ restFrom m h 0
+  unfolding readables
+  rest-from-0 = rw sub-zero
+
+  pub rest-from-count : restFrom m h (h .count) ≡ []
+  unfolding allFrom
+  rest-from-count = rw sub-self
+
+  -- At most S x floor(n / 12): S the rows of the segment table, n the image's length.
+  pub readables-few : least (h .kind) ≤ h .size → length (readables m h) ≤ length (m .words) / 4 * (length (m .bytes) / 12)
+  unfolding readables
+  readables-few sized =
+      let a = passing-either (entry m h) (λ j. canRead m (least (h .kind)) (entryAddress h j)) (λ j. false) (λ j e. inl (entry-can-read j e)) (h .count) 0 in
+      let z : length (allFrom (λ j. false) (h .count) 0) ≡ 0 = rw (all-of-none (λ j. false) (h .count) 0 (λ x l u. refl)) in
+      let b = reads-few m (least (h .kind)) (h .base) (h .size) (omega (arith, least-12 (h .kind))) (least-12 (h .kind)) (h .count) 0 in
+      omega arith
+
+  -- Where every entry from d on fails, the first d are all.
+  pub readables-below : (d : ℕ) → d ≤ h .count → ((x : ℕ) → d ≤ x → x < h .count → entry m h x ≡ false) → readables m h ≡ allFrom (entry m h) d 0
+  unfolding readables
+  readables-below d l f = all-of-less (entry m h) (h .count) d l f
+
+  -- So where no breakpoint lies above entry d.
+  pub readables-before-breaks-end : (d : ℕ) → d ≤ h .count → nextBreak (breaksOf m (least (h .kind))) (entryAddress h d) ≡ Nothing
+      → readables m h ≡ allFrom (entry m h) d 0
+  readables-before-breaks-end d l e = readables-below d l (λ x p q. entries-past-breaks m h d e x p)
