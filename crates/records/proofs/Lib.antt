@@ -5,4 +5,11 @@ pub mod Jumps
 pub mod Windows
 pub mod Readables
 pub mod Steps
+pub mod RecordsUnrefused
+pub mod RowsUnrefused
+pub mod Walk
 pub mod ListCases
+pub mod ValueEnds
+pub mod AttributeItems
+pub mod AttributeAnswers
+pub mod AttributeCases

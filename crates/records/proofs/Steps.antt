@@ -28,9 +28,9 @@ use Rattle.records.specs.declared.list.LayoutAnswer.the-variants as list
 use Rattle.records.specs.declared.row.Row.{Row}
 use Rattle.records.specs.declared.row.RowAnswer.{RowAnswer}
 use Rattle.records.specs.declared.row.RowAnswer.the-variants as rows
-use Rattle.records.specs.declared.walk.ListWalk.{ListWalk}
-use Rattle.records.specs.declared.walk.Step.the-variants as step
-use Rattle.records.specs.declared.walk.Stepped.{Stepped}
+use Rattle.records.specs.declared.list_walk.ListWalk.{ListWalk}
+use Rattle.records.specs.declared.list_walk.Step.the-variants as step
+use Rattle.records.specs.declared.list_walk.Stepped.{Stepped}
 use Rattle.records.proofs.Firsts.{FirstOf, first-value}
 
 -- What the search finds lies below the count, and its address fits.

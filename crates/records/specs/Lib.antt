@@ -7,3 +7,5 @@ pub mod Search
 pub mod Tries
 pub mod Row
 pub mod Walk
+pub mod PlainWalk
+pub mod Attributes

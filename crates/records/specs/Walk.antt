@@ -11,12 +11,12 @@ use Rattle.records.specs.Row.{rowAt}
 use Rattle.records.specs.declared.list.Layout.{Layout}
 use Rattle.records.specs.declared.list.ListKind.{ListKind}
 use Rattle.records.specs.declared.row.Row.{Row}
-use Rattle.records.specs.declared.walk.ListWalk.{ListWalk}
-use Rattle.records.specs.declared.walk.Step.{Step}
-use Rattle.records.specs.declared.walk.Step.the-variants as step
-use Rattle.records.specs.declared.walk.Walked.{Walked}
-use Rattle.records.specs.declared.walk.Walked.the-variants as walked
-use Rattle.records.specs.declared.walk.Stepped.{Stepped}
+use Rattle.records.specs.declared.list_walk.ListWalk.{ListWalk}
+use Rattle.records.specs.declared.list_walk.Step.{Step}
+use Rattle.records.specs.declared.list_walk.Step.the-variants as step
+use Rattle.records.specs.declared.list_walk.Walked.{Walked}
+use Rattle.records.specs.declared.list_walk.Walked.the-variants as walked
+use Rattle.records.specs.declared.list_walk.Stepped.{Stepped}
 
 abbrev pub walkOf : ℕ → ListKind → ℕ → ListWalk
 walkOf list kind cursor = record { list = list; kind = kind; cursor = cursor }

@@ -1,18 +1,18 @@
 use Rattle.records.proofs.Steps as laws
 use mathlib.Core.Path.{_∙_, sym, ap, _≡_}
 use Rattle.records.specs.Walk.{moved, stepped}
-use Rattle.records.specs.declared.walk.Step.the-variants as step
+use Rattle.records.specs.declared.list_walk.Step.the-variants as step
 use native.Mathlib.Numerals.{add-one}
 use Rattle.reads.specs.Answer.{wordOutcome}
 use borrow.Author.Needs.{needs}
-use Rattle.records.proofs.walk.ListWalk.over_list.Statement.{statement}
-use Rattle.records.proofs.walk.ListWalk.over_list.Tie as tie
-use Rattle.records.proofs.walk.ListWalk.over_list.Reads as reads
-use Rattle.records.proofs.walk.ListWalk.over_list.Lts as lts
+use Rattle.records.proofs.list_walk.ListWalk.over_list.Statement.{statement}
+use Rattle.records.proofs.list_walk.ListWalk.over_list.Tie as tie
+use Rattle.records.proofs.list_walk.ListWalk.over_list.Reads as reads
+use Rattle.records.proofs.list_walk.ListWalk.over_list.Lts as lts
 use Rattle.records.proofs.list.first_readable.Reads as first-readable-reads
-use Rattle.records.proofs.walk.ListWalk.at.Reads as at-reads
-use Rattle.records.proofs.walk.ListWalk.refused.Reads as refused-reads
-use Rattle.records.proofs.walk.ListWalk.settle.Reads as settle-reads
+use Rattle.records.proofs.list_walk.ListWalk.at.Reads as at-reads
+use Rattle.records.proofs.list_walk.ListWalk.refused.Reads as refused-reads
+use Rattle.records.proofs.list_walk.ListWalk.settle.Reads as settle-reads
 
 refused-requires : tie.Need-refused-requires
 refused-requires c κs = search needs

@@ -1,14 +1,14 @@
 use Rattle.records.proofs.Steps as laws
 use mathlib.Core.Path.{_∙_, sym, ap, _≡_}
 use borrow.Author.Needs.{needs}
-use Rattle.records.proofs.walk.ListWalk.walked_list.Statement.{statement}
-use Rattle.records.proofs.walk.ListWalk.walked_list.Tie as tie
-use Rattle.records.proofs.walk.ListWalk.walked_list.Reads as reads
-use Rattle.records.proofs.walk.ListWalk.walked_list.Lts as lts
+use Rattle.records.proofs.list_walk.ListWalk.walked_list.Statement.{statement}
+use Rattle.records.proofs.list_walk.ListWalk.walked_list.Tie as tie
+use Rattle.records.proofs.list_walk.ListWalk.walked_list.Reads as reads
+use Rattle.records.proofs.list_walk.ListWalk.walked_list.Lts as lts
 use Rattle.records.proofs.list.list_at.Reads as list-at-reads
-use Rattle.records.proofs.walk.ListWalk.over_list.Reads as over-list-reads
-use Rattle.records.proofs.walk.ListWalk.over_none.Reads as over-none-reads
-use Rattle.records.proofs.walk.ListWalk.refused.Reads as refused-reads
+use Rattle.records.proofs.list_walk.ListWalk.over_list.Reads as over-list-reads
+use Rattle.records.proofs.list_walk.ListWalk.over_none.Reads as over-none-reads
+use Rattle.records.proofs.list_walk.ListWalk.refused.Reads as refused-reads
 
 list-at-requires : tie.Need-list-at-requires
 list-at-requires c κs = search needs

@@ -1,16 +1,16 @@
 use Rattle.records.proofs.Steps as laws
 use mathlib.Core.Path.{_∙_, sym, ap, _≡_}
 use Rattle.records.specs.Walk.{moved, stepped}
-use Rattle.records.specs.declared.walk.Step.the-variants as step
+use Rattle.records.specs.declared.list_walk.Step.the-variants as step
 use native.Mathlib.Numerals.{add-one}
 use borrow.Author.Needs.{needs}
-use Rattle.records.proofs.walk.ListWalk.settle.Statement.{statement}
-use Rattle.records.proofs.walk.ListWalk.settle.Tie as tie
-use Rattle.records.proofs.walk.ListWalk.settle.Reads as reads
-use Rattle.records.proofs.walk.ListWalk.settle.Lts as lts
+use Rattle.records.proofs.list_walk.ListWalk.settle.Statement.{statement}
+use Rattle.records.proofs.list_walk.ListWalk.settle.Tie as tie
+use Rattle.records.proofs.list_walk.ListWalk.settle.Reads as reads
+use Rattle.records.proofs.list_walk.ListWalk.settle.Lts as lts
 use Rattle.records.proofs.row.row_at.Reads as row-at-reads
-use Rattle.records.proofs.walk.ListWalk.at.Reads as at-reads
-use Rattle.records.proofs.walk.ListWalk.refused.Reads as refused-reads
+use Rattle.records.proofs.list_walk.ListWalk.at.Reads as at-reads
+use Rattle.records.proofs.list_walk.ListWalk.refused.Reads as refused-reads
 
 cast-va : tie.Need-cast-va
 cast-va c = search needs

@@ -1,13 +1,13 @@
 use Rattle.records.proofs.Steps as laws
 use mathlib.Core.Path.{_∙_, sym, ap, _≡_}
 use borrow.Author.Needs.{needs}
-use Rattle.records.proofs.walk.ListWalk.next.Statement.{statement}
-use Rattle.records.proofs.walk.ListWalk.next.Tie as tie
-use Rattle.records.proofs.walk.ListWalk.next.Reads as reads
-use Rattle.records.proofs.walk.ListWalk.next.Lts as lts
+use Rattle.records.proofs.list_walk.ListWalk.next.Statement.{statement}
+use Rattle.records.proofs.list_walk.ListWalk.next.Tie as tie
+use Rattle.records.proofs.list_walk.ListWalk.next.Reads as reads
+use Rattle.records.proofs.list_walk.ListWalk.next.Lts as lts
 use Rattle.pointers.proofs.question.ask.Reads as ask-reads
-use Rattle.records.proofs.walk.ListWalk.refused.Reads as refused-reads
-use Rattle.records.proofs.walk.ListWalk.walked_list.Reads as walked-list-reads
+use Rattle.records.proofs.list_walk.ListWalk.refused.Reads as refused-reads
+use Rattle.records.proofs.list_walk.ListWalk.walked_list.Reads as walked-list-reads
 
 ask-requires : tie.Need-ask-requires
 ask-requires c κs = search needs
