@@ -159,3 +159,49 @@ module _ (t : Tables) (opened : Opened t) (k : ListKind) (list : ℕ) where
   -- it skipped or the number, and every cursor are the plain walk's.
   pub whole-claim : (loans : List Tables) → Run t k list loans 0 → steps loans (walkOf list k 0) ≡ shownAll k list (plainWalk t k list loans 0)
   whole-claim loans r = from loans 0 r (omega arith)
+
+  -- The list is there, with the layout h.
+  module _ (h : Layout) (there : listAt t k list ≡ value h) where
+    fits : (p : ℕ) → p ≤ h .count → p ≤ countOf (listAt t k list)
+    fits p l = rw there l
+
+    step-value : (p j : ℕ) → p ≤ h .count → firstReadable (imageIn t) h p ≡ value j → plainStep t k list t p ≡ settling j (rowAt t (h .kind) (entryAddress h j))
+    unfolding plainStep
+    step-value p j l e = rw (opened-unrefused p (fits p l), there, rest-of-value (imageIn t) h p j e)
+
+    step-finished : (p : ℕ) → p ≤ h .count → firstReadable (imageIn t) h p ≡ absent → plainStep t k list t p ≡ told (walked.Step step.Finished) (h .count)
+    unfolding plainStep
+    step-finished p l e = rw (opened-unrefused p (fits p l), there, rest-of-absent (imageIn t) h p e)
+
+    -- One step over the opened tables takes the first entry that is left.
+    one : (loans : List Tables) (p : ℕ) → p ≤ h .count → {o : Outcome ℕ} → Unrefused o → firstReadable (imageIn t) h p ≡ o
+        → (plainWalk t k list loans (plainStep t k list t p .position)
+        ≡ handedOut t k list h loans (leftFrom t h (plainStep t k list t p .position)) (plainStep t k list t p .position))
+        → plainWalk t k list (t ∷ loans) p ≡ handedOut t k list h (t ∷ loans) (leftFrom t h p) p
+    unfolding plainWalk handedOut
+    one loans p l (is-value j) e ih =
+        rw (opened-unrefused p (fits p l), rest-of-value (imageIn t) h p j e)
+        (rw (step-value p j l e) (ap (λ (more : List Told). settling j (rowAt t (h .kind) (entryAddress h j)) ∷ more)
+        (rw (settling-position j (rowAt t (h .kind) (entryAddress h j))) (rw (step-value p j l e, settling-position j (rowAt t (h .kind) (entryAddress h j))) at ih))))
+    one loans p l is-absent e ih =
+        rw (opened-unrefused p (fits p l), rest-of-absent (imageIn t) h p e)
+        (rw (step-finished p l e) (ap (λ (more : List Told). told (walked.Step step.Finished) (h .count) ∷ more)
+        (rw (step-finished p l e, rest-from-count (imageIn t) h) at ih)))
+
+    hands : (loans : List Tables) (p : ℕ) → Run t k list loans p → p ≤ h .count → plainWalk t k list loans p ≡ handedOut t k list h loans (leftFrom t h p) p
+    unfolding plainWalk handedOut
+    hands [] p run-ends l = refl
+    hands (t′ ∷ loans) p (run-opened r) l =
+        one loans p l (first-readable-unrefused (imageIn t) h p) refl
+        (hands loans (plainStep t k list t p .position) r (rw there at (stands p (fits p l))))
+    hands (lent ∷ loans) p (run-refused q e r) l =
+        rw (e, refused-plain lent p q e) (ap (λ (more : List Told). told (walked.Step (step.Refused q)) p ∷ more) (hands loans p r l))
+
+    -- D3c. Of such a run the steps that are not refused take the readable entries one by one, from the first to the last: none is missing and
+    -- none is taken twice; after the last, and only then, each says finished, with the cursor at the count.
+    pub settles-each-once : (loans : List Tables) → Run t k list loans 0 → plainWalk t k list loans 0 ≡ handedOut t k list h loans (readables (imageIn t) h) 0
+    settles-each-once loans r = hands loans 0 r (omega arith) ∙ ap (λ (es : List ℕ). handedOut t k list h loans es 0) (sym (rest-from-0 (imageIn t) h))
+
+    -- D3d. There are at most S x floor(n / 12) of them: S the rows of the segment table, n the image's length, in any order and overlap.
+    pub settled-bound : length (readables (imageIn t) h) ≤ length (t .segments) / 4 * (length (t .image) / 12)
+    settled-bound = readables-few (imageIn t) h (list-least t k list h there)
