@@ -8,6 +8,9 @@ pub mod Steps
 pub mod RecordsUnrefused
 pub mod RowsUnrefused
 pub mod Walk
+pub mod ProtocolLists
+pub mod ProtocolNameWalks
+pub mod ProtocolNameCases
 pub mod ListCases
 pub mod ValueEnds
 pub mod AttributeItems

@@ -8,4 +8,5 @@ pub mod Tries
 pub mod Row
 pub mod Walk
 pub mod PlainWalk
+pub mod ProtocolNames
 pub mod Attributes

@@ -8,4 +8,5 @@ pub mod list_walk;
 pub mod method;
 pub mod property;
 pub mod protocol;
+pub mod protocol_names;
 pub mod row;
