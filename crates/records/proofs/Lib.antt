@@ -11,7 +11,9 @@ pub mod Walk
 pub mod ProtocolLists
 pub mod ProtocolNameWalks
 pub mod ProtocolNameCases
+pub mod HubImage
 pub mod ListCases
+pub mod HubRun
 pub mod ValueEnds
 pub mod AttributeItems
 pub mod AttributeAnswers

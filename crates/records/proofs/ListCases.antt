@@ -18,6 +18,7 @@ use Rattle.records.specs.declared.list.ListKind.the-variants as list
 use Rattle.records.specs.declared.list.RowKind.{RowKind}
 use Rattle.records.specs.declared.list.RowKind.the-variants as row
 use Rattle.records.proofs.Firsts.{first-of-more}
+use Rattle.records.proofs.HubImage.{counted, bytes, segments}
 use Rattle.records.proofs.Readables.{readables-before-breaks-end}
 
 abbrev layout : ℕ → ℕ → ℕ → RowKind → Layout
@@ -65,15 +66,15 @@ unfolding listAt layoutOf nonzero readable readableAt lookup rows ends holds pla
 odd-lists = refl
 
 -- ◆ the listing's method list: 4,294,967,295 rows claimed, two readable in 191 bytes.
-abbrev hub : Layout
-hub = layout 0x1078 24 4294967295 row.Legacy
+abbrev pub hub-list : Layout
+hub-list = layout 0x1078 24 4294967295 row.Legacy
 
-abbrev hub-image : Image
-hub-image = imageOf (replicate 191 0) (0x1000 ∷ 191 ∷ 0 ∷ 191 ∷ [])
+abbrev pub hub-image : Image
+hub-image = imageOf bytes segments
 
-pub hub-two : readables hub-image hub ≡ 0 ∷ 1 ∷ []
-unfolding allFrom entry canRead readable readableAt lookup rows ends holds placed sum64 choose breaks readablePart nextBreak lower
-hub-two = readables-before-breaks-end hub-image hub 3 (omega arith) refl
+pub hub-two : readables hub-image hub-list ≡ 0 ∷ 1 ∷ []
+unfolding counted allFrom entry canRead readable readableAt lookup rows ends holds placed sum64 choose breaks readablePart nextBreak lower
+hub-two = readables-before-breaks-end hub-image hub-list 3 (omega arith) refl
 
 -- Two segments that overlap, the higher first in the table. The first has one byte of the file, so it hides what the second
 -- maps between 0x1019 and 0x1048: the second begins below, and can be read again above.

@@ -165,7 +165,7 @@ module _ (t : Tables) (opened : Opened t) (k : ListKind) (list : ℕ) where
     fits : (p : ℕ) → p ≤ h .count → p ≤ countOf (listAt t k list)
     fits p l = rw there l
 
-    step-value : (p j : ℕ) → p ≤ h .count → firstReadable (imageIn t) h p ≡ value j → plainStep t k list t p ≡ settling j (rowAt t (h .kind) (entryAddress h j))
+    pub step-value : (p j : ℕ) → p ≤ h .count → firstReadable (imageIn t) h p ≡ value j → plainStep t k list t p ≡ settling j (rowAt t (h .kind) (entryAddress h j))
     unfolding plainStep
     step-value p j l e = rw (opened-unrefused p (fits p l), there, rest-of-value (imageIn t) h p j e)
 
