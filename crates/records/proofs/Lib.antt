@@ -8,6 +8,10 @@ pub mod Steps
 pub mod RecordsUnrefused
 pub mod RowsUnrefused
 pub mod Walk
+pub mod WalkLaws
+pub mod PlainWalks
+pub mod OpenedSections
+pub mod SectionCases
 pub mod ProtocolLists
 pub mod ProtocolNameWalks
 pub mod ProtocolNameCases

@@ -8,5 +8,8 @@ pub mod Tries
 pub mod Row
 pub mod Walk
 pub mod PlainWalk
+pub mod Sections
+pub mod WalkRoom
+pub mod PlainSections
 pub mod ProtocolNames
 pub mod Attributes

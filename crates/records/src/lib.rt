@@ -10,3 +10,4 @@ pub mod property;
 pub mod protocol;
 pub mod protocol_names;
 pub mod row;
+pub mod sections;

@@ -1,0 +1,14 @@
+use mathlib.Core.Path.{refl}
+use borrow.Author.Needs.{needs}
+use Rattle.records.proofs.sections.CategoryWalk.moved.Statement.{statement}
+use Rattle.records.proofs.sections.CategoryWalk.moved.Tie as tie
+
+returns : tie.Need-returns
+returns c = λ l. refl
+
+pub moved-spec : {M : Type 1} → statement M
+moved-spec =
+    tie.close
+    (tie.spec
+    (λ c. search needs)
+    returns)
