@@ -1,7 +1,7 @@
 -- Over tables that opening accepted, a section walk gives exactly the records of the plain definition, whatever the ledger held.
 use Prim.Native.Nat.{ℕ, zero, suc, _+_, _-_, _*_, _≤_, _<_}
 use mathlib.Core.Path.{_≡_, refl, sym, ap, _∙_}
-use mathlib.Core.Bool.{Bool, true, false, _||_, or-true, or-false}
+use mathlib.Core.Bool.{Bool, true, false, or-true, or-false}
 use mathlib.Core.List.{List, [], _∷_, _++_, append-nil, append-assoc, flatMap}
 use native.Mathlib.Omega.{arith}
 use native.Mathlib.Numerals.{add-one}
@@ -9,7 +9,7 @@ use lib.Dec.{eqb, ltb}
 use lib.ListN.{length, getD, take, drop, set, length-append, length-set, drop-of-length-le, List·getD-append}
 use lib.Seq.{drop-cons, getD-append-add, take-suc-set}
 use borrow.Author.Tests.{eq-eqb, ne-eqb, eqb-true, eqb-false, ltb-true, ltb-false}
-use Rattle.reads.specs.Outcome.{Outcome, value, absent, number, Unrefused, is-value, is-absent, andThen, orZero, choose, nonzero}
+use Rattle.reads.specs.Outcome.{Outcome, value, absent, number, Unrefused, is-value, is-absent, andThen, nonzero}
 use Rattle.reads.specs.Relative.{slotAddress}
 use Rattle.reads.proofs.Tests.{choose-true, choose-false}
 use Rattle.reads.proofs.Outcomes.{nonzero-zero, nonzero-else}
@@ -24,12 +24,10 @@ use Rattle.pointers.proofs.OpenedTables.{opened-asked, slot-unrefused}
 use Rattle.records.specs.Class.{classAt}
 use Rattle.records.specs.Category.{categoryAt}
 use Rattle.records.specs.Protocol.{protocolAt}
-use Rattle.records.specs.Sections.{Walk, walk, Step, found, passed, finished, Stepped, stepped, Left, leaves, left, slotCount, slotAt, addressIn, among, askedWalk, Kind, classes, categories, settled, newIn, takeWaiting, takeNew, takeSlot, takeNext, stepOf, protocolCount, protocolIn, takeProtocol, protocolStepOf}
+use Rattle.records.specs.Sections.{Walk, walk, Step, found, passed, finished, stepped, Left, leaves, left, slotCount, slotAt, addressIn, among, Kind, classes, categories, settled, newIn, takeWaiting, takeNew, takeSlot, takeNext, stepOf, protocolCount, protocolIn, takeProtocol, protocolStepOf}
 use Rattle.records.specs.PlainSections.{slotsFrom, sectionSlots, present, addressesIn, unless, without, once, listed, withMeta, plainClasses, plainCategories, plainProtocols, answerAt, recordIn, recordsOf, Walked, Gives, ended, passing, giving, Run}
-use Rattle.records.specs.declared.class.ObjcClass.{ObjcClass}
-use Rattle.records.specs.declared.category.ObjcCategory.{ObjcCategory}
 use Rattle.records.specs.declared.protocol.ObjcProtocol.{ObjcProtocol}
-use Rattle.records.proofs.WalkLaws.{slot-in-first, slot-in-second, among-end, walk-yes, new-else, next-waiting, next-finished, next-slot, step-on, protocol-finished, protocol-slot, protocol-on}
+use Rattle.records.proofs.WalkLaws.{slot-in-first, slot-in-second, among-end, walk-yes, next-waiting, next-finished, next-slot, step-on, protocol-finished, protocol-slot, protocol-on}
 
 -- What a run says of each step.
 module _ {A : Type 0} (step : Walk → List ℕ → Left A) where

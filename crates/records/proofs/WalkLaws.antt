@@ -1,5 +1,5 @@
 -- Laws of the section walks, by the tests and the answers that the code goes by.
-use Prim.Native.Nat.{ℕ, zero, suc, _+_, _-_, _*_, _/_, _^_, _≤_, _<_}
+use Prim.Native.Nat.{ℕ, zero, suc, _+_, _-_, _*_, _^_, _≤_, _<_}
 use mathlib.Core.Path.{_≡_, refl, sym, ap, _∙_}
 use mathlib.Core.Bool.{Bool, true, false, _&&_, _||_, or-true}
 use mathlib.Core.List.{List, [], _∷_, _++_}
@@ -15,13 +15,13 @@ use Rattle.reads.specs.declared.answer.Missing.{Missing}
 use Rattle.reads.proofs.Tests.{by-choose, choose-true, choose-false, both-true}
 use Rattle.reads.proofs.Outcomes.{then-came, on-missing}
 use Rattle.pointers.specs.Tables.{Tables}
-use Rattle.pointers.specs.Question.{askedOutcome, question, asked}
+use Rattle.pointers.specs.Question.{askedOutcome, question, askedTables, askedIndex, asked}
 use Rattle.pointers.specs.Section.{sectionAt}
 use Rattle.pointers.specs.declared.section.ObjcSection.{ObjcSection}
 use Rattle.pointers.specs.declared.question.Asked.{Asked}
 use Rattle.pointers.specs.declared.question.Asked.the-variants as asks
 use Rattle.pointers.proofs.Questions.{after-yes, after-no, question-yes, question-no, question-came}
-use Rattle.records.specs.Sections.{Walk, walk, Step, stepped, Stepped, Left, leaves, left, finished, passed, slotCount, slotAt, among, askedWalk, Kind, settled, takeWaiting, takeNew, takeSlot, takeNext, stepOf, protocolCount, protocolIn, takeProtocol, protocolStepOf}
+use Rattle.records.specs.Sections.{Walk, walk, Step, stepped, Stepped, Left, leaves, left, found, passed, finished, slotCount, slotAt, among, askedWalk, Kind, settled, newIn, takeWaiting, takeNew, takeSlot, takeNext, stepOf, protocolCount, protocolIn, takeProtocol, protocolStepOf}
 use Rattle.records.specs.WalkRoom.{WalkRoom}
 use Rattle.records.specs.declared.protocol.ObjcProtocol.{ObjcProtocol}
 
@@ -167,3 +167,55 @@ module _ (t : Tables) (w : Walk) (l : List ℕ) where
     pub protocol-refused : (m : Missing) → a ≡ asks.Missing m → r ≡ left w l (missed m) → r ≡ protocolStepOf t w l
     unfolding protocolStepOf
     protocol-refused m g h = h ∙ ap (left w l) (on-missing askedOutcome _ m e g refl)
+
+-- No question, and nothing that a step takes, is absent: a step passes only what it takes.
+pub data Answers {A : Type 0} : Outcome A → Type 0 where
+  answers-value : (a : A) → Answers (value a)
+  answers-number : (n : ℕ) → Answers (number n)
+
+answers-question : (n : ℕ) (b : Bool) → Answers (question n b)
+unfolding question
+answers-question n b = by-choose Answers (λ e. answers-value tt) (λ e. answers-number n)
+
+answers-then : {A B : Type 0} {o : Outcome A} (f : A → Outcome B) → Answers o → ((a : A) → Answers (f a)) → Answers (andThen o f)
+answers-then f (answers-value a) v = v a
+answers-then f (answers-number n) v = answers-number n
+
+answers-else : {A : Type 0} (o : Outcome A) (a : A) → Answers (orElse o (value a))
+answers-else (value b) a = answers-value b
+answers-else absent a = answers-value a
+answers-else (number n) a = answers-number n
+
+answers-settled : {A B : Type 0} (d : Outcome A) (f : Step A → B) → Answers (andThen (settled d) (λ s. value (f s)))
+answers-settled (value c) f = answers-value (f (found c))
+answers-settled absent f = answers-value (f passed)
+answers-settled (number n) f = answers-number n
+
+asked-answers : (t : Tables) → Answers (asked t)
+unfolding asked askedTables askedIndex
+asked-answers t =
+    answers-then _
+    (answers-then _ (answers-question 1 _) (λ a. answers-then _ (answers-question 2 _) (λ b. answers-then _ (answers-question 3 _)
+    (λ c. answers-then _ (answers-question 4 _) (λ d. answers-then _ (answers-question 5 _) (λ e. answers-question 6 _))))))
+    (λ f. answers-question 8 _)
+
+pub step-takes : {A : Type 0} (k : Kind A) (t : Tables) (w : Walk) (l : List ℕ)
+    → Answers (andThen (askedWalk t (k .first) (k .second) (w .slot) (w .used) (length l)) (λ _. takeNext k t w l))
+unfolding askedWalk takeNext takeSlot takeWaiting
+step-takes k t w l =
+    let new = newIn t (k .first) (k .second) (w .slot) (w .used) l in
+    answers-then _
+    (answers-then _ (asked-answers t) (λ a. answers-then _ (answers-question 10 _) (λ b. answers-question 11 _)))
+    (λ u. by-choose Answers
+    (λ e. by-choose Answers (λ g. answers-value (stepped finished w l))
+    (λ g. answers-else (andThen new (λ a. takeNew k t w a l)) (stepped passed (walk (w .slot + 1) (w .used) (w .waiting)) l)))
+    (λ e. answers-settled (k .waited t (w .waiting)) (λ s. stepped s (walk (w .slot) (w .used) 0) l)))
+
+pub protocol-takes : (t : Tables) (w : Walk) (l : List ℕ)
+    → Answers (andThen (asked t) (λ _. andThen (question 10 (leb (w .slot) (protocolCount (t .sections)))) (λ _. takeProtocol t w l)))
+unfolding takeProtocol
+protocol-takes t w l =
+    answers-then _ (asked-answers t)
+    (λ a. answers-then _ (answers-question 10 _)
+    (λ b. by-choose Answers (λ e. answers-value (stepped finished w l))
+    (λ e. answers-settled (protocolIn t (w .slot)) (λ s. stepped s (walk (w .slot + 1) (w .used) (w .waiting)) l))))

@@ -62,7 +62,7 @@ pub record Left (A : Type 0) : Type 0 where
 abbrev pub leaves : {A : Type 0} → Outcome (Step A) → Walk → List ℕ → Left A
 leaves o w ledger = record { answer = o; walk = w; ledger = ledger }
 
--- With a number both are as given. No question is absent: that case stands for a step that takes nothing.
+-- With a number both are as given. No question is absent (law step-takes), so that case never comes.
 unfoldable pub left : {A : Type 0} → Walk → List ℕ → Outcome (Stepped A) → Left A
 left w ledger (value s) = leaves (value (s .step)) (s .walk) (s .ledger)
 left w ledger absent = leaves (value passed) w ledger

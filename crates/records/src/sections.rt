@@ -17,7 +17,7 @@ use reads::answer::Word;
 use reads::answer::nonzero;
 use reads::relative::slot_address;
 ghost use mathlib.Core.Path.{_≡_};
-ghost use mathlib.Core.List.{List, [], _∷_};
+ghost use mathlib.Core.List.{List, []};
 ghost use Prim.Native.Nat.{ℕ, _+_, _^_, _≤_, _<_};
 ghost use lib.ListN.{length, take};
 ghost use Rattle.reads.specs.Answer.{missed, wordOutcome};

@@ -10,6 +10,7 @@ use borrow.Author.Needs.{needs}
 use Rattle.records.proofs.sections.met.Statement.{statement}
 use Rattle.records.proofs.sections.met.Tie as tie
 
+-- None of the first i words is the address.
 abbrev Inv-loop : tie.InvT-loop
 Inv-loop ledger used va i₀ i = (i ≤ used) × (among va (take i ledger) ≡ false)
 

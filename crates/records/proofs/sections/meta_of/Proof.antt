@@ -2,7 +2,6 @@ use mathlib.Core.Path.{sym}
 use borrow.Author.Tests.{eq-eqb, ne-eqb}
 use Rattle.reads.proofs.Tests.{choose-true, choose-false}
 use Rattle.records.specs.Sections.{metaOf}
-use borrow.Author.Needs.{needs}
 use Rattle.records.proofs.sections.meta_of.Statement.{statement}
 use Rattle.records.proofs.sections.meta_of.Tie as tie
 

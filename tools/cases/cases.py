@@ -1,0 +1,103 @@
+#!/usr/bin/env python3
+"""Makes bundles for comparing listers. Each is decided by its number alone.
+
+    cases.py NUMBER OUT             writes one bundle
+    cases.py --many FIRST COUNT DIR writes DIR/NUMBER.bundle for COUNT numbers
+    cases.py --names                prints the number and name of each edge
+
+Numbers below the number of edges are the short bundles of edges.py, in order; the others are seeds: well-formed images,
+damaged ones, ones at or past a question's edge, and tables without plan.
+"""
+import os
+import random
+import sys
+
+from damage import Damage
+from edges import edges
+from image import Bundle, well_formed
+import refusals
+
+_edges = None
+
+
+def edge_list():
+    global _edges
+    if _edges is None:
+        _edges = list(edges())
+    return _edges
+
+
+def without_plan(rng):
+    """Tables and an image of small numbers without plan; only the length is right."""
+    b = Bundle()
+    n = rng.choice([0, 1, 8, 40, 72, 200, 1000])
+    small = [0, 8, 16, 24, 32, 40, 48, 64, 100, 104, 200]
+    b.image = bytearray(rng.choice([0, 0, 0, 1, 8, 16, 24, 0x41]) for _ in range(n))
+    b.segments = [(rng.choice([0, 8, 16, 0x1000]), rng.choice([0, 8, n, 4096, 1 << 40]), rng.choice([0, 0, 0, 8, n]),
+                   rng.choice([0, 8, n, 4096, 1 << 40])) for _ in range(rng.randrange(5))]
+    b.sections = [(rng.choice([0, 1, 1]), rng.choice(small), rng.randrange(n + 1)) for _ in range(5)]
+    b.rebases = [(rng.choice(small), rng.choice(small)) for _ in range(rng.randrange(20))]
+    for _ in range(rng.randrange(10)):
+        at = rng.randrange(n + 1)
+        b.binds.append((rng.choice(small), at, rng.randrange(n - at + 1)))
+    b.info = (rng.randrange(1 << 32), rng.randrange(1 << 32))
+    return b.pack()
+
+
+def seeded(seed):
+    rng = random.Random(seed)
+    x = rng.random()
+    if x < 0.03:
+        return without_plan(rng)
+    bundle, builder = well_formed(rng)
+    if x < 0.25:
+        return bundle.pack()
+    if x >= 0.97:
+        return refusals.length(rng, bundle)
+    if x >= 0.94:
+        return refusals.tables(rng, bundle)
+    damage = Damage(rng, bundle, builder)
+    if x < 0.56:
+        for _ in range(rng.choice([1, 1, 2, 2, 3, 4, 6, 10])):
+            damage.some()
+    else:
+        for _ in range(rng.choice([1, 1, 1, 2])):
+            damage.directed()
+    if rng.random() < 0.95:
+        del bundle.segments[64:]
+    bundle.fit()
+    return bundle.pack()
+
+
+def case(number):
+    """The bundle of a number."""
+    known = edge_list()
+    return known[number][1] if number < len(known) else seeded(number)
+
+
+def name(number):
+    known = edge_list()
+    return known[number][0] if number < len(known) else "seed %d" % number
+
+
+def write(path, data):
+    with open(path, "wb") as out:
+        out.write(data)
+
+
+def main(args):
+    if args == ["--names"]:
+        for number, (text, _) in enumerate(edge_list()):
+            print(number, text)
+    elif len(args) == 4 and args[0] == "--many":
+        os.makedirs(args[3], exist_ok=True)
+        for number in range(int(args[1]), int(args[1]) + int(args[2])):
+            write(os.path.join(args[3], "%d.bundle" % number), case(number))
+    elif len(args) == 2:
+        write(args[1], case(int(args[0])))
+    else:
+        sys.exit(__doc__)
+
+
+if __name__ == "__main__":
+    main(sys.argv[1:])

@@ -1,0 +1,632 @@
+"""Short bundles around each boundary of document 01, all of them: edges() gives (name, bundle) in a fixed order."""
+import itertools
+import struct
+
+from image import M64, PREFIXES, Bundle
+
+TOP = 1 << 64
+WINDOW = 0x70000000         # where a record under test is shown
+CLASSES, NL_CLASSES, CATEGORIES, NL_CATEGORIES, PROTOCOLS = range(5)
+
+
+class Sketch:
+    """An image at 0x1000 in one segment, made by hand; a pointer is a word in it unless a rebase says otherwise."""
+
+    BASE = 0x1000
+
+    def __init__(self):
+        self.b = Bundle()
+        self.own = True             # the segment of the image itself comes first
+
+    def add(self, data, align=8):
+        self.b.image.extend(bytes(-len(self.b.image) % align))
+        a = self.BASE + len(self.b.image)
+        self.b.image.extend(data)
+        return a
+
+    def words(self, *words):
+        return self.add(struct.pack("<%dQ" % len(words), *[w & M64 for w in words]))
+
+    def text(self, text):
+        return self.add((text if isinstance(text, bytes) else text.encode()) + b"\0", 1)
+
+    def section(self, which, *records):
+        self.b.sections[which] = (1, self.words(*records), 8 * len(records))
+
+    def rebase(self, slot, target):
+        self.b.rebases.append((slot & M64, target & M64))
+
+    def bind(self, slot, name):
+        at = len(self.b.image)
+        self.b.image.extend(name.encode())
+        self.b.binds.append((slot & M64, at, len(name.encode())))
+
+    def show(self, v, vmsize, fileoff, filesize):
+        self.b.segments.append((v & M64, vmsize & M64, fileoff & M64, filesize & M64))
+
+    def pack(self):
+        n = len(self.b.image)
+        shown = self.b.segments
+        if self.own:
+            self.b.segments = [(self.BASE, n, 0, n), *shown]
+        out = self.b.pack()
+        self.b.segments = shown
+        return out
+
+    # -- records as bytes, and placed
+
+    def class_ro(self, methods=0, protocols=0, ivars=0, properties=0, name="Hub"):
+        return struct.pack("<4I7Q", 0, 8, 16, 0, 0, self.text(name), methods, protocols, ivars, 0, properties)
+
+    def with_ro(self, **lists):
+        """A class in class_list whose class_ro has these lists."""
+        ro = self.add(self.class_ro(**lists))
+        self.section(CLASSES, self.words(0, 0, 0, 0, ro))
+
+    def methods(self, form, rows=2):
+        out = struct.pack("<II", {"legacy": 24, "indirect": 0x8000000C, "direct": 0xC000000C}[form], rows)
+        for i in range(rows):
+            if form == "legacy":
+                out += struct.pack("<3Q", self.text("up%d" % i), self.text("v"), 0x2000 + i)
+            else:       # the window's distance is known, so relative offsets reach texts that stand at 0x1000
+                selector = self.text("up%d" % i)
+                if form == "indirect":
+                    selector = self.words(selector)
+                e = WINDOW + 8 + 12 * i
+                out += struct.pack("<3i", selector - e, self.text("v") - e - 4, 16)
+        return out
+
+    def ivars(self, rows=2):
+        out = struct.pack("<II", 32, rows)
+        for i in range(rows):
+            cell = self.add(struct.pack("<I", 8 * i), 4)
+            out += struct.pack("<3Q2I", cell, self.text("_i%d" % i), self.text("q"), 3, 8)
+        return out
+
+    def properties(self, rows=2):
+        out = struct.pack("<II", 16, rows)
+        for i in range(rows):
+            out += struct.pack("<2Q", self.text("p%d" % i), self.text("Ti,R"))
+        return out
+
+    def names(self, name):
+        """A protocol list with one bound name."""
+        at = self.words(1, 0)
+        self.bind(at + 8, "_OBJC_PROTOCOL_$_" + name)
+        return at
+
+    def protocol(self, size, name="Proto"):
+        lists = [self.names("Above")] + [self.add(self.methods("legacy", 1)) for _ in range(4)]
+        out = struct.pack("<8Q2I", 0, self.text(name), *lists, self.add(self.properties(1)), size, 5)
+        if size > 72:
+            out += struct.pack("<3Q", 0, 0, self.add(self.properties(1)))
+        return out
+
+    def category(self, wide):
+        methods = [self.add(self.methods("legacy", 1)) for _ in range(2)]
+        out = struct.pack("<6Q", self.text("Cat"), 0, *methods, self.names("Added"), self.add(self.properties(1)))
+        return out + (struct.pack("<Q", self.add(self.properties(1))) if wide else b"")
+
+
+# -- 13, 2, 3, 7
+
+def diamond():
+    """The ◆ bundle of document 01."""
+    b = Bundle()
+    b.image = bytearray(191)
+    struct.pack_into("<Q", b.image, 0x20, 0x1028)
+    struct.pack_into("<2I", b.image, 0x28 + 4, 8, 8)
+    struct.pack_into("<2Q", b.image, 0x28 + 24, 0x1090, 0x1070)
+    struct.pack_into("<2I3Q", b.image, 0x70, 24, 0xFFFFFFFF, 0x1094, 0x1097, 0x2000)
+    b.image[0x90:0x99] = b"Hub\0up\0v\0"
+    struct.pack_into("<Q", b.image, 0xA0, 0x1000)
+    b.image[0xA8:0xA8 + 22] = b"_OBJC_CLASS_$_NSObject"
+    b.segments, b.binds = [(0x1000, 191, 0, 191)], [(0x1008, 168, 22)]
+    b.sections[CLASSES] = (1, 0x10A0, 8)
+    return b
+
+
+def lengths():
+    whole = diamond().pack()
+    for k in range(len(whole) + 34):
+        yield "length %d" % k, (whole + bytes(34))[:k]
+    for i, unit in enumerate((32, 16, 24, 1)):
+        count = struct.unpack_from("<Q", whole, 8 * i)[0]
+        # counts one off, and ones whose product is right modulo a power of two
+        others = [count - 1, count + 1, M64, 1 << 63, 1 << 32] + [count + (1 << k) for k in range(24, 64)]
+        for other in others:
+            if other & M64 != count:
+                yield "count %d %x" % (i, other), whole[:8 * i] + struct.pack("<Q", other & M64) + whole[8 * i + 8:]
+    # counts that make the sum right modulo 2^64 together
+    for segments, rebases, binds in itertools.product((0, 1 << 58, 1 << 59), (0, 1 << 59, 1 << 60), (0, 1 << 61)):
+        rest = len(whole) - 160 - 32 * segments - 16 * rebases - 24 * binds
+        counts = struct.pack("<4Q", segments, rebases, binds, rest & M64)
+        yield "sum %x %x %x" % (segments, rebases, binds), counts + whole[32:]
+    for total in range(32760, 32778):
+        b = diamond()
+        b.image.extend(bytes(total - b.size()))
+        yield "total %d" % total, b.pack()
+    empty = Bundle()
+    yield "empty", empty.pack()
+
+
+def refused():
+    for count in (0, 1, 2, 62, 63, 64, 65, 66, 128):
+        b = diamond()
+        b.segments += [(0, 0, 0, 0)] * (count - 1)
+        del b.segments[count:]
+        yield "segments %d" % count, b.pack()
+    n = len(diamond().image)
+    for k, present in itertools.product(range(5), (0, 1, 2, 3, 256, 1 << 32, 1 << 63, M64)):
+        for length in (0, n - 1, n, n + 1, 1 << 32, M64):
+            b = diamond()
+            b.sections[k] = (present, 0x10A0, length)
+            yield "section %d %x %x" % (k, present, length), b.pack()
+    places = (0, 1, n - 1, n, n + 1, 1 << 32, M64 - n, M64)
+    for at, length in itertools.product(places, (0, 1, 2, n - 1, n, n + 1, M64)):
+        b = diamond()
+        b.binds.append((0x1008, at, length))
+        yield "bind name %x %x" % (at, length), b.pack()
+    for k in range(8):      # which of 2, 3 and 7 comes first
+        b = diamond()
+        b.segments += [(0, 0, 0, 0)] * (64 * (k & 1))
+        if k & 2:
+            b.sections[3] = (2, 0, 0)
+        if k & 4:
+            b.binds.insert(0, (0, n, 1))
+        yield "order %d" % k, b.pack()
+
+
+# -- a record, list or text cut at each of its bytes
+
+def cuts():
+    def in_section(which):
+        def aim(s, v):
+            s.section(which, 0)
+            s.rebase(s.b.sections[which][1], v)
+        return aim
+
+    def at_slot(slot):
+        return lambda s, v: s.rebase(slot, v)
+
+    def full_ro(s, name):
+        lists = s.methods("legacy", 1), s.words(1, s.add(s.protocol(72))), s.ivars(1), s.properties(1)
+        return s.class_ro(*[x if isinstance(x, int) else s.add(x) for x in lists], name)
+
+    def class_bytes(s):
+        above = s.words(0, 0, 0, 0, s.add(s.class_ro()))
+        return struct.pack("<5Q", 0, above, 0, 0, s.add(full_ro(s, "Cut")))
+
+    def klass(s):
+        return class_bytes(s), in_section(CLASSES)
+
+    def metaclass(s):
+        body = class_bytes(s)
+        outer = s.words(0, 0, 0, 0, s.add(s.class_ro()))
+        s.section(CLASSES, outer)
+        return body, at_slot(outer)
+
+    def superclass(s):
+        body = class_bytes(s)
+        outer = s.words(0, 0, 0, 0, s.add(s.class_ro()))
+        s.section(CLASSES, outer)
+        s.bind(outer + 8, "_OBJC_CLASS_$_Bound")
+        return body, at_slot(outer + 8)
+
+    def class_ro(s):
+        body = full_ro(s, "Cut")
+        outer = s.words(0, 0, 0, 0, 5)
+        s.section(CLASSES, outer)
+        return body, at_slot(outer + 32)
+
+    def name_of_superclass(s):
+        body = s.class_ro(name="Above")
+        above = s.words(0, 0, 0, 0, 0)
+        s.section(CLASSES, s.words(0, above, 0, 0, s.add(s.class_ro())))
+        return body, at_slot(above + 32)
+
+    def protocol(size):
+        return lambda s: (s.protocol(size), in_section(PROTOCOLS))
+
+    def named_protocol(size):
+        def make(s):
+            body = s.protocol(size, "Named")
+            names = s.words(1, 0)
+            s.with_ro(protocols=names)
+            s.bind(names + 8, "_OBJC_PROTOCOL_$_Bound")
+            return body, at_slot(names + 8)
+        return make
+
+    def category(wide):
+        def make(s):
+            s.b.info = (0, 0x40 if wide else 0)
+            return s.category(wide), in_section(CATEGORIES)
+        return make
+
+    def listed(field, body):
+        def make(s):
+            made = body(s)
+            ro = s.add(s.class_ro())
+            s.section(CLASSES, s.words(0, 0, 0, 0, ro))
+            return made, at_slot(ro + field)
+        return make
+
+    def protocol_names(s):
+        body = struct.pack("<3Q", 2, s.add(s.protocol(72, "One")), s.add(s.protocol(72, "Two")))
+        ro = s.add(s.class_ro())
+        s.section(CLASSES, s.words(0, 0, 0, 0, ro))
+        return body, at_slot(ro + 40)
+
+    def cell(s):            # the u32 that an ivar's offset slot points to
+        ivars = s.add(s.ivars(1))
+        s.with_ro(ivars=ivars)
+        return struct.pack("<I", 0x12345678), at_slot(ivars + 8)
+
+    def name(s):
+        properties = s.add(s.properties(1))
+        s.with_ro(properties=properties)
+        return "aé🙂".encode() + b"\0", at_slot(properties + 8)
+
+    def selector_slot(s):   # the slot of an indirect selector
+        text = s.text("up")
+        body = struct.pack("<Q", text)
+        methods = s.add(struct.pack("<2I3i", 0x8000000C, 1, 0, 0, 0))
+        s.with_ro(methods=methods)
+
+        def aim(sketch, v):
+            d = (v - methods - 8 + (1 << 63)) % TOP - (1 << 63)
+            struct.pack_into("<i", sketch.b.image, methods + 8 - sketch.BASE, d if abs(d) < 1 << 31 else 0)
+        return body, aim
+
+    makers = {"class": klass, "metaclass": metaclass, "superclass": superclass, "class_ro": class_ro,
+              "superclass's class_ro": name_of_superclass, "protocol 72": protocol(72), "protocol 96": protocol(96),
+              "named protocol 72": named_protocol(72), "named protocol 96": named_protocol(96),
+              "category 48": category(False), "category 56": category(True),
+              "legacy": listed(32, lambda s: s.methods("legacy")),
+              "indirect": listed(32, lambda s: s.methods("indirect")),
+              "direct": listed(32, lambda s: s.methods("direct")), "ivars": listed(48, Sketch.ivars),
+              "properties": listed(64, Sketch.properties), "protocol names": protocol_names, "cell": cell, "name": name,
+              "selector slot": selector_slot}
+    ways = "image", "spliced", "vmsize", "filesize", "top", "wrapped", "hole"
+    for kind, maker in makers.items():
+        length = len(maker(Sketch())[0])
+        for k, how, filled in itertools.product(range(length + 2), ways, (0, 1)):
+            s = Sketch()
+            body, aim = maker(s)
+            v = TOP - k if how in ("top", "wrapped") else WINDOW
+            aim(s, v & M64)
+            if filled:      # rebases at each of its slots, past the cut too
+                for field in range(0, length - 7, 8):
+                    s.rebase(v + field, struct.unpack_from("<Q", body, field)[0])
+            at = len(s.b.image)
+            n = at + length
+            if how in ("image", "spliced"):
+                if how == "spliced":    # all but the first byte is shown whole from elsewhere
+                    s.show(v + 1, 0x1000, at + 1, 0x1000)
+                    s.b.image.extend(body + bytes(8))
+                    at = len(s.b.image)
+                s.b.image.extend(body[:k])
+                s.show(v, 0x1000, at, 0x1000)
+            else:
+                s.b.image.extend(body + bytes(8))
+                if how == "vmsize":
+                    s.show(v, k, at, 0x1000)
+                elif how == "filesize":
+                    s.show(v, 0x1000, at, k)
+                elif how in ("top", "wrapped"):
+                    s.show(v, max(0, k - 1), at, 0x1000)
+                    if how == "wrapped":    # what addresses modulo 2^64 would reach
+                        s.show(0, 0x1000, at + k, 0x1000)
+                elif how == "hole":     # the byte at k alone is not mapped
+                    s.show(v, k, at, 0x1000)
+                    s.show(v + k + 1, 0x1000, at + k + 1, n)
+            yield "cut %s %s %d %d" % (kind, how, k, filled), s.pack()
+
+
+# -- lists
+
+def rows_of(s, field, count):
+    if field == "methods":
+        return s.methods("legacy", count)[8:]
+    if field == "ivars":
+        return s.ivars(count)[8:]
+    if field == "properties":
+        return s.properties(count)[8:]
+    return struct.pack("<%dQ" % count, *[s.add(s.protocol(72)) for _ in range(count)])
+
+
+def list_heads():
+    flags = (0, 0x40000000, 0x80000000, 0xC0000000, 0x10000, 0x3FFF0000, 0xFFFF0000)
+    lows = list(range(50)) + list(range(0xFFF4, 0x10000))
+    cases = [("methods", f | low) for f in flags for low in lows]
+    cases += [("ivars", w) for w in [*range(66), 0xFFFF, 0x10020, 0x80000020, 0xFFFFFFFF]]
+    cases += [("properties", w) for w in [*range(50), 0xFFFF, 0x10010, 0x80000010, 0xFFFFFFFF]]
+    for field, word in cases:
+        for count in (2, 0xFFFFFFFF):
+            s = Sketch()
+            at = s.add(struct.pack("<2I", word, count) + rows_of(s, field, 3))
+            s.with_ro(**{field: at})
+            yield "head %s %x %x" % (field, word, count), s.pack()
+    kinds = {"methods": 24, "ivars": 32, "properties": 16, "protocols": 0}
+    for field, count, odd in itertools.product(kinds, (0, 1, 2, 3, 4, 0x7FFFFFFF, 0xFFFFFFFF), range(9)):
+        if field == "protocols" and count > 4:
+            continue        # protocol_sizes() has these
+        s = Sketch()
+        head = struct.pack("<Q", count) if field == "protocols" else struct.pack("<2I", kinds[field], count)
+        at = s.add(bytes(odd) + head + rows_of(s, field, 2)) + odd
+        s.with_ro(**{field: at})
+        yield "list %s %x at +%d" % (field, count, odd), s.pack()
+
+
+def windows():
+    """A property list without end, its head alone in a window; one further segment from a grid, before or after it."""
+    grid = itertools.product((-24, -8, 0, 8, 16, 24, 48, 0xFFFFFFF0 * 16, 0xFFFFFFFE * 16), (0, 1, 16, 17, 40),
+                             ("rows", "end - 16", "end - 15", "over"), (0, 1, 16, 40), (0, 1))
+    for distance, vmsize, source, filesize, first in grid:
+        s = Sketch()
+        s.with_ro(properties=WINDOW)
+        rows = s.properties(2)[8:]
+        head = len(s.b.image)
+        s.b.image.extend(struct.pack("<2I", 16, 0xFFFFFFFF) + rows)
+        n = len(s.b.image)
+        fileoff = {"rows": head + 8, "end - 16": n - 16, "end - 15": n - 15, "over": M64 - 20}[source]
+        s.show(WINDOW, 8, head, 8)
+        s.b.segments.insert(1 - first, (WINDOW + 8 + distance, vmsize, fileoff, filesize))
+        yield "window %d %d %s %d %d" % (distance, vmsize, source, filesize, first), s.pack()
+
+
+def lookups():
+    """A class, and a segment that shows other bytes or none over a part of it, before or after the image's own."""
+    grid = itertools.product((-8, 0, 1, 8, 32, 39, 40), (0, 1, 8, 40), ("same", "end", "over"), (0, 1, 8, 40, M64),
+                             (0, 1))
+    for distance, vmsize, source, filesize, first in grid:
+        s = Sketch()
+        ro = s.add(s.class_ro())
+        meta = s.words(0, 0, 0, 0, ro)
+        klass = s.words(meta, meta, 0, 0, ro)
+        s.section(CLASSES, klass)
+        n = len(s.b.image)
+        fileoff = {"same": klass + distance - s.BASE, "end": n - 8, "over": M64 - 3}[source]
+        extra = (klass + distance, vmsize, fileoff, filesize)
+        s.own = False
+        own = (s.BASE, n, 0, n)
+        s.b.segments = [extra, own] if first else [own, extra]
+        yield "lookup %d %d %s %x %d" % (distance, vmsize, source, filesize, first), s.pack()
+    # a segment that passes 64 bits ends the lookup, one that reaches 2^64 - 1 does not
+    for end, size, filesize, place in itertools.product((-2, -1, 0, 1, 2), (0, 1, 8, 1 << 63), (0, 1, 8), (0, 1)):
+        s = Sketch()
+        s.with_ro(methods=s.add(s.methods("legacy")))
+        v = TOP + end - size
+        if 0 <= v <= M64:
+            n = len(s.b.image)
+            s.own = False
+            s.b.segments = [(s.BASE, n, 0, n)]
+            s.b.segments.insert(place, (v, size, 0, filesize))
+            yield "segment %x to 2^64 + %d, %d, %d" % (v, end, filesize, place), s.pack()
+
+
+def protocol_sizes():
+    sizes = 0, 1, 71, 72, 73, 80, 87, 88, 89, 95, 96, 97, 104, 0x7FFFFFFF, 0xFFFFFFFF
+    for size, reach, filled in itertools.product(sizes, (72, 88, 95, 96, 97), (0, 1)):
+        s = Sketch()
+        body = bytearray(s.protocol(96))
+        struct.pack_into("<I", body, 64, size)
+        s.section(PROTOCOLS, WINDOW)
+        if filled:
+            s.rebase(WINDOW + 88, struct.unpack_from("<Q", body, 88)[0])
+        at = len(s.b.image)
+        s.b.image.extend(body[:reach])
+        s.show(WINDOW, 0x1000, at, 0x1000)
+        yield "protocol size %x %d %d" % (size, reach, filled), s.pack()
+    for count in ((1 << 20) - 1, 1 << 20, (1 << 20) + 1, M64):
+        s = Sketch()
+        names = s.words(count)
+        s.with_ro(protocols=names)
+        for i in ((1 << 20) - 2, (1 << 20) - 1, 1 << 20):
+            s.bind(names + 8 + 8 * i, "_OBJC_PROTOCOL_$_Far")
+        yield "protocol names %x" % count, s.pack()
+
+
+# -- pointers and masks
+
+def masks():
+    for bit in range(64):
+        s = Sketch()
+        ro = s.add(s.class_ro())
+        klass = s.words(0, 0, 0, 0, ro ^ (1 << bit))
+        s.section(CLASSES, klass, s.words(0, klass, 0, 0, ro))
+        yield "bits word, bit %d" % bit, s.pack()
+        for shown in (ro ^ (1 << bit), (ro ^ (1 << bit)) & 0x0F007FFFFFFFFFF8):
+            s = Sketch()
+            body = s.class_ro(name="Shown")
+            ro = s.add(s.class_ro())
+            klass = s.words(0, 0, 0, 0, ro ^ (1 << bit))
+            s.section(CLASSES, klass, s.words(0, klass, 0, 0, ro))
+            s.show(shown, 72, len(s.b.image), 72)
+            s.b.image.extend(body)
+            yield "bits word, bit %d, shown %x" % (bit, shown), s.pack()
+        for place in ("slot", "bits", "isa"):
+            s = Sketch()
+            ro = s.add(s.class_ro())
+            inner = s.words(0, 0, 0, 0, ro)
+            klass = s.words(0, 0, 0, 0, ro)
+            s.section(CLASSES, klass)
+            slot, target = {"slot": (s.b.sections[0][1], klass), "bits": (klass + 32, ro), "isa": (klass, inner)}[place]
+            struct.pack_into("<Q", s.b.image, slot - s.BASE, target ^ (1 << bit))
+            yield "%s, bit %d stored" % (place, bit), s.pack()
+            s.rebase(slot, target ^ (1 << bit))
+            yield "%s, bit %d rebased" % (place, bit), s.pack()
+
+
+def chains():
+    for order in itertools.permutations(range(5)):
+        s = Sketch()
+        ros = [s.add(s.class_ro(name="Ro%d" % i)) for i in range(3)]
+        klass = s.words(0, 0, 0, 0, 0)
+        s.section(CLASSES, klass)
+        slot = klass + 32
+        rows = [(slot, ros[0]), (slot, ros[1]), (slot + 32768, ros[2]), (slot + 1, ros[2]), (slot - 32768, 0)]
+        for i in order:
+            s.rebase(*rows[i])
+        for i in order:
+            s.bind(klass + 8 + (0, 0, 32768, 1, -32768)[i], "_OBJC_CLASS_$_B%d" % i)
+        yield "chain %d%d%d%d%d" % order, s.pack()
+
+
+def prefixes():
+    names = [""] + [p[:i] + end for p in PREFIXES for i in range(len(p) + 1) for end in ("", "X")]
+    names += [p + q + "X" for p in PREFIXES for q in PREFIXES] + [" " + PREFIXES[0]] + [p + "é" for p in PREFIXES]
+    for part in range(0, len(names), 100):
+        s = Sketch()
+        some = names[part:part + 100]
+        at = s.words(len(some), *[0] * len(some))
+        s.with_ro(protocols=at)
+        for i, name in enumerate(some):
+            s.bind(at + 8 + 8 * i, name)
+        yield "prefixes %d" % part, s.pack()
+    for name in (PREFIXES[0], PREFIXES[1] + "Meta", "", "Plain"):
+        s = Sketch()
+        s.b.info = (0, 0)
+        klass = s.words(0, 0, 0, 0, s.add(s.class_ro()))
+        s.section(CLASSES, klass)
+        category = s.add(s.category(False))
+        s.section(CATEGORIES, category)
+        s.bind(klass + 8, name)
+        s.bind(category + 8, name)
+        yield "bound %r" % name, s.pack()
+
+
+# -- rows
+
+def texts():
+    """UTF-8: all texts of one and two bytes; of three and four bytes those made of the bytes where ranges end."""
+    edge = bytes([0x01, 0x7F, 0x80, 0x81, 0x8F, 0x90, 0x9F, 0xA0, 0xBF, 0xC0, 0xE0, 0xFF])
+    leads = bytes([0x41, 0xC1, 0xC2, 0xDF, 0xE0, 0xE1, 0xEC, 0xED, 0xEE, 0xEF, 0xF0, 0xF1, 0xF3, 0xF4, 0xF5, 0xFF])
+    every = [bytes([a]) for a in range(256)] + [bytes(p) for p in itertools.product(range(256), repeat=2)]
+    every += [bytes(p) for p in itertools.product(leads, edge, edge)]
+    every += [bytes(p) for p in itertools.product(leads[4:], edge, edge, edge)]
+    every += [bytes(p) + b"z" for p in itertools.product(leads[4:], edge, edge)]
+    for part in range(0, len(every), 1450):
+        s = Sketch()
+        some = every[part:part + 1450]
+        places = [s.text(t) for t in some]
+        rows = b"".join(struct.pack("<2Q", a, 0) for a in places)
+        s.with_ro(properties=s.add(struct.pack("<2I", 16, len(some)) + rows))
+        yield "texts %d" % part, s.pack()
+    for tail in (b"a", b"ab", "é".encode(), b"\xc3", b"\xe6\xbc", b"\xf0\x9f\x99", b"a\0"):
+        for back in range(-2, 5):
+            s = Sketch()
+            properties = s.add(s.properties(1))
+            s.with_ro(properties=properties)
+            s.b.image.extend(tail)
+            n = len(s.b.image)
+            s.rebase(properties + 8, WINDOW + 8 - back)
+            s.show(WINDOW, 0x1000, n - 8, 0x1000)
+            yield "text %r from %d before the end" % (tail, back), s.pack()
+
+
+def alignments():
+    words = [*range(0x200), *range(0xFFFFFF00, 0x100000000)]
+    for part in (0, 1):
+        s = Sketch()
+        name = s.text("_i")
+        some = words[part::2]
+        rows = b"".join(struct.pack("<3Q2I", 0, name, name, w, w) for w in some)
+        s.with_ro(ivars=s.add(struct.pack("<2I", 32, len(some)) + rows))
+        yield "alignments %d" % part, s.pack()
+
+
+def relatives():
+    """A small method alone at a window; one field has the offset under test, and its target is shown."""
+    offsets = (-0x80000000, -0x7FFFFFFF, -0x10000, -13, -12, -9, -8, -4, -1, 0, 1, 4, 8, 12, 0x10000, 0x7FFFFFFE,
+               0x7FFFFFFF)
+    # from the third an offset passes 2^64, from the fourth an imp is 0 after masking, from the fifth a target is 0
+    places = WINDOW, 0x180000000, TOP - 64, (1 << 48) - 0x10010, 0x80000000 - 16
+    for form, field, offset, v in itertools.product((0x8000000C, 0xC000000C), (0, 4, 8), offsets, places):
+        s = Sketch()
+        ro = s.add(s.class_ro())
+        s.section(CLASSES, s.words(0, 0, 0, 0, ro))
+        s.rebase(ro + 32, v)
+        e = v + 8
+        fields = [0, 0, 0]
+        text = s.text("target")
+        slot = s.words(text)
+        fields[field // 4] = offset
+        at = s.add(struct.pack("<2I3i", form, 1, *fields)) - s.BASE
+        target = (e + field + offset) & M64
+        s.own = False
+        n = len(s.b.image)
+        shown = slot if field == 0 and form == 0x8000000C else text
+        s.b.segments = [(s.BASE, n, 0, n), (v, 20, at, 20)]
+        s.show(target, 8 if target <= TOP - 9 else M64 - target, shown - s.BASE, 8)
+        if field != 0:          # a selector that is there, so that the row is
+            if form == 0x8000000C:
+                s.rebase(e, text)
+            else:
+                struct.pack_into("<I", s.b.image, at + 8, 0x40)
+                s.show((e + 0x40) & M64, 8, text - s.BASE, 8)
+        yield "relative %x +%d %d at %x" % (form, field, offset, v), s.pack()
+
+
+# -- sections and image info
+
+def sections():
+    for present in range(32):
+        s = Sketch()
+        ro = s.add(s.class_ro())
+        klass, other = s.words(0, 0, 0, 0, ro), s.words(0, 0, 0, 0, ro)
+        category, category2 = s.add(s.category(False)), s.add(s.category(False))
+        protocol = s.add(s.protocol(72))
+        tables = ((klass, 0, klass, 7), (other, klass, other), (category, category), (category2, category, 9),
+                  (protocol, 0, protocol, 9))
+        for k, records in enumerate(tables):
+            s.section(k, *records)
+            if not present >> k & 1:
+                s.b.sections[k] = (0, M64, M64)
+        yield "sections %x" % present, s.pack()
+    for length in range(34):
+        for k in range(5):
+            s = Sketch()
+            ro = s.add(s.class_ro())
+            klass, category = struct.pack("<5Q", 0, 0, 0, 0, ro), s.category(False)
+            record = (klass, klass, category, category, s.protocol(72))[k]
+            s.section(k, *[s.add(record) for _ in range(4)])
+            s.b.sections[k] = (1, s.b.sections[k][1], length)
+            yield "section %d of %d bytes" % (k, length), s.pack()
+    for back in range(34):
+        s = Sketch()
+        ro = s.add(s.class_ro())
+        klass, category, protocol = s.words(0, 0, 0, 0, ro), s.add(s.category(False)), s.add(s.protocol(72))
+        for i, (k, record) in enumerate(((CLASSES, klass), (NL_CATEGORIES, category), (PROTOCOLS, protocol))):
+            s.b.sections[k] = (1, TOP - back, 40)
+            s.rebase(TOP - back + 8 * (i + 1), record)
+        yield "sections from 2^64 - %d" % back, s.pack()
+
+
+def info():
+    words = [(0, 1 << k) for k in range(32)] + [(1 << k, 0) for k in range(32)] + [(0xFFFFFFFF, 0xFFFFFFFF)]
+    for version, flags in words:
+        for length in (48, 55, 56):
+            s = Sketch()
+            s.b.info = (version, flags)
+            body = s.category(True)
+            s.section(CATEGORIES, WINDOW)
+            at = len(s.b.image)
+            s.b.image.extend(body[:length])
+            s.show(WINDOW, 0x100, at, 0x100)
+            yield "info %x %x %d" % (version, flags, length), s.pack()
+
+
+FAMILIES = [lengths, refused, cuts, list_heads, windows, lookups, protocol_sizes, masks, chains, prefixes, texts,
+            alignments, relatives, sections, info]
+
+
+def edges():
+    """The ◆ bundle and those of all families, each once."""
+    seen = {diamond().pack()}
+    yield "diamond", diamond().pack()
+    for family in FAMILIES:
+        for name, bundle in family():
+            if bundle not in seen:
+                seen.add(bundle)
+                yield name, bundle

@@ -1,0 +1,22 @@
+#!/bin/sh
+# build.sh [RUST]: builds target/oracle/oracle out of the Rust at RUST, taken as it stands, and the stand-ins of src/.
+# RUST is the folder that holds the Rust's src/; default: $RUST_SRC, else ../shared/docs/src beside the repository.
+set -eu
+here=$(cd "$(dirname "$0")" && pwd)
+root=$(cd "$here/../.." && pwd)
+rust=${1:-${RUST_SRC:-$root/../shared/docs/src}}/src
+out=$root/target/oracle
+if [ ! -f "$rust/objc/mod.rs" ]; then
+    echo "no $rust/objc/mod.rs: give the folder that holds the Rust's src/" >&2
+    exit 2
+fi
+rm -rf "$out/src"
+mkdir -p "$out/src/objc"
+cp "$here"/src/*.rs "$out/src/"
+cp "$here"/src/objc/*.rs "$out/src/objc/"
+cp "$rust/util.rs" "$rust/ptrauth.rs" "$out/src/"
+for m in mod class method ivar property protocol category imageinfo section; do
+    cp "$rust/objc/$m.rs" "$out/src/objc/"
+done
+rustc --edition 2024 -O -C overflow-checks=on -C debug-assertions=on -o "$out/oracle" "$out/src/main.rs"
+echo "built target/oracle/oracle"
