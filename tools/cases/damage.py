@@ -26,7 +26,7 @@ class Damage:
         """One that aims at a record's or list's own edges."""
         self.r.choice(self.DIRECTED)(self)
 
-    # Parts of a damage
+    # -- places and writes that the damages share
 
     def mark(self, *kinds):
         """A mark that the image still holds, each kind as likely as another."""

@@ -1,4 +1,5 @@
-"""Short bundles around each boundary of document 01, all of them: edges() gives (name, bundle) in a fixed order."""
+"""Short bundles around the boundaries of document 01: edges() gives (name, bundle) in a fixed order. Each family goes
+through all values where they are few, else through a grid of those next to the boundary."""
 import itertools
 import struct
 
@@ -130,7 +131,7 @@ def lengths():
     whole = diamond().pack()
     for k in range(len(whole) + 34):
         yield "length %d" % k, (whole + bytes(34))[:k]
-    for i, unit in enumerate((32, 16, 24, 1)):
+    for i in range(4):
         count = struct.unpack_from("<Q", whole, 8 * i)[0]
         # counts one off, and ones whose product is right modulo a power of two
         others = [count - 1, count + 1, M64, 1 << 63, 1 << 32] + [count + (1 << k) for k in range(24, 64)]
@@ -146,8 +147,7 @@ def lengths():
         b = diamond()
         b.image.extend(bytes(total - b.size()))
         yield "total %d" % total, b.pack()
-    empty = Bundle()
-    yield "empty", empty.pack()
+    yield "empty", Bundle().pack()
 
 
 def refused():
@@ -179,7 +179,51 @@ def refused():
 
 # -- a record, list or text cut at each of its bytes
 
+WAYS = {
+    "image": "the image ends there",
+    "spliced": "the image ends there, but all bytes behind the first are also shown whole from elsewhere",
+    "vmsize": "its segment's range ends there",
+    "filesize": "its segment's file part ends there",
+    "top": "2^64 is there",
+    "wrapped": "2^64 is there, and address 0 shows what would follow",
+    "hole": "the byte there alone is not shown",
+}
+
+
+def cut(maker, how, k, filled):
+    """The bundle with a made record cut at byte k, with or without rebases at all its slots, past the cut too."""
+    s = Sketch()
+    body, aim = maker(s)
+    v = TOP - k if how in ("top", "wrapped") else WINDOW
+    aim(s, v & M64)
+    if filled:
+        for field in range(0, len(body) - 7, 8):
+            s.rebase(v + field, struct.unpack_from("<Q", body, field)[0])
+    at = len(s.b.image)
+    if how == "image":
+        s.b.image.extend(body[:k])
+        s.show(v, 0x1000, at, 0x1000)
+        return s.pack()
+    s.b.image.extend(body + bytes(8))
+    if how == "spliced":
+        s.show(v + 1, 0x1000, at + 1, 0x1000)
+        s.show(v, 0x1000, len(s.b.image), 0x1000)
+        s.b.image.extend(body[:k])
+    elif how == "filesize":
+        s.show(v, 0x1000, at, k)
+    elif how in ("top", "wrapped"):
+        s.show(v, max(0, k - 1), at, 0x1000)
+        if how == "wrapped":
+            s.show(0, 0x1000, at + k, 0x1000)
+    else:
+        s.show(v, k, at, 0x1000)
+        if how == "hole":
+            s.show(v + k + 1, 0x1000, at + k + 1, 0x1000)
+    return s.pack()
+
+
 def cuts():
+    """Makers give a record's bytes and the function that aims a pointer at where it is shown."""
     def in_section(which):
         def aim(s, v):
             s.section(which, 0)
@@ -287,40 +331,10 @@ def cuts():
               "direct": listed(32, lambda s: s.methods("direct")), "ivars": listed(48, Sketch.ivars),
               "properties": listed(64, Sketch.properties), "protocol names": protocol_names, "cell": cell, "name": name,
               "selector slot": selector_slot}
-    ways = "image", "spliced", "vmsize", "filesize", "top", "wrapped", "hole"
     for kind, maker in makers.items():
         length = len(maker(Sketch())[0])
-        for k, how, filled in itertools.product(range(length + 2), ways, (0, 1)):
-            s = Sketch()
-            body, aim = maker(s)
-            v = TOP - k if how in ("top", "wrapped") else WINDOW
-            aim(s, v & M64)
-            if filled:      # rebases at each of its slots, past the cut too
-                for field in range(0, length - 7, 8):
-                    s.rebase(v + field, struct.unpack_from("<Q", body, field)[0])
-            at = len(s.b.image)
-            n = at + length
-            if how in ("image", "spliced"):
-                if how == "spliced":    # all but the first byte is shown whole from elsewhere
-                    s.show(v + 1, 0x1000, at + 1, 0x1000)
-                    s.b.image.extend(body + bytes(8))
-                    at = len(s.b.image)
-                s.b.image.extend(body[:k])
-                s.show(v, 0x1000, at, 0x1000)
-            else:
-                s.b.image.extend(body + bytes(8))
-                if how == "vmsize":
-                    s.show(v, k, at, 0x1000)
-                elif how == "filesize":
-                    s.show(v, 0x1000, at, k)
-                elif how in ("top", "wrapped"):
-                    s.show(v, max(0, k - 1), at, 0x1000)
-                    if how == "wrapped":    # what addresses modulo 2^64 would reach
-                        s.show(0, 0x1000, at + k, 0x1000)
-                elif how == "hole":     # the byte at k alone is not mapped
-                    s.show(v, k, at, 0x1000)
-                    s.show(v + k + 1, 0x1000, at + k + 1, n)
-            yield "cut %s %s %d %d" % (kind, how, k, filled), s.pack()
+        for k, how, filled in itertools.product(range(length + 2), WAYS, (0, 1)):
+            yield "cut %s %s %d %d" % (kind, how, k, filled), cut(maker, how, k, filled)
 
 
 # -- lists
@@ -496,6 +510,49 @@ def prefixes():
         yield "bound %r" % name, s.pack()
 
 
+def zeros():
+    """A record, list, text or cell at address 0, which a pointer does not name, and at 8, which it does."""
+    def klass(s):
+        return struct.pack("<5Q", 0, 0, 0, 0, s.add(s.class_ro(name="Low")))
+
+    bodies = {"class": klass, "metaclass": klass, "superclass": klass, "category's class": klass,
+              "category": lambda s: s.category(False), "protocol": lambda s: s.protocol(72),
+              "named": lambda s: s.protocol(72), "named or bound": lambda s: s.protocol(72),
+              "methods": lambda s: s.methods("legacy"), "ivars": Sketch.ivars, "properties": Sketch.properties,
+              "protocols": lambda s: struct.pack("<2Q", 1, s.add(s.protocol(72))), "text": lambda s: b"low",
+              "cell": lambda s: b"\1\2\3\4"}
+    for (kind, body), at in itertools.product(bodies.items(), (0, 8)):
+        s = Sketch()
+        s.BASE = 0
+        s.add(bytes(96))
+        made = body(s)
+        s.b.image[at:at + len(made)] = made
+        if kind in ("methods", "ivars", "properties", "protocols"):
+            s.with_ro(**{kind: at})
+        elif kind in ("class", "category", "protocol"):
+            s.section({"class": CLASSES, "category": CATEGORIES, "protocol": PROTOCOLS}[kind], at)
+        elif kind in ("metaclass", "superclass"):
+            ro = s.add(s.class_ro())
+            s.section(CLASSES, s.words(at, 0, 0, 0, ro) if kind == "metaclass" else s.words(0, at, 0, 0, ro))
+        elif kind == "category's class":
+            category = bytearray(s.category(False))
+            struct.pack_into("<Q", category, 8, at)
+            s.section(CATEGORIES, s.add(category))
+        elif kind in ("named", "named or bound"):
+            names = s.words(1, at)
+            s.with_ro(protocols=names)
+            if kind == "named or bound":
+                s.bind(names + 8, "_OBJC_PROTOCOL_$_Bound")
+        elif kind == "text":
+            s.with_ro(properties=s.words(16 | 1 << 32, at, at), methods=s.words(24 | 1 << 32, s.text("up"), at, 0))
+        else:
+            s.with_ro(ivars=s.words(32 | 1 << 32, at, s.text("_i"), 0, 0))
+        yield "%s at %d" % (kind, at), s.pack()
+        s.b.rebases += [(slot, at) for slot in range(0, len(s.b.image), 8)
+                        if s.b.image[slot:slot + 8] == struct.pack("<Q", at) and slot >= 96]
+        yield "%s at %d, rebased" % (kind, at), s.pack()
+
+
 # -- rows
 
 def texts():
@@ -617,8 +674,8 @@ def info():
             yield "info %x %x %d" % (version, flags, length), s.pack()
 
 
-FAMILIES = [lengths, refused, cuts, list_heads, windows, lookups, protocol_sizes, masks, chains, prefixes, texts,
-            alignments, relatives, sections, info]
+FAMILIES = [lengths, refused, cuts, list_heads, windows, lookups, protocol_sizes, masks, chains, prefixes, zeros,
+            texts, alignments, relatives, sections, info]
 
 
 def edges():

@@ -14,7 +14,7 @@ def run(command, path, limit):
     if done.returncode < 0:
         fault = "signal %d" % -done.returncode
     elif done.returncode in (70, 101):
-        fault = "status %d: %s" % (done.returncode, said)
+        fault = "status %d: %s" % (done.returncode, said.split("\n")[0])
     elif not done.stdout:
         fault = "prints nothing"
     return done.stdout, said, fault

@@ -188,8 +188,8 @@ impl<'a> Apart<'a> {
                     0xFFFF_FFFF => 3,
                     word => word % 256,
                 };
-                let size = u32_in(bytes, 28);
-                Line::new('v').hex(number).text(self.text(name)?).text(kind).hex_or_none(offset).hex(size).hex(alignment)
+                let line = Line::new('v').hex(number).text(self.text(name)?).text(kind);
+                line.hex_or_none(offset).hex(u32_in(bytes, 28)).hex(alignment)
             }
             Form::Property => {
                 let name = self.slot(e)?;
