@@ -151,3 +151,15 @@ unfoldable pub plainListing : Tables → ImageInfo → List Line
 plainListing t info =
     line.Info info
     ∷ (flatMap (linesOf t) (allListed t) ++ (endLine (length (allListed t)) (length (plainEvents t)) ∷ []))
+
+-- The record lines among lines: C, M, P and K.
+unfoldable pub recordLines : List Line → ℕ
+recordLines [] = 0
+recordLines (line.Info i ∷ xs) = recordLines xs
+recordLines (line.Class c ∷ xs) = suc (recordLines xs)
+recordLines (line.Ro r ∷ xs) = recordLines xs
+recordLines (line.Protocol p ∷ xs) = suc (recordLines xs)
+recordLines (line.Category c ∷ xs) = suc (recordLines xs)
+recordLines (line.Row r ∷ xs) = recordLines xs
+recordLines (line.Name n ∷ xs) = recordLines xs
+recordLines (line.End e ∷ xs) = recordLines xs

@@ -1,3 +1,4 @@
-// The bundle that the program reads, and the lines of a listing.
+// The bundle that the program reads, and the listing of opened tables.
 pub mod bundle;
 pub mod line;
+pub mod listing;
