@@ -341,10 +341,12 @@ impl Listing {
     fn end(self) -> Line
         ensures { λ r. ⌜ r ≡ endLine (self .records) (stateOf self .settled) ⌝ }
     {
+        let high = self.settled_high;
+        let low = self.settled_low;
         Line::End(EndLine {
             records: self.records,
-            settled_high: self.settled_high,
-            settled_low: self.settled_low,
+            settled_high: high,
+            settled_low: low,
         })
     }
 
