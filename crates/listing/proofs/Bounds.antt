@@ -172,13 +172,10 @@ module _ (n : ℕ) (ws : List ℕ) (table : sectionTable n ws ≡ true) (i : ℕ
 
 -- The records: at most two for each slot of class_list, nlclslist, cat_list and nlcat_list, one for each of proto_list.
 module _ (t : Tables) (o : Opened t) where
-  abbrev slots : ℕ → ℕ → ℕ
-  slots first second = slotCount (t .sections) first second
-
   slots-of : (i : ℕ) → i < 5 → sectionAt (t .sections) i .slots ≤ length (t .image) / 8
   slots-of i l = section-slots (length (t .image)) (t .sections) (opened-room t o .sectionWords) i l
 
-  pair-slots : (first second : ℕ) → first < 5 → second < 5 → slots first second ≤ 2 * (length (t .image) / 8)
+  pub pair-slots : (first second : ℕ) → first < 5 → second < 5 → slotCount (t .sections) first second ≤ 2 * (length (t .image) / 8)
   unfolding slotCount
   pair-slots first second a b = omega (arith, slots-of first a, slots-of second b)
 
@@ -192,12 +189,12 @@ module _ (t : Tables) (o : Opened t) where
 
   classes-few : length (plainClasses t) ≤ 4 * (length (t .image) / 8)
   classes-few =
-      let run = class-run t o (class-unrefused t o) (ledger (slots 0 1)) (room (slots 0 1)) in
+      let run = class-run t o (class-unrefused t o) (ledger (slotCount (t .sections) 0 1)) (room (slotCount (t .sections) 0 1)) in
       omega (arith, run-few run, pair-slots 0 1 (omega arith) (omega arith))
 
   categories-few : length (plainCategories t) ≤ 4 * (length (t .image) / 8)
   categories-few =
-      let run = category-run t o (category-unrefused t o) (ledger (slots 2 3)) (room (slots 2 3)) in
+      let run = category-run t o (category-unrefused t o) (ledger (slotCount (t .sections) 2 3)) (room (slotCount (t .sections) 2 3)) in
       omega (arith, run-few run, pair-slots 2 3 (omega arith) (omega arith))
 
   protocols-few : length (plainProtocols t) ≤ length (t .image) / 8

@@ -2,23 +2,20 @@
 -- names says its names, and then the next list comes.
 use Prim.Native.Nat.{ℕ, zero, suc, _+_, _-_, _%_, _^_, _≤_, _<_}
 use mathlib.Core.Path.{_≡_, refl, sym, ap, _∙_}
-use mathlib.Core.Bool.{true, false}
+use mathlib.Core.Bool.{false}
 use mathlib.Core.List.{List, [], _∷_, _++_, map, flatMap, append-assoc}
 use native.Mathlib.Nat.{mod-eq-of-lt}
 use native.Mathlib.Omega.{arith}
 use lib.ListN.{length, length-append, length-map}
-use borrow.Author.Tests.{le-leb}
 use Rattle.reads.specs.Outcome.{Outcome, value, absent, number, Unrefused, is-value, is-absent}
 use Rattle.reads.specs.declared.answer.Text.{Text}
 use Rattle.reads.proofs.Tests.{by-choose, choose-true, choose-false}
 use Rattle.pointers.specs.Open.{Opened}
-use Rattle.pointers.proofs.OpenedTables.{opened-asked}
-use Rattle.pointers.proofs.Questions.{question-yes}
 use Rattle.pointers.specs.Tables.{Tables, imageIn}
 use Rattle.records.specs.List.{listAt, entryAddress}
 use Rattle.records.specs.PlainSections.{present}
-use Rattle.records.specs.PlainWalk.{told, settling, countOf, plainStep, shown}
-use Rattle.records.specs.ProtocolNames.{protocolListAt, hasSlot, slotIn, nameIn, walkAt, named, stepIn, listOf, nextName, slotNames, slotsOf, namesAmong, protocolNames}
+use Rattle.records.specs.PlainWalk.{settling, countOf, plainStep, shown}
+use Rattle.records.specs.ProtocolNames.{protocolListAt, hasSlot, slotIn, walkAt, named, stepIn, nextName, slotNames, namesAmong, protocolNames}
 use Rattle.records.specs.ProtocolNames as namesSpec
 use Rattle.records.specs.Row.{rowAt}
 use Rattle.records.specs.Search.{firstReadable, readables}
@@ -27,21 +24,18 @@ use Rattle.records.specs.declared.list.Layout.{Layout}
 use Rattle.records.specs.declared.list.ListKind.{ListKind}
 use Rattle.records.specs.declared.list_walk.Step.the-variants as step
 use Rattle.records.specs.declared.list_walk.Stepped.{Stepped}
-use Rattle.records.specs.declared.list_walk.Walked.the-variants as walked
 use Rattle.records.specs.declared.row.Row.{Row}
 use Rattle.records.specs.declared.protocol_names.NameStep.the-variants as nameStep
 use Rattle.records.specs.declared.protocol_names.ProtocolList.{ProtocolList}
 use Rattle.records.specs.declared.protocol_names.ProtocolNameStepped.{ProtocolNameStepped}
-use Rattle.records.specs.declared.protocol_names.ProtocolNamesWalked.the-variants as namesWalked
 use Rattle.records.proofs.Headers.{list-unrefused}
 use Rattle.records.proofs.ProtocolLists.{no-slot-from-count}
-use Rattle.records.proofs.ProtocolNameWalks.{protocol-list-unrefused, name-in-unrefused, next-absent}
+use Rattle.records.proofs.ProtocolNameWalks.{protocol-list-unrefused, name-in-unrefused, next-in, next-absent}
 use Rattle.records.proofs.Readables.{restFrom, first-readable-unrefused, found-below-count, rest-of-value, rest-of-absent, rest-from-0}
 use Rattle.records.proofs.RowsUnrefused.{row-unrefused}
-use Rattle.records.proofs.Walk.{opened-step, opened-unrefused, step-value}
-use Rattle.listing.specs.PlainListing.{Field, rows, names, fieldLines, fieldsLines, entriesIn, rowsOf, Event, event, fieldEvents}
-use Rattle.listing.specs.Listing as listing
-use Rattle.listing.specs.Listing.{State, Section, state, leaves, enter, says, nothing, atSection, atRows, atNames, afterRow, afterName, stepAt, listingStep}
+use Rattle.records.proofs.Walk.{opened-step, opened-unrefused, step-value, step-finished}
+use Rattle.listing.specs.PlainListing.{Field, rows, names, fieldLines, fieldsLines, entriesIn, Event, event, fieldEvents}
+use Rattle.listing.specs.Listing.{State, Section, state, enter, says, atSection, atRows, atNames, afterRow, afterName, stepAt, listingStep}
 use Rattle.listing.specs.ListingRun.{eventsIn, eventsAt, settledIn}
 use Rattle.listing.specs.declared.line.Line.{Line}
 use Rattle.listing.specs.declared.line.Line.the-variants as line
@@ -87,9 +81,7 @@ module _ (t : Tables) (o : Opened t) (k : ListKind) (list n : ℕ) (fs : List Fi
 
       next-finished : (p : ℕ) → p ≤ h .count → firstReadable (imageIn t) h p ≡ absent
           → nextOf t (walkOf list k p) ≡ stepped step.Finished (walkOf list k (h .count))
-      unfolding plainStep
-      next-finished p u e =
-          opened-step t o k list p (fits p u) ∙ rw (opened-unrefused t o k list p (fits p u), there, rest-of-absent (imageIn t) h p e) refl
+      next-finished p u e = opened-step t o k list p (fits p u) ∙ ap (shown k list) (step-finished t o k list h there p u e)
 
       next-settles : (p j : ℕ) → p ≤ h .count → firstReadable (imageIn t) h p ≡ value j
           → nextOf t (walkOf list k p) ≡ shown k list (settling j (rowAt t (h .kind) (entryAddress h j)))
@@ -162,17 +154,13 @@ module _ (t : Tables) (o : Opened t) (list n : ℕ) (fs : List Field) (sec : Sec
 
   module _ (xs : List Line) (es : List Event) (later : Rest t (state (enter (suc n) fs) sec r c) l xs es) where
     module _ (p : ProtocolList) (there : protocolListAt t list ≡ value p) where
-      next-in : (i : ℕ) → i ≤ p .count → nextName t (walkAt list i) ≡ stepIn t (walkAt list i) p
-      unfolding nextName listOf
-      next-in i u = rw (opened-asked t o, there, question-yes 10 _ (le-leb _ _ u))
-
       abbrev NamesCome : ℕ → List (Outcome Text) → Type 0
       NamesCome i os = Rest t (atName i) l (map (nameLine n) (namesAmong os) ++ xs) es
 
       names-end : (i : ℕ) → i ≤ p .count → hasSlot p i ≡ false → NamesCome i []
       unfolding stepIn namesAmong
       names-end i u e =
-          let next : nextName t (walkAt list i) ≡ namesSpec.stepped nameStep.Finished (walkAt list (p .count)) = next-in i u ∙ choose-false _ _ e in
+          let next : nextName t (walkAt list i) ≡ namesSpec.stepped nameStep.Finished (walkAt list (p .count)) = next-in t o (walkAt list i) p there u ∙ choose-false _ _ e in
           silent (name-by i _ next) (no-event i) later
 
       name-one : (i : ℕ) (os : List (Outcome Text)) {w : Outcome Text} → Unrefused w → nextName t (walkAt list i) ≡ named (walkAt list i) w
@@ -186,7 +174,7 @@ module _ (t : Tables) (o : Opened t) (list n : ℕ) (fs : List Field) (sec : Sec
       names-from zero i u = names-end i (omega arith) (no-slot-from-count p i (omega arith))
       names-from (suc q) i u =
           by-choose (NamesCome i)
-          (λ e. name-one i (slotNames t p (i + 1) q) (name-in-unrefused t o (slotIn p i)) (next-in i (omega arith) ∙ choose-true _ _ e) (names-from q (i + 1) (omega arith)))
+          (λ e. name-one i (slotNames t p (i + 1) q) (name-in-unrefused t o (slotIn p i)) (next-in t o (walkAt list i) p there (omega arith) ∙ choose-true _ _ e) (names-from q (i + 1) (omega arith)))
           (λ e. names-end i (omega arith) e)
 
     rest-names : {w : Outcome ProtocolList} → Unrefused w → protocolListAt t list ≡ w → Rest t (atName 0) l (fieldLines t n (names list) ++ xs) es

@@ -1,7 +1,7 @@
 -- A section step leaves as many words in the ledger as it was given; the protocol walk leaves it as it is.
 use Prim.Native.Nat.{ℕ}
 use mathlib.Core.Path.{_≡_, refl}
-use mathlib.Core.List.{List, []}
+use mathlib.Core.List.{List}
 use lib.Dec.{leb}
 use lib.ListN.{length, length-set}
 use Rattle.reads.specs.Outcome.{Outcome, value, absent, number, andThen, orElse}
@@ -9,7 +9,6 @@ use Rattle.reads.proofs.Tests.{by-choose}
 use Rattle.pointers.specs.Question.{question, asked}
 use Rattle.pointers.specs.Tables.{Tables}
 use Rattle.records.specs.Sections.{Walk, Stepped, left, askedWalk, Kind, settled, newIn, takeWaiting, takeNew, takeSlot, takeNext, stepOf, protocolCount, protocolIn, takeProtocol, protocolStepOf}
-use Rattle.records.specs.declared.protocol.ObjcProtocol.{ObjcProtocol}
 
 -- Of the ledger that it leaves, a step that is not refused keeps P.
 data Keeps {A : Type 0} (P : List ℕ → Type 0) : Outcome (Stepped A) → Type 0 where

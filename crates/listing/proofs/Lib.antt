@@ -11,6 +11,8 @@ pub mod WholeListing
 pub mod RecordLines
 pub mod HubListing
 pub mod Cases
+pub mod Remaining
+pub mod Falls
 pub mod TwoWords
 pub mod ListFields
 pub mod ListingSteps

@@ -1,10 +1,9 @@
 -- E's first number is the number of record lines of the plain listing.
-use Prim.Native.Nat.{ℕ, zero, suc, _+_}
-use mathlib.Core.Path.{_≡_, refl, ap, _∙_}
+use Prim.Native.Nat.{ℕ, suc, _+_}
+use mathlib.Core.Path.{_≡_, refl, _∙_}
 use mathlib.Core.List.{List, [], _∷_, _++_, map, flatMap}
 use native.Mathlib.Omega.{arith}
 use lib.ListN.{length}
-use Rattle.reads.specs.Outcome.{Outcome}
 use Rattle.reads.specs.declared.answer.Text.{Text}
 use Rattle.pointers.specs.Tables.{Tables}
 use Rattle.pointers.specs.declared.imageinfo.ImageInfo.{ImageInfo}

@@ -1,11 +1,11 @@
 -- The records of a section, one after the other: each says its own lines, then those of its lists; then the next section comes.
-use Prim.Native.Nat.{ℕ, zero, suc, _+_, _-_, _%_, _^_, _≤_, _<_}
-use mathlib.Core.Path.{_≡_, refl, sym, ap, _∙_, subst}
-use mathlib.Core.List.{List, [], _∷_, _++_, map, flatMap, append-assoc}
+use Prim.Native.Nat.{ℕ, suc, _+_, _-_, _%_, _^_, _≤_, _<_}
+use mathlib.Core.Path.{_≡_, refl, sym, subst}
+use mathlib.Core.List.{List, _++_, map, flatMap, append-assoc}
 use native.Mathlib.Nat.{mod-eq-of-lt}
 use native.Mathlib.Omega.{arith}
 use lib.ListN.{length, length-append}
-use Rattle.reads.specs.Outcome.{Outcome, value, absent, number, Unrefused, is-value, is-absent}
+use Rattle.reads.specs.Outcome.{Outcome, value, absent, Unrefused, is-value, is-absent}
 use Rattle.reads.specs.declared.answer.Text.{Text}
 use Rattle.pointers.specs.Open.{Opened}
 use Rattle.pointers.specs.Tables.{Tables}
@@ -14,15 +14,14 @@ use Rattle.records.specs.Category.{categoryClassName}
 use Rattle.records.specs.Class.{roOf, superclassName}
 use Rattle.records.specs.PlainSections.{present, Gives, ended, passing, giving}
 use Rattle.records.specs.Sections as sections
-use Rattle.records.specs.Sections.{Walk, walk, found, passed, finished, stepOf, protocolStepOf}
+use Rattle.records.specs.Sections.{Walk, walk, found, passed, finished}
 use Rattle.records.specs.declared.category.ObjcCategory.{ObjcCategory}
 use Rattle.records.specs.declared.class.ClassRo.{ClassRo}
 use Rattle.records.specs.declared.class.ObjcClass.{ObjcClass}
-use Rattle.records.specs.declared.protocol.ObjcProtocol.{ObjcProtocol}
 use Rattle.records.proofs.RecordsUnrefused.{class-name-of-unrefused, ro-unrefused}
-use Rattle.listing.specs.PlainListing.{Field, roFields, protocolFields, categoryFields, nameOf, fieldsLines, Listed, listed, withRo, classListed, protocolListed, categoryListed, linesOf, Event, fieldEvents, eventsFrom}
-use Rattle.listing.specs.Listing.{State, Section, classes, protocols, categories, state, leaves, enter, says, nothing, atSection, atClass, atRo, atCategory, byClassName, byRo, byCategoryName, afterClass, afterProtocol, afterCategory, stepAt, listingStep}
-use Rattle.listing.specs.ListingRun.{eventsIn, eventsAt}
+use Rattle.listing.specs.PlainListing.{Field, roFields, categoryFields, nameOf, fieldsLines, Listed, withRo, classListed, categoryListed, linesOf, Event, fieldEvents, eventsFrom}
+use Rattle.listing.specs.Listing.{State, Section, state, leaves, enter, says, nothing, atSection, atClass, atRo, atCategory, byRo, stepAt, listingStep}
+use Rattle.listing.specs.ListingRun.{eventsAt}
 use Rattle.listing.specs.declared.line.Line.{Line}
 use Rattle.listing.specs.declared.line.Line.the-variants as line
 use Rattle.listing.proofs.FieldRests.{less, rest-fields}

@@ -1,27 +1,27 @@
 -- D3e. Over tables that opening accepted, with the index as opening left it, and a ledger long enough, whatever it holds: no step of the
 -- listing refuses, the steps end, their lines are those of the plain listing, and the settling steps are one for one the readable entries of
 -- the lists, once for each field that names one. E's numbers are the record lines and the settling steps, whole.
-use Prim.Native.Nat.{ℕ, zero, suc, _+_, _-_, _^_, _≤_, _<_}
+use Prim.Native.Nat.{ℕ, suc, _+_, _-_, _^_, _≤_, _<_}
 use mathlib.Core.Path.{_≡_, refl, sym, ap, _∙_}
 use mathlib.Core.List.{List, [], _∷_, _++_, map, flatMap, append-assoc, append-nil}
 use native.Mathlib.Nat.{mod-eq-of-lt}
 use native.Mathlib.Omega.{arith}
 use lib.ListN.{length, length-append, length-map}
-use Rattle.reads.specs.Outcome.{Outcome, value}
+use Rattle.reads.specs.Outcome.{value}
 use Rattle.pointers.specs.Open.{Opened}
 use Rattle.pointers.specs.Tables.{Tables}
 use Rattle.pointers.proofs.OpenedTables.{opened-asked, opened-info}
-use Rattle.records.specs.PlainSections.{Gives, plainClasses, plainProtocols, plainCategories}
+use Rattle.records.specs.PlainSections.{plainClasses, plainProtocols, plainCategories}
 use Rattle.records.specs.Sections as sections
 use Rattle.records.specs.Sections.{Walk, walk, found, passed, finished, slotCount, stepOf, protocolStepOf}
 use Rattle.records.specs.declared.category.ObjcCategory.{ObjcCategory}
 use Rattle.records.specs.declared.class.ObjcClass.{ObjcClass}
 use Rattle.records.specs.declared.protocol.ObjcProtocol.{ObjcProtocol}
-use Rattle.records.proofs.PlainWalks.{class-run, protocol-run, category-run}
+use Rattle.records.proofs.PlainWalks.{flat-append, class-run, protocol-run, category-run}
 use Rattle.records.proofs.RecordsUnrefused.{class-unrefused, protocol-unrefused, category-unrefused}
 use Rattle.listing.specs.PlainListing.{protocolFields, classListed, protocolListed, categoryListed, Listed, allListed, linesOf, Event, fieldEvents, eventsFrom, plainEvents, endLine, plainListing}
-use Rattle.listing.specs.Listing.{State, classes, protocols, categories, state, start, leaves, says, nothing, ended, atInfo, atSection, atClass, atCategory, atEnd, afterClass, afterProtocol, afterCategory, enter, stepAt, listingStep}
-use Rattle.listing.specs.ListingRun.{eventsIn, eventsAt, Lists}
+use Rattle.listing.specs.Listing.{classes, protocols, categories, state, start, leaves, says, nothing, ended, atSection, atClass, atCategory, atEnd, enter, stepAt, listingStep}
+use Rattle.listing.specs.ListingRun.{eventsAt, Lists}
 use Rattle.listing.specs.declared.line.Line.{Line}
 use Rattle.listing.specs.declared.line.Line.the-variants as line
 use Rattle.listing.proofs.Ledgers.{step-keeps-length, protocol-step-keeps}
@@ -37,11 +37,6 @@ events-append t r [] ys = let z : r + 0 ≡ r = omega arith in rw z
 events-append t r (x ∷ xs) ys =
     let z : suc r + length xs ≡ r + suc (length xs) = omega arith in
     rw (events-append t (suc r) xs ys, z) (sym (append-assoc (fieldEvents t r 0 (x .fields)) (eventsFrom t (suc r) xs) _))
-
-lines-append : (t : Tables) (xs ys : List Listed) → flatMap (linesOf t) (xs ++ ys) ≡ flatMap (linesOf t) xs ++ flatMap (linesOf t) ys
-unfolding flatMap
-lines-append t [] ys = refl
-lines-append t (x ∷ xs) ys = rw (lines-append t xs ys) (sym (append-assoc (linesOf t x) (flatMap (linesOf t) xs) (flatMap (linesOf t) ys)))
 
 module _ (t : Tables) (o : Opened t) (l : List ℕ) (classRoom : slotCount (t .sections) 0 1 ≤ length l) (categoryRoom : slotCount (t .sections) 2 3 ≤ length l) where
   abbrev listedClasses : List Listed
@@ -217,14 +212,17 @@ module _ (t : Tables) (o : Opened t) (l : List ℕ) (classRoom : slotCount (t .s
       rw (
         records-in-all,
         settled-in-all,
-        lines-append t listedClasses (listedProtocols ++ listedCategories),
-        lines-append t listedProtocols listedCategories,
+        flat-append (linesOf t) listedClasses (listedProtocols ++ listedCategories),
+        flat-append (linesOf t) listedProtocols listedCategories,
         append-assoc (flatMap (linesOf t) listedClasses) (flatMap (linesOf t) listedProtocols ++ flatMap (linesOf t) listedCategories) (end ∷ []),
         append-assoc (flatMap (linesOf t) listedProtocols) (flatMap (linesOf t) listedCategories) (end ∷ []),
       )
 
+  -- All that is left at the start.
+  pub whole-rest : Rest t start l (plainListing t (o .info)) (plainEvents t)
+  whole-rest =
+      rw (lines-in-all, events-in-all) (listing-comes (rw records-in-all at (records-few t o)) (rw settled-in-all at (events-few t o)))
+
   -- D3e. `l` is a ledger long enough for the two sections of classes and for those of categories.
   pub whole-listing : Lists t l (plainListing t (o .info)) (plainEvents t)
-  whole-listing =
-      rw (lines-in-all, events-in-all)
-      (lists t (listing-comes (rw records-in-all at (records-few t o)) (rw settled-in-all at (events-few t o))))
+  whole-listing = lists t whole-rest

@@ -1,7 +1,7 @@
 -- The listing, step by step (document 01, "The program's listing" and Steps): its state, and what a step says, hands back and leaves in the
 -- ledger.
-use Prim.Native.Nat.{ℕ, zero, suc, _+_, _-_, _%_, _^_}
-use mathlib.Core.List.{List, [], _∷_, _++_}
+use Prim.Native.Nat.{ℕ, suc, _+_, _-_, _%_, _^_}
+use mathlib.Core.List.{List, [], _∷_}
 use lib.Dec.{eqb}
 use Rattle.reads.specs.Outcome.{Outcome, value, absent, number, choose}
 use Rattle.reads.specs.declared.answer.Text.{Text}
@@ -29,7 +29,7 @@ use Rattle.records.specs.declared.protocol_names.ProtocolNameStepped.{ProtocolN
 use Rattle.records.specs.declared.protocol_names.ProtocolNameWalk.{ProtocolNameWalk}
 use Rattle.records.specs.declared.protocol_names.ProtocolNamesWalked.{ProtocolNamesWalked}
 use Rattle.records.specs.declared.protocol_names.ProtocolNamesWalked.the-variants as namesWalked
-use Rattle.listing.specs.PlainListing.{Field, rows, names, roFields, protocolFields, categoryFields, nameOf, endLine, Event, event}
+use Rattle.listing.specs.PlainListing.{Field, rows, names, roFields, protocolFields, categoryFields, nameOf, endLine}
 use Rattle.listing.specs.declared.line.Line.{Line}
 use Rattle.listing.specs.declared.line.Line.the-variants as line
 

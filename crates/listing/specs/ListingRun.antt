@@ -11,7 +11,7 @@ use Rattle.records.specs.declared.list_walk.Stepped.{Stepped}
 use Rattle.records.specs.declared.list_walk.Walked.{Walked}
 use Rattle.records.specs.declared.list_walk.Walked.the-variants as walked
 use Rattle.listing.specs.PlainListing.{Event, event}
-use Rattle.listing.specs.Listing.{State, At, Said, Left, start, says, nothing, ended, atInfo, atSection, atClass, atRo, atCategory, atRows, atNames, atEnd, listingStep}
+use Rattle.listing.specs.Listing.{State, At, Said, start, says, nothing, ended, atInfo, atSection, atClass, atRo, atCategory, atRows, atNames, atEnd, listingStep}
 use Rattle.listing.specs.declared.line.Line.{Line}
 
 -- What a step over list n of a record settles: the entry whose row it gives, one before the cursor that it leaves, or the one it skips.

@@ -1,6 +1,6 @@
 -- The plain listing of opened tables (document 01, "The program's listing"): a direct definition from the section walks' records and the
 -- readable entries of their lists, with no state and no ledger.
-use Prim.Native.Nat.{ℕ, zero, suc, _+_, _/_, _%_, _^_}
+use Prim.Native.Nat.{ℕ, suc, _+_, _/_, _%_, _^_}
 use mathlib.Core.List.{List, [], _∷_, _++_, map, flatMap}
 use lib.ListN.{length}
 use Rattle.reads.specs.Outcome.{Outcome, value, absent, number}

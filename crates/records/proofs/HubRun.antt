@@ -98,7 +98,7 @@ no-rebase : (a : ℕ) → rebase hub a ≡ absent
 unfolding rebaseAt lastAmong
 no-rebase a = rw (opened-follow-rebase hub hub-opened a)
 
-slot-stored : (a : ℕ) → slot hub a ≡ stored hub-image a
+pub slot-stored : (a : ℕ) → slot hub a ≡ stored hub-image a
 unfolding resolve
 slot-stored a = rw (no-rebase a)
 
@@ -116,15 +116,15 @@ pub hub-methods : listAt hub Methods 0x1070 ≡ value hub-list
 unfolding listAt layoutOf methodRows bit nonzero readable readableAt lookup rows ends holds placed sum64 wordIn le choose counted
 hub-methods = refl
 
-pub up : Row
+abbrev pub up : Row
 up = row.Method (methodOf (textOf 0x94 2) (textOf 0x97 1) (At 0x2000) kind.Legacy)
 
-row-0 : rowAt hub Legacy 0x1078 ≡ value up
+pub row-0 : rowAt hub Legacy 0x1078 ≡ value up
 unfolding rowAt legacyMethodAt legacyImp readable readableAt lookup rows ends holds placed sum64 stored word stripped le textIn textAt textLength text utf8 judge nonzero choose counted up
 row-0 =
     rw (slot-stored 0x1078, pointer-stored 0x1078 8 0x1080 0x1097 refl refl, pointer-or-0-stored 0x1078 16 0x1088 0x2000 refl refl)
 
-row-1 : rowAt hub Legacy 0x1090 ≡ absent
+pub row-1 : rowAt hub Legacy 0x1090 ≡ absent
 unfolding rowAt legacyMethodAt legacyImp readable readableAt lookup rows ends holds placed sum64 stored word stripped le textIn textAt nonzero choose counted
 row-1 =
     rw (slot-stored 0x1090, pointer-stored 0x1090 8 0x1098 0 refl refl, pointer-or-0-stored 0x1090 16 0x10A0 0x1000 refl refl)

@@ -170,7 +170,7 @@ once-new : (seen : List ℕ) (a : ℕ) (rest : List ℕ) → among a seen ≡ fa
 unfolding unseen once
 once-new seen a rest e = rw (e, unseen-more seen a (once rest))
 
-flat-append : {B : Type 0} (f : ℕ → List B) (xs ys : List ℕ) → flatMap f (xs ++ ys) ≡ flatMap f xs ++ flatMap f ys
+pub flat-append : {A B : Type 0} (f : A → List B) (xs ys : List A) → flatMap f (xs ++ ys) ≡ flatMap f xs ++ flatMap f ys
 unfolding flatMap
 flat-append f [] ys = refl
 flat-append f (x ∷ xs) ys = rw (flat-append f xs ys) (sym (append-assoc (f x) (flatMap f xs) (flatMap f ys)))

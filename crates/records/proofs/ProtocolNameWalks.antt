@@ -90,7 +90,7 @@ module _ (t : Tables) (o : Opened t) where
       (symbol-unrefused t o a))
 
   -- Every question passes.
-  next-in : (w : ProtocolNameWalk) (l : ProtocolList) → protocolListAt t (w .list) ≡ value l → w .cursor ≤ l .count → nextName t w ≡ stepIn t w l
+  pub next-in : (w : ProtocolNameWalk) (l : ProtocolList) → protocolListAt t (w .list) ≡ value l → w .cursor ≤ l .count → nextName t w ≡ stepIn t w l
   unfolding nextName listOf
   next-in w l e h = rw (opened-asked t o, e, question-yes 10 _ (le-leb _ _ h))
 

@@ -169,7 +169,7 @@ module _ (t : Tables) (opened : Opened t) (k : ListKind) (list : ℕ) where
     unfolding plainStep
     step-value p j l e = rw (opened-unrefused p (fits p l), there, rest-of-value (imageIn t) h p j e)
 
-    step-finished : (p : ℕ) → p ≤ h .count → firstReadable (imageIn t) h p ≡ absent → plainStep t k list t p ≡ told (walked.Step step.Finished) (h .count)
+    pub step-finished : (p : ℕ) → p ≤ h .count → firstReadable (imageIn t) h p ≡ absent → plainStep t k list t p ≡ told (walked.Step step.Finished) (h .count)
     unfolding plainStep
     step-finished p l e = rw (opened-unrefused p (fits p l), there, rest-of-absent (imageIn t) h p e)
 
