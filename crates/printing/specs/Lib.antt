@@ -1,0 +1,4 @@
+-- The definitions that the contracts of printing cite.
+pub mod Buffer
+pub mod LineText
+pub mod BundleText

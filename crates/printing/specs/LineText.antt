@@ -1,0 +1,158 @@
+-- The text of a listing's lines (document 01, "The program's listing"): fields split by one space, numbers lower-case hex, strings length,
+-- colon, bytes; `-` is none.
+use Prim.Native.Nat.{ℕ, _+_, _*_, _^_}
+use mathlib.Core.Bool.{Bool, true, false}
+use mathlib.Core.List.{List, [], _∷_, _++_}
+use lib.Dec.{leb}
+use lib.ListN.{length}
+use Rattle.reads.specs.Outcome.{choose}
+use Rattle.reads.specs.Place.{part}
+use Rattle.reads.specs.declared.answer.Text.{Text}
+use Rattle.pointers.specs.Symbol.{ascii}
+use Rattle.pointers.specs.declared.imageinfo.ImageInfo.{ImageInfo}
+use Rattle.records.specs.declared.class.ClassRo.{ClassRo}
+use Rattle.records.specs.declared.ivar.Ivar.{Ivar}
+use Rattle.records.specs.declared.ivar.IvarOffset.{IvarOffset}
+use Rattle.records.specs.declared.ivar.IvarOffset.the-variants as offset
+use Rattle.records.specs.declared.method.Imp.{Imp}
+use Rattle.records.specs.declared.method.Imp.the-variants as imp
+use Rattle.records.specs.declared.method.Method.{Method}
+use Rattle.records.specs.declared.method.MethodKind.{MethodKind}
+use Rattle.records.specs.declared.method.MethodKind.the-variants as kind
+use Rattle.records.specs.declared.property.Property.{Property}
+use Rattle.records.specs.declared.protocol.ObjcProtocol.{ObjcProtocol}
+use Rattle.records.specs.declared.row.Row.{Row}
+use Rattle.records.specs.declared.row.Row.the-variants as row
+use Rattle.listing.specs.declared.line.CategoryLine.{CategoryLine}
+use Rattle.listing.specs.declared.line.ClassLine.{ClassLine}
+use Rattle.listing.specs.declared.line.EndLine.{EndLine}
+use Rattle.listing.specs.declared.line.Line.{Line}
+use Rattle.listing.specs.declared.line.Line.the-variants as line
+use Rattle.listing.specs.declared.line.NameLine.{NameLine}
+use Rattle.listing.specs.declared.line.Named.{Named}
+use Rattle.listing.specs.declared.line.Named.the-variants as named
+use Rattle.printing.specs.Buffer.{hexText, decimalText}
+
+-- Each field comes after a space: none, a number, a string.
+unfoldable pub noneField : List ℕ
+noneField = ascii " -"
+
+unfoldable pub numberField : ℕ → List ℕ
+numberField n = ascii " " ++ hexText n
+
+unfoldable pub stringField : List ℕ → List ℕ
+stringField s = numberField (length s) ++ (ascii ":" ++ s)
+
+-- A text is a part of the image; one that does not lie there is none.
+unfoldable pub textField : List ℕ → Text → List ℕ
+textField image t =
+    choose (leb (t .offset + t .len) (length image)) (stringField (part image (t .offset) (t .len))) noneField
+
+unfoldable pub textFields : List ℕ → Text → Text → List ℕ
+textFields image a b = textField image a ++ textField image b
+
+abbrev pub namedField : List ℕ → Named → List ℕ
+namedField image (named.Text t) = textField image t
+namedField image named.Nothing = noneField
+
+abbrev pub impField : Imp → List ℕ
+impField (imp.At va) = numberField va
+impField imp.Nothing = noneField
+
+abbrev pub offsetField : IvarOffset → List ℕ
+offsetField (offset.At n) = numberField n
+offsetField offset.Nothing = noneField
+
+-- 0 legacy, 1 indirect, 2 direct.
+abbrev pub kindNumber : MethodKind → ℕ
+kindNumber kind.Legacy = 0
+kindNumber kind.SmallIndirect = 1
+kindNumber kind.SmallDirect = 2
+
+-- C (class) or M (metaclass).
+abbrev pub classLetter : Bool → ℕ
+classLetter true = 77
+classLetter false = 67
+
+-- I version flags.
+unfoldable pub infoText : ImageInfo → List ℕ
+infoText i = ascii "I" ++ (numberField (i .version) ++ numberField (i .flags))
+
+-- C or M: address, isa, superclass, bits, superclass name.
+unfoldable pub classText : List ℕ → ClassLine → List ℕ
+classText image l =
+    (classLetter (l .class .«is_meta») ∷ [])
+    ++ (numberField (l .class .address)
+    ++ (numberField (l .class .isa)
+    ++ (numberField (l .class .«superclass_address»)
+    ++ (numberField (l .class .bits) ++ namedField image (l .«superclass_name»)))))
+
+-- R: address, flags, start, size, name.
+unfoldable pub roText : List ℕ → ClassRo → List ℕ
+roText image r =
+    ascii "R"
+    ++ (numberField (r .address)
+    ++ (numberField (r .flags)
+    ++ (numberField (r .«instance_start») ++ (numberField (r .«instance_size») ++ textField image (r .name)))))
+
+-- P: address, size, flags, name.
+unfoldable pub protocolText : List ℕ → ObjcProtocol → List ℕ
+protocolText image p =
+    ascii "P" ++ (numberField (p .address) ++ (numberField (p .size) ++ (numberField (p .flags) ++ textField image (p .name))))
+
+-- K: address, class address, name, class name.
+unfoldable pub categoryText : List ℕ → CategoryLine → List ℕ
+categoryText image l =
+    ascii "K"
+    ++ (numberField (l .category .address)
+    ++ (numberField (l .category .«class_address») ++ (textField image (l .category .name) ++ namedField image (l .«class_name»))))
+
+-- Rows carry a list number: m selector types imp kind.
+unfoldable pub methodText : List ℕ → ℕ → Method → List ℕ
+methodText image n m =
+    ascii "m"
+    ++ (numberField n
+    ++ (textFields image (m .selector) (m .types) ++ (impField (m .implementation) ++ numberField (kindNumber (m .kind)))))
+
+-- v name type offset size alignment.
+unfoldable pub ivarText : List ℕ → ℕ → Ivar → List ℕ
+ivarText image n v =
+    ascii "v"
+    ++ (numberField n
+    ++ (textFields image (v .name) (v .«type_encoding»)
+    ++ (offsetField (v .offset) ++ (numberField (v .size) ++ numberField (v .«log2_alignment»)))))
+
+-- p name attributes.
+unfoldable pub propertyText : List ℕ → ℕ → Property → List ℕ
+propertyText image n p = ascii "p" ++ (numberField n ++ textFields image (p .name) (p .attributes))
+
+abbrev pub rowText : List ℕ → ℕ → Row → List ℕ
+rowText image n (row.Method m) = methodText image n m
+rowText image n (row.Ivar v) = ivarText image n v
+rowText image n (row.Property p) = propertyText image n p
+
+-- q protocol name.
+unfoldable pub nameText : List ℕ → NameLine → List ℕ
+nameText image l = ascii "q" ++ (numberField (l .list) ++ textField image (l .name))
+
+-- E: records, and the entries settled, a number of two words.
+unfoldable pub endText : EndLine → List ℕ
+endText l = ascii "E" ++ (numberField (l .records) ++ numberField (l .«settled_high» * 2 ^ 64 + l .«settled_low»))
+
+abbrev pub fieldsText : List ℕ → Line → List ℕ
+fieldsText image (line.Info i) = infoText i
+fieldsText image (line.Class l) = classText image l
+fieldsText image (line.Ro r) = roText image r
+fieldsText image (line.Protocol p) = protocolText image p
+fieldsText image (line.Category l) = categoryText image l
+fieldsText image (line.Row l) = rowText image (l .list) (l .row)
+fieldsText image (line.Name l) = nameText image l
+fieldsText image (line.End l) = endText l
+
+-- A line with its newline.
+unfoldable pub lineText : List ℕ → Line → List ℕ
+lineText image x = fieldsText image x ++ (10 ∷ [])
+
+-- Refused: `refused` and the number in decimal.
+unfoldable pub refusedText : ℕ → List ℕ
+refusedText k = ascii "refused " ++ (decimalText k ++ (10 ∷ []))
