@@ -42,11 +42,13 @@ module _ (bytes : List ℕ) (r : CountsAnswer) (e : countsOutcome r ≡ counted 
     counted-is : counted bytes ≡ value c
     counted-is = sym e ∙ ap countsOutcome g
 
-    pub counted-lists : (index l m : List ℕ) (s u : Buffer) → Put (SaysOpened (bundled bytes c index) (opening (bundled bytes c index))) l m s u
+    pub counted-lists : (index l m : List ℕ) (s u : Buffer)
+        → Put (SaysOpened (bundled bytes c index) (opening (bundled bytes c index))) l m s u
         → Put (SaysCounted bytes index (counted bytes)) l m s u
     counted-lists index l m s u p = record { text = p .text; is = rw counted-is (p .is); put = p .put }
 
-    pub counted-index : (index after : List ℕ) → after ≡ openedIndex (bundled bytes c index) → after ≡ indexAfter bytes (counted bytes) index
+    pub counted-index : (index after : List ℕ) → after ≡ openedIndex (bundled bytes c index)
+        → after ≡ indexAfter bytes (counted bytes) index
     counted-index index after p = rw counted-is p
 
     pub counted-words : (words after : List ℕ) → after ≡ decodedInto bytes c words → after ≡ wordsAfter bytes (counted bytes) words
@@ -77,8 +79,7 @@ module _ (bytes : List ℕ) (r : CountsAnswer) (e : countsOutcome r ≡ counted 
         go (Refused k) = refl
 
 -- The same tables say the same and leave the same index.
-pub same-lists : (t v : Tables) (l m : List ℕ) (s u : Buffer) → t ≡ v → Put (SaysOpened t (opening t)) l m s u → Put (SaysOpened v (opening v)) l m s u
-same-lists t v l m s u e p = rw (← e) p
-
-pub same-index : (t v : Tables) (after : List ℕ) → t ≡ v → after ≡ openedIndex t → after ≡ openedIndex v
-same-index t v after e p = rw (← e) p
+pub same-tables : (t v : Tables) (l m : List ℕ) (s u : Buffer) (after : List ℕ) → t ≡ v
+    → (Put (SaysOpened t (opening t)) l m s u × (after ≡ openedIndex t))
+    → (Put (SaysOpened v (opening v)) l m s u × (after ≡ openedIndex v))
+same-tables t v l m s u after e p = rw (← e) p

@@ -19,9 +19,11 @@ first-words : (bytes : List ℕ) (offset k n : ℕ) → k ≤ n → take k (word
 unfolding wordsFrom
 first-words bytes offset zero n h = refl
 first-words bytes offset (suc k) zero h = absurd (omega arith)
-first-words bytes offset (suc k) (suc n) h = ap (λ (ws : List ℕ). wordFrom bytes offset ∷ ws) (first-words bytes (offset + 8) k n (omega arith))
+first-words bytes offset (suc k) (suc n) h =
+    ap (λ (ws : List ℕ). wordFrom bytes offset ∷ ws) (first-words bytes (offset + 8) k n (omega arith))
 
-words-from : (bytes : List ℕ) (offset a k n : ℕ) → a + k ≤ n → take k (drop a (wordsFrom bytes offset n)) ≡ wordsFrom bytes (offset + 8 * a) k
+words-from : (bytes : List ℕ) (offset a k n : ℕ) → a + k ≤ n
+    → take k (drop a (wordsFrom bytes offset n)) ≡ wordsFrom bytes (offset + 8 * a) k
 unfolding wordsFrom
 words-from bytes offset zero k n h =
     let e : offset + 8 * 0 ≡ offset = omega arith in rw e (first-words bytes offset k n (omega arith))
@@ -31,12 +33,14 @@ words-from bytes offset (suc a) k (suc n) h =
 
 module _ (bytes words index : List ℕ) (c : Counts) (e : words ≡ wordsFrom bytes segmentsAt (tableWords c)) where
   -- A part from word a to word b.
-  part-words : (a b k at : ℕ) → b - a ≡ k → a + k ≤ tableWords c → at ≡ segmentsAt + 8 * a → take (b - a) (drop a words) ≡ wordsFrom bytes at k
+  part-words : (a b k at : ℕ) → b - a ≡ k → a + k ≤ tableWords c → at ≡ segmentsAt + 8 * a
+      → take (b - a) (drop a words) ≡ wordsFrom bytes at k
   part-words a b k at same h g = rw (same, e, g) (words-from bytes segmentsAt a k (tableWords c) h)
 
   pub parts-bundled : (a f r : ℕ) → a ≡ imageAt c → f ≡ segmentWords c → r ≡ rebaseWords c → Accepted bytes c
-      → lent (take (length bytes - a) (drop a bytes)) (take (f - 0) (drop 0 words)) (take (f + 15 - f) (drop f words)) (take (40 - 32) (drop 32 bytes))
-      (take (f + 15 + r - (f + 15)) (drop (f + 15) words)) (take (length words - (f + 15 + r)) (drop (f + 15 + r) words)) index
+      → lent (take (length bytes - a) (drop a bytes)) (take (f - 0) (drop 0 words)) (take (f + 15 - f) (drop f words))
+      (take (40 - 32) (drop 32 bytes)) (take (f + 15 + r - (f + 15)) (drop (f + 15) words))
+      (take (length words - (f + 15 + r)) (drop (f + 15 + r) words)) index
       ≡ bundled bytes c index
   parts-bundled a f r p q s x =
       let image : length bytes - a ≡ c .image = omega (arith, p, x .exact) in
@@ -46,7 +50,8 @@ module _ (bytes words index : List ℕ) (c : Counts) (e : words ≡ wordsFrom by
         part-words 0 f (segmentWords c) segmentsAt (omega (arith, q)) (omega (arith, q)) (omega arith),
         part-words f (f + 15) 15 (sectionsAt c) (omega arith) (omega (arith, q)) (omega (arith, q)),
         part-words (f + 15) (f + 15 + r) (rebaseWords c) (rebasesAt c) (omega (arith, s)) (omega (arith, q, s)) (omega (arith, q)),
-        part-words (f + 15 + r) (length words) (bindWords c) (bindsAt c) (omega (arith, q, s, n)) (omega (arith, q, s)) (omega (arith, q, s)),
+        part-words (f + 15 + r) (length words) (bindWords c) (bindsAt c) (omega (arith, q, s, n)) (omega (arith, q, s))
+            (omega (arith, q, s)),
         p,
       )
 
@@ -58,7 +63,8 @@ module _ (bytes words : List ℕ) (c : Counts) (f r b : ℕ) (p : f ≡ segmentW
   end-is = omega (arith, p, q, s)
 
   written-words : written ≡ wordsFrom bytes segmentsAt (tableWords c)
-  written-words = e ∙ ap (wordsFrom bytes segmentsAt) (ap (λ (n : ℕ). length (take n words)) end-is ∙ length-take-le (tableWords c) words room)
+  written-words =
+      e ∙ ap (wordsFrom bytes segmentsAt) (ap (λ (n : ℕ). length (take n words)) end-is ∙ length-take-le (tableWords c) words room)
 
   pub decoded-part : (after : List ℕ) → take (f + 15 + r + b - 0) (written ++ after) ≡ wordsFrom bytes segmentsAt (tableWords c)
   decoded-part after =

@@ -32,7 +32,8 @@ module _ (t : Tables) (from : List ℕ) (begun : Buffer) (s : State) (l : List �
   onward-line x w g p =
       record {
         on = λ rest n h.
-            rw (p, ← put-then u (lineText (t .image) x) rest) (o .on (lineText (t .image) x ++ rest) n (saying x (answered (said.Line x) g) h));
+            rw (p, ← put-then u (lineText (t .image) x) rest)
+            (o .on (lineText (t .image) x ++ rest) n (saying x (answered (said.Line x) g) h));
       }
 
   pub onward-silent : r .said ≡ said.Nothing → Onward t from begun (stateOf (r .listing)) m u

@@ -2,8 +2,9 @@
 pub mod Puts
 pub mod NumberTexts
 pub mod TextFields
-pub mod Printed
 pub mod BundleSteps
 pub mod ListedWords
 pub mod BundleAnswers
 pub mod BundleParts
+pub mod LineCases
+pub mod Printed

@@ -31,4 +31,6 @@ at-in-words (at.Names w) vs p = omega (arith, p)
 at-in-words at.End vs p = omega arith
 
 pub in-words : (r : Listed) (vs : List Val) → Is listed-type.the-row r vs → InWords (stateOf (r .listing))
-in-words r vs p = let l = p .1 .1 .1 .0 in record { slot = section-in-words (r .listing .section) _ (l .1 .1 .1 .0); cursor = at-in-words (r .listing .at) _ (l .1 .1 .0) }
+in-words r vs p =
+    let l = p .1 .1 .1 .0 in
+    record { slot = section-in-words (r .listing .section) _ (l .1 .1 .1 .0); cursor = at-in-words (r .listing .at) _ (l .1 .1 .0) }

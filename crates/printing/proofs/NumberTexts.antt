@@ -71,10 +71,10 @@ sixteen-least h k l p =
 
 places-beyond : (m k h l : ℕ) → 0 < h → l < 16 ^ k → places 16 (k + m) (h * 16 ^ k + l) ≡ k + places 16 m h
 unfolding places
-places-beyond m zero h l p g = rw (low-zero h l g, zero-add, zero-add)
+places-beyond m zero h l p g = rw (low-zero h l g, zero-add m, zero-add (places 16 m h))
 places-beyond m (suc k) h l p g =
-    rw (suc-add, choose-false {A = ℕ} 1 (suc (places 16 (k + m) ((h * 16 ^ suc k + l) / 16))) (le-ltb (h * 16 ^ suc k + l) 16 (sixteen-least h k l p)), others h k l, suc-add)
-    (ap suc (places-beyond m k h (l / 16) p (low-digits k l g)))
+    let more = choose-false {A = ℕ} 1 (suc (places 16 (k + m) ((h * 16 ^ suc k + l) / 16))) (le-ltb _ 16 (sixteen-least h k l p)) in
+    rw (suc-add k m, more, others h k l, suc-add k (places 16 m h)) (ap suc (places-beyond m k h (l / 16) p (low-digits k l g)))
 
 digits-beyond : (p k h l : ℕ) → l < 16 ^ k → digits 16 (p + k) (h * 16 ^ k + l) ≡ digits 16 p h ++ digits 16 k l
 digits-beyond p zero h l g = rw (low-zero h l g, add-zero, append-nil)

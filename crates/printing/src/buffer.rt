@@ -13,7 +13,7 @@ pub fn flush(out: &[u8], at: usize) {
 }
 
 // A byte, after what waits; where there is no room what waits is written first.
-pub fn byte(b: u8, out: &mut [u8], at: usize) -> usize
+pub(crate) fn byte(b: u8, out: &mut [u8], at: usize) -> usize
     ensures { λ r. ⌜ buffer (now (out .exit)) r ≡ putAll (buffer (now (out .entry)) at) (b ∷ []) ⌝ }
 {
     if at < out.len() {
@@ -45,7 +45,7 @@ pub fn bytes(s: &[u8], out: &mut [u8], at: usize) -> usize
 }
 
 // A number in lower-case hex.
-pub fn hex(n: u64, out: &mut [u8], at: usize) -> usize
+pub(crate) fn hex(n: u64, out: &mut [u8], at: usize) -> usize
     ensures { λ r. ⌜ buffer (now (out .exit)) r ≡ putAll (buffer (now (out .entry)) at) (hexText n) ⌝ }
 {
     let mut text = [0u8; 16];
@@ -63,7 +63,7 @@ fn hex_word(n: u64, out: &mut [u8], at: usize) -> usize
 }
 
 // A number of two words, high x 2^64 + low, in lower-case hex.
-pub fn hex_of_two(high: u64, low: u64, out: &mut [u8], at: usize) -> usize
+pub(crate) fn hex_of_two(high: u64, low: u64, out: &mut [u8], at: usize) -> usize
     ensures { λ r. ⌜ buffer (now (out .exit)) r ≡ putAll (buffer (now (out .entry)) at) (hexText (high * 2 ^ 64 + low)) ⌝ }
 {
     if high == 0 {
@@ -74,7 +74,7 @@ pub fn hex_of_two(high: u64, low: u64, out: &mut [u8], at: usize) -> usize
 }
 
 // A number in decimal.
-pub fn decimal(n: u64, out: &mut [u8], at: usize) -> usize
+pub(crate) fn decimal(n: u64, out: &mut [u8], at: usize) -> usize
     ensures { λ r. ⌜ buffer (now (out .exit)) r ≡ putAll (buffer (now (out .entry)) at) (decimalText n) ⌝ }
 {
     let mut text = [0u8; 20];

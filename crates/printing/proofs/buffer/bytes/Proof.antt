@@ -15,6 +15,18 @@ Inv-loop s out₀ at to₀ i₀ out to i =
 abbrev μ-loop : tie.MeasureT-loop
 μ-loop s out₀ at to₀ i₀ out to i = length s - i
 
+loop-again : tie.Need-loop-again Inv-loop μ-loop
+loop-again c =
+    let at-byte = c .before .before in
+    let at-loop = at-byte .before .before .before .before in
+    (search needs, search needs, put-more _ _ _ _ (search needs) (at-loop .loop .inv .2) (at-byte .byte .ensures))
+
+returns : tie.Need-returns Inv-loop μ-loop
+returns c =
+    let at-loop = c .before in
+    let entry = at-loop .before .before .before in
+    put-done _ _ (entry .args .s .now) (at-loop .loop .i) (search needs) (at-loop .loop .inv .2)
+
 pub bytes-spec : {M : Type 1} → statement M
 bytes-spec =
     tie.close
@@ -26,6 +38,6 @@ bytes-spec =
     (λ c κs. search needs)
     (λ c. search needs)
     (λ c. search needs)
-    (λ c. (search needs, search needs, put-more _ _ _ _ (search needs) (c .before .before .before .before .before .before .loop .inv .2) (c .before .before .byte .ensures)))
+    loop-again
     (λ c. search needs)
-    (λ c. put-done _ _ (c .before .before .before .before .args .s .now) (c .before .loop .i) (search needs) (c .before .loop .inv .2)))
+    returns)

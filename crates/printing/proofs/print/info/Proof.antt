@@ -1,17 +1,23 @@
-use borrow.Author.Needs.{needs}
 use Rattle.printing.specs.LineText.{infoText}
 use Rattle.printing.proofs.Puts.{then-put}
+use borrow.Author.Needs.{needs}
 use Rattle.printing.proofs.print.info.Statement.{statement}
 use Rattle.printing.proofs.print.info.Tie as tie
 
-pub info-spec : {M : Type 1} → statement M
+returns : tie.Need-returns
 unfolding infoText
+returns c =
+    let at-number = c .before .before in
+    let at-start = at-number .before .before .before .before .before in
+    then-put _ _ _ (at-start .start .ensures) (at-number .number .ensures)
+
+pub info-spec : {M : Type 1} → statement M
 info-spec =
     tie.close
     (tie.spec
     (λ c. search needs)
+    (λ c κs. search needs)
     (λ c. search needs)
+    (λ c κs. search needs)
     (λ c. search needs)
-    (λ c. search needs)
-    (λ c. search needs)
-    (λ c. then-put _ _ _ (c .before .before .before .before .before .before .before .start .ensures) (c .before .before .number .ensures)))
+    returns)

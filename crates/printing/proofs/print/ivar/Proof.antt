@@ -1,20 +1,32 @@
-use borrow.Author.Needs.{needs}
 use Rattle.printing.specs.LineText.{ivarText}
 use Rattle.printing.proofs.Puts.{then-put}
+use borrow.Author.Needs.{needs}
 use Rattle.printing.proofs.print.ivar.Statement.{statement}
 use Rattle.printing.proofs.print.ivar.Tie as tie
 
-pub ivar-spec : {M : Type 1} → statement M
+returns : tie.Need-returns
 unfolding ivarText
+returns c =
+    let at-number2 = c .before .before in
+    let at-number = at-number2 .before .before .before .before .before in
+    let at-offset = at-number .before .before .before .before .before in
+    let at-texts = at-offset .before .before .before .before in
+    let at-start = at-texts .before .before .before .before in
+    then-put _ _ _ (at-start .start .ensures)
+    (then-put _ _ _ (at-texts .texts .ensures)
+    (then-put _ _ _ (at-offset .offset .ensures)
+    (then-put _ _ _ (at-number .number .ensures) (at-number2 .number2 .ensures))))
+
+pub ivar-spec : {M : Type 1} → statement M
 ivar-spec =
     tie.close
     (tie.spec
+    (λ c κs. search needs)
+    (λ c κs. search needs)
+    (λ c κs. search needs)
     (λ c. search needs)
+    (λ c κs. search needs)
     (λ c. search needs)
+    (λ c κs. search needs)
     (λ c. search needs)
-    (λ c. search needs)
-    (λ c. search needs)
-    (λ c. search needs)
-    (λ c. search needs)
-    (λ c. search needs)
-    (λ c. then-put _ _ _ (c .before .before .before .before .before .before .before .before .before .before .before .before .before .before .before .before .before .before .before .before .start .ensures) (then-put _ _ _ (c .before .before .before .before .before .before .before .before .before .before .before .before .before .before .before .before .texts .ensures) (then-put _ _ _ (c .before .before .before .before .before .before .before .before .before .before .before .before .offset .ensures) (then-put _ _ _ (c .before .before .before .before .before .before .before .number .ensures) (c .before .before .number2 .ensures))))))
+    returns)

@@ -2,6 +2,15 @@ use borrow.Author.Needs.{needs}
 use Rattle.printing.proofs.print.kind_number.Statement.{statement}
 use Rattle.printing.proofs.print.kind_number.Tie as tie
 
+returns : tie.Need-returns
+returns c = rw (c .enum-told .given .1)
+
+returns-2 : tie.Need-returns-2
+returns-2 c = rw (c .enum-told2 .given .1)
+
+returns-3 : tie.Need-returns-3
+returns-3 c = rw (c .enum-told3 .given .1)
+
 pub kind-number-spec : {M : Type 1} → statement M
 kind-number-spec =
     tie.close
@@ -9,6 +18,6 @@ kind-number-spec =
     (λ c. search needs)
     (λ c. search needs)
     (λ c. search needs)
-    (λ c. rw (c .enum-told .given .1))
-    (λ c. rw (c .enum-told2 .given .1))
-    (λ c. rw (c .enum-told3 .given .1)))
+    returns
+    returns-2
+    returns-3)
