@@ -45,17 +45,18 @@ def without_plan(rng):
 
 
 def seeded(seed):
+    """What was done, and the bundle."""
     rng = random.Random(seed)
     x = rng.random()
     if x < 0.03:
-        return without_plan(rng)
+        return "without plan", without_plan(rng)
     bundle, builder = well_formed(rng)
     if x < 0.25:
-        return bundle.pack()
+        return "well-formed", bundle.pack()
     if x >= 0.97:
-        return refusals.length(rng, bundle)
+        return "length", refusals.length(rng, bundle)
     if x >= 0.94:
-        return refusals.tables(rng, bundle)
+        return "tables", refusals.tables(rng, bundle)
     damage = Damage(rng, bundle, builder)
     if x < 0.56:
         for _ in range(rng.choice([1, 1, 2, 2, 3, 4, 6, 10])):
@@ -66,18 +67,21 @@ def seeded(seed):
     if rng.random() < 0.95:
         del bundle.segments[64:]
     bundle.fit()
-    return bundle.pack()
+    return ", ".join(damage.done), bundle.pack()
+
+
+def named(number):
+    """The name and the bundle of a number."""
+    known = edge_list()
+    return known[number] if number < len(known) else seeded(number)
 
 
 def case(number):
-    """The bundle of a number."""
-    known = edge_list()
-    return known[number][1] if number < len(known) else seeded(number)
+    return named(number)[1]
 
 
 def name(number):
-    known = edge_list()
-    return known[number][0] if number < len(known) else "seed %d" % number
+    return named(number)[0]
 
 
 def write(path, data):

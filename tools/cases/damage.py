@@ -17,14 +17,19 @@ LISTS = ("list", "protocol list")
 class Damage:
     def __init__(self, rng, bundle, builder):
         self.r, self.b, self.made = rng, bundle, builder
+        self.done = []              # names
 
     def some(self):
         """One damage of any sort."""
-        self.r.choice(self.ALL)(self)
+        self.do(self.r.choice(self.ALL))
 
     def directed(self):
         """One that aims at a record's or list's own edges."""
-        self.r.choice(self.DIRECTED)(self)
+        self.do(self.r.choice(self.DIRECTED))
+
+    def do(self, damage):
+        damage(self)
+        self.done.append(damage.__name__.replace("_", " "))
 
     # -- places and writes that the damages share
 

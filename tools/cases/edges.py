@@ -674,8 +674,71 @@ def info():
             yield "info %x %x %d" % (version, flags, length), s.pack()
 
 
+# -- the smallest of some kinds
+
+UTF8 = [                            # RFC 3629, section 4: the range of each byte
+    [(0xC2, 0xDF), (0x80, 0xBF)],
+    [(0xE0, 0xE0), (0xA0, 0xBF), (0x80, 0xBF)],
+    [(0xE1, 0xEC), (0x80, 0xBF), (0x80, 0xBF)],
+    [(0xED, 0xED), (0x80, 0x9F), (0x80, 0xBF)],
+    [(0xEE, 0xEF), (0x80, 0xBF), (0x80, 0xBF)],
+    [(0xF0, 0xF0), (0x90, 0xBF), (0x80, 0xBF), (0x80, 0xBF)],
+    [(0xF1, 0xF3), (0x80, 0xBF), (0x80, 0xBF), (0x80, 0xBF)],
+    [(0xF4, 0xF4), (0x80, 0x8F), (0x80, 0xBF), (0x80, 0xBF)],
+]
+
+
+def ranges():
+    """Both sides of both ends of each range, the other bytes of the character the least or the greatest."""
+    texts = {b"\x7f", b"\x80"}
+    for character, end in itertools.product(UTF8, (0, 1)):
+        for i, (low, high) in enumerate(character):
+            for byte in (low - 1, low, high, high + 1):
+                text = bytes(byte if j == i else pair[end] for j, pair in enumerate(character))
+                texts |= {text, text[:-1]}
+    s = Sketch()
+    places = [s.text(text) for text in sorted(texts)]
+    rows = b"".join(struct.pack("<2Q", a, 0) for a in places)
+    s.with_ro(properties=s.add(struct.pack("<2I", 16, len(texts)) + rows))
+    yield "ranges of UTF-8", s.pack()
+
+
+def entries():
+    """A list of more than a thousand entries, by 60 segments that all show the same 20; none has a name."""
+    s = Sketch()
+    s.with_ro(properties=WINDOW)
+    head = len(s.b.image)
+    s.b.image.extend(struct.pack("<2I", 16, 0xFFFFFFFF) + bytes(320))
+    s.show(WINDOW, 8, head, 8)
+    for i in range(60):
+        s.show(WINDOW + 8 + 320 * i, 320, head + 8, 320)
+    yield "entries 1200", s.pack()
+
+
+# -- inputs of docs/DIFFERENCES.md that no family above has
+
+def differences():
+    for word in (3, 0x100, 0xFFFFFFFF):
+        s = Sketch()
+        s.with_ro(ivars=s.add(struct.pack("<2I3Q2I", 32, 1, 0, s.text("_i"), s.text("q"), word, 8)))
+        yield "alignment %x" % word, s.pack()
+    s = Sketch()
+    cell = s.words(0x100000008)
+    s.with_ro(ivars=s.add(struct.pack("<2I3Q2I", 32, 1, cell, s.text("_i"), s.text("q"), 3, 8)))
+    yield "offset of 64 bits", s.pack()
+    for ordinal in (0, 1):          # a bound slot that holds an ordinal, where address 0 is mapped
+        s = Sketch()
+        s.BASE = 0
+        s.add(bytes(48))
+        s.b.image[1:41] = struct.pack("<5Q", 0, 0, 0, 0, s.add(s.class_ro(name="Low")))
+        klass = s.words(0, ordinal, 0, 0, s.add(s.class_ro()))
+        s.section(CLASSES, klass)
+        s.bind(klass + 8, "_OBJC_CLASS_$_Bound")
+        yield "bound slot holds %d" % ordinal, s.pack()
+
+
 FAMILIES = [lengths, refused, cuts, list_heads, windows, lookups, protocol_sizes, masks, chains, prefixes, zeros,
-            texts, alignments, relatives, sections, info]
+            texts, alignments, relatives, sections, info, ranges, entries, differences]
 
 
 def edges():

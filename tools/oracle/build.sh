@@ -1,5 +1,6 @@
 #!/bin/sh
-# build.sh [RUST]: builds target/oracle/oracle out of the Rust at RUST, taken as it stands, and the stand-ins of src/.
+# build.sh [RUST]: builds target/oracle/oracle out of the Rust at RUST, taken as it stands, and the stand-ins of src/;
+# and target/oracle/release, the same for release, without checks of overflow, for timing.
 # RUST is the folder that holds the Rust's src/; default: $RUST_SRC, else ../shared/docs/src beside the repository.
 set -eu
 here=$(cd "$(dirname "$0")" && pwd)
@@ -19,4 +20,5 @@ for m in mod class method ivar property protocol category imageinfo section; do
     cp "$rust/objc/$m.rs" "$out/src/objc/"
 done
 rustc --edition 2024 -O -C overflow-checks=on -C debug-assertions=on -o "$out/oracle" "$out/src/main.rs"
-echo "built target/oracle/oracle"
+rustc --edition 2024 -C opt-level=3 -C codegen-units=1 -o "$out/release" "$out/src/main.rs"
+echo "built target/oracle/oracle and target/oracle/release"

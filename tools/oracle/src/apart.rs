@@ -31,6 +31,7 @@ pub struct List {
     least: u64,
 }
 
+#[derive(Default)]
 pub struct Apart<'a> {
     image: &'a [u8],
     segments: Vec<[u64; 4]>,

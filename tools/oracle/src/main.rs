@@ -1,9 +1,10 @@
 //! Lists a bundle as objclist does, through the Rust's own iterators over an `ObjcRuntime` built from the same tables.
 //!
-//!     oracle [--whole] [--apart] <BUNDLE
+//!     oracle [--whole] [--apart] [--bare] <BUNDLE
 //!
 //! --whole walks every list to its end by the Rust, which takes seconds or minutes for a long list; --apart says on
 //! standard error how many rows were computed apart. Status 70: something computed apart is not what the Rust gives.
+//! --bare, for timing, does as --whole and computes nothing apart: line E then counts rows, and no skipped entry.
 
 // The Rust offers more than the listing uses.
 #![allow(dead_code, unused_imports)]
@@ -55,6 +56,7 @@ struct Listing<'a> {
     out: Vec<u8>,
     apart: Apart<'a>,
     whole: bool,
+    bare: bool,
     records: u64,
     settled: u64,
     rows_apart: u64,
@@ -75,6 +77,13 @@ impl<'a> Listing<'a> {
     /// The rows of the list at `va`, `rust` being the Rust's iterator over it. Its readable entries, skipped ones too,
     /// are counted apart for line E.
     fn rows(&mut self, number: u64, va: u64, kind: Kind, mut rust: impl Iterator<Item = Vec<u8>>) {
+        if self.bare {
+            for row in rust {
+                self.settled += 1;
+                self.out.extend(row);
+            }
+            return;
+        }
         let Some(list) = self.apart.list(va, kind) else {
             let given: Vec<Vec<u8>> = rust.collect();
             self.check(given.is_empty(), "an absent list");
@@ -175,7 +184,7 @@ impl<'a> Listing<'a> {
 
 fn main() -> ExitCode {
     let options: Vec<String> = std::env::args().skip(1).collect();
-    if let Some(unknown) = options.iter().find(|o| !["--whole", "--apart"].contains(&o.as_str())) {
+    if let Some(unknown) = options.iter().find(|o| !["--whole", "--apart", "--bare"].contains(&o.as_str())) {
         eprintln!("oracle: no option {unknown}; a bundle comes on standard input");
         return ExitCode::from(2);
     }
@@ -189,10 +198,12 @@ fn main() -> ExitCode {
         }
     };
     let rt = ObjcRuntime::build(&bin).expect("build gives None only for 32 bits or without image info");
+    let bare = options.iter().any(|o| o == "--bare");
     let mut listing = Listing {
         out: Vec::new(),
-        apart: Apart::new(&bin),
+        apart: if bare { Apart::default() } else { Apart::new(&bin) },
         whole: options.iter().any(|o| o == "--whole"),
+        bare,
         records: 0,
         settled: 0,
         rows_apart: 0,

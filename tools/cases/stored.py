@@ -1,0 +1,141 @@
+#!/usr/bin/env python3
+"""Chooses bundles of cases.py, and stores them with the oracle's listings for crates/replay.
+
+    stored.py [ORACLE [FOLDER]]
+
+ORACLE is target/oracle/oracle and FOLDER crates/replay if left out. Chosen are, the smallest where there is a choice:
+
+- the edges of NAMED;
+- of each family of edges both sides of each kind of boundary: two bundles next to each other, whose names differ in one
+  number alone, with different listings. A family is a name without its numbers (a cut counts for what is cut and for the
+  way), the kind of a boundary the letters of the lines that differ in more than what they say;
+- for each damage a seed with that damage alone, whose listing is not that of the undamaged bundle, and a seed of each
+  other sort;
+- a bundle for each line of coverage.WANTED.
+
+FOLDER/data/cases has the number of cases as a word, then for each case its title, which is its number and name, and its
+bundle, each with its length in front as a word; words are little-endian. FOLDER/stdout has for each case the line
+"# TITLE" and the listing.
+"""
+import os
+import random
+import re
+import shlex
+import struct
+import sys
+import tempfile
+from collections import Counter, defaultdict
+
+import cases
+import coverage
+from edges import WAYS
+from image import well_formed
+from lister import run
+
+ROOT = os.path.dirname(os.path.dirname(os.path.dirname(os.path.abspath(__file__))))
+SEEDS = 16000
+NAMED = ["diamond", "empty", "total 32768", "total 32769", "cut cell vmsize 1 0", "bits word, bit 38",
+         "bits word, bit 39", "list methods 1 at +1", "list ivars 1 at +1", "protocol names 100001", "prefixes 0",
+         "ranges of UTF-8", "alignment 3", "alignment 100", "alignment ffffffff", "offset of 64 bits", "bound slot holds 0",
+         "bound slot holds 1"]
+LONG = ("texts", "alignments", "prefixes")      # families of long bundles, each with many cases
+
+
+def kinds(listing):
+    """The kinds of a listing's lines: the letter, a row's list number and a method's kind, and of each other field
+    whether it is none, empty or 0."""
+    if listing.startswith(b"refused "):
+        return {listing}
+    at, out = 0, set()
+    while at < len(listing):
+        letter = chr(listing[at])
+        got, at = coverage.fields(listing, at + 1, coverage.FIELDS[letter])
+        kept = {"m": (0, 4), "v": (0,), "p": (0,), "q": (0,), "I": None, "E": None}.get(letter, ())
+        out.add((letter, *[x if x is None or i in kept else bool(x) for i, x in enumerate(got) if kept is not None]))
+    return out
+
+
+def boundaries(names, listings):
+    """The pairs of edges at each kind of boundary of each family."""
+    shown = [kinds(listing) for listing in listings]
+    rows = defaultdict(list)
+    for number, name in enumerate(names):
+        words = re.findall(r"b?'(?:\\.|[^'])*'|[^\s,]+", name)
+        places = [i for i, word in enumerate(words) if re.fullmatch("[+-]?[0-9a-f]+", word)]
+        plain = [word for i, word in enumerate(words) if i not in places and "'" not in word]
+        if words[0] == "cut":
+            families = [" ".join(word for word in plain if word not in WAYS), *[w for w in plain if w in WAYS]]
+        else:
+            families = [" ".join(plain)]
+        if words[0] not in LONG:
+            for i in places:
+                rows[i, *words[:i], *words[i + 1:]].append((number, families))
+    found = defaultdict(list)
+    for row in rows.values():
+        for (a, families), (b, _) in zip(row, row[1:]):
+            letters = frozenset(kind[0] for kind in shown[a] ^ shown[b])
+            for family in families if listings[a] != listings[b] else ():
+                found[family, letters].append((a, b))
+    return found
+
+
+def sorts(names, listings, list_bundle):
+    """The seeds of each sort: well-formed, one damage alone that the listing shows, or one that is no damage."""
+    found = defaultdict(list)
+    for number in range(len(cases.edge_list()), len(names)):
+        rng = random.Random(number)
+        rng.random()            # with which cases.seeded chose the sort
+        if "," not in names[number] and (names[number] == "well-formed"
+                                         or listings[number] != list_bundle(well_formed(rng)[0].pack())):
+            found[names[number]].append((number,))
+    return found
+
+
+def choose(needs, sizes, chosen):
+    """Adds for each need the choice that adds least, needs with few choices first."""
+    for choices in sorted(needs.values(), key=len):
+        chosen.update(min(choices, key=lambda numbers: (sum(sizes[n] for n in numbers if n not in chosen), numbers)))
+
+
+def choice(list_bundle):
+    """The chosen numbers, in order, and the listings of all bundles."""
+    edges = len(cases.edge_list())
+    names, bundles = zip(*[cases.named(number) for number in range(edges + SEEDS)])
+    listings, sizes = [list_bundle(bundle) for bundle in bundles], [len(bundle) for bundle in bundles]
+    chosen = {names.index(name) for name in NAMED}
+    choose(boundaries(names[:edges], listings[:edges]), sizes, chosen)
+    choose(sorts(names, listings, list_bundle), sizes, chosen)
+    tables = [Counter() for _ in listings]
+    for listing, table in zip(listings, tables):
+        coverage.count(listing, table)
+    for wanted in coverage.WANTED:
+        showing = sorted((n not in chosen, sizes[n], n) for n, table in enumerate(tables) if table[wanted])
+        chosen.update(n for _, _, n in showing[:1])
+    return sorted(chosen), listings
+
+
+def main(args):
+    command = shlex.split(args[0]) if args else [os.path.join(ROOT, "target", "oracle", "oracle")]
+    folder = args[1] if len(args) > 1 else os.path.join(ROOT, "crates", "replay")
+    with tempfile.TemporaryDirectory() as room:
+        def list_bundle(bundle):
+            path = os.path.join(room, "bundle")
+            cases.write(path, bundle)
+            listing, _, fault = run(command, path, 60)
+            return listing if not fault else sys.exit("the oracle: " + fault)
+        chosen, listings = choice(list_bundle)
+    data, answers = [struct.pack("<Q", len(chosen))], []
+    for number in chosen:
+        name, bundle = cases.named(number)
+        title = ("%d %s" % (number, name)).encode()
+        for part in (title, bundle):
+            data += [struct.pack("<Q", len(part)), part]
+        answers += [b"# ", title, b"\n", listings[number]]
+    os.makedirs(os.path.join(folder, "data"), exist_ok=True)
+    cases.write(os.path.join(folder, "data", "cases"), b"".join(data))
+    cases.write(os.path.join(folder, "stdout"), b"".join(answers))
+    print("%d cases, %d bytes; listings, %d bytes" % (len(chosen), sum(map(len, data)), sum(map(len, answers))))
+
+
+if __name__ == "__main__":
+    main(sys.argv[1:])
