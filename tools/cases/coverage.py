@@ -33,7 +33,7 @@ WANTED = (["line " + letter for letter in "ICMRPKmvpqE"]
           + ["types empty", "type empty", "attributes empty", "selector or name empty", "ivar offset none",
              "ivar offset 0", "superclass name none", "superclass name empty", "superclass name there",
              "class name none", "class name empty", "class name there", "class without R", "metaclass without R",
-             "no record", "entries skipped", "more than 1000 entries settled"])
+             "no record", "entries skipped", "more than 1000 entries settled", "more than 4096 bytes of listing"])
 
 
 def fields(listing, at, kinds):
@@ -63,6 +63,7 @@ def fields(listing, at, kinds):
 
 def count(listing, table):
     """Adds a listing to the table."""
+    table["more than 4096 bytes of listing"] += len(listing) > 4096
     if listing.startswith(b"refused "):
         table["refused " + listing[8:].decode().strip()] += 1
         return

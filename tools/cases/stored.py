@@ -34,11 +34,12 @@ from lister import run
 
 ROOT = os.path.dirname(os.path.dirname(os.path.dirname(os.path.abspath(__file__))))
 SEEDS = 16000
-NAMED = ["diamond", "empty", "total 32768", "total 32769", "cut cell vmsize 1 0", "bits word, bit 38",
-         "bits word, bit 39", "list methods 1 at +1", "list ivars 1 at +1", "protocol names 100001", "prefixes 0",
-         "ranges of UTF-8", "alignment 3", "alignment 100", "alignment ffffffff", "offset of 64 bits", "bound slot holds 0",
-         "bound slot holds 1"]
-LONG = ("texts", "alignments", "prefixes")      # families of long bundles, each with many cases
+NAMED = ["diamond", "empty", "length 406", "length 408", "total 32768", "total 32769", "segments 65", "order 2",
+         "order 4", "cut cell vmsize 1 0", "head methods 2f ffffffff", "list methods 1 at +1", "list ivars 1 at +1",
+         "protocol names 100001", "bits word, bit 38", "bits word, bit 39", "chain 04213", "prefixes 0",
+         "sections from 2^64 - 16", "ranges of UTF-8", "alignment 3", "alignment 100", "alignment ffffffff",
+         "offset of 64 bits", "bound slot holds 0", "bound slot holds 1"]
+LONG = ("texts", "alignments", "prefixes", "protocol names", "protocol list cap")   # long bundles, or long walks
 
 
 def kinds(listing):
@@ -67,7 +68,7 @@ def boundaries(names, listings):
             families = [" ".join(word for word in plain if word not in WAYS), *[w for w in plain if w in WAYS]]
         else:
             families = [" ".join(plain)]
-        if words[0] not in LONG:
+        if " ".join(plain) not in LONG:
             for i in places:
                 rows[i, *words[:i], *words[i + 1:]].append((number, families))
     found = defaultdict(list)
@@ -85,9 +86,11 @@ def sorts(names, listings, list_bundle):
     for number in range(len(cases.edge_list()), len(names)):
         rng = random.Random(number)
         rng.random()            # with which cases.seeded chose the sort
-        if "," not in names[number] and (names[number] == "well-formed"
-                                         or listings[number] != list_bundle(well_formed(rng)[0].pack())):
-            found[names[number]].append((number,))
+        sort = names[number]
+        if "," in sort or sort in LONG:
+            continue
+        if sort == "well-formed" or listings[number] != list_bundle(well_formed(rng)[0].pack()):
+            found[sort].append((number,))
     return found
 
 
