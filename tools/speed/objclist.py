@@ -5,8 +5,9 @@
 
 OBJCLIST is target/bin/objclist and RUST target/oracle/release (--bare) if left out. They take turns at five bundles near
 32 KiB, a thousand runs of each; first their listings must be the same. A row has the user time of all runs, the ratio of
-objclist's to the Rust's, and the ratio less the time of as many runs on a bundle without records. The last rows are the
-◆ bundle, a list that claims 4,294,967,295 rows: with the oracle's own jump, and once by the Rust, which tries each row.
+objclist's to the Rust's, and the ratio less the time of as many runs on a bundle without records. The last rows are a
+bundle of 300 classes, and the ◆ bundle, a list that claims 4,294,967,295 rows: with the oracle's own jump, and once by
+the Rust, which tries each row.
 """
 import os
 import resource
@@ -77,6 +78,15 @@ def texts(s, count):
     s.with_ro(properties=s.add(struct.pack("<2I", 16, count) + b"".join(struct.pack("<2Q", *row) for row in rows)))
 
 
+def many_classes(s, count):
+    """Classes, two with one class_ro; the first have a method."""
+    made = []
+    for i in range(count // 2):
+        ro = s.add(s.class_ro(s.add(s.methods("legacy", 1)) if i < 60 else 0, name="Hub%d" % i))
+        made += [s.words(0, 0, 0, 0, ro) for _ in range(2)]
+    s.section(CLASSES, *made)
+
+
 def user_time(command, bundle):
     """What a command says of a bundle, and the user time it takes."""
     with open(bundle, "rb") as given:
@@ -124,6 +134,10 @@ def main(args):
             total = [a + b for a, b in zip(total, times)]
             row(add.__name__, size, RUNS, times, start)
         row("all five", "", 5 * RUNS, total, [5 * x for x in start])
+        many = Sketch()
+        many_classes(many, 300)
+        size = store(many.pack())
+        row("300 classes", size, RUNS, measure(both, path, RUNS), start)
         size = store(diamond().pack())
         times = measure(([objclist], [rust]), path, RUNS)
         row("◆, with the oracle's jump", size, RUNS, times)
