@@ -7,8 +7,15 @@ here=$(cd "$(dirname "$0")" && pwd)
 root=$(cd "$here/../.." && pwd)
 rust=${1:-${RUST_SRC:-$root/../shared/docs/src}}/src
 out=$root/target/oracle
-if [ ! -f "$rust/objc/mod.rs" ]; then
-    echo "no $rust/objc/mod.rs: give the folder that holds the Rust's src/" >&2
+for f in util.rs ptrauth.rs objc/mod.rs; do
+    if [ ! -f "$rust/$f" ]; then
+        echo "no $rust/$f: the Rust is no part of this repository; tools/oracle/build.sh RUST (or RUST_SRC) names" >&2
+        echo "the folder of darwinscope's source whose src/ has util.rs, ptrauth.rs and objc/" >&2
+        exit 2
+    fi
+done
+if ! command -v rustc >/dev/null; then
+    echo "no rustc on the PATH: the oracle is built with it" >&2
     exit 2
 fi
 rm -rf "$out/src"

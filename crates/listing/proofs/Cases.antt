@@ -1,5 +1,5 @@
 -- The cases that document 01 marks with ◆, as one table, and one statement over all of it: the definitions give what document 01 says.
-use Prim.Native.Nat.{ℕ, zero, suc, _/_, _%_, _≤_}
+use Prim.Native.Nat.{ℕ, _≤_}
 use Prim.Native.String.{String}
 use mathlib.Core.Path.{_≡_, refl, sym, _∙_}
 use mathlib.Core.List.{List, [], _∷_, _++_}
@@ -7,7 +7,7 @@ use native.Mathlib.Omega.{arith}
 use lib.ListN.{length, replicate}
 use Rattle.reads.specs.Outcome.{Outcome, value, absent, choose, sum64, nonzero, textOf}
 use Rattle.reads.specs.Place.{part, le, readableAt, readable, word, wordIn}
-use Rattle.reads.specs.Ptrauth.{stripped}
+use Rattle.reads.specs.Address.{stripped}
 use Rattle.reads.specs.Segment.{rows, ends, holds, placeAt, placed, lookup}
 use Rattle.reads.specs.Text.{text, textLength, textAt, textIn}
 use Rattle.reads.specs.Utf8.{judge, utf8}
@@ -17,26 +17,27 @@ use Rattle.pointers.specs.Open.{opening}
 use Rattle.pointers.specs.Section.{sectionAt}
 use Rattle.pointers.specs.Slot.{rebaseAt, stored, resolve, pointerAt, pointerOr0At}
 use Rattle.pointers.specs.Symbol.{ascii}
-use Rattle.pointers.specs.Tables.{Tables, lent, withIndex}
+use Rattle.pointers.specs.Tables.{Tables, tablesOf, withIndex}
 use Rattle.pointers.proofs.OpenedTables.{opened-info}
-use Rattle.records.specs.List.{methodRows, layoutOf, listAt}
-use Rattle.records.specs.Row.{alignmentOf, offsetAt, ivarAt}
-use Rattle.records.specs.Sections.{slotCount}
+use Rattle.records.specs.Ask.{evenList, entrySize}
+use Rattle.records.specs.List.{methodRows, listAt, decodeList}
+use Rattle.records.specs.Row.{alignmentOf, decodeOffset, ivarAt, decodeIvar}
+use Rattle.walks.specs.Slots.{slotCount}
 use Rattle.records.specs.declared.ivar.Ivar.{Ivar}
 use Rattle.records.specs.declared.ivar.IvarOffset.the-variants as offset
 use Rattle.records.specs.declared.list.Layout.{Layout}
 use Rattle.records.specs.declared.list.ListKind.the-variants.{Methods}
 use Rattle.records.specs.declared.list.RowKind.{RowKind}
-use Rattle.records.specs.declared.list.RowKind.the-variants as row
+use Rattle.records.specs.declared.list.RowKind.the-variants as rowKind
 use Rattle.records.proofs.HubImage as image
-use Rattle.records.proofs.HubRun.{hub, hub-opened}
-use Rattle.listing.specs.Bundle as bundle
-use Rattle.listing.specs.Bundle.{wordsFrom, bundleFits, bundled}
+use Rattle.walks.proofs.HubRun.{hub, hub-opened}
+use Rattle.listing.specs.Bundle.{wordsFrom, bundleFits, bundleCounts, bundled}
 use Rattle.listing.specs.ListingRun.{Lists}
 use Rattle.listing.specs.PlainListing.{event, plainEvents, plainListing}
 use Rattle.listing.specs.declared.bundle.Counts.{Counts}
 use Rattle.listing.proofs.HubListing.{hub-events, five-lines, hub-listing}
-use Rattle.listing.proofs.WholeListing.{whole-listing}
+use Rattle.listing.proofs.LittleEndian.{bytesOf, eights}
+use Rattle.listing.proofs.WholeListing.{lists-with-room}
 
 -- A case: its name, what the definitions give, and what document 01 says.
 pub data Case : Type 1 where
@@ -53,24 +54,15 @@ both-hold : (cs ds : List Case) → AllHold cs → AllHold ds → AllHold (cs ++
 both-hold [] ds h g = g
 both-hold (c ∷ cs) ds h g = (h .0, both-hold cs ds (h .1) g)
 
--- A number as k bytes in little-endian order, and words of eight.
-abbrev bytes : ℕ → ℕ → List ℕ
-bytes zero n = []
-bytes (suc k) n = n % 256 ∷ bytes k (n / 256)
-
-abbrev words : List ℕ → List ℕ
-words [] = []
-words (w ∷ ws) = bytes 8 w ++ words ws
-
 -- ◆ the listing's bundle: one segment, no rebase, one bind, 191 bytes of image; image info 0; segment; sections, of which class_list is
 -- present; bind; image.
 abbrev pub hub-bundle : List ℕ
 hub-bundle =
-    words (1 ∷ 0 ∷ 1 ∷ 191 ∷ [])
+    eights (1 ∷ 0 ∷ 1 ∷ 191 ∷ [])
     ++ (replicate 8 0
-    ++ (words (0x1000 ∷ 191 ∷ 0 ∷ 191 ∷ [])
-    ++ (words (1 ∷ 0x10A0 ∷ 8 ∷ 0 ∷ 0 ∷ 0 ∷ 0 ∷ 0 ∷ 0 ∷ 0 ∷ 0 ∷ 0 ∷ 0 ∷ 0 ∷ 0 ∷ [])
-    ++ (words (0x1008 ∷ 168 ∷ 22 ∷ [])
+    ++ (eights (0x1000 ∷ 191 ∷ 0 ∷ 191 ∷ [])
+    ++ (eights (1 ∷ 0x10A0 ∷ 8 ∷ 0 ∷ 0 ∷ 0 ∷ 0 ∷ 0 ∷ 0 ∷ 0 ∷ 0 ∷ 0 ∷ 0 ∷ 0 ∷ 0 ∷ [])
+    ++ (eights (0x1008 ∷ 168 ∷ 22 ∷ [])
     ++ image.bytes))))
 
 abbrev pub hub-counts : Counts
@@ -80,73 +72,73 @@ hub-counts = record { segments = 1; rebases = 0; binds = 1; image = 191 }
 -- the two entries that are settled; the texts that the lines hold.
 abbrev pub listing-cases : List Case
 listing-cases =
-    case "listing: question 13" (bundle.counted hub-bundle) (value hub-counts)
-    ∷ case "listing: tables" (bundled hub-bundle hub-counts (hub .index)) hub
-    ∷ case "listing: opening" (opening (withIndex hub (hub-opened .before))) (value (infoOf 0 0))
-    ∷ case "listing: lines" (plainListing hub (infoOf 0 0)) five-lines
-    ∷ case "listing: settling steps" (plainEvents hub) (event 0 0 0 ∷ event 0 0 1 ∷ [])
+    case "listing: question 13" (bundleCounts hub-bundle) (value hub-counts)
+    ∷ case "listing: hub-tables" (bundled hub-bundle hub-counts (hub .index)) hub
+    ∷ case "listing: opening" (opening (withIndex hub (hub-opened .indexBefore))) (value (infoOf 0 0))
+    ∷ case "listing: lines" (plainListing hub) (value five-lines)
+    ∷ case "listing: settling steps" (plainEvents hub) (value (event 0 0 0 ∷ event 0 0 1 ∷ []))
     ∷ case "listing: superclass name" (part image.bytes 182 8) (ascii "NSObject")
     ∷ case "listing: class name" (part image.bytes 0x90 3) (ascii "Hub")
     ∷ case "listing: selector" (part image.bytes 0x94 2) (ascii "up")
     ∷ case "listing: types" (part image.bytes 0x97 1) (ascii "v")
     ∷ []
 
-accepted : bundle.counted hub-bundle ≡ value hub-counts
-unfolding bundle.counted bundleFits wordIn le choose image.counted
-accepted = refl
+hub-accepted : bundleCounts hub-bundle ≡ value hub-counts
+unfolding bundleCounts bundleFits wordIn le choose image.counted
+hub-accepted = refl
 
-tables : bundled hub-bundle hub-counts (hub .index) ≡ hub
+hub-tables : bundled hub-bundle hub-counts (hub .index) ≡ hub
 unfolding wordsFrom wordIn le choose image.counted
-tables = refl
+hub-tables = refl
 
-opens : opening (withIndex hub (hub-opened .before)) ≡ value (infoOf 0 0)
+hub-opens : opening (withIndex hub (hub-opened .indexBefore)) ≡ value (infoOf 0 0)
 unfolding imageInfo le choose
-opens = hub-opened .accepted ∙ sym (opened-info hub hub-opened)
+hub-opens = hub-opened .accepted ∙ sym (opened-info hub hub-opened)
 
 listing-holds : AllHold listing-cases
 unfolding image.counted
-listing-holds = (accepted, (tables, (opens, (hub-listing, (hub-events, (refl, (refl, (refl, (refl, tt)))))))))
+listing-holds = (hub-accepted, (hub-tables, (hub-opens, (hub-listing, (hub-events, (refl, (refl, (refl, (refl, tt)))))))))
 
 -- One segment at 0x1000 that maps the whole image.
-abbrev over : List ℕ → Tables
-over image = lent image (0x1000 ∷ length image ∷ 0 ∷ length image ∷ []) [] [] [] [] []
+abbrev whole-image : List ℕ → Tables
+whole-image image = tablesOf image (0x1000 ∷ length image ∷ 0 ∷ length image ∷ []) [] [] [] [] []
 
 -- The method list at 0x1000 whose header has this entry word and the count 3.
-abbrev methods : ℕ → Outcome Layout
-methods w = listAt (over (bytes 4 w ++ bytes 4 3)) Methods 0x1000
+abbrev method-list : ℕ → Outcome Layout
+method-list w = listAt (whole-image (bytesOf 4 w ++ bytesOf 4 3)) Methods 0x1000
 
 abbrev layout : ℕ → RowKind → Layout
 layout size kind = record { base = 0x1008; size = size; count = 3; kind = kind }
 
 -- The segment 0x1000, 0x100, 0, 0x80, and a later one.
-abbrev later : List ℕ
-later = 0x1000 ∷ 0x200 ∷ 0 ∷ 0x200 ∷ []
+abbrev later-segment : List ℕ
+later-segment = 0x1000 ∷ 0x200 ∷ 0 ∷ 0x200 ∷ []
 
 abbrev segments : List ℕ
-segments = 0x1000 ∷ 0x100 ∷ 0 ∷ 0x80 ∷ later
+segments = 0x1000 ∷ 0x100 ∷ 0 ∷ 0x80 ∷ later-segment
 
 -- An ivar at 0x1000 with the alignment 0x100: no offset, the name at 0x1020, no type, size 8.
 abbrev ivar : List ℕ
-ivar = words (0 ∷ 0x1020 ∷ 0 ∷ []) ++ bytes 4 0x100 ++ bytes 4 8 ++ ascii "x" ++ 0 ∷ []
+ivar = eights (0 ∷ 0x1020 ∷ 0 ∷ []) ++ bytesOf 4 0x100 ++ bytesOf 4 8 ++ ascii "x" ++ 0 ∷ []
 
 abbrev aligned : Ivar
 aligned = record { name = textOf 0x20 1; «type_encoding» = textOf 0 0; offset = offset.Nothing; size = 8; «log2_alignment» = 0 }
 
 abbrev pub edge-cases : List Case
 edge-cases =
-    case "entry word 27: legacy, 24" (methods 27) (value (layout 24 row.Legacy))
-    ∷ case "entry word 23: absent" (methods 23) absent
-    ∷ case "entry word 0x8000000C: small" (methods 0x8000000C) (value (layout 12 row.SmallIndirect))
-    ∷ case "entry word 0x80000008: absent" (methods 0x80000008) absent
+    case "entry word 27: legacy, 24" (method-list 27) (value (layout 24 rowKind.Legacy))
+    ∷ case "entry word 23: absent" (method-list 23) absent
+    ∷ case "entry word 0x8000000C: small" (method-list 0x8000000C) (value (layout 12 rowKind.SmallIndirect))
+    ∷ case "entry word 0x80000008: absent" (method-list 0x80000008) absent
     ∷ case "segment 0x1000, 0x100, 0, 0x80: 0x107F gives 0x7F" (lookup (rows segments) 0x107F) (value (placeAt 0x7F))
     ∷ case "0x1080: absent" (lookup (rows segments) 0x1080) absent
-    ∷ case "0x1080: the later segment has it" (lookup (rows later) 0x1080) (value (placeAt 0x80))
+    ∷ case "0x1080: the later-segment segment has it" (lookup (rows later-segment) 0x1080) (value (placeAt 0x80))
     ∷ case {A = ℕ} "alignment 0x100: 0" (alignmentOf 0x100) 0
-    ∷ case "an ivar with the alignment 0x100: 0" (ivarAt (over ivar) 0x1000) (value aligned)
+    ∷ case "an ivar with the alignment 0x100: 0" (ivarAt (whole-image ivar) 0x1000) (value aligned)
     ∷ []
 
 edges-hold : AllHold edge-cases
-unfolding listAt layoutOf methodRows bit nonzero readable readableAt lookup rows ends holds placed sum64 wordIn le choose alignmentOf offsetAt ivarAt resolve rebaseAt follow followFrom stored stripped word pointerAt pointerOr0At textIn textAt textLength text utf8 judge
+unfolding decodeList evenList entrySize methodRows bit nonzero readable readableAt lookup rows ends holds placed sum64 wordIn le choose alignmentOf decodeOffset decodeIvar resolve rebaseAt follow followFrom stored stripped word pointerAt pointerOr0At textIn textAt textLength text utf8 judge
 edges-hold = (refl, (refl, (refl, (refl, (refl, (refl, (refl, (refl, (refl, tt)))))))))
 
 abbrev pub cases : List Case
@@ -158,8 +150,6 @@ cases-hold = both-hold listing-cases edge-cases listing-holds edges-hold
 -- The steps of the listing over these tables say the five lines and settle the two entries, with any ledger that has a word.
 pub hub-steps-say : (l : List ℕ) → 1 ≤ length l → Lists hub l five-lines (event 0 0 0 ∷ event 0 0 1 ∷ [])
 hub-steps-say l room =
-    let info : value (hub-opened .info) ≡ value (infoOf 0 0) = sym (hub-opened .accepted) ∙ opens in
-    let same : hub-opened .info ≡ infoOf 0 0 = cc in
     let classes : slotCount (hub .sections) 0 1 ≡ 1 = unfold slotCount sectionAt choose in refl in
     let categories : slotCount (hub .sections) 2 3 ≡ 0 = unfold slotCount sectionAt choose in refl in
-    rw (same, hub-listing, hub-events) at (whole-listing hub hub-opened l (rw classes room) (rw categories (omega arith)))
+    lists-with-room hub hub-opened l (rw classes room) (rw categories (omega arith)) five-lines (event 0 0 0 ∷ event 0 0 1 ∷ []) hub-listing hub-events

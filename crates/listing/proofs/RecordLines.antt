@@ -1,26 +1,34 @@
 -- E's first number is the number of record lines of the plain listing.
 use Prim.Native.Nat.{ℕ, suc, _+_}
-use mathlib.Core.Path.{_≡_, refl, _∙_}
-use mathlib.Core.List.{List, [], _∷_, _++_, map, flatMap}
+use mathlib.Core.Path.{_≡_, refl, ap, _∙_}
+use mathlib.Core.List.{List, [], _∷_, _++_}
 use native.Mathlib.Omega.{arith}
 use lib.ListN.{length}
-use Rattle.reads.specs.declared.answer.Text.{Text}
-use Rattle.pointers.specs.Tables.{Tables}
-use Rattle.pointers.specs.declared.imageinfo.ImageInfo.{ImageInfo}
+use Rattle.reads.specs.Outcome.{Outcome, value, absent, number, andThen}
+use Rattle.reads.specs.declared.text.Text.{Text}
+use Rattle.reads.proofs.Outcomes.{then-came}
+use Rattle.pointers.specs.Tables.{Tables, imageIn}
+use Rattle.records.specs.Category.{categoryClassName}
 use Rattle.records.specs.Class.{roOf, superclassName}
-use Rattle.records.specs.List.{listAt}
-use Rattle.records.specs.ProtocolNames.{protocolNames}
-use Rattle.records.specs.PlainSections.{present, plainClasses, plainProtocols, plainCategories}
+use Rattle.records.specs.List.{listAt, entryAddress}
+use Rattle.records.specs.Row.{rowAt}
+use Rattle.records.specs.Search.{readables}
 use Rattle.records.specs.declared.class.ClassRo.{ClassRo}
-use Rattle.records.specs.declared.class.ObjcClass.{ObjcClass}
+use Rattle.records.specs.declared.list.Layout.{Layout}
 use Rattle.records.specs.declared.row.Row.{Row}
-use Rattle.listing.specs.PlainListing.{Field, rows, names, rowsOf, fieldLines, fieldsLines, nameOf, Listed, withRo, classListed, protocolListed, categoryListed, allListed, linesOf, plainListing, recordLines}
+use Rattle.walks.specs.ProtocolNames.{protocolListAt, slotNames}
+use Rattle.walks.specs.declared.protocol_names.ProtocolList.{ProtocolList}
+use Rattle.listing.specs.Gather.{gather, ofValue}
+use Rattle.listing.specs.PlainListing.{Field, rowList, nameList, nameOrNone, classLine, categoryLine, rowLine, nameLine, ownLines, recordFields, entryLines, slotLines, fieldLines, fieldsLines, linesOf, recordLineCount}
+use Rattle.listing.specs.declared.at.Record.{Record}
+use Rattle.listing.specs.declared.at.Record.the-variants as aRecord
 use Rattle.listing.specs.declared.line.Line.{Line}
 use Rattle.listing.specs.declared.line.Line.the-variants as line
+use Rattle.listing.proofs.Gathers.{Parts, joined-parts, gather-parts}
 
 -- Lines that come after one another.
-lines-after : (xs ys : List Line) → recordLines (xs ++ ys) ≡ recordLines xs + recordLines ys
-unfolding recordLines
+lines-after : (xs ys : List Line) → recordLineCount (xs ++ ys) ≡ recordLineCount xs + recordLineCount ys
+unfolding recordLineCount
 lines-after [] ys = omega arith
 lines-after (line.Info i ∷ xs) ys = lines-after xs ys
 lines-after (line.Class c ∷ xs) ys = let h = lines-after xs ys in omega arith
@@ -31,63 +39,94 @@ lines-after (line.Row r ∷ xs) ys = lines-after xs ys
 lines-after (line.Name n ∷ xs) ys = lines-after xs ys
 lines-after (line.End e ∷ xs) ys = lines-after xs ys
 
+parts-count : {o p : Outcome (List Line)} {zs : List Line} (parts : Parts o p zs)
+    → recordLineCount zs ≡ recordLineCount (parts .first) + recordLineCount (parts .second)
+parts-count parts = ap recordLineCount (parts .whole) ∙ lines-after (parts .first) (parts .second)
+
 -- Rows and names are no records.
-rows-none : (n : ℕ) (rs : List Row) → recordLines (map (λ r. line.Row (record { list = n; row = r })) rs) ≡ 0
-unfolding recordLines
-rows-none n [] = refl
-rows-none n (r ∷ rs) = rows-none n rs
+entry-none : (n : ℕ) (v : Outcome Row) (ys : List Line) → ofValue v (λ r. value (rowLine n r ∷ [])) ≡ value ys → recordLineCount ys ≡ 0
+unfolding recordLineCount
+entry-none n (value r) ys e = let same : ys ≡ rowLine n r ∷ [] = cc in rw same
+entry-none n absent ys e = let same : ys ≡ [] = cc in rw same
+entry-none n (number k) ys e = let z : _≡_ {A = ℕ} 0 1 = cc in absurd (omega arith)
 
-names-none : (n : ℕ) (ns : List Text) → recordLines (map (λ name. line.Name (record { list = n; name = name })) ns) ≡ 0
-unfolding recordLines
-names-none n [] = refl
-names-none n (x ∷ ns) = names-none n ns
+entries-none : (t : Tables) (n : ℕ) (h : Layout) (js : List ℕ) (ys : List Line) → gather (entryLines t n h) js ≡ value ys → recordLineCount ys ≡ 0
+unfolding gather
+entries-none t n h [] ys e = let same : ys ≡ [] = cc in rw same (unfold recordLineCount in refl)
+entries-none t n h (j ∷ js) ys e =
+    let parts = gather-parts (entryLines t n h) j js e in
+    omega (arith, parts-count parts, entry-none n (rowAt t (h .kind) (entryAddress h j)) (parts .first) (parts .ofFirst), entries-none t n h js (parts .second) (parts .ofSecond))
 
-field-none : (t : Tables) (n : ℕ) (f : Field) → recordLines (fieldLines t n f) ≡ 0
+list-none : (t : Tables) (n : ℕ) (v : Outcome Layout) (ys : List Line) → ofValue v (λ h. gather (entryLines t n h) (readables (imageIn t) h)) ≡ value ys
+    → recordLineCount ys ≡ 0
+list-none t n (value h) ys e = entries-none t n h (readables (imageIn t) h) ys e
+list-none t n absent ys e = let same : ys ≡ [] = cc in rw same (unfold recordLineCount in refl)
+list-none t n (number k) ys e = let z : _≡_ {A = ℕ} 0 1 = cc in absurd (omega arith)
+
+slot-none : (n : ℕ) (v : Outcome Text) (ys : List Line) → slotLines n v ≡ value ys → recordLineCount ys ≡ 0
+unfolding recordLineCount
+slot-none n (value name) ys e = let same : ys ≡ nameLine n name ∷ [] = cc in rw same
+slot-none n absent ys e = let same : ys ≡ [] = cc in rw same
+slot-none n (number k) ys e = let z : _≡_ {A = ℕ} 0 1 = cc in absurd (omega arith)
+
+slots-none : (n : ℕ) (os : List (Outcome Text)) (ys : List Line) → gather (slotLines n) os ≡ value ys → recordLineCount ys ≡ 0
+unfolding gather
+slots-none n [] ys e = let same : ys ≡ [] = cc in rw same (unfold recordLineCount in refl)
+slots-none n (o ∷ os) ys e =
+    let parts = gather-parts (slotLines n) o os e in
+    omega (arith, parts-count parts, slot-none n o (parts .first) (parts .ofFirst), slots-none n os (parts .second) (parts .ofSecond))
+
+names-none : (t : Tables) (n : ℕ) (v : Outcome ProtocolList) (ys : List Line)
+    → ofValue v (λ p. gather (slotLines n) (slotNames t p 0 (p .count))) ≡ value ys → recordLineCount ys ≡ 0
+names-none t n (value p) ys e = slots-none n (slotNames t p 0 (p .count)) ys e
+names-none t n absent ys e = let same : ys ≡ [] = cc in rw same (unfold recordLineCount in refl)
+names-none t n (number k) ys e = let z : _≡_ {A = ℕ} 0 1 = cc in absurd (omega arith)
+
+field-none : (t : Tables) (n : ℕ) (f : Field) (ys : List Line) → fieldLines t n f ≡ value ys → recordLineCount ys ≡ 0
 unfolding fieldLines
-field-none t n (rows k va) = rows-none n (rowsOf t (listAt t k va))
-field-none t n (names va) = names-none n (protocolNames t va)
+field-none t n (rowList k va) ys e = list-none t n (listAt t k va) ys e
+field-none t n (nameList va) ys e = names-none t n (protocolListAt t va) ys e
 
-fields-none : (t : Tables) (n : ℕ) (fs : List Field) → recordLines (fieldsLines t n fs) ≡ 0
+fields-none : (t : Tables) (n : ℕ) (fs : List Field) (ys : List Line) → fieldsLines t n fs ≡ value ys → recordLineCount ys ≡ 0
 unfolding fieldsLines
-fields-none t n [] = unfold recordLines in refl
-fields-none t n (f ∷ fs) = lines-after (fieldLines t n f) (fieldsLines t (suc n) fs) ∙ rw (field-none t n f, fields-none t (suc n) fs)
+fields-none t n [] ys e = let same : ys ≡ [] = cc in rw same (unfold recordLineCount in refl)
+fields-none t n (f ∷ fs) ys e =
+    let parts = joined-parts (fieldLines t n f) (fieldsLines t (suc n) fs) e in
+    omega (arith, parts-count parts, field-none t n f (parts .first) (parts .ofFirst), fields-none t (suc n) fs (parts .second) (parts .ofSecond))
 
 -- Each record has one record line of its own.
-data Own : List Listed → Type 0 where
-  none : Own []
-  more : {x : Listed} {xs : List Listed} → recordLines (x .head) ≡ 1 → Own xs → Own (x ∷ xs)
+ro-none : (v : Outcome ClassRo) (ys : List Line) → ofValue v (λ r. value (line.Ro r ∷ [])) ≡ value ys → recordLineCount ys ≡ 0
+unfolding recordLineCount
+ro-none (value r) ys e = let same : ys ≡ line.Ro r ∷ [] = cc in rw same
+ro-none absent ys e = let same : ys ≡ [] = cc in rw same
+ro-none (number k) ys e = let z : _≡_ {A = ℕ} 0 1 = cc in absurd (omega arith)
 
-own-then : {A : Type 0} (f : A → Listed) → ((a : A) → recordLines (f a .head) ≡ 1) → (as′ : List A) {xs : List Listed} → Own xs → Own (map f as′ ++ xs)
-own-then f each [] rest = rest
-own-then f each (a ∷ more′) rest = more (each a) (own-then f each more′ rest)
+own-one : (t : Tables) (x : Record) (ys : List Line) → ownLines t x ≡ value ys → recordLineCount ys ≡ 1
+unfolding ownLines
+own-one t (aRecord.Class c) ys e =
+    let name = then-came (nameOrNone (superclassName t c)) _ ys e in
+    let parts = joined-parts (value (classLine c (name .0) ∷ [])) (ofValue (roOf t c) (λ r. value (line.Ro r ∷ []))) (name .2) in
+    let same : parts .first ≡ classLine c (name .0) ∷ [] = let g = parts .ofFirst in cc in
+    let own : recordLineCount (parts .first) ≡ 1 = rw same (unfold recordLineCount in refl) in
+    omega (arith, parts-count parts, ro-none (roOf t c) (parts .second) (parts .ofSecond))
+own-one t (aRecord.Protocol p) ys e = let same : ys ≡ line.Protocol p ∷ [] = cc in rw same (unfold recordLineCount in refl)
+own-one t (aRecord.Category c) ys e =
+    let name = then-came (nameOrNone (categoryClassName t c)) _ ys e in
+    let same : ys ≡ categoryLine c (name .0) ∷ [] = let g = name .2 in cc in
+    rw same (unfold recordLineCount in refl)
 
-own-all : {A : Type 0} (f : A → Listed) → ((a : A) → recordLines (f a .head) ≡ 1) → (as′ : List A) → Own (map f as′)
-own-all f each [] = none
-own-all f each (a ∷ more′) = more (each a) (own-all f each more′)
-
-class-own : (t : Tables) (c : ObjcClass) → recordLines (classListed t c .head) ≡ 1
-unfolding classListed
-class-own t c = go (present (roOf t c))
-  where
-    go : (rs : List ClassRo) → recordLines (withRo (line.Class (record { class = c; «superclass_name» = nameOf (superclassName t c) })) rs .head) ≡ 1
-    go [] = unfold recordLines in refl
-    go (r ∷ rs) = unfold recordLines in refl
-
-all-own : (t : Tables) → Own (allListed t)
-unfolding allListed
-all-own t =
-    own-then (classListed t) (class-own t) (plainClasses t)
-    (own-then (protocolListed t) (λ p. unfold protocolListed recordLines in refl) (plainProtocols t)
-    (own-all (categoryListed t) (λ c. unfold categoryListed recordLines in refl) (plainCategories t)))
-
-record-count : (t : Tables) {xs : List Listed} → Own xs → recordLines (flatMap (linesOf t) xs) ≡ length xs
-unfolding flatMap
-record-count t none = unfold recordLines in refl
-record-count t (more {x = x} {xs = xs} e rest) =
-    lines-after (linesOf t x) (flatMap (linesOf t) xs)
-    ∙ rw (lines-after (x .head) (fieldsLines t 0 (x .fields)), e, fields-none t 0 (x .fields), record-count t rest) (omega arith)
-
-pub records-are-record-lines : (t : Tables) (info : ImageInfo) → recordLines (plainListing t info) ≡ length (allListed t)
-unfolding plainListing
-records-are-record-lines t info =
-    unfold recordLines in (lines-after (flatMap (linesOf t) (allListed t)) _ ∙ rw (record-count t (all-own t)) (omega arith))
+pub records-are-record-lines : (t : Tables) (xs : List Record) (ys : List Line) → gather (linesOf t) xs ≡ value ys → recordLineCount ys ≡ length xs
+unfolding gather linesOf
+records-are-record-lines t [] ys e = let same : ys ≡ [] = cc in rw same (unfold recordLineCount in refl)
+records-are-record-lines t (x ∷ xs) ys e =
+    let parts = gather-parts (linesOf t) x xs e in
+    let mine = joined-parts (ownLines t x) (andThen (recordFields t x) (fieldsLines t 0)) (parts .ofFirst) in
+    let lists = then-came (recordFields t x) (fieldsLines t 0) (mine .second) (mine .ofSecond) in
+    omega (
+      arith,
+      parts-count parts,
+      parts-count mine,
+      own-one t x (mine .first) (mine .ofFirst),
+      fields-none t 0 (lists .0) (mine .second) (lists .2),
+      records-are-record-lines t xs (parts .second) (parts .ofSecond),
+    )

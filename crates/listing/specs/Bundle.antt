@@ -8,17 +8,17 @@ use lib.Dec.{leb, eqb}
 use lib.ListN.{length}
 use Rattle.reads.specs.Outcome.{Outcome, value, number, choose}
 use Rattle.reads.specs.Answer.{missed}
-use Rattle.reads.specs.Segment.{placeAt}
+use Rattle.reads.specs.Segment.{segmentWords, placeAt}
 use Rattle.reads.specs.Place.{part, wordIn}
-use Rattle.pointers.specs.Tables.{Tables, lent}
+use Rattle.pointers.specs.Tables.{Tables, tablesOf, sectionTableWords, rebaseWords, bindWords}
 use Rattle.listing.specs.declared.bundle.Counts.{Counts}
 use Rattle.listing.specs.declared.bundle.CountsAnswer.{CountsAnswer}
-use Rattle.listing.specs.declared.bundle.CountsAnswer.the-variants as answer
+use Rattle.listing.specs.declared.bundle.CountsAnswer.the-variants as countsAnswer
 
 -- Document 01's outcome of each case of the code's answer.
 abbrev pub countsOutcome : CountsAnswer → Outcome Counts
-countsOutcome (answer.Counts c) = value c
-countsOutcome (answer.Missing m) = missed m
+countsOutcome (countsAnswer.Counts c) = value c
+countsOutcome (countsAnswer.Missing m) = missed m
 
 -- The word at an offset; 0 where its eight bytes do not lie in the bundle.
 abbrev pub wordFrom : List ℕ → ℕ → ℕ
@@ -34,19 +34,15 @@ abbrev pub countsOf : List ℕ → Counts
 countsOf bytes =
     record { segments = wordFrom bytes 0; rebases = wordFrom bytes 8; binds = wordFrom bytes 16; image = wordFrom bytes 24 }
 
--- The words of each table (document 01, "Tables lent by the caller"): a segment has 4, a rebase 2, a bind 3, and the
--- section table 15.
-abbrev pub segmentWords : Counts → ℕ
-segmentWords c = 4 * c .segments
+-- The words of each table (document 01, "Tables lent by the caller").
+abbrev pub segmentTableWords : Counts → ℕ
+segmentTableWords c = segmentWords * c .segments
 
-abbrev pub sectionWords : ℕ
-sectionWords = 15
+abbrev pub rebaseTableWords : Counts → ℕ
+rebaseTableWords c = rebaseWords * c .rebases
 
-abbrev pub rebaseWords : Counts → ℕ
-rebaseWords c = 2 * c .rebases
-
-abbrev pub bindWords : Counts → ℕ
-bindWords c = 3 * c .binds
+abbrev pub bindTableWords : Counts → ℕ
+bindTableWords c = bindWords * c .binds
 
 -- Where each part stands: after the four counts the image info, then each table after the one before, then the image.
 abbrev pub infoAt : ℕ
@@ -56,16 +52,16 @@ abbrev pub segmentsAt : ℕ
 segmentsAt = 40
 
 abbrev pub sectionsAt : Counts → ℕ
-sectionsAt c = segmentsAt + 8 * segmentWords c
+sectionsAt c = segmentsAt + 8 * segmentTableWords c
 
 abbrev pub rebasesAt : Counts → ℕ
-rebasesAt c = sectionsAt c + 8 * sectionWords
+rebasesAt c = sectionsAt c + 8 * sectionTableWords
 
 abbrev pub bindsAt : Counts → ℕ
-bindsAt c = rebasesAt c + 8 * rebaseWords c
+bindsAt c = rebasesAt c + 8 * rebaseTableWords c
 
 abbrev pub imageAt : Counts → ℕ
-imageAt c = bindsAt c + 8 * bindWords c
+imageAt c = bindsAt c + 8 * bindTableWords c
 
 -- How long the counts say that the bundle is: 40 + 8 x (4 x S + 15 + 2 x rebases + 3 x binds) + n.
 abbrev pub saidLength : Counts → ℕ
@@ -76,8 +72,8 @@ unfoldable pub bundleFits : ℕ → Counts → Bool
 bundleFits n c = leb n 32768 && eqb n (saidLength c)
 
 -- The counts of a bundle, or 13.
-unfoldable pub counted : List ℕ → Outcome Counts
-counted bytes = choose (bundleFits (length bytes) (countsOf bytes)) (value (countsOf bytes)) (number 13)
+unfoldable pub bundleCounts : List ℕ → Outcome Counts
+bundleCounts bytes = choose (bundleFits (length bytes) (countsOf bytes)) (value (countsOf bytes)) (number 13)
 
 -- An accepted bundle: its length, and the counts that it was accepted with.
 pub record Accepted (bytes : List ℕ) (c : Counts) : Type 0 where
@@ -88,11 +84,11 @@ pub record Accepted (bytes : List ℕ) (c : Counts) : Type 0 where
 -- What a bundle of these counts says for each table lent, beside an index.
 abbrev pub bundled : List ℕ → Counts → List ℕ → Tables
 bundled bytes c index =
-    lent
+    tablesOf
     (part bytes (imageAt c) (c .image))
-    (wordsFrom bytes segmentsAt (segmentWords c))
-    (wordsFrom bytes (sectionsAt c) sectionWords)
+    (wordsFrom bytes segmentsAt (segmentTableWords c))
+    (wordsFrom bytes (sectionsAt c) sectionTableWords)
     (part bytes infoAt 8)
-    (wordsFrom bytes (rebasesAt c) (rebaseWords c))
-    (wordsFrom bytes (bindsAt c) (bindWords c))
+    (wordsFrom bytes (rebasesAt c) (rebaseTableWords c))
+    (wordsFrom bytes (bindsAt c) (bindTableWords c))
     index

@@ -1,216 +1,232 @@
 -- The listing, step by step (document 01, "The program's listing" and Steps): its state, and what a step says, hands back and leaves in the
 -- ledger.
-use Prim.Native.Nat.{ℕ, suc, _+_, _-_, _%_, _^_}
+use Prim.Native.Nat.{ℕ, suc, _+_, _%_, _^_}
 use mathlib.Core.List.{List, [], _∷_}
 use lib.Dec.{eqb}
+use lib.ListN.{drop}
 use Rattle.reads.specs.Outcome.{Outcome, value, absent, number, choose}
-use Rattle.reads.specs.declared.answer.Text.{Text}
-use Rattle.pointers.specs.ImageInfo.{imageInfo}
-use Rattle.pointers.specs.Question.{guarded}
+use Rattle.pointers.specs.Question.{asked, guarded}
 use Rattle.pointers.specs.Tables.{Tables}
-use Rattle.pointers.specs.declared.imageinfo.ImageInfo.{ImageInfo}
 use Rattle.records.specs.Category.{categoryClassName}
 use Rattle.records.specs.Class.{roOf, superclassName}
-use Rattle.records.specs.ProtocolNames.{walkAt, nextName}
-use Rattle.records.specs.Sections as sections
-use Rattle.records.specs.Sections.{Walk, walk, found, passed, finished, stepOf, protocolStepOf}
-use Rattle.records.specs.Walk.{walkOf, nextOf}
 use Rattle.records.specs.declared.category.ObjcCategory.{ObjcCategory}
 use Rattle.records.specs.declared.class.ClassRo.{ClassRo}
 use Rattle.records.specs.declared.class.ObjcClass.{ObjcClass}
-use Rattle.records.specs.declared.list_walk.ListWalk.{ListWalk}
-use Rattle.records.specs.declared.list_walk.Step.the-variants as step
-use Rattle.records.specs.declared.list_walk.Stepped.{Stepped}
-use Rattle.records.specs.declared.list_walk.Walked.{Walked}
-use Rattle.records.specs.declared.list_walk.Walked.the-variants as walked
 use Rattle.records.specs.declared.protocol.ObjcProtocol.{ObjcProtocol}
-use Rattle.records.specs.declared.protocol_names.NameStep.the-variants as nameStep
-use Rattle.records.specs.declared.protocol_names.ProtocolNameStepped.{ProtocolNameStepped}
-use Rattle.records.specs.declared.protocol_names.ProtocolNameWalk.{ProtocolNameWalk}
-use Rattle.records.specs.declared.protocol_names.ProtocolNamesWalked.{ProtocolNamesWalked}
-use Rattle.records.specs.declared.protocol_names.ProtocolNamesWalked.the-variants as namesWalked
-use Rattle.listing.specs.PlainListing.{Field, rows, names, roFields, protocolFields, categoryFields, nameOf, endLine}
+use Rattle.walks.specs.ProtocolNames.{walkAt, ReachedName, nameReached, namePassed, namesFinished, NameLeft, nextName}
+use Rattle.walks.specs.Sections as sections
+use Rattle.walks.specs.Sections.{Walk, walk, Step, found, passed, finished, stepOf, protocolStepOf}
+use Rattle.walks.specs.Walk.{walkOf, ReachedRow, rowReached, rowSkipped, rowsFinished, RowLeft, nextOf}
+use Rattle.walks.specs.declared.list_walk.ListWalk.{ListWalk}
+use Rattle.walks.specs.declared.protocol_names.ProtocolNameWalk.{ProtocolNameWalk}
+use Rattle.listing.specs.PlainListing.{Field, rowList, nameList, roFields, protocolFields, categoryFields, versionAndFlags, nameOrNone, classLine, categoryLine, rowLine, nameLine, endLine}
+use Rattle.listing.specs.declared.at.At.{At}
+use Rattle.listing.specs.declared.at.At.the-variants as place
+use Rattle.listing.specs.declared.at.FieldWalk.{FieldWalk}
+use Rattle.listing.specs.declared.at.FieldWalk.the-variants as fieldWalk
+use Rattle.listing.specs.declared.at.Owner.{Owner}
+use Rattle.listing.specs.declared.at.Owner.the-variants as anOwner
+use Rattle.listing.specs.declared.at.Record.{Record}
+use Rattle.listing.specs.declared.at.Record.the-variants as aRecord
 use Rattle.listing.specs.declared.line.Line.{Line}
 use Rattle.listing.specs.declared.line.Line.the-variants as line
+use Rattle.listing.specs.declared.line.Named.{Named}
+
+-- The fields of a record that name lists.
+abbrev pub ownerFields : Owner → List Field
+ownerFields (anOwner.Class r) = roFields r
+ownerFields (anOwner.Protocol p) = protocolFields p
+ownerFields (anOwner.Category c) = categoryFields c
+
+-- In list n of a record, with a walk over it.
+abbrev pub inList : Owner → ℕ → FieldWalk → At
+inList o n w = place.List (record { owner = o; list = n; walk = w })
+
+-- At the start of list n, which a field names.
+abbrev pub atField : Owner → ℕ → Field → At
+atField o n (rowList k va) = inList o n (fieldWalk.Rows (walkOf va k 0))
+atField o n (nameList va) = inList o n (fieldWalk.Names (walkAt va 0))
+
+-- At the first of the fields from list n on; with none left the section goes on.
+abbrev pub atFirst : Owner → ℕ → List Field → At
+atFirst o n [] = place.Section
+atFirst o n (f ∷ fs) = atField o n f
+
+-- At the start of list n of a record.
+abbrev pub enter : Owner → ℕ → At
+enter o n = atFirst o n (drop n (ownerFields o))
 
 -- The section walk under way: first classes, then protocols, then categories.
-pub data Section : Type 0 where
-  classes : Walk → Section
-  protocols : Walk → Section
-  categories : Walk → Section
-
--- What the next step does: the line of the image info; a step of the section walk; the line of a class, of its class_ro, or of a category
--- that the section gave; a step over the record's list of a number, with the fields that come after it; nothing, after the last line.
-pub data At : Type 0 where
-  atInfo : At
-  atSection : At
-  atClass : ObjcClass → At
-  atRo : ObjcClass → At
-  atCategory : ObjcCategory → At
-  atRows : ℕ → ListWalk → List Field → At
-  atNames : ℕ → ProtocolNameWalk → List Field → At
-  atEnd : At
+pub data SectionWalk : Type 0 where
+  classes : Walk → SectionWalk
+  protocols : Walk → SectionWalk
+  categories : Walk → SectionWalk
 
 -- Where the listing stands, the records so far, and the entries settled so far.
 pub record State : Type 0 where
   pub at : At
-  pub section : Section
+  pub section : SectionWalk
   pub records : ℕ
   pub settled : ℕ
 
-abbrev pub state : At → Section → ℕ → ℕ → State
+abbrev pub state : At → SectionWalk → ℕ → ℕ → State
 state at section records settled = record { at = at; section = section; records = records; settled = settled }
 
 abbrev pub start : State
-start = state atInfo (classes (walk 0 0 0)) 0 0
+start = state place.Info (classes (walk 0 0 0)) 0 0
 
 -- The state at another place; in another section; with one record more; with one entry settled more, a number of two words.
 abbrev pub goTo : State → At → State
-goTo s at = state at (s .section) (s .records) (s .settled)
+goTo s next = state next (s .section) (s .records) (s .settled)
 
-abbrev pub inSection : State → At → Section → State
-inSection s at section = state at section (s .records) (s .settled)
+abbrev pub inSection : State → At → SectionWalk → State
+inSection s next section = state next section (s .records) (s .settled)
 
-abbrev pub counted : State → At → State
-counted s at = state at (s .section) ((s .records + 1) % 2 ^ 64) (s .settled)
+abbrev pub withRecord : State → At → State
+withRecord s next = state next (s .section) ((s .records + 1) % 2 ^ 64) (s .settled)
 
-abbrev pub settling : State → At → State
-settling s at = state at (s .section) (s .records) ((s .settled + 1) % 2 ^ 128)
+abbrev pub withEntry : State → At → State
+withEntry s next = state next (s .section) (s .records) ((s .settled + 1) % 2 ^ 128)
 
 -- A high word, after the low word became `low` by one more.
 abbrev pub carried : ℕ → ℕ → ℕ
 carried high low = choose (eqb low 0) ((high + 1) % 2 ^ 64) high
 
--- The first of the fields that are left, under its list number; with none left the section goes on.
-abbrev pub enter : ℕ → List Field → At
-enter n [] = atSection
-enter n (rows k va ∷ fs) = atRows n (walkOf va k 0) fs
-enter n (names va ∷ fs) = atNames n (walkAt va 0) fs
-
 -- What a step says where no question refuses it.
-pub data Said : Type 0 where
-  says : Line → Said
-  nothing : Said
-  ended : Said
+pub data Answer : Type 0 where
+  says : Line → Answer
+  nothing : Answer
+  ended : Answer
 
--- The answer, with the state that the step hands back and the ledger as it leaves it. With a number both are as given.
+-- The answer, with the state that the step hands back and the ledger as it leaves it.
 pub record Left : Type 0 where
-  pub answer : Outcome Said
+  pub answer : Outcome Answer
   pub state : State
   pub ledger : List ℕ
 
-abbrev pub leaves : Outcome Said → State → List ℕ → Left
+abbrev pub leaves : Outcome Answer → State → List ℕ → Left
 leaves answer s ledger = record { answer = answer; state = s; ledger = ledger }
 
--- I. Question 4 is asked before, so the image info is there.
-abbrev pub byInfo : State → List ℕ → Outcome ImageInfo → Left
-byInfo s l (value i) = leaves (value (says (line.Info i))) (goTo s atSection) l
-byInfo s l absent = leaves (value nothing) (goTo s atSection) l
-byInfo s l (number k) = leaves (number k) s l
+-- A step that goes on by what a call gives. With a number the state and the ledger are as given. No call that a step goes on by is absent:
+-- questions never are, and a name that is absent is a value, none.
+abbrev pub onward : {A : Type 0} → State → List ℕ → Outcome A → (A → Left) → Left
+onward s l (value a) go = go a
+onward s l absent go = leaves absent s l
+onward s l (number k) go = leaves (number k) s l
 
--- A step of the class walk. The line of a class that it gives comes in the next step: with the number of a lookup that the line needs, the
--- ledger is then as it was given.
-abbrev pub byClass : State → Walk → List ℕ → Outcome (sections.Step ObjcClass) → Left
-byClass s w l (value (found c)) = leaves (value nothing) (inSection s (atClass c) (classes w)) l
-byClass s w l (value passed) = leaves (value nothing) (inSection s atSection (classes w)) l
-byClass s w l (value finished) = leaves (value nothing) (inSection s atSection (protocols (walk 0 0 0))) l
-byClass s w l absent = leaves absent s l
-byClass s w l (number k) = leaves (number k) s l
+-- I.
+abbrev pub infoStep : Tables → State → List ℕ → Left
+infoStep t s l = onward s l (asked t) (λ _. leaves (value (says (line.Info (versionAndFlags (t .info))))) (goTo s place.Section) l)
 
-abbrev pub afterClass : State → sections.Left ObjcClass → Left
-afterClass s x = byClass s (x .walk) (x .ledger) (x .answer)
+-- What a step of a section walk gives, the walk then, and the ledger.
+pub record SectionLeft : Type 0 where
+  pub answer : Outcome (Step Record)
+  pub section : SectionWalk
+  pub ledger : List ℕ
 
--- A step of the protocol walk: P.
-abbrev pub byProtocol : State → Walk → List ℕ → Outcome (sections.Step ObjcProtocol) → Left
-byProtocol s w l (value (found p)) =
-    leaves (value (says (line.Protocol p))) (counted (inSection s atSection (protocols w)) (enter 0 (protocolFields p))) l
-byProtocol s w l (value passed) = leaves (value nothing) (inSection s atSection (protocols w)) l
-byProtocol s w l (value finished) = leaves (value nothing) (inSection s atSection (categories (walk 0 0 0))) l
-byProtocol s w l absent = leaves absent s l
-byProtocol s w l (number k) = leaves (number k) s l
+-- The same answer, its record as one of the listing's.
+abbrev pub asRecord : {A : Type 0} → (A → Record) → Outcome (Step A) → Outcome (Step Record)
+asRecord f (value (found a)) = value (found (f a))
+asRecord f (value passed) = value passed
+asRecord f (value finished) = value finished
+asRecord f absent = absent
+asRecord f (number k) = number k
 
-abbrev pub afterProtocol : State → List ℕ → sections.Left ObjcProtocol → Left
-afterProtocol s l x = byProtocol s (x .walk) l (x .answer)
+abbrev pub sectionLeaves : {A : Type 0} → (A → Record) → (Walk → SectionWalk) → Outcome (Step A) → Walk → List ℕ → SectionLeft
+sectionLeaves f section answer w l = record { answer = asRecord f answer; section = section w; ledger = l }
 
--- A step of the category walk; with none left E, with the records and the entries settled.
-abbrev pub byCategory : State → Walk → List ℕ → Outcome (sections.Step ObjcCategory) → Left
-byCategory s w l (value (found c)) = leaves (value nothing) (inSection s (atCategory c) (categories w)) l
-byCategory s w l (value passed) = leaves (value nothing) (inSection s atSection (categories w)) l
-byCategory s w l (value finished) =
-    leaves (value (says (endLine (s .records) (s .settled)))) (inSection s atEnd (categories w)) l
-byCategory s w l absent = leaves absent s l
-byCategory s w l (number k) = leaves (number k) s l
+abbrev pub stepLeft : {A : Type 0} → (A → Record) → (Walk → SectionWalk) → sections.Left A → SectionLeft
+stepLeft f section x = sectionLeaves f section (x .answer) (x .walk) (x .ledger)
 
-abbrev pub afterCategory : State → sections.Left ObjcCategory → Left
-afterCategory s x = byCategory s (x .walk) (x .ledger) (x .answer)
+-- The protocol walk looks at no ledger.
+abbrev pub protocolStepLeft : List ℕ → sections.Left ObjcProtocol → SectionLeft
+protocolStepLeft l x = sectionLeaves aRecord.Protocol protocols (x .answer) (x .walk) l
 
--- A step of the section under way. The protocol walk looks at no ledger.
-abbrev pub bySection : Tables → State → List ℕ → Section → Left
-bySection t s l (classes w) = afterClass s (stepOf sections.classes t w l)
-bySection t s l (protocols w) = afterProtocol s l (protocolStepOf t w [])
-bySection t s l (categories w) = afterCategory s (stepOf sections.categories t w l)
+-- A step of the section walk under way.
+abbrev pub sectionStep : Tables → List ℕ → SectionWalk → SectionLeft
+sectionStep t l (classes w) = stepLeft aRecord.Class classes (stepOf sections.classes t w l)
+sectionStep t l (protocols w) = protocolStepLeft l (protocolStepOf t w [])
+sectionStep t l (categories w) = stepLeft aRecord.Category categories (stepOf sections.categories t w l)
 
--- C or M, with the superclass's name or none.
-abbrev pub byClassName : State → ObjcClass → List ℕ → Outcome Text → Left
-byClassName s c l (value name) =
-    leaves (value (says (line.Class (record { class = c; «superclass_name» = nameOf (value name) })))) (counted s (atRo c)) l
-byClassName s c l absent =
-    leaves (value (says (line.Class (record { class = c; «superclass_name» = nameOf absent })))) (counted s (atRo c)) l
-byClassName s c l (number k) = leaves (number k) s l
+-- After the last record of a section the next section comes; after the last of all, E with the records and the entries settled.
+abbrev pub afterSection : State → List ℕ → SectionWalk → Left
+afterSection s l (classes w) = leaves (value nothing) (inSection s place.Section (protocols (walk 0 0 0))) l
+afterSection s l (protocols w) = leaves (value nothing) (inSection s place.Section (categories (walk 0 0 0))) l
+afterSection s l (categories w) = leaves (value (says (endLine (s .records) (s .settled)))) (inSection s place.End (categories w)) l
+
+-- The line of a record that the section gave comes in the next step: with the number of a lookup that the line needs, the ledger is then as
+-- it was given.
+abbrev pub bySection : State → List ℕ → SectionWalk → Step Record → Left
+bySection s l section (found x) = leaves (value nothing) (inSection s (place.Record x) section) l
+bySection s l section passed = leaves (value nothing) (inSection s place.Section section) l
+bySection s l section finished = afterSection s l section
+
+abbrev pub onSection : State → SectionLeft → Left
+onSection s x = onward s (x .ledger) (x .answer) (bySection s (x .ledger) (x .section))
+
+-- The line of a record, and then where it goes on.
+abbrev pub recordSaid : State → List ℕ → Line → At → Left
+recordSaid s l own next = leaves (value (says own)) (withRecord s next) l
+
+-- C or M with the superclass's name or none, and then R.
+abbrev pub classSaid : State → List ℕ → ObjcClass → Outcome Named → Left
+classSaid s l c o = onward s l o (λ name. recordSaid s l (classLine c name) (place.Ro c))
+
+-- P, and then the protocol's lists.
+abbrev pub protocolSaid : State → List ℕ → ObjcProtocol → Outcome (Unit {0}) → Left
+protocolSaid s l p o = onward s l o (λ _. recordSaid s l (line.Protocol p) (enter (anOwner.Protocol p) 0))
+
+-- K with the class's name or none, and then the category's lists.
+abbrev pub categorySaid : State → List ℕ → ObjcCategory → Outcome Named → Left
+categorySaid s l c o = onward s l o (λ name. recordSaid s l (categoryLine c name) (enter (anOwner.Category c) 0))
+
+abbrev pub recordStep : Tables → State → List ℕ → Record → Left
+recordStep t s l (aRecord.Class c) = classSaid s l c (nameOrNone (guarded t (superclassName t c)))
+recordStep t s l (aRecord.Protocol p) = protocolSaid s l p (asked t)
+recordStep t s l (aRecord.Category c) = categorySaid s l c (nameOrNone (guarded t (categoryClassName t c)))
 
 -- R if class_ro decodes, and then the class's lists.
 abbrev pub byRo : State → List ℕ → Outcome ClassRo → Left
-byRo s l (value r) = leaves (value (says (line.Ro r))) (goTo s (enter 0 (roFields r))) l
-byRo s l absent = leaves (value nothing) (goTo s atSection) l
+byRo s l (value r) = leaves (value (says (line.Ro r))) (goTo s (enter (anOwner.Class r) 0)) l
+byRo s l absent = leaves (value nothing) (goTo s place.Section) l
 byRo s l (number k) = leaves (number k) s l
 
--- K, with the class's name or none, and then the category's lists.
-abbrev pub byCategoryName : State → ObjcCategory → List ℕ → Outcome Text → Left
-byCategoryName s c l (value name) =
-    leaves (value (says (line.Category (record { category = c; «class_name» = nameOf (value name) })))) (counted s (enter 0 (categoryFields c))) l
-byCategoryName s c l absent =
-    leaves (value (says (line.Category (record { category = c; «class_name» = nameOf absent })))) (counted s (enter 0 (categoryFields c))) l
-byCategoryName s c l (number k) = leaves (number k) s l
+-- A step over list n: an entry is settled, with its line m, v or p or skipped; or the list is at its end or absent, and the next list comes.
+abbrev pub byRow : State → List ℕ → Owner → ℕ → ListWalk → Outcome ReachedRow → Left
+byRow s l o n w (value (rowReached r)) =
+    leaves (value (says (rowLine n r))) (withEntry s (inList o n (fieldWalk.Rows w))) l
+byRow s l o n w (value (rowSkipped j)) = leaves (value nothing) (withEntry s (inList o n (fieldWalk.Rows w))) l
+byRow s l o n w (value rowsFinished) = leaves (value nothing) (goTo s (enter o (suc n))) l
+byRow s l o n w absent = leaves (value nothing) (goTo s (enter o (suc n))) l
+byRow s l o n w (number k) = leaves (number k) s l
 
--- A step over list n: an entry is settled, with its line m, v or p or skipped; or the list is at its end or absent, and the next field comes.
-abbrev pub byRow : State → List ℕ → ℕ → List Field → ListWalk → Walked → Left
-byRow s l n fs w (walked.Step (step.Row r)) =
-    leaves (value (says (line.Row (record { list = n; row = r })))) (settling s (atRows n w fs)) l
-byRow s l n fs w (walked.Step (step.Skipped j)) = leaves (value nothing) (settling s (atRows n w fs)) l
-byRow s l n fs w (walked.Step step.Finished) = leaves (value nothing) (goTo s (enter (suc n) fs)) l
-byRow s l n fs w (walked.Step (step.Refused k)) = leaves (number k) s l
-byRow s l n fs w walked.Absent = leaves (value nothing) (goTo s (enter (suc n) fs)) l
+abbrev pub afterRow : State → List ℕ → Owner → ℕ → RowLeft → Left
+afterRow s l o n x = byRow s l o n (x .walk) (x .answer)
 
-abbrev pub afterRow : State → List ℕ → ℕ → List Field → Stepped → Left
-afterRow s l n fs x = byRow s l n fs (x .walk) (x .walked)
+-- A step over the protocol names of list n: q, or a slot that gives none; or the next list.
+abbrev pub byName : State → List ℕ → Owner → ℕ → ProtocolNameWalk → Outcome ReachedName → Left
+byName s l o n w (value (nameReached name)) =
+    leaves (value (says (nameLine n name))) (goTo s (inList o n (fieldWalk.Names w))) l
+byName s l o n w (value namePassed) = leaves (value nothing) (goTo s (inList o n (fieldWalk.Names w))) l
+byName s l o n w (value namesFinished) = leaves (value nothing) (goTo s (enter o (suc n))) l
+byName s l o n w absent = leaves (value nothing) (goTo s (enter o (suc n))) l
+byName s l o n w (number k) = leaves (number k) s l
 
--- A step over the protocol names of list n: q, or a slot that gives none; or the next field.
-abbrev pub byName : State → List ℕ → ℕ → List Field → ProtocolNameWalk → ProtocolNamesWalked → Left
-byName s l n fs w (namesWalked.Step (nameStep.Name name)) =
-    leaves (value (says (line.Name (record { list = n; name = name })))) (goTo s (atNames n w fs)) l
-byName s l n fs w (namesWalked.Step nameStep.Passed) = leaves (value nothing) (goTo s (atNames n w fs)) l
-byName s l n fs w (namesWalked.Step nameStep.Finished) = leaves (value nothing) (goTo s (enter (suc n) fs)) l
-byName s l n fs w (namesWalked.Step (nameStep.Refused k)) = leaves (number k) s l
-byName s l n fs w namesWalked.Absent = leaves (value nothing) (goTo s (enter (suc n) fs)) l
+abbrev pub afterName : State → List ℕ → Owner → ℕ → NameLeft → Left
+afterName s l o n x = byName s l o n (x .walk) (x .answer)
 
-abbrev pub afterName : State → List ℕ → ℕ → List Field → ProtocolNameStepped → Left
-afterName s l n fs x = byName s l n fs (x .walk) (x .walked)
+abbrev pub listStep : Tables → State → List ℕ → Owner → ℕ → FieldWalk → Left
+listStep t s l o n (fieldWalk.Rows w) = afterRow s l o n (nextOf t w)
+listStep t s l o n (fieldWalk.Names w) = afterName s l o n (nextName t w)
 
--- After the last line every step says so.
-abbrev pub byEnd : State → List ℕ → Outcome (Unit {0}) → Left
-byEnd s l (value u) = leaves (value ended) s l
-byEnd s l absent = leaves (value ended) s l
-byEnd s l (number k) = leaves (number k) s l
-
+-- A step, by where the listing stands. After the last line every step says so.
 unfoldable pub stepAt : Tables → State → List ℕ → At → Left
-stepAt t s l atInfo = byInfo s l (guarded t (imageInfo (t .info)))
-stepAt t s l atSection = bySection t s l (s .section)
-stepAt t s l (atClass c) = byClassName s c l (guarded t (superclassName t c))
-stepAt t s l (atRo c) = byRo s l (guarded t (roOf t c))
-stepAt t s l (atCategory c) = byCategoryName s c l (guarded t (categoryClassName t c))
-stepAt t s l (atRows n w fs) = afterRow s l n fs (nextOf t w)
-stepAt t s l (atNames n w fs) = afterName s l n fs (nextName t w)
-stepAt t s l atEnd = byEnd s l (guarded t (value tt))
+stepAt t s l place.Info = infoStep t s l
+stepAt t s l place.Section = onSection s (sectionStep t l (s .section))
+stepAt t s l (place.Record x) = recordStep t s l x
+stepAt t s l (place.Ro c) = byRo s l (guarded t (roOf t c))
+stepAt t s l (place.List x) = listStep t s l (x .owner) (x .list) (x .walk)
+stepAt t s l place.End = onward s l (asked t) (λ _. leaves (value ended) s l)
 
 -- A step of the listing.
 abbrev pub listingStep : Tables → State → List ℕ → Left

@@ -1,63 +1,47 @@
 -- What the code's listing and its answers mean in the words of the definitions.
-use Prim.Native.Nat.{ℕ, suc, _+_, _*_, _^_}
-use mathlib.Core.List.{List, [], _∷_}
-use lib.ListN.{drop}
+use Prim.Native.Nat.{ℕ, _+_, _*_, _^_}
+use mathlib.Core.List.{List}
 use Rattle.reads.specs.Outcome.{Outcome, value, number}
-use Rattle.records.specs.Sections.{classWalk, categoryWalk, protocolWalk}
-use Rattle.records.specs.declared.list.ListKind.{ListKind}
-use Rattle.listing.specs.PlainListing as plain
-use Rattle.listing.specs.PlainListing.{rows, names, roFields, protocolFields, categoryFields}
-use Rattle.listing.specs.Listing as listing
-use Rattle.listing.specs.Listing.{State, Left, leaves, state, says, nothing, ended, classes, protocols, categories, atInfo, atSection, atClass, atRo, atCategory, atRows, atNames, atEnd}
-use Rattle.listing.specs.declared.line.Line.{Line}
-use Rattle.listing.specs.declared.listing.At.{At}
-use Rattle.listing.specs.declared.listing.At.the-variants as at
-use Rattle.listing.specs.declared.listing.Field.{Field}
-use Rattle.listing.specs.declared.listing.Field.the-variants as field
+use Rattle.walks.specs.Sections.{Step, found, passed, finished, classWalk, categoryWalk, protocolWalk}
+use Rattle.listing.specs.Listing.{SectionWalk, classes, protocols, categories, SectionLeft, State, state, Answer, says, nothing, ended, Left, leaves}
+use Rattle.listing.specs.declared.at.Record.{Record}
+use Rattle.listing.specs.declared.line.Named.{Named}
 use Rattle.listing.specs.declared.listing.Listed.{Listed}
 use Rattle.listing.specs.declared.listing.Listing.{Listing}
-use Rattle.listing.specs.declared.listing.Owner.{Owner}
-use Rattle.listing.specs.declared.listing.Owner.the-variants as owner
+use Rattle.listing.specs.declared.listing.NameAnswer.{NameAnswer}
+use Rattle.listing.specs.declared.listing.NameAnswer.the-variants as name
 use Rattle.listing.specs.declared.listing.Said.{Said}
 use Rattle.listing.specs.declared.listing.Said.the-variants as said
-use Rattle.listing.specs.declared.listing.Section.{Section}
-use Rattle.listing.specs.declared.listing.Section.the-variants as section
+use Rattle.listing.specs.declared.section.Section.{Section}
+use Rattle.listing.specs.declared.section.Section.the-variants as aSection
+use Rattle.listing.specs.declared.section.SectionStepped.{SectionStepped}
+use Rattle.listing.specs.declared.section.Taken.{Taken}
+use Rattle.listing.specs.declared.section.Taken.the-variants as taken
 
--- The fields of a record that name lists.
-abbrev pub ownerFields : Owner → List plain.Field
-ownerFields (owner.Class r) = roFields r
-ownerFields (owner.Protocol p) = protocolFields p
-ownerFields (owner.Category c) = categoryFields c
+abbrev pub sectionWalkOf : Section → SectionWalk
+sectionWalkOf (aSection.Classes w) = classes (classWalk w)
+sectionWalkOf (aSection.Protocols w) = protocols (protocolWalk w)
+sectionWalkOf (aSection.Categories w) = categories (categoryWalk w)
 
-abbrev pub rowsField : ListKind → ℕ → Field
-rowsField k va = field.Rows (record { kind = k; list = va })
+abbrev pub takenOf : Taken → Outcome (Step Record)
+takenOf (taken.Record x) = value (found x)
+takenOf taken.Passed = value passed
+takenOf taken.Finished = value finished
+takenOf (taken.Refused k) = number k
 
--- A field, with those after it; with no field nothing comes.
-abbrev pub headed : Field → List plain.Field → List plain.Field
-headed (field.Rows f) fs = rows (f .kind) (f .list) ∷ fs
-headed (field.Names va) fs = names va ∷ fs
-headed field.Nothing fs = []
+-- What a section step gives, with a ledger.
+abbrev pub sectionLeftOf : SectionStepped → List ℕ → SectionLeft
+sectionLeftOf r l = record { answer = takenOf (r .taken); section = sectionWalkOf (r .section); ledger = l }
 
-abbrev pub atOf : At → listing.At
-atOf at.Info = atInfo
-atOf at.Section = atSection
-atOf (at.Class c) = atClass c
-atOf (at.Ro c) = atRo c
-atOf (at.Category c) = atCategory c
-atOf (at.Rows w) = atRows (w .list) (w .walk) (drop (suc (w .list)) (ownerFields (w .owner)))
-atOf (at.Names w) = atNames (w .list) (w .walk) (drop (suc (w .list)) (ownerFields (w .owner)))
-atOf at.End = atEnd
+abbrev pub nameAnswered : NameAnswer → Outcome Named
+nameAnswered (name.Name x) = value x
+nameAnswered (name.Refused k) = number k
 
-abbrev pub sectionOf : Section → listing.Section
-sectionOf (section.Classes w) = classes (classWalk w)
-sectionOf (section.Protocols w) = protocols (protocolWalk w)
-sectionOf (section.Categories w) = categories (categoryWalk w)
-
--- A number of two words.
+-- The entries settled are a number of two words.
 abbrev pub stateOf : Listing → State
-stateOf s = state (atOf (s .at)) (sectionOf (s .section)) (s .records) (s .«settled_high» * 2 ^ 64 + s .«settled_low»)
+stateOf s = state (s .at) (sectionWalkOf (s .section)) (s .records) (s .«settled_high» * 2 ^ 64 + s .«settled_low»)
 
-abbrev pub saidOf : Said → Outcome listing.Said
+abbrev pub saidOf : Said → Outcome Answer
 saidOf (said.Line x) = value (says x)
 saidOf said.Nothing = value nothing
 saidOf said.Ended = value ended

@@ -1,68 +1,86 @@
 -- The steps of a listing, one after the other, and what demand 3 says of them: no step refuses, the steps end, and what they say and settle
 -- is the plain listing.
-use Prim.Native.Nat.{ℕ, zero, suc, _-_, _≤_}
+use Prim.Native.Nat.{ℕ, zero, suc, _-_, _*_, _/_, _≤_}
 use mathlib.Core.Path.{_≡_}
 use mathlib.Core.List.{List, [], _∷_, _++_}
-use Rattle.reads.specs.Outcome.{Outcome, value, absent, number}
+use lib.ListN.{length}
+use Rattle.reads.specs.Segment.{segmentWords}
+use Rattle.reads.specs.Table.{records}
+use Rattle.reads.specs.Outcome.{Outcome, value, absent, number, andThen}
 use Rattle.pointers.specs.Tables.{Tables}
-use Rattle.records.specs.Walk.{nextOf}
-use Rattle.records.specs.declared.list_walk.Step.the-variants as step
-use Rattle.records.specs.declared.list_walk.Stepped.{Stepped}
-use Rattle.records.specs.declared.list_walk.Walked.{Walked}
-use Rattle.records.specs.declared.list_walk.Walked.the-variants as walked
-use Rattle.listing.specs.PlainListing.{Event, event}
-use Rattle.listing.specs.Listing.{State, At, Said, start, says, nothing, ended, atInfo, atSection, atClass, atRo, atCategory, atRows, atNames, atEnd, listingStep}
+use Rattle.walks.specs.Walk.{ReachedRow, rowReached, rowSkipped, rowsFinished, RowLeft, nextOf}
+use Rattle.listing.specs.Gather.{joined}
+use Rattle.listing.specs.PlainListing.{endLine, Event, event, plainRecords, plainEvents, plainListing, recordLineCount}
+use Rattle.listing.specs.Listing.{State, Answer, start, says, nothing, ended, listingStep}
+use Rattle.listing.specs.declared.at.At.{At}
+use Rattle.listing.specs.declared.at.At.the-variants as place
+use Rattle.listing.specs.declared.at.FieldWalk.{FieldWalk}
+use Rattle.listing.specs.declared.at.FieldWalk.the-variants as fieldWalk
 use Rattle.listing.specs.declared.line.Line.{Line}
 
 -- What a step over list n of a record settles: the entry whose row it gives, one before the cursor that it leaves, or the one it skips.
-abbrev pub settledBy : ℕ → ℕ → ℕ → Walked → List Event
-settledBy of n cursor (walked.Step (step.Row r)) = event of n (cursor - 1) ∷ []
-settledBy of n cursor (walked.Step (step.Skipped j)) = event of n j ∷ []
-settledBy of n cursor (walked.Step step.Finished) = []
-settledBy of n cursor (walked.Step (step.Refused k)) = []
-settledBy of n cursor walked.Absent = []
+abbrev pub settledBy : ℕ → ℕ → ℕ → Outcome ReachedRow → List Event
+settledBy of n cursor (value (rowReached r)) = event of n (cursor - 1) ∷ []
+settledBy of n cursor (value (rowSkipped j)) = event of n j ∷ []
+settledBy of n cursor (value rowsFinished) = []
+settledBy of n cursor absent = []
+settledBy of n cursor (number k) = []
 
-abbrev pub settledIn : ℕ → ℕ → Stepped → List Event
-settledIn of n x = settledBy of n (x .walk .cursor) (x .walked)
+abbrev pub settledIn : ℕ → ℕ → RowLeft → List Event
+settledIn of n x = settledBy of n (x .walk .cursor) (x .answer)
+
+abbrev pub settledOver : Tables → ℕ → ℕ → FieldWalk → List Event
+settledOver t of n (fieldWalk.Rows w) = settledIn of n (nextOf t w)
+settledOver t of n (fieldWalk.Names w) = []
 
 -- The settling step as an event, if the step at a place is one; r records have been said, so the record is number r - 1 from 0.
 unfoldable pub eventsAt : Tables → ℕ → At → List Event
-eventsAt t r atInfo = []
-eventsAt t r atSection = []
-eventsAt t r (atClass c) = []
-eventsAt t r (atRo c) = []
-eventsAt t r (atCategory c) = []
-eventsAt t r (atRows n w fs) = settledIn (r - 1) n (nextOf t w)
-eventsAt t r (atNames n w fs) = []
-eventsAt t r atEnd = []
+eventsAt t r place.Info = []
+eventsAt t r place.Section = []
+eventsAt t r (place.Record x) = []
+eventsAt t r (place.Ro c) = []
+eventsAt t r (place.List x) = settledOver t (r - 1) (x .list) (x .walk)
+eventsAt t r place.End = []
 
 abbrev pub eventsIn : Tables → State → List Event
 eventsIn t s = eventsAt t (s .records) (s .at)
 
-abbrev pub lineIn : Outcome Said → List Line
-lineIn (value (says x)) = x ∷ []
-lineIn (value nothing) = []
-lineIn (value ended) = []
-lineIn absent = []
-lineIn (number k) = []
+-- The line that a step says.
+abbrev pub lineIn : Answer → List Line
+lineIn (says x) = x ∷ []
+lineIn nothing = []
+lineIn ended = []
+
+abbrev pub lineSaid : Outcome Answer → Outcome (List Line)
+lineSaid o = andThen o (λ a. value (lineIn a))
+
+-- What the step at a state settles, by its answer.
+abbrev pub settledAt : Tables → State → Outcome Answer → Outcome (List Event)
+settledAt t s o = andThen o (λ _. value (eventsIn t s))
 
 -- Steps, each given the state and the ledger that the last left: what step n, counted from 0, answers; and the lines and the events of the
--- first n.
-unfoldable pub answerAt : Tables → ℕ → State → List ℕ → Outcome Said
+-- first n. The number of a refused step is the outcome of both.
+unfoldable pub answerAt : Tables → ℕ → State → List ℕ → Outcome Answer
 answerAt t zero s l = listingStep t s l .answer
 answerAt t (suc n) s l = answerAt t n (listingStep t s l .state) (listingStep t s l .ledger)
 
-unfoldable pub linesBy : Tables → ℕ → State → List ℕ → List Line
-linesBy t zero s l = []
-linesBy t (suc n) s l = lineIn (listingStep t s l .answer) ++ linesBy t n (listingStep t s l .state) (listingStep t s l .ledger)
+unfoldable pub linesBy : Tables → ℕ → State → List ℕ → Outcome (List Line)
+linesBy t zero s l = value []
+linesBy t (suc n) s l =
+    joined (lineSaid (listingStep t s l .answer)) (linesBy t n (listingStep t s l .state) (listingStep t s l .ledger))
 
-unfoldable pub eventsBy : Tables → ℕ → State → List ℕ → List Event
-eventsBy t zero s l = []
-eventsBy t (suc n) s l = eventsIn t s ++ eventsBy t n (listingStep t s l .state) (listingStep t s l .ledger)
+unfoldable pub eventsBy : Tables → ℕ → State → List ℕ → Outcome (List Event)
+eventsBy t zero s l = value []
+eventsBy t (suc n) s l =
+    joined (settledAt t s (listingStep t s l .answer)) (eventsBy t n (listingStep t s l .state) (listingStep t s l .ledger))
+
+-- No step of the listing gives a number.
+abbrev pub GivesNoNumber : Tables → List ℕ → Type 0
+GivesNoNumber t l = (n k : ℕ) → answerAt t n start l ≡ number k → ⊥
 
 -- A step that no question refuses.
-pub data Answered : Outcome Said → Type 0 where
-  is-said : (x : Said) → Answered (value x)
+pub data Answered : Outcome Answer → Type 0 where
+  is-said : (x : Answer) → Answered (value x)
 
 -- From the start, with a ledger: no step refuses; from some step on each says that the listing has ended; and where one says so, the steps
 -- before it have said exactly these lines and settled exactly these entries.
@@ -70,5 +88,17 @@ pub record Lists (t : Tables) (l : List ℕ) (lines : List Line) (events : List 
   pub most : ℕ
   pub answered : (n : ℕ) → Answered (answerAt t n start l)
   pub ends : (n : ℕ) → most ≤ n → answerAt t n start l ≡ value ended
-  pub given : (n : ℕ) → answerAt t n start l ≡ value ended → linesBy t n start l ≡ lines
-  pub settled : (n : ℕ) → answerAt t n start l ≡ value ended → eventsBy t n start l ≡ events
+  pub saidLines : (n : ℕ) → answerAt t n start l ≡ value ended → linesBy t n start l ≡ value lines
+  pub settledEvents : (n : ℕ) → answerAt t n start l ≡ value ended → eventsBy t n start l ≡ value events
+
+-- Demand 3 of the listing, with a ledger: the steps say the lines of the plain listing, their settling steps are one for one its events, the
+-- last line is E with R and the number of settling steps, R the records, as many as there are record lines; and that number is at most
+-- 6 x R x S x floor(n / 12), S the segments and n the image's length.
+pub record ListsWhole (t : Tables) (l : List ℕ) : Type 0 where
+  pub linesBefore : List Line
+  pub events : List Event
+  pub plainLines : plainListing t ≡ value (linesBefore ++ (endLine (length (plainRecords t)) (length events) ∷ []))
+  pub plainSettling : plainEvents t ≡ value events
+  pub steps : Lists t l (linesBefore ++ (endLine (length (plainRecords t)) (length events) ∷ [])) events
+  pub recordLines : recordLineCount linesBefore ≡ length (plainRecords t)
+  pub bound : length events ≤ 6 * (length (plainRecords t) * (records segmentWords (t .segments) * (length (t .image) / 12)))

@@ -1,17 +1,18 @@
--- The plain listing of opened tables (document 01, "The program's listing"): a direct definition from the section walks' records and the
--- readable entries of their lists, with no state and no ledger.
-use Prim.Native.Nat.{ℕ, suc, _+_, _/_, _%_, _^_}
-use mathlib.Core.List.{List, [], _∷_, _++_, map, flatMap}
+-- The plain listing of tables (document 01, "The program's listing"): a direct definition from the section walks' records and the readable
+-- entries of their lists, with no state and no ledger. A number that a lookup gives is its outcome; over what opening accepted there is none.
+use Prim.Native.Nat.{ℕ, suc, _/_, _%_, _^_}
+use mathlib.Core.List.{List, [], _∷_, _++_, map}
 use lib.ListN.{length}
-use Rattle.reads.specs.Outcome.{Outcome, value, absent, number}
-use Rattle.reads.specs.declared.answer.Text.{Text}
+use Rattle.reads.specs.Outcome.{Outcome, value, absent, number, andThen}
+use Rattle.reads.specs.Place.{wordIn}
+use Rattle.reads.specs.Segment.{placeAt}
+use Rattle.reads.specs.declared.text.Text.{Text}
+use Rattle.pointers.specs.ImageInfo.{infoOf}
 use Rattle.pointers.specs.Tables.{Tables, imageIn}
 use Rattle.pointers.specs.declared.imageinfo.ImageInfo.{ImageInfo}
 use Rattle.records.specs.Category.{categoryClassName}
 use Rattle.records.specs.Class.{roOf, superclassName}
 use Rattle.records.specs.List.{listAt, entryAddress}
-use Rattle.records.specs.PlainSections.{present, plainClasses, plainProtocols, plainCategories}
-use Rattle.records.specs.ProtocolNames.{protocolNames}
 use Rattle.records.specs.Row.{rowAt}
 use Rattle.records.specs.Search.{readables}
 use Rattle.records.specs.declared.category.ObjcCategory.{ObjcCategory}
@@ -22,103 +23,123 @@ use Rattle.records.specs.declared.list.ListKind.{ListKind}
 use Rattle.records.specs.declared.list.ListKind.the-variants as lists
 use Rattle.records.specs.declared.protocol.ObjcProtocol.{ObjcProtocol}
 use Rattle.records.specs.declared.row.Row.{Row}
+use Rattle.walks.specs.PlainSections.{plainClasses, plainProtocols, plainCategories}
+use Rattle.walks.specs.ProtocolNames.{protocolListAt, slotNames}
+use Rattle.listing.specs.Gather.{joined, gather, ofValue}
+use Rattle.listing.specs.declared.at.Record.{Record}
+use Rattle.listing.specs.declared.at.Record.the-variants as aRecord
 use Rattle.listing.specs.declared.line.Line.{Line}
 use Rattle.listing.specs.declared.line.Line.the-variants as line
 use Rattle.listing.specs.declared.line.Named.{Named}
 use Rattle.listing.specs.declared.line.Named.the-variants as named
 
+-- I: version and flags. Question 4 has found 8 bytes there.
+abbrev pub versionAndFlags : List ℕ → ImageInfo
+versionAndFlags info = infoOf (wordIn info 4 (placeAt 0) 0) (wordIn info 4 (placeAt 0) 4)
+
+-- A name, or none; a number stays.
+abbrev pub nameOrNone : Outcome Text → Outcome Named
+nameOrNone (value t) = value (named.Text t)
+nameOrNone absent = value named.Nothing
+nameOrNone (number k) = number k
+
+-- C or M; K.
+abbrev pub classLine : ObjcClass → Named → Line
+classLine c name = line.Class (record { class = c; «superclass_name» = name })
+
+abbrev pub categoryLine : ObjcCategory → Named → Line
+categoryLine c name = line.Category (record { category = c; «class_name» = name })
+
+-- m, v or p; q: under the list's number.
+abbrev pub rowLine : ℕ → Row → Line
+rowLine n r = line.Row (record { list = n; row = r })
+
+abbrev pub nameLine : ℕ → Text → Line
+nameLine n name = line.Name (record { list = n; name = name })
+
+-- E: the second number in two words.
+abbrev pub endLine : ℕ → ℕ → Line
+endLine records settled =
+    line.End (record { records = records; «settled_high» = settled / 2 ^ 64; «settled_low» = settled % 2 ^ 64 })
+
 -- A list that a field of a record names: of rows, or of protocol names.
 pub data Field : Type 0 where
-  rows : ListKind → ℕ → Field
-  names : ℕ → Field
+  rowList : ListKind → ℕ → Field
+  nameList : ℕ → Field
 
 -- The fields of a record in the order of their list numbers, from 0. Class: methods, ivars, properties, protocols.
 abbrev pub roFields : ClassRo → List Field
-roFields r = rows lists.Methods (r .methods) ∷ rows lists.Ivars (r .ivars) ∷ rows lists.Properties (r .properties) ∷ names (r .protocols) ∷ []
+roFields r =
+    rowList lists.Methods (r .methods)
+    ∷ rowList lists.Ivars (r .ivars)
+    ∷ rowList lists.Properties (r .properties)
+    ∷ nameList (r .protocols)
+    ∷ []
 
 -- Protocol: as stored, with class properties sixth and protocols last.
 abbrev pub protocolFields : ObjcProtocol → List Field
 protocolFields p =
-    rows lists.Methods (p .«instance_methods»)
-    ∷ rows lists.Methods (p .«class_methods»)
-    ∷ rows lists.Methods (p .«optional_instance_methods»)
-    ∷ rows lists.Methods (p .«optional_class_methods»)
-    ∷ rows lists.Properties (p .«instance_properties»)
-    ∷ rows lists.Properties (p .«class_properties»)
-    ∷ names (p .protocols)
+    rowList lists.Methods (p .«instance_methods»)
+    ∷ rowList lists.Methods (p .«class_methods»)
+    ∷ rowList lists.Methods (p .«optional_instance_methods»)
+    ∷ rowList lists.Methods (p .«optional_class_methods»)
+    ∷ rowList lists.Properties (p .«instance_properties»)
+    ∷ rowList lists.Properties (p .«class_properties»)
+    ∷ nameList (p .protocols)
     ∷ []
 
 -- Category: methods, class methods, protocols, properties, class properties.
 abbrev pub categoryFields : ObjcCategory → List Field
 categoryFields c =
-    rows lists.Methods (c .«instance_methods»)
-    ∷ rows lists.Methods (c .«class_methods»)
-    ∷ names (c .protocols)
-    ∷ rows lists.Properties (c .«instance_properties»)
-    ∷ rows lists.Properties (c .«class_properties»)
+    rowList lists.Methods (c .«instance_methods»)
+    ∷ rowList lists.Methods (c .«class_methods»)
+    ∷ nameList (c .protocols)
+    ∷ rowList lists.Properties (c .«instance_properties»)
+    ∷ rowList lists.Properties (c .«class_properties»)
     ∷ []
 
--- The entries that a walk over a list settles: all that are readable, none of an absent list.
-abbrev pub entriesOf : Tables → Outcome Layout → List ℕ
-entriesOf t (value h) = readables (imageIn t) h
-entriesOf t absent = []
-entriesOf t (number k) = []
-
-unfoldable pub entriesIn : Tables → Field → List ℕ
-entriesIn t (rows k va) = entriesOf t (listAt t k va)
-entriesIn t (names va) = []
-
--- The rows of those that have one; a skipped entry gives no line.
-abbrev pub rowsOf : Tables → Outcome Layout → List Row
-rowsOf t (value h) = flatMap (λ j. present (rowAt t (h .kind) (entryAddress h j))) (readables (imageIn t) h)
-rowsOf t absent = []
-rowsOf t (number k) = []
-
--- The lines of a field, under its list number.
-unfoldable pub fieldLines : Tables → ℕ → Field → List Line
-fieldLines t n (rows k va) = map (λ r. line.Row (record { list = n; row = r })) (rowsOf t (listAt t k va))
-fieldLines t n (names va) = map (λ name. line.Name (record { list = n; name = name })) (protocolNames t va)
-
-unfoldable pub fieldsLines : Tables → ℕ → List Field → List Line
-fieldsLines t n [] = []
-fieldsLines t n (f ∷ fs) = fieldLines t n f ++ fieldsLines t (suc n) fs
-
-abbrev pub nameOf : Outcome Text → Named
-nameOf (value t) = named.Text t
-nameOf absent = named.Nothing
-nameOf (number k) = named.Nothing
-
--- A record: its own line, the line of its class_ro if it has one, and the fields that name its lists.
-pub record Listed : Type 0 where
-  pub head : List Line
-  pub fields : List Field
-
-abbrev pub listed : List Line → List Field → Listed
-listed head fields = record { head = head; fields = fields }
-
--- R if class_ro decodes, with the class's lists.
-abbrev pub withRo : Line → List ClassRo → Listed
-withRo own [] = listed (own ∷ []) []
-withRo own (r ∷ more) = listed (own ∷ line.Ro r ∷ []) (roFields r)
-
-unfoldable pub classListed : Tables → ObjcClass → Listed
-classListed t c =
-    withRo (line.Class (record { class = c; «superclass_name» = nameOf (superclassName t c) })) (present (roOf t c))
-
-unfoldable pub protocolListed : Tables → ObjcProtocol → Listed
-protocolListed t p = listed (line.Protocol p ∷ []) (protocolFields p)
-
-unfoldable pub categoryListed : Tables → ObjcCategory → Listed
-categoryListed t c =
-    listed (line.Category (record { category = c; «class_name» = nameOf (categoryClassName t c) }) ∷ []) (categoryFields c)
-
 -- The records in the order classes, protocols, categories.
-unfoldable pub allListed : Tables → List Listed
-allListed t =
-    map (classListed t) (plainClasses t) ++ (map (protocolListed t) (plainProtocols t) ++ map (categoryListed t) (plainCategories t))
+unfoldable pub plainRecords : Tables → List Record
+plainRecords t =
+    map aRecord.Class (plainClasses t) ++ (map aRecord.Protocol (plainProtocols t) ++ map aRecord.Category (plainCategories t))
 
-abbrev pub linesOf : Tables → Listed → List Line
-linesOf t r = r .head ++ fieldsLines t 0 (r .fields)
+-- A record's own line, and R if it has a class_ro.
+unfoldable pub ownLines : Tables → Record → Outcome (List Line)
+ownLines t (aRecord.Class c) =
+    andThen (nameOrNone (superclassName t c)) (λ name.
+    joined (value (classLine c name ∷ [])) (ofValue (roOf t c) (λ r. value (line.Ro r ∷ []))))
+ownLines t (aRecord.Protocol p) = value (line.Protocol p ∷ [])
+ownLines t (aRecord.Category c) = andThen (nameOrNone (categoryClassName t c)) (λ name. value (categoryLine c name ∷ []))
+
+-- Its lists; a class without a class_ro has none.
+unfoldable pub recordFields : Tables → Record → Outcome (List Field)
+recordFields t (aRecord.Class c) = ofValue (roOf t c) (λ r. value (roFields r))
+recordFields t (aRecord.Protocol p) = value (protocolFields p)
+recordFields t (aRecord.Category c) = value (categoryFields c)
+
+-- The line of an entry is its row's, none where the entry is skipped; that of a slot of protocol names is its name's, none where it gives
+-- none. The lines of a list, and of the lists from number n on.
+abbrev pub entryLines : Tables → ℕ → Layout → ℕ → Outcome (List Line)
+entryLines t n h j = ofValue (rowAt t (h .kind) (entryAddress h j)) (λ r. value (rowLine n r ∷ []))
+
+abbrev pub slotLines : ℕ → Outcome Text → Outcome (List Line)
+slotLines n o = ofValue o (λ name. value (nameLine n name ∷ []))
+
+unfoldable pub fieldLines : Tables → ℕ → Field → Outcome (List Line)
+fieldLines t n (rowList k va) = ofValue (listAt t k va) (λ h. gather (entryLines t n h) (readables (imageIn t) h))
+fieldLines t n (nameList va) = ofValue (protocolListAt t va) (λ l. gather (slotLines n) (slotNames t l 0 (l .count)))
+
+unfoldable pub fieldsLines : Tables → ℕ → List Field → Outcome (List Line)
+fieldsLines t n [] = value []
+fieldsLines t n (f ∷ fs) = joined (fieldLines t n f) (fieldsLines t (suc n) fs)
+
+unfoldable pub linesOf : Tables → Record → Outcome (List Line)
+linesOf t x = joined (ownLines t x) (andThen (recordFields t x) (fieldsLines t 0))
+
+-- The entries that a walk over a list settles: all that are readable, skipped ones too.
+unfoldable pub entriesIn : Tables → Field → Outcome (List ℕ)
+entriesIn t (rowList k va) = ofValue (listAt t k va) (λ h. value (readables (imageIn t) h))
+entriesIn t (nameList va) = value []
 
 -- A settling step: the record it belongs to and its field, each counted from 0, and the entry's index.
 pub record Event : Type 0 where
@@ -129,37 +150,38 @@ pub record Event : Type 0 where
 abbrev pub event : ℕ → ℕ → ℕ → Event
 event of field entry = record { of = of; field = field; entry = entry }
 
--- The settling steps of a record's fields, skipped entries too, each list once for each field that names it.
-unfoldable pub fieldEvents : Tables → ℕ → ℕ → List Field → List Event
-fieldEvents t r n [] = []
-fieldEvents t r n (f ∷ fs) = map (event r n) (entriesIn t f) ++ fieldEvents t r (suc n) fs
+-- The settling steps of a record's fields, each list once for each field that names it.
+unfoldable pub fieldEvents : Tables → ℕ → ℕ → List Field → Outcome (List Event)
+fieldEvents t r n [] = value []
+fieldEvents t r n (f ∷ fs) = joined (andThen (entriesIn t f) (λ js. value (map (event r n) js))) (fieldEvents t r (suc n) fs)
 
-unfoldable pub eventsFrom : Tables → ℕ → List Listed → List Event
-eventsFrom t r [] = []
-eventsFrom t r (l ∷ ls) = fieldEvents t r 0 (l .fields) ++ eventsFrom t (suc r) ls
+unfoldable pub recordEvents : Tables → ℕ → Record → Outcome (List Event)
+recordEvents t r x = andThen (recordFields t x) (fieldEvents t r 0)
 
-abbrev pub plainEvents : Tables → List Event
-plainEvents t = eventsFrom t 0 (allListed t)
+unfoldable pub eventsFrom : Tables → ℕ → List Record → Outcome (List Event)
+eventsFrom t r [] = value []
+eventsFrom t r (x ∷ xs) = joined (recordEvents t r x) (eventsFrom t (suc r) xs)
 
--- A number in two words.
-abbrev pub endLine : ℕ → ℕ → Line
-endLine records settled =
-    line.End (record { records = records; «settled_high» = settled / 2 ^ 64; «settled_low» = settled % 2 ^ 64 })
+abbrev pub plainEvents : Tables → Outcome (List Event)
+plainEvents t = eventsFrom t 0 (plainRecords t)
 
--- The whole listing: I, the records with their rows and names, and E with the number of record lines and of settling steps.
-unfoldable pub plainListing : Tables → ImageInfo → List Line
-plainListing t info =
-    line.Info info
-    ∷ (flatMap (linesOf t) (allListed t) ++ (endLine (length (allListed t)) (length (plainEvents t)) ∷ []))
+-- The whole listing: I, the records with their rows and names, and E with the number of records and of settling steps.
+unfoldable pub plainListing : Tables → Outcome (List Line)
+plainListing t =
+    andThen (gather (linesOf t) (plainRecords t)) (λ lines.
+    andThen (plainEvents t) (λ events.
+    value
+    (line.Info (versionAndFlags (t .info))
+    ∷ (lines ++ (endLine (length (plainRecords t)) (length events) ∷ [])))))
 
 -- The record lines among lines: C, M, P and K.
-unfoldable pub recordLines : List Line → ℕ
-recordLines [] = 0
-recordLines (line.Info i ∷ xs) = recordLines xs
-recordLines (line.Class c ∷ xs) = suc (recordLines xs)
-recordLines (line.Ro r ∷ xs) = recordLines xs
-recordLines (line.Protocol p ∷ xs) = suc (recordLines xs)
-recordLines (line.Category c ∷ xs) = suc (recordLines xs)
-recordLines (line.Row r ∷ xs) = recordLines xs
-recordLines (line.Name n ∷ xs) = recordLines xs
-recordLines (line.End e ∷ xs) = recordLines xs
+unfoldable pub recordLineCount : List Line → ℕ
+recordLineCount [] = 0
+recordLineCount (line.Info i ∷ xs) = recordLineCount xs
+recordLineCount (line.Class c ∷ xs) = suc (recordLineCount xs)
+recordLineCount (line.Ro r ∷ xs) = recordLineCount xs
+recordLineCount (line.Protocol p ∷ xs) = suc (recordLineCount xs)
+recordLineCount (line.Category c ∷ xs) = suc (recordLineCount xs)
+recordLineCount (line.Row r ∷ xs) = recordLineCount xs
+recordLineCount (line.Name n ∷ xs) = recordLineCount xs
+recordLineCount (line.End e ∷ xs) = recordLineCount xs

@@ -1,10 +1,15 @@
 // The bundle that the program reads: its counts, where its parts stand, and its little-endian words.
+use pointers::section::ObjcSection;
+use pointers::table::Bind;
+use pointers::table::Rebase;
 use reads::answer::Missing;
-use reads::answer::Place;
+use reads::place::Place;
 use reads::place::u64_in;
+use reads::segment::Segment;
 ghost use mathlib.Core.Path.{_≡_};
 ghost use lib.ListN.{length};
-ghost use Rattle.listing.specs.Bundle.{countsOutcome, wordFrom, wordsFrom, segmentWords, rebaseWords, bindWords, sectionsAt, rebasesAt, bindsAt, imageAt, saidLength, counted};
+ghost use Rattle.reads.specs.Reference.{before, after};
+ghost use Rattle.listing.specs.Bundle.{countsOutcome, wordFrom, wordsFrom, segmentTableWords, rebaseTableWords, bindTableWords, sectionsAt, rebasesAt, bindsAt, imageAt, saidLength, bundleCounts};
 
 // Question 13: the longest bundle. A count above it makes the bundle longer.
 const LONGEST: u64 = 32768;
@@ -29,28 +34,25 @@ impl Counts {
 
     pub const SEGMENTS_AT: usize = 40;
 
-    // The words of the section table.
-    pub const SECTION_WORDS: usize = 15;
-
     // The words of the segment table.
     pub fn segment_words(self) -> usize
-        ensures { λ r. ⌜ r ≡ segmentWords self ⌝ }
+        ensures { λ r. ⌜ r ≡ segmentTableWords self ⌝ }
     {
-        4 * (self.segments as usize)
+        Segment::WORDS * (self.segments as usize)
     }
 
     // The words of the rebase table.
     pub fn rebase_words(self) -> usize
-        ensures { λ r. ⌜ r ≡ rebaseWords self ⌝ }
+        ensures { λ r. ⌜ r ≡ rebaseTableWords self ⌝ }
     {
-        2 * (self.rebases as usize)
+        Rebase::WORDS * (self.rebases as usize)
     }
 
     // The words of the bind table.
     pub fn bind_words(self) -> usize
-        ensures { λ r. ⌜ r ≡ bindWords self ⌝ }
+        ensures { λ r. ⌜ r ≡ bindTableWords self ⌝ }
     {
-        3 * (self.binds as usize)
+        Bind::WORDS * (self.binds as usize)
     }
 
     // Where the section table stands.
@@ -64,7 +66,7 @@ impl Counts {
     pub fn rebases_at(self) -> usize
         ensures { λ r. ⌜ r ≡ rebasesAt self ⌝ }
     {
-        self.sections_at() + 8 * Counts::SECTION_WORDS
+        self.sections_at() + 8 * ObjcSection::TABLE_WORDS
     }
 
     // Where the bind table stands.
@@ -91,14 +93,14 @@ impl Counts {
 
 // The word at an offset; 0 where its eight bytes do not lie in the bundle.
 pub fn word_at(bundle: &[u8], offset: u64) -> u64
-    ensures { λ r. ⌜ r ≡ wordFrom (now (bundle .entry)) offset ⌝ }
+    ensures { λ r. ⌜ r ≡ wordFrom (before bundle) offset ⌝ }
 {
     u64_in(bundle, Place { offset }, 0)
 }
 
 // As many words as `to` has, from an offset on.
 pub fn words_at(bundle: &[u8], offset: usize, to: &mut [u64])
-    ensures { λ _. ⌜ now (to .exit) ≡ wordsFrom (now (bundle .entry)) offset (length (now (to .entry))) ⌝ }
+    ensures { λ _. ⌜ after to ≡ wordsFrom (before bundle) offset (length (before to)) ⌝ }
 {
     let from = offset as u64;
     let mut i = 0;
@@ -112,7 +114,7 @@ pub fn words_at(bundle: &[u8], offset: usize, to: &mut [u64])
 // 13: is the bundle at most 32,768 bytes long, and exactly as long as its counts say? Then these are its counts. Each
 // is small enough before they are summed.
 pub fn measure(bundle: &[u8]) -> CountsAnswer
-    ensures { λ r. ⌜ countsOutcome r ≡ counted (now (bundle .entry)) ⌝ }
+    ensures { λ r. ⌜ countsOutcome r ≡ bundleCounts (before bundle) ⌝ }
 {
     let n = bundle.len() as u64;
     if n > LONGEST {

@@ -1,4 +1,6 @@
 // The bundle that the program reads, and the listing of opened tables.
+pub mod at;
 pub mod bundle;
 pub mod line;
 pub mod listing;
+pub mod section;

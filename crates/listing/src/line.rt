@@ -1,6 +1,6 @@
 // The lines of a listing (document 01, "The program's listing"): each line's fields, which a program only prints.
 use pointers::imageinfo::ImageInfo;
-use reads::answer::Text;
+use reads::text::Text;
 use records::category::ObjcCategory;
 use records::class::ClassRo;
 use records::class::ObjcClass;

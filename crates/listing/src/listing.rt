@@ -1,5 +1,10 @@
 // The listing, one step at a time and by value (document 01, "The program's listing"): a step says at most one line and hands the new
 // state back.
+use crate::at::At;
+use crate::at::FieldWalk;
+use crate::at::ListAt;
+use crate::at::Owner;
+use crate::at::Record;
 use crate::line::CategoryLine;
 use crate::line::ClassLine;
 use crate::line::EndLine;
@@ -7,109 +12,51 @@ use crate::line::Line;
 use crate::line::NameLine;
 use crate::line::Named;
 use crate::line::RowLine;
+use crate::section::Section;
+use crate::section::SectionStepped;
+use crate::section::Taken;
 use pointers::imageinfo::ImageInfo;
-use pointers::imageinfo::ImageInfoAnswer;
 use pointers::question::Asked;
 use pointers::question::ask;
 use reads::answer::Missing;
-use reads::answer::TextAnswer;
+use reads::place::Place;
+use reads::place::u32_in;
+use reads::text::TextAnswer;
 use records::category::ObjcCategory;
-use records::class::ClassRo;
 use records::class::ClassRoAnswer;
 use records::class::ObjcClass;
-use records::list::ListKind;
-use records::list_walk::ListWalk;
-use records::list_walk::Step;
-use records::list_walk::Stepped;
-use records::list_walk::Walked;
-use records::protocol::ObjcProtocol;
-use records::protocol_names::NameStep;
-use records::protocol_names::ProtocolNameStepped;
-use records::protocol_names::ProtocolNameWalk;
-use records::protocol_names::ProtocolNamesWalked;
-use records::sections::CategoryStep;
-use records::sections::CategoryWalk;
-use records::sections::ClassStep;
-use records::sections::ClassWalk;
-use records::sections::ProtocolStep;
-use records::sections::ProtocolWalk;
+use walks::list_walk::ListStep;
+use walks::list_walk::ListStepped;
+use walks::list_walk::ListWalked;
+use walks::protocol_names::NameStep;
+use walks::protocol_names::ProtocolNameStepped;
+use walks::protocol_names::ProtocolNamesWalked;
+use walks::sections::CategoryWalk;
+use walks::sections::ClassWalk;
+use walks::sections::ProtocolWalk;
 ghost use mathlib.Core.Path.{_≡_};
 ghost use mathlib.Core.List.{List};
 ghost use Prim.Native.Nat.{ℕ, suc};
-ghost use lib.ListN.{drop};
-ghost use Rattle.pointers.specs.Question.{guarded};
-ghost use Rattle.pointers.specs.Tables.{lent};
-ghost use Rattle.pointers.specs.ImageInfo.{infoOutcome};
 ghost use Rattle.reads.specs.Answer.{textOutcome};
 ghost use Rattle.reads.specs.Outcome.{value, number};
+ghost use Rattle.reads.specs.Reference.{before, after};
+ghost use Rattle.pointers.specs.Question.{asked};
+ghost use Rattle.pointers.specs.Tables.{lent};
 ghost use Rattle.records.specs.Class.{classRoOutcome};
-ghost use Rattle.records.specs.Sections.{classWalk, categoryWalk, protocolWalk};
-ghost use Rattle.records.specs.declared.list.ListKind.the-variants as lists;
-ghost use Rattle.listing.specs.PlainListing.{roFields, protocolFields, categoryFields, endLine};
-ghost use Rattle.listing.specs.Listing.{start, goTo, carried, leaves, says, nothing, inSection, counted, settling, enter, classes, protocols, categories, atInfo, atSection, atClass, atRo, atCategory, atRows, atNames, atEnd, byInfo, byClassName, byRo, byCategoryName, afterRow, afterName, bySection, stepAt, listingStep};
-ghost use Rattle.listing.specs.ListingAnswer.{ownerFields, rowsField, headed, atOf, sectionOf, stateOf, leftOf};
-
-// The record whose lists are walked; of a class it is the class_ro.
-pub enum Owner {
-    Class(ClassRo),
-    Protocol(ObjcProtocol),
-    Category(ObjcCategory),
-}
-
-// A list of rows: its kind and address.
-pub struct RowsField {
-    pub kind: ListKind,
-    pub list: u64,
-}
-
-// A list that a record names: of rows, or of protocol names; or the record has no list of that number.
-pub enum Field {
-    Rows(RowsField),
-    Names(u64),
-    Nothing,
-}
-
-// A walk over the rows of a record's list.
-pub struct RowsWalk {
-    pub owner: Owner,
-    pub list: u8,
-    pub walk: ListWalk,
-}
-
-// A walk over the protocol names of a record's list.
-pub struct NamesWalk {
-    pub owner: Owner,
-    pub list: u8,
-    pub walk: ProtocolNameWalk,
-}
-
-// What the next step does: the image info; a step of the section walk; the line of a class, of its class_ro, or of a category that the
-// section gave; a step over a list; nothing, after the last line.
-pub enum At {
-    Info,
-    Section,
-    Class(ObjcClass),
-    Ro(ObjcClass),
-    Category(ObjcCategory),
-    Rows(RowsWalk),
-    Names(NamesWalk),
-    End,
-}
-
-// The section walk under way.
-pub enum Section {
-    Classes(ClassWalk),
-    Protocols(ProtocolWalk),
-    Categories(CategoryWalk),
-}
+ghost use Rattle.walks.specs.ProtocolNames.{nameLeft};
+ghost use Rattle.walks.specs.Walk.{rowLeft};
+ghost use Rattle.listing.specs.PlainListing.{versionAndFlags, nameOrNone, endLine};
+ghost use Rattle.listing.specs.declared.at.At.the-variants as place;
+ghost use Rattle.listing.specs.Listing.{enter, start, goTo, inSection, withRecord, withEntry, carried, says, nothing, leaves, onward, afterSection, onSection, recordSaid, classSaid, categorySaid, recordStep, byRo, afterRow, afterName, listStep, stepAt, listingStep};
+ghost use Rattle.listing.specs.ListingAnswer.{sectionWalkOf, sectionLeftOf, nameAnswered, stateOf, leftOf};
 
 // Where the listing stands; the records so far; the entries settled so far, high x 2^64 + low.
 pub struct Listing {
-    pub at: At,
-    pub section: Section,
-    pub records: u64,
-    pub settled_high: u64,
-    pub settled_low: u64,
+    at: At,
+    section: Section,
+    records: u64,
+    settled_high: u64,
+    settled_low: u64,
 }
 
 // What a step says: a line, or nothing to print, or the listing has ended; or the number of the question that refuses.
@@ -126,125 +73,32 @@ pub struct Listed {
     pub listing: Listing,
 }
 
-// A field that names a list of methods.
-fn methods(list: u64) -> Field
-    ensures { λ r. ⌜ r ≡ rowsField lists.Methods list ⌝ }
-{
-    Field::Rows(RowsField {
-        kind: ListKind::Methods,
-        list,
-    })
+// A name or none, or the number of the question that refuses.
+enum NameAnswer {
+    Name(Named),
+    Refused(u8),
 }
 
-// A field that names a list of ivars.
-fn ivars(list: u64) -> Field
-    ensures { λ r. ⌜ r ≡ rowsField lists.Ivars list ⌝ }
+// An absent name is none.
+fn name_or_none(answer: TextAnswer) -> NameAnswer
+    ensures { λ r. ⌜ nameAnswered r ≡ nameOrNone (textOutcome answer) ⌝ }
 {
-    Field::Rows(RowsField {
-        kind: ListKind::Ivars,
-        list,
-    })
-}
-
-// A field that names a list of properties.
-fn properties(list: u64) -> Field
-    ensures { λ r. ⌜ r ≡ rowsField lists.Properties list ⌝ }
-{
-    Field::Rows(RowsField {
-        kind: ListKind::Properties,
-        list,
-    })
-}
-
-// List n of a class: methods, ivars, properties, protocols.
-fn class_field(ro: ClassRo, n: u8) -> Field
-    ensures { λ r. ⌜ headed r (drop (suc n) (roFields ro)) ≡ drop n (roFields ro) ⌝ }
-{
-    match n {
-        0 => methods(ro.methods),
-        1 => ivars(ro.ivars),
-        2 => properties(ro.properties),
-        3 => Field::Names(ro.protocols),
-        _ => Field::Nothing,
+    match answer {
+        TextAnswer::Found(text) => NameAnswer::Name(Named::Text(text)),
+        TextAnswer::Missing(m) => match m {
+            Missing::Absent => NameAnswer::Name(Named::Nothing),
+            Missing::Refused(k) => NameAnswer::Refused(k),
+        },
     }
 }
 
-// List n of a protocol: as stored, with class properties sixth and protocols last.
-fn protocol_field(protocol: ObjcProtocol, n: u8) -> Field
-    ensures { λ r. ⌜ headed r (drop (suc n) (protocolFields protocol)) ≡ drop n (protocolFields protocol) ⌝ }
+// The image info of at least 8 bytes.
+fn version_and_flags(info: &[u8]) -> ImageInfo
+    ensures { λ r. ⌜ r ≡ versionAndFlags (before info) ⌝ }
 {
-    match n {
-        0 => methods(protocol.instance_methods),
-        1 => methods(protocol.class_methods),
-        2 => methods(protocol.optional_instance_methods),
-        3 => methods(protocol.optional_class_methods),
-        4 => properties(protocol.instance_properties),
-        5 => properties(protocol.class_properties),
-        6 => Field::Names(protocol.protocols),
-        _ => Field::Nothing,
-    }
-}
-
-// List n of a category: methods, class methods, protocols, properties, class properties.
-fn category_field(category: ObjcCategory, n: u8) -> Field
-    ensures { λ r. ⌜ headed r (drop (suc n) (categoryFields category)) ≡ drop n (categoryFields category) ⌝ }
-{
-    match n {
-        0 => methods(category.instance_methods),
-        1 => methods(category.class_methods),
-        2 => Field::Names(category.protocols),
-        3 => properties(category.instance_properties),
-        4 => properties(category.class_properties),
-        _ => Field::Nothing,
-    }
-}
-
-impl Owner {
-    // List n of the record.
-    fn field(self, n: u8) -> Field
-        ensures { λ r. ⌜ headed r (drop (suc n) (ownerFields self)) ≡ drop n (ownerFields self) ⌝ }
-    {
-        match self {
-            Owner::Class(ro) => class_field(ro, n),
-            Owner::Protocol(protocol) => protocol_field(protocol, n),
-            Owner::Category(category) => category_field(category, n),
-        }
-    }
-
-    // To the start of list n; the section goes on where the record has no such list.
-    fn enter(self, n: u8) -> At
-        ensures { λ r. ⌜ atOf r ≡ enter n (drop n (ownerFields self)) ⌝ }
-    {
-        match self.field(n) {
-            Field::Rows(field) => {
-                let kind = field.kind;
-                At::Rows(RowsWalk {
-                    owner: self,
-                    list: n,
-                    walk: ListWalk::new(field.list, kind),
-                })
-            }
-            Field::Names(list) => At::Names(NamesWalk {
-                owner: self,
-                list: n,
-                walk: ProtocolNameWalk::new(list),
-            }),
-            Field::Nothing => At::Section,
-        }
-    }
-
-    // The most lists of a record.
-    const MOST_LISTS: u8 = 7;
-
-    // To the start of the list after list n.
-    fn after(self, n: u8) -> At
-        ensures { λ r. ⌜ atOf r ≡ enter (suc n) (drop (suc n) (ownerFields self)) ⌝ }
-    {
-        if n < Owner::MOST_LISTS {
-            return self.enter(n + 1);
-        }
-        At::Section
-    }
+    let version = u32_in(info, Place { offset: 0 }, 0);
+    let flags = u32_in(info, Place { offset: 0 }, 4);
+    ImageInfo { version, flags }
 }
 
 // The high word after the low word became `low` by one more.
@@ -271,19 +125,9 @@ impl Listing {
         }
     }
 
-    // The listing as given, with a number.
-    fn refused(self, k: u8) -> Listed
-        ensures { λ r. ⌜ ((l : List ℕ) → leftOf r l ≡ leaves (number k) (stateOf self) l) ⌝ }
-    {
-        Listed {
-            said: Said::Refused(k),
-            listing: self,
-        }
-    }
-
     // At another place.
     fn go_to(self, at: At) -> Listing
-        ensures { λ r. ⌜ stateOf r ≡ goTo (stateOf self) (atOf at) ⌝ }
+        ensures { λ r. ⌜ stateOf r ≡ goTo (stateOf self) at ⌝ }
     {
         let section = self.section;
         Listing {
@@ -297,7 +141,7 @@ impl Listing {
 
     // At another place, with another section walk.
     fn in_section(self, at: At, section: Section) -> Listing
-        ensures { λ r. ⌜ stateOf r ≡ inSection (stateOf self) (atOf at) (sectionOf section) ⌝ }
+        ensures { λ r. ⌜ stateOf r ≡ inSection (stateOf self) at (sectionWalkOf section) ⌝ }
     {
         Listing {
             at,
@@ -309,8 +153,8 @@ impl Listing {
     }
 
     // At another place, with one record more.
-    fn counted(self, at: At) -> Listing
-        ensures { λ r. ⌜ stateOf r ≡ counted (stateOf self) (atOf at) ⌝ }
+    fn with_record(self, at: At) -> Listing
+        ensures { λ r. ⌜ stateOf r ≡ withRecord (stateOf self) at ⌝ }
     {
         let section = self.section;
         Listing {
@@ -323,8 +167,8 @@ impl Listing {
     }
 
     // At another place, with one entry settled more: the high word takes the low word's carry.
-    fn settling(self, at: At) -> Listing
-        ensures { λ r. ⌜ stateOf r ≡ settling (stateOf self) (atOf at) ⌝ }
+    fn with_entry(self, at: At) -> Listing
+        ensures { λ r. ⌜ stateOf r ≡ withEntry (stateOf self) at ⌝ }
     {
         let section = self.section;
         let settled_low = std::num::wrapping_add_u64(self.settled_low, 1);
@@ -337,17 +181,14 @@ impl Listing {
         }
     }
 
-    // E: the records, and the entries settled.
-    fn end(self) -> Line
-        ensures { λ r. ⌜ r ≡ endLine (self .records) (stateOf self .settled) ⌝ }
+    // The listing as given, with a number.
+    fn refused(self, k: u8) -> Listed
+        ensures { λ r. ⌜ ((l : List ℕ) → leftOf r l ≡ leaves (number k) (stateOf self) l) ⌝ }
     {
-        let high = self.settled_high;
-        let low = self.settled_low;
-        Line::End(EndLine {
-            records: self.records,
-            settled_high: high,
-            settled_low: low,
-        })
+        Listed {
+            said: Said::Refused(k),
+            listing: self,
+        }
     }
 
     // A line, and the listing then.
@@ -370,27 +211,8 @@ impl Listing {
         }
     }
 
-    // I, by the image info.
-    fn info_said(self, answer: ImageInfoAnswer) -> Listed
-        ensures { λ r. ⌜ ((l : List ℕ) → leftOf r l ≡ byInfo (stateOf self) l (infoOutcome answer)) ⌝ }
-    {
-        match answer {
-            ImageInfoAnswer::Info(info) => {
-                let listing = self.go_to(At::Section);
-                listing.says(Line::Info(info))
-            }
-            ImageInfoAnswer::Missing(m) => match m {
-                Missing::Absent => {
-                    let listing = self.go_to(At::Section);
-                    listing.nothing()
-                }
-                Missing::Refused(k) => self.refused(k),
-            },
-        }
-    }
-
-    // I: 1 to 6 and 8 are asked.
-    fn info_line(
+    // The step given, if 1 to 6 and 8 say yes.
+    fn if_asked(
         self,
         image: &[u8],
         segments: &[u64],
@@ -399,20 +221,19 @@ impl Listing {
         rebases: &[u64],
         binds: &[u64],
         index: &[u32],
+        listed: Listed,
     ) -> Listed
-        ensures { λ r. ⌜ ((l : List ℕ) → leftOf r l ≡ stepAt (lent (now (image .entry)) (now (segments .entry)) (now (sections .entry)) (now (info .entry)) (now (rebases .entry)) (now (binds .entry)) (now (index .entry))) (stateOf self) l atInfo) ⌝ }
+        ensures { λ r. let t = lent image segments sections info rebases binds index in
+            ⌜ ((l : List ℕ) → leftOf r l ≡ onward (stateOf self) l (asked t) (λ _. leftOf listed l)) ⌝ }
     {
         match ask(image, segments, sections, info, rebases, binds, index) {
-            Asked::Yes => {
-                let answer = ImageInfo::parse(info);
-                self.info_said(answer)
-            }
-            Asked::Missing(m) => self.info_said(ImageInfoAnswer::Missing(m)),
+            Asked::Yes => listed,
+            Asked::Refused(k) => self.refused(k),
         }
     }
 
-    // A step of the class walk; after its last the protocols come.
-    fn class_step(
+    // I.
+    fn info_step(
         self,
         image: &[u8],
         segments: &[u64],
@@ -421,12 +242,14 @@ impl Listing {
         rebases: &[u64],
         binds: &[u64],
         index: &[u32],
-        walk: ClassWalk,
-        ledger: &mut [u64],
     ) -> Listed
-        ensures { λ r. ⌜ leftOf r (now (ledger .exit)) ≡ bySection (lent (now (image .entry)) (now (segments .entry)) (now (sections .entry)) (now (info .entry)) (now (rebases .entry)) (now (binds .entry)) (now (index .entry))) (stateOf self) (now (ledger .entry)) (classes (classWalk walk)) ⌝ }
+        ensures { λ r. let t = lent image segments sections info rebases binds index in
+            ⌜ ((l : List ℕ) → leftOf r l ≡ stepAt t (stateOf self) l place.Info) ⌝ }
     {
-        let stepped = walk.next(
+        let listing = self.go_to(At::Section);
+        let line = Line::Info(version_and_flags(info));
+        let listed = listing.says(line);
+        self.if_asked(
             image,
             segments,
             sections,
@@ -434,108 +257,63 @@ impl Listing {
             rebases,
             binds,
             index,
-            ledger,
-        );
-        let step = stepped.step;
-        let after = stepped.walk;
-        match step {
-            ClassStep::Record(class) => {
-                let listing = self.in_section(At::Class(class), Section::Classes(after));
-                listing.nothing()
-            }
-            ClassStep::Passed => {
-                let listing = self.in_section(At::Section, Section::Classes(after));
-                listing.nothing()
-            }
-            ClassStep::Finished => {
+            listed,
+        )
+    }
+
+    // E: the records, and the entries settled.
+    fn end(self) -> Line
+        ensures { λ r. ⌜ r ≡ endLine (self .records) (stateOf self .settled) ⌝ }
+    {
+        let high = self.settled_high;
+        let low = self.settled_low;
+        Line::End(EndLine {
+            records: self.records,
+            settled_high: high,
+            settled_low: low,
+        })
+    }
+
+    // After the last record of a section: the next section, or E.
+    fn after_section(self, section: Section) -> Listed
+        ensures { λ r. ⌜ ((l : List ℕ) → leftOf r l ≡ afterSection (stateOf self) l (sectionWalkOf section)) ⌝ }
+    {
+        match section {
+            Section::Classes(_) => {
                 let first = ProtocolWalk::new();
                 let listing = self.in_section(At::Section, Section::Protocols(first));
                 listing.nothing()
             }
-            ClassStep::Refused(k) => self.refused(k),
-        }
-    }
-
-    // P, or a step of the protocol walk that gives none; after its last the categories come.
-    fn protocol_step(
-        self,
-        image: &[u8],
-        segments: &[u64],
-        sections: &[u64],
-        info: &[u8],
-        rebases: &[u64],
-        binds: &[u64],
-        index: &[u32],
-        walk: ProtocolWalk,
-    ) -> Listed
-        ensures { λ r. ⌜ ((l : List ℕ) → leftOf r l ≡ bySection (lent (now (image .entry)) (now (segments .entry)) (now (sections .entry)) (now (info .entry)) (now (rebases .entry)) (now (binds .entry)) (now (index .entry))) (stateOf self) l (protocols (protocolWalk walk))) ⌝ }
-    {
-        let stepped = walk.next(image, segments, sections, info, rebases, binds, index);
-        let step = stepped.step;
-        let after = stepped.walk;
-        match step {
-            ProtocolStep::Record(protocol) => {
-                let owner = Owner::Protocol(protocol);
-                let lists = owner.enter(0);
-                let within = self.in_section(At::Section, Section::Protocols(after));
-                let listing = within.counted(lists);
-                listing.says(Line::Protocol(protocol))
-            }
-            ProtocolStep::Passed => {
-                let listing = self.in_section(At::Section, Section::Protocols(after));
-                listing.nothing()
-            }
-            ProtocolStep::Finished => {
+            Section::Protocols(_) => {
                 let first = CategoryWalk::new();
                 let listing = self.in_section(At::Section, Section::Categories(first));
                 listing.nothing()
             }
-            ProtocolStep::Refused(k) => self.refused(k),
+            Section::Categories(_) => {
+                let end = self.end();
+                let listing = self.in_section(At::End, section);
+                listing.says(end)
+            }
         }
     }
 
-    // A step of the category walk; after its last comes E.
-    fn category_step(
-        self,
-        image: &[u8],
-        segments: &[u64],
-        sections: &[u64],
-        info: &[u8],
-        rebases: &[u64],
-        binds: &[u64],
-        index: &[u32],
-        walk: CategoryWalk,
-        ledger: &mut [u64],
-    ) -> Listed
-        ensures { λ r. ⌜ leftOf r (now (ledger .exit)) ≡ bySection (lent (now (image .entry)) (now (segments .entry)) (now (sections .entry)) (now (info .entry)) (now (rebases .entry)) (now (binds .entry)) (now (index .entry))) (stateOf self) (now (ledger .entry)) (categories (categoryWalk walk)) ⌝ }
+    // By what a section step gave: the line of a record comes in the next step.
+    fn section_said(self, stepped: SectionStepped) -> Listed
+        ensures { λ r. ⌜ ((l : List ℕ) → leftOf r l ≡ onSection (stateOf self) (sectionLeftOf stepped l)) ⌝ }
     {
-        let stepped = walk.next(
-            image,
-            segments,
-            sections,
-            info,
-            rebases,
-            binds,
-            index,
-            ledger,
-        );
-        let step = stepped.step;
-        let after = stepped.walk;
-        match step {
-            CategoryStep::Record(category) => {
-                let listing = self.in_section(At::Category(category), Section::Categories(after));
+        let taken = stepped.taken;
+        let section = stepped.section;
+        match taken {
+            Taken::Record(found) => {
+                let listing = self.in_section(At::Record(found), section);
                 listing.nothing()
             }
-            CategoryStep::Passed => {
-                let listing = self.in_section(At::Section, Section::Categories(after));
+            Taken::Passed => {
+                let listing = self.in_section(At::Section, section);
                 listing.nothing()
             }
-            CategoryStep::Finished => {
-                let end = self.end();
-                let listing = self.in_section(At::End, Section::Categories(after));
-                listing.says(end)
-            }
-            CategoryStep::Refused(k) => self.refused(k),
+            Taken::Finished => self.after_section(section),
+            Taken::Refused(k) => self.refused(k),
         }
     }
 
@@ -551,69 +329,118 @@ impl Listing {
         index: &[u32],
         ledger: &mut [u64],
     ) -> Listed
-        ensures { λ r. ⌜ leftOf r (now (ledger .exit)) ≡ stepAt (lent (now (image .entry)) (now (segments .entry)) (now (sections .entry)) (now (info .entry)) (now (rebases .entry)) (now (binds .entry)) (now (index .entry))) (stateOf self) (now (ledger .entry)) atSection ⌝ }
+        ensures { λ r. let t = lent image segments sections info rebases binds index in
+            ⌜ leftOf r (after ledger) ≡ stepAt t (stateOf self) (before ledger) place.Section ⌝ }
     {
         let section = self.section;
-        match section {
-            Section::Classes(walk) => self.class_step(
-                image,
-                segments,
-                sections,
-                info,
-                rebases,
-                binds,
-                index,
-                walk,
-                ledger,
-            ),
-            Section::Protocols(walk) => self.protocol_step(
-                image,
-                segments,
-                sections,
-                info,
-                rebases,
-                binds,
-                index,
-                walk,
-            ),
-            Section::Categories(walk) => self.category_step(
-                image,
-                segments,
-                sections,
-                info,
-                rebases,
-                binds,
-                index,
-                walk,
-                ledger,
-            ),
+        let stepped = section.next(
+            image,
+            segments,
+            sections,
+            info,
+            rebases,
+            binds,
+            index,
+            ledger,
+        );
+        self.section_said(stepped)
+    }
+
+    // The line of a record, and then where it goes on.
+    fn record_said(self, own: Line, next: At) -> Listed
+        ensures { λ r. ⌜ ((l : List ℕ) → leftOf r l ≡ recordSaid (stateOf self) l own next) ⌝ }
+    {
+        let listing = self.with_record(next);
+        listing.says(own)
+    }
+
+    // C or M, and then R.
+    fn class_said(self, class: ObjcClass, name: TextAnswer) -> Listed
+        ensures { λ r. ⌜ ((l : List ℕ) → leftOf r l ≡ classSaid (stateOf self) l class (nameOrNone (textOutcome name))) ⌝ }
+    {
+        match name_or_none(name) {
+            NameAnswer::Name(superclass_name) => {
+                let line = Line::Class(ClassLine {
+                    class,
+                    superclass_name,
+                });
+                self.record_said(line, At::Ro(class))
+            }
+            NameAnswer::Refused(k) => self.refused(k),
         }
     }
 
-    // C or M, by the superclass's name.
-    fn class_said(self, class: ObjcClass, name: TextAnswer) -> Listed
-        ensures { λ r. ⌜ ((l : List ℕ) → leftOf r l ≡ byClassName (stateOf self) class l (textOutcome name)) ⌝ }
+    // K, and then the category's lists.
+    fn category_said(self, category: ObjcCategory, name: TextAnswer) -> Listed
+        ensures { λ r. ⌜ ((l : List ℕ) → leftOf r l ≡ categorySaid (stateOf self) l category (nameOrNone (textOutcome name))) ⌝ }
     {
-        match name {
-            TextAnswer::Found(text) => {
-                let line = ClassLine {
-                    class,
-                    superclass_name: Named::Text(text),
-                };
-                let listing = self.counted(At::Ro(class));
-                listing.says(Line::Class(line))
+        match name_or_none(name) {
+            NameAnswer::Name(class_name) => {
+                let line = Line::Category(CategoryLine {
+                    category,
+                    class_name,
+                });
+                let lists = Owner::Category(category).enter(0);
+                self.record_said(line, lists)
             }
-            TextAnswer::Missing(m) => match m {
-                Missing::Absent => {
-                    let line = ClassLine {
-                        class,
-                        superclass_name: Named::Nothing,
-                    };
-                    let listing = self.counted(At::Ro(class));
-                    listing.says(Line::Class(line))
-                }
-                Missing::Refused(k) => self.refused(k),
-            },
+            NameAnswer::Refused(k) => self.refused(k),
+        }
+    }
+
+    // The line of a record that the section gave.
+    fn record_step(
+        self,
+        image: &[u8],
+        segments: &[u64],
+        sections: &[u64],
+        info: &[u8],
+        rebases: &[u64],
+        binds: &[u64],
+        index: &[u32],
+        found: Record,
+    ) -> Listed
+        ensures { λ r. let t = lent image segments sections info rebases binds index in
+            ⌜ ((l : List ℕ) → leftOf r l ≡ recordStep t (stateOf self) l found) ⌝ }
+    {
+        match found {
+            Record::Class(class) => {
+                let name = class.superclass_name(
+                    image,
+                    segments,
+                    sections,
+                    info,
+                    rebases,
+                    binds,
+                    index,
+                );
+                self.class_said(class, name)
+            }
+            Record::Protocol(protocol) => {
+                let lists = Owner::Protocol(protocol).enter(0);
+                let listed = self.record_said(Line::Protocol(protocol), lists);
+                self.if_asked(
+                    image,
+                    segments,
+                    sections,
+                    info,
+                    rebases,
+                    binds,
+                    index,
+                    listed,
+                )
+            }
+            Record::Category(category) => {
+                let name = category.class_name(
+                    image,
+                    segments,
+                    sections,
+                    info,
+                    rebases,
+                    binds,
+                    index,
+                );
+                self.category_said(category, name)
+            }
         }
     }
 
@@ -638,81 +465,62 @@ impl Listing {
         }
     }
 
-    // K, by the class's name, and then the category's lists.
-    fn category_said(self, category: ObjcCategory, name: TextAnswer) -> Listed
-        ensures { λ r. ⌜ ((l : List ℕ) → leftOf r l ≡ byCategoryName (stateOf self) category l (textOutcome name)) ⌝ }
-    {
-        let owner = Owner::Category(category);
-        let lists = owner.enter(0);
-        match name {
-            TextAnswer::Found(text) => {
-                let line = CategoryLine {
-                    category,
-                    class_name: Named::Text(text),
-                };
-                let listing = self.counted(lists);
-                listing.says(Line::Category(line))
-            }
-            TextAnswer::Missing(m) => match m {
-                Missing::Absent => {
-                    let line = CategoryLine {
-                        category,
-                        class_name: Named::Nothing,
-                    };
-                    let listing = self.counted(lists);
-                    listing.says(Line::Category(line))
-                }
-                Missing::Refused(k) => self.refused(k),
-            },
-        }
-    }
-
     // The list after list n of a record.
     fn next_list(self, owner: Owner, n: u8) -> Listed
-        ensures { λ r. ⌜ ((l : List ℕ) → leftOf r l ≡ leaves (value nothing) (goTo (stateOf self) (enter (suc n) (drop (suc n) (ownerFields owner)))) l) ⌝ }
+        ensures { λ r. ⌜ ((l : List ℕ) → leftOf r l ≡ leaves (value nothing) (goTo (stateOf self) (enter owner (suc n))) l) ⌝ }
     {
-        let lists = owner.after(n);
+        let lists = owner.enter_after(n);
         let listing = self.go_to(lists);
         listing.nothing()
     }
 
     // m, v or p, or an entry that is skipped: each is settled. After the last the next list comes.
-    fn row_said(self, owner: Owner, list: u8, stepped: Stepped) -> Listed
-        ensures { λ r. ⌜ ((l : List ℕ) → leftOf r l ≡ afterRow (stateOf self) l list (drop (suc list) (ownerFields owner)) stepped) ⌝ }
+    fn row_said(self, owner: Owner, list: u8, stepped: ListStepped) -> Listed
+        ensures { λ r. ⌜ ((l : List ℕ) → leftOf r l ≡ afterRow (stateOf self) l owner list (rowLeft stepped)) ⌝ }
     {
         let walked = stepped.walked;
-        let walk = stepped.walk;
+        let after = stepped.walk;
+        let at = At::List(ListAt {
+            owner,
+            list,
+            walk: FieldWalk::Rows(after),
+        });
         match walked {
-            Walked::Step(step) => match step {
-                Step::Row(row) => {
-                    let listing = self.settling(At::Rows(RowsWalk { owner, list, walk }));
+            ListWalked::Step(step) => match step {
+                ListStep::Row(row) => {
+                    let listing = self.with_entry(at);
                     listing.says(Line::Row(RowLine { list, row }))
                 }
-                Step::Skipped(_) => {
-                    let listing = self.settling(At::Rows(RowsWalk { owner, list, walk }));
+                ListStep::Skipped(_) => {
+                    let listing = self.with_entry(at);
                     listing.nothing()
                 }
-                Step::Finished => self.next_list(owner, list),
-                Step::Refused(k) => self.refused(k),
+                ListStep::Finished => self.next_list(owner, list),
+                ListStep::Refused(k) => self.refused(k),
             },
-            Walked::Absent => self.next_list(owner, list),
+            ListWalked::Absent => self.next_list(owner, list),
         }
     }
 
     // q, or a slot that gives no name. After the last the next list comes.
     fn name_said(self, owner: Owner, list: u8, stepped: ProtocolNameStepped) -> Listed
-        ensures { λ r. ⌜ ((l : List ℕ) → leftOf r l ≡ afterName (stateOf self) l list (drop (suc list) (ownerFields owner)) stepped) ⌝ }
+        ensures { λ r. ⌜ ((l : List ℕ) → leftOf r l ≡ afterName (stateOf self) l owner list (nameLeft stepped)) ⌝ }
     {
         let walked = stepped.walked;
-        let walk = stepped.walk;
+        let after = stepped.walk;
+        let at = At::List(ListAt {
+            owner,
+            list,
+            walk: FieldWalk::Names(after),
+        });
         match walked {
             ProtocolNamesWalked::Step(step) => match step {
                 NameStep::Name(name) => {
-                    let listing = self.go_to(At::Names(NamesWalk { owner, list, walk }));
+                    let listing = self.go_to(at);
                     listing.says(Line::Name(NameLine { list, name }))
                 }
                 NameStep::Passed => {
-                    let listing = self.go_to(At::Names(NamesWalk { owner, list, walk }));
+                    let listing = self.go_to(at);
                     listing.nothing()
                 }
                 NameStep::Finished => self.next_list(owner, list),
@@ -722,8 +530,8 @@ impl Listing {
         }
     }
 
-    // A step over a list of rows.
-    fn row_step(
+    // A step over a list of a record.
+    fn list_step(
         self,
         image: &[u8],
         segments: &[u64],
@@ -732,34 +540,23 @@ impl Listing {
         rebases: &[u64],
         binds: &[u64],
         index: &[u32],
-        rows: RowsWalk,
+        at: ListAt,
     ) -> Listed
-        ensures { λ r. ⌜ ((l : List ℕ) → leftOf r l ≡ stepAt (lent (now (image .entry)) (now (segments .entry)) (now (sections .entry)) (now (info .entry)) (now (rebases .entry)) (now (binds .entry)) (now (index .entry))) (stateOf self) l (atRows (rows .list) (rows .walk) (drop (suc (rows .list)) (ownerFields (rows .owner))))) ⌝ }
+        ensures { λ r. let t = lent image segments sections info rebases binds index in
+            ⌜ ((l : List ℕ) → leftOf r l ≡ listStep t (stateOf self) l (at .owner) (at .list) (at .walk)) ⌝ }
     {
-        let owner = rows.owner;
-        let walk = rows.walk;
-        let stepped = walk.next(image, segments, sections, info, rebases, binds, index);
-        self.row_said(owner, rows.list, stepped)
-    }
-
-    // A step over a list of protocol names.
-    fn name_step(
-        self,
-        image: &[u8],
-        segments: &[u64],
-        sections: &[u64],
-        info: &[u8],
-        rebases: &[u64],
-        binds: &[u64],
-        index: &[u32],
-        names: NamesWalk,
-    ) -> Listed
-        ensures { λ r. ⌜ ((l : List ℕ) → leftOf r l ≡ stepAt (lent (now (image .entry)) (now (segments .entry)) (now (sections .entry)) (now (info .entry)) (now (rebases .entry)) (now (binds .entry)) (now (index .entry))) (stateOf self) l (atNames (names .list) (names .walk) (drop (suc (names .list)) (ownerFields (names .owner))))) ⌝ }
-    {
-        let owner = names.owner;
-        let walk = names.walk;
-        let stepped = walk.next(image, segments, sections, info, rebases, binds, index);
-        self.name_said(owner, names.list, stepped)
+        let owner = at.owner;
+        let walk = at.walk;
+        match walk {
+            FieldWalk::Rows(rows) => {
+                let stepped = rows.next(image, segments, sections, info, rebases, binds, index);
+                self.row_said(owner, at.list, stepped)
+            }
+            FieldWalk::Names(names) => {
+                let stepped = names.next(image, segments, sections, info, rebases, binds, index);
+                self.name_said(owner, at.list, stepped)
+            }
+        }
     }
 
     // The listing has ended; 1 to 6 and 8 are asked as in every step.
@@ -773,21 +570,23 @@ impl Listing {
         binds: &[u64],
         index: &[u32],
     ) -> Listed
-        ensures { λ r. ⌜ ((l : List ℕ) → leftOf r l ≡ stepAt (lent (now (image .entry)) (now (segments .entry)) (now (sections .entry)) (now (info .entry)) (now (rebases .entry)) (now (binds .entry)) (now (index .entry))) (stateOf self) l atEnd) ⌝ }
+        ensures { λ r. let t = lent image segments sections info rebases binds index in
+            ⌜ ((l : List ℕ) → leftOf r l ≡ stepAt t (stateOf self) l place.End) ⌝ }
     {
-        match ask(image, segments, sections, info, rebases, binds, index) {
-            Asked::Yes => Listed {
-                said: Said::Ended,
-                listing: self,
-            },
-            Asked::Missing(m) => match m {
-                Missing::Absent => Listed {
-                    said: Said::Ended,
-                    listing: self,
-                },
-                Missing::Refused(k) => self.refused(k),
-            },
-        }
+        let listed = Listed {
+            said: Said::Ended,
+            listing: self,
+        };
+        self.if_asked(
+            image,
+            segments,
+            sections,
+            info,
+            rebases,
+            binds,
+            index,
+            listed,
+        )
     }
 
     // One step.
@@ -802,11 +601,12 @@ impl Listing {
         index: &[u32],
         ledger: &mut [u64],
     ) -> Listed
-        ensures { λ r. ⌜ leftOf r (now (ledger .exit)) ≡ listingStep (lent (now (image .entry)) (now (segments .entry)) (now (sections .entry)) (now (info .entry)) (now (rebases .entry)) (now (binds .entry)) (now (index .entry))) (stateOf self) (now (ledger .entry)) ⌝ }
+        ensures { λ r. let t = lent image segments sections info rebases binds index in
+            ⌜ leftOf r (after ledger) ≡ listingStep t (stateOf self) (before ledger) ⌝ }
     {
         let at = self.at;
         match at {
-            At::Info => self.info_line(image, segments, sections, info, rebases, binds, index),
+            At::Info => self.info_step(image, segments, sections, info, rebases, binds, index),
             At::Section => self.section_step(
                 image,
                 segments,
@@ -817,35 +617,21 @@ impl Listing {
                 index,
                 ledger,
             ),
-            At::Class(class) => {
-                let name = class.superclass_name(
-                    image,
-                    segments,
-                    sections,
-                    info,
-                    rebases,
-                    binds,
-                    index,
-                );
-                self.class_said(class, name)
-            }
+            At::Record(found) => self.record_step(
+                image,
+                segments,
+                sections,
+                info,
+                rebases,
+                binds,
+                index,
+                found,
+            ),
             At::Ro(class) => {
                 let answer = class.ro(image, segments, sections, info, rebases, binds, index);
                 self.ro_said(answer)
             }
-            At::Category(category) => {
-                let name = category.class_name(
-                    image,
-                    segments,
-                    sections,
-                    info,
-                    rebases,
-                    binds,
-                    index,
-                );
-                self.category_said(category, name)
-            }
-            At::Rows(rows) => self.row_step(
+            At::List(list) => self.list_step(
                 image,
                 segments,
                 sections,
@@ -853,17 +639,7 @@ impl Listing {
                 rebases,
                 binds,
                 index,
-                rows,
-            ),
-            At::Names(names) => self.name_step(
-                image,
-                segments,
-                sections,
-                info,
-                rebases,
-                binds,
-                index,
-                names,
+                list,
             ),
             At::End => self.ended(image, segments, sections, info, rebases, binds, index),
         }

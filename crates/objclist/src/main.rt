@@ -1,10 +1,43 @@
-// The listing of the bundle on standard input (document 01, "The program's listing"). The library says each line; nothing is decided here.
+// The listing of the bundle on standard input (document 01, "The program's listing"): the library hands out its text piece by piece, and
+// each piece is written to standard output. After a write that failed nothing more is written. That a bundle was refused, and that a write
+// failed, is said on standard error too.
+use libc::STDERR_FILENO;
 use libc::STDIN_FILENO;
-use printing::buffer::flush;
-use printing::bundle::list_bundle;
+use libc::STDOUT_FILENO;
+use printing::bundle::decode;
+use printing::bundle::next_piece;
+use printing::bundle::open;
+use printing::pieces::Progress;
 
-// A bundle of 32,768 bytes, the most that question 13 accepts, and one byte more. Its tables have at most 4,091 words, its index at most
-// 8,192 + 2,038, and the two lists of a section walk at most 8,152 slots.
+// Writes all pieces that are still to come.
+fn print_all(
+    start: Progress,
+    input: &[u8; 32769],
+    n: usize,
+    words: &[u64; 4096],
+    index: &[u32; 10240],
+    ledger: &mut [u64; 8192],
+    out: &mut [u8; 4096],
+) {
+    let mut progress = start;
+    loop {
+        let piece = next_piece(progress, input, n, words, index, ledger, out);
+        let len = piece.len;
+        progress = piece.progress;
+        if len == 0 {
+            if progress.refused() {
+                io::write_all(STDERR_FILENO, b"objclist: the bundle is refused\n");
+            }
+            return;
+        }
+        let text: &[u8] = out;
+        if !io::write_all(STDOUT_FILENO, &text[0..len]) {
+            os::fail(b"objclist: standard output");
+            return;
+        }
+    }
+}
+
 fn main() {
     let mut input = [0u8; 32769];
     let mut words = [0u64; 4096];
@@ -12,13 +45,7 @@ fn main() {
     let mut ledger = [0u64; 8192];
     let mut out = [0u8; 4096];
     let n = io::read_full(STDIN_FILENO, &mut input);
-    let at = list_bundle(
-        &input[..n],
-        &mut words,
-        &mut index,
-        &mut ledger,
-        &mut out,
-        0,
-    );
-    flush(&out, at);
+    decode(&input, n, &mut words);
+    let progress = Progress::new(open(&input, n, &words, &mut index));
+    print_all(progress, &input, n, &words, &index, &mut ledger, &mut out);
 }

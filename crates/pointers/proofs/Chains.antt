@@ -1,5 +1,5 @@
 -- The lookup by a chain: its rule, for any contents of the index, and that over the words of an index it finds the last record.
-use Prim.Native.Nat.{ℕ, zero, suc, _+_, _-_, _≤_, _<_}
+use Prim.Native.Nat.{ℕ, zero, suc, _+_, _-_, _*_, _≤_, _<_}
 use mathlib.Core.Path.{_≡_, refl, sym, ap, _∙_}
 use mathlib.Core.List.{List}
 use mathlib.Core.Logic.{⊎-elim}
@@ -10,9 +10,13 @@ use lib.Dec.{eqb}
 use lib.ListN.{getD}
 use borrow.Author.Tests.{eq-eqb, ne-eqb, eqb-true}
 use Rattle.reads.specs.Outcome.{Outcome, value, absent, number, choose}
+use Rattle.reads.specs.Answer.{wordOutcome}
+use Rattle.reads.specs.Table.{records}
+use Rattle.reads.specs.declared.answer.Word.{Word}
+use Rattle.reads.specs.declared.answer.Word.the-variants as word
 use Rattle.reads.proofs.Tests.{by-choose, choose-true, choose-false}
-use Rattle.pointers.specs.Tables.{records, slotOf}
-use Rattle.pointers.specs.Index.{chainOf, latest, indexed, Words}
+use Rattle.pointers.specs.Tables.{slotOf, rebaseWords, bindWords, chains}
+use Rattle.pointers.specs.Index.{chainOf, latest, indexed, Words, bindNexts}
 use Rattle.pointers.specs.Chain.{followFrom, follow, lastAmong, lastRecord, Last}
 use Rattle.pointers.proofs.IndexWords.{latest-in, latest-not-in, latest-bound, indexed-rebases, indexed-binds}
 
@@ -81,6 +85,12 @@ unfolding follow
 follow-value width table heads nexts slot index n e =
     from-value width table nexts slot index (records width table) (getD index (heads + chainOf slot) 0) n e
 
+-- The same, of the code's answer.
+pub found-record : (width : ℕ) (table : List ℕ) (heads nexts slot : ℕ) (index : List ℕ) {w : Word} {n : ℕ}
+    → wordOutcome w ≡ follow width table heads nexts slot index → w ≡ word.Value n → (1 ≤ n) × (n ≤ records width table)
+found-record width table heads nexts slot index {n = n} e g =
+    follow-value width table heads nexts slot index n (sym e ∙ ap wordOutcome g)
+
 -- Over the words of an index, a lookup finds the slot's last record, so never 9.
 module _ (width : ℕ) (table : List ℕ) (heads nexts : ℕ) (index : List ℕ) (words : Words width table heads nexts index) (slot : ℕ) where
   -- of the first n records
@@ -105,12 +115,12 @@ module _ (width : ℕ) (table : List ℕ) (heads nexts : ℕ) (index : List ℕ)
 
 -- Over the index that opening leaves, a slot's last record wins, and no lookup gives 9.
 module _ (rebases binds index : List ℕ) (slot : ℕ) where
-  pub rebase-last-wins : follow 2 rebases 0 8192 slot (indexed rebases binds index) ≡ lastRecord 2 rebases slot
-  rebase-last-wins = follow-last 2 rebases 0 8192 (indexed rebases binds index) (indexed-rebases rebases binds index) slot
+  pub rebase-last-wins : follow rebaseWords rebases 0 (2 * chains) slot (indexed rebases binds index) ≡ lastRecord rebaseWords rebases slot
+  rebase-last-wins = follow-last rebaseWords rebases 0 (2 * chains) (indexed rebases binds index) (indexed-rebases rebases binds index) slot
 
-  pub bind-last-wins : follow 3 binds 4096 (8192 + records 2 rebases) slot (indexed rebases binds index) ≡ lastRecord 3 binds slot
+  pub bind-last-wins : follow bindWords binds chains (bindNexts rebases) slot (indexed rebases binds index) ≡ lastRecord bindWords binds slot
   bind-last-wins =
-      follow-last 3 binds 4096 (8192 + records 2 rebases) (indexed rebases binds index) (indexed-binds rebases binds index) slot
+      follow-last bindWords binds chains (bindNexts rebases) (indexed rebases binds index) (indexed-binds rebases binds index) slot
 
 -- What `lastRecord` says.
 module _ (width : ℕ) (table : List ℕ) (slot : ℕ) where

@@ -1,5 +1,5 @@
 -- The index as the code builds it, record by record, is the one of document 01.
-use Prim.Native.Nat.{ℕ, zero, suc, _+_, _-_, _≤_, _<_}
+use Prim.Native.Nat.{ℕ, zero, suc, _+_, _-_, _*_, _≤_, _<_}
 use mathlib.Core.Path.{_≡_, refl, sym, ap, _∙_}
 use mathlib.Core.List.{List, [], _∷_}
 use mathlib.Core.Logic.{⊎-elim}
@@ -9,8 +9,9 @@ use native.Mathlib.Nat.{eq-or-lt-of-le, le-of-suc-le-suc}
 use native.Mathlib.Numerals.{add-one}
 use lib.ListN.{length, getD, set, drop, replicate, length-set, length-append, length-drop, length-replicate, getD-replicate}
 use lib.Seq.{getD-set-same, getD-set-other, getD-drop}
-use Rattle.pointers.specs.Tables.{records, slotOf}
-use Rattle.pointers.specs.Index.{chainOf, latest, indexed, Words}
+use Rattle.reads.specs.Table.{records}
+use Rattle.pointers.specs.Tables.{slotOf, rebaseWords, bindWords, chains}
+use Rattle.pointers.specs.Index.{chainOf, latest, indexed, Words, bindNexts, indexLength}
 use Rattle.pointers.specs.IndexFold.{cleared, linked, chained, folded}
 use Rattle.pointers.proofs.IndexWords.{latest-in, latest-not-in, front-word, back-word, words-determine, length-indexed, indexed-rest, indexed-rebases, indexed-binds}
 
@@ -55,7 +56,7 @@ module _ (heads next number slot : ℕ) (index : List ℕ) where
       getD-set-other (nexted heads next slot index) (heads + chainOf slot) p number 0 notHead
       ∙ getD-set-other index next p (getD index (heads + chainOf slot) 0) 0 notNext
 
-  module _ (apart : heads + 4096 ≤ next) (inside : next < length index) where
+  module _ (apart : heads + chains ≤ next) (inside : next < length index) where
     linked-head : getD (linked heads next number slot index) (heads + chainOf slot) 0 ≡ number
     unfolding linked
     linked-head = getD-set-same (nexted heads next slot index) _ number 0 (simp length-set (omega arith))
@@ -78,7 +79,7 @@ module _ (width : ℕ) (table : List ℕ) (heads nexts : ℕ) (index : List ℕ)
   chained-more n now e = rw (e, add-one)
 
   -- A word that is no head and no next word stays.
-  chained-other : (n p : ℕ) → ((c : ℕ) → c < 4096 → p ≡ heads + c → ⊥) → ((k : ℕ) → k < n → p ≡ nexts + k → ⊥)
+  chained-other : (n p : ℕ) → ((c : ℕ) → c < chains → p ≡ heads + c → ⊥) → ((k : ℕ) → k < n → p ≡ nexts + k → ⊥)
       → getD (chained width table heads nexts n index) p 0 ≡ getD index p 0
   unfolding chained
   chained-other zero p notHead notNext = refl
@@ -89,8 +90,8 @@ module _ (width : ℕ) (table : List ℕ) (heads nexts : ℕ) (index : List ℕ)
       ∙ chained-other n p notHead (λ k h. notNext k (omega arith))
 
   -- Over empty chains, with next words behind the heads.
-  module _ (apart : heads + 4096 ≤ nexts) (empty : (c : ℕ) → c < 4096 → getD index (heads + c) 0 ≡ 0) where
-    chained-head : (n c : ℕ) → nexts + n ≤ length index → c < 4096
+  module _ (apart : heads + chains ≤ nexts) (empty : (c : ℕ) → c < chains → getD index (heads + c) 0 ≡ 0) where
+    chained-head : (n c : ℕ) → nexts + n ≤ length index → c < chains
         → getD (chained width table heads nexts n index) (heads + c) 0 ≡ latest width table n c
     unfolding chained latest
     chained-head zero c room h = empty c h
@@ -126,55 +127,55 @@ module _ (width : ℕ) (table : List ℕ) (heads nexts : ℕ) (index : List ℕ)
 
 -- The index that the code builds, by its words.
 rebased : List ℕ → List ℕ → List ℕ
-rebased rebases index = chained 2 rebases 0 8192 (records 2 rebases) (cleared 8192 index)
+rebased rebases index = chained rebaseWords rebases 0 (2 * chains) (records rebaseWords rebases) (cleared (2 * chains) index)
 
-module _ (rebases binds index : List ℕ) (room : 8192 + records 2 rebases + records 3 binds ≤ length index) where
+module _ (rebases binds index : List ℕ) (room : indexLength rebases binds ≤ length index) where
   length-rebased : length (rebased rebases index) ≡ length index
   unfolding rebased
   length-rebased =
-      length-chained 2 rebases 0 8192 (cleared 8192 index) (records 2 rebases) ∙ length-cleared 8192 index (omega arith)
+      length-chained rebaseWords rebases 0 (2 * chains) (cleared (2 * chains) index) (records rebaseWords rebases) ∙ length-cleared (2 * chains) index (omega arith)
 
   length-folded : length (folded rebases binds index) ≡ length index
   unfolding folded rebased
   length-folded =
-      length-chained 3 binds 4096 (8192 + records 2 rebases) (rebased rebases index) (records 3 binds) ∙ length-rebased
+      length-chained bindWords binds chains (bindNexts rebases) (rebased rebases index) (records bindWords binds) ∙ length-rebased
 
   -- The binds leave every word that is not theirs.
-  folded-other : (p : ℕ) → ((c : ℕ) → c < 4096 → p ≡ 4096 + c → ⊥)
-      → ((k : ℕ) → k < records 3 binds → p ≡ 8192 + records 2 rebases + k → ⊥)
+  folded-other : (p : ℕ) → ((c : ℕ) → c < chains → p ≡ chains + c → ⊥)
+      → ((k : ℕ) → k < records bindWords binds → p ≡ bindNexts rebases + k → ⊥)
       → getD (folded rebases binds index) p 0 ≡ getD (rebased rebases index) p 0
   unfolding folded rebased
   folded-other p notHead notNext =
-      chained-other 3 binds 4096 (8192 + records 2 rebases) (rebased rebases index) (records 3 binds) p notHead notNext
+      chained-other bindWords binds chains (bindNexts rebases) (rebased rebases index) (records bindWords binds) p notHead notNext
 
-  folded-rest : (p : ℕ) → 8192 + records 2 rebases + records 3 binds ≤ p → getD (folded rebases binds index) p 0 ≡ getD index p 0
+  folded-rest : (p : ℕ) → indexLength rebases binds ≤ p → getD (folded rebases binds index) p 0 ≡ getD index p 0
   unfolding rebased
   folded-rest p h =
       folded-other p (λ c l e. omega arith) (λ k l e. omega arith)
-      ∙ chained-other 2 rebases 0 8192 (cleared 8192 index) (records 2 rebases) p (λ c l e. omega arith) (λ k l e. omega arith)
-      ∙ cleared-rest 8192 index p (omega arith)
+      ∙ chained-other rebaseWords rebases 0 (2 * chains) (cleared (2 * chains) index) (records rebaseWords rebases) p (λ c l e. omega arith) (λ k l e. omega arith)
+      ∙ cleared-rest (2 * chains) index p (omega arith)
 
-  rebased-words : Words 2 rebases 0 8192 (rebased rebases index)
+  rebased-words : Words rebaseWords rebases 0 (2 * chains) (rebased rebases index)
   unfolding rebased
   rebased-words =
-      chained-words 2 rebases 0 8192 (cleared 8192 index) (omega arith)
-      (λ c h. cleared-zero 8192 index (0 + c) (omega arith))
-      (rw (length-cleared 8192 index (omega arith)) (omega arith))
+      chained-words rebaseWords rebases 0 (2 * chains) (cleared (2 * chains) index) (omega arith)
+      (λ c h. cleared-zero (2 * chains) index (0 + c) (omega arith))
+      (rw (length-cleared (2 * chains) index (omega arith)) (omega arith))
 
-  folded-rebases : Words 2 rebases 0 8192 (folded rebases binds index)
+  folded-rebases : Words rebaseWords rebases 0 (2 * chains) (folded rebases binds index)
   folded-rebases =
       record {
         head = λ c h. folded-other (0 + c) (λ d l e. omega arith) (λ k l e. omega arith) ∙ rebased-words .head c h;
-        next = λ k h. folded-other (8192 + k) (λ d l e. omega arith) (λ j l e. omega arith) ∙ rebased-words .next k h;
+        next = λ k h. folded-other (2 * chains + k) (λ d l e. omega arith) (λ j l e. omega arith) ∙ rebased-words .next k h;
       }
 
-  folded-binds : Words 3 binds 4096 (8192 + records 2 rebases) (folded rebases binds index)
+  folded-binds : Words bindWords binds chains (bindNexts rebases) (folded rebases binds index)
   unfolding folded rebased
   folded-binds =
-      chained-words 3 binds 4096 (8192 + records 2 rebases) (rebased rebases index) (omega arith)
-      (λ c h. chained-other 2 rebases 0 8192 (cleared 8192 index) (records 2 rebases) (4096 + c)
+      chained-words bindWords binds chains (bindNexts rebases) (rebased rebases index) (omega arith)
+      (λ c h. chained-other rebaseWords rebases 0 (2 * chains) (cleared (2 * chains) index) (records rebaseWords rebases) (chains + c)
       (λ d l e. omega arith) (λ k l e. omega arith)
-      ∙ cleared-zero 8192 index (4096 + c) (omega arith))
+      ∙ cleared-zero (2 * chains) index (chains + c) (omega arith))
       (rw length-rebased (omega arith))
 
   pub folded-is-indexed : folded rebases binds index ≡ indexed rebases binds index

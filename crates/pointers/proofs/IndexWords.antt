@@ -1,5 +1,5 @@
 -- The words of the index of document 01: the latest record of a chain, and where each head and next word stands.
-use Prim.Native.Nat.{ℕ, zero, suc, _+_, _-_, _≤_, _<_}
+use Prim.Native.Nat.{ℕ, zero, suc, _+_, _-_, _*_, _≤_, _<_}
 use mathlib.Core.Path.{_≡_, refl, sym, ap, _∙_}
 use mathlib.Core.List.{List, _++_}
 use mathlib.Core.Logic.{⊎-elim}
@@ -9,9 +9,11 @@ use native.Mathlib.Nat.{eq-or-lt-of-le, le-of-suc-le-suc, zero-add}
 use lib.ListN.{length, getD, drop, length-append, length-drop, List·getD-append}
 use lib.Seq.{getD-append-add, getD-drop, ext-getD}
 use borrow.Author.Tests.{eq-eqb, ne-eqb, eqb-true}
+use Rattle.reads.specs.Table.{records}
 use Rattle.reads.proofs.Tests.{by-choose, choose-true, choose-false}
-use Rattle.pointers.specs.Tables.{records, slotOf}
-use Rattle.pointers.specs.Index.{chainOf, latest, tabulate, heads, nexts, indexed, Words}
+use Rattle.reads.proofs.Tabulates.{length-tabulate, getD-tabulate}
+use Rattle.pointers.specs.Tables.{slotOf, rebaseWords, bindWords, chains}
+use Rattle.pointers.specs.Index.{chainOf, latest, headsOf, nextsOf, indexed, Words, bindNexts, indexLength}
 
 -- The latest record of a chain.
 module _ (width : ℕ) (table : List ℕ) where
@@ -59,111 +61,99 @@ module _ (xs ys : List ℕ) (n : ℕ) (size : length xs ≡ n) where
       let at : p ≡ length xs + q = omega arith in
       rw at (getD-append-add xs ys q 0)
 
-module _ (f : ℕ → ℕ) where
-  pub length-tabulate : (i n : ℕ) → length (tabulate f i n) ≡ n
-  unfolding tabulate
-  length-tabulate i zero = refl
-  length-tabulate i (suc n) = ap suc (length-tabulate (suc i) n)
-
-  pub getD-tabulate : (i n k : ℕ) → k < n → getD (tabulate f i n) k 0 ≡ f (i + k)
-  unfolding tabulate
-  getD-tabulate i zero k h = absurd (omega arith)
-  getD-tabulate i (suc n) zero h = ap f (omega arith)
-  getD-tabulate i (suc n) (suc k) h = getD-tabulate (suc i) n k (omega arith) ∙ ap f (omega arith)
-
 -- The heads and the next words of a table.
 module _ (width : ℕ) (table : List ℕ) where
-  length-heads : length (heads width table) ≡ 4096
-  length-heads = length-tabulate _ 0 4096
+  length-heads : length (headsOf width table) ≡ chains
+  length-heads = length-tabulate _ 0 chains
 
-  length-nexts : length (nexts width table) ≡ records width table
+  length-nexts : length (nextsOf width table) ≡ records width table
   length-nexts = length-tabulate _ 0 (records width table)
 
-  getD-heads : (c : ℕ) → c < 4096 → getD (heads width table) c 0 ≡ latest width table (records width table) c
-  getD-heads c h = getD-tabulate (latest width table (records width table)) 0 4096 c h ∙ rw zero-add
+  getD-heads : (c : ℕ) → c < chains → getD (headsOf width table) c 0 ≡ latest width table (records width table) c
+  getD-heads c h = getD-tabulate (latest width table (records width table)) 0 chains c 0 h ∙ rw zero-add
 
-  getD-nexts : (k : ℕ) → k < records width table → getD (nexts width table) k 0 ≡ latest width table k (chainOf (slotOf width table k))
+  getD-nexts : (k : ℕ) → k < records width table → getD (nextsOf width table) k 0 ≡ latest width table k (chainOf (slotOf width table k))
   getD-nexts k h =
-      getD-tabulate (λ i. latest width table i (chainOf (slotOf width table i))) 0 (records width table) k h ∙ rw zero-add
+      getD-tabulate (λ i. latest width table i (chainOf (slotOf width table i))) 0 (records width table) k 0 h ∙ rw zero-add
 
 -- The index of document 01, by its words.
 module _ (rebases binds index : List ℕ) where
-  abbrev rest : List ℕ
-  rest = drop (8192 + records 2 rebases + records 3 binds) index
+  abbrev untouched : List ℕ
+  untouched = drop (indexLength rebases binds) index
 
-  pub length-indexed : 8192 + records 2 rebases + records 3 binds ≤ length index → length (indexed rebases binds index) ≡ length index
+  pub length-indexed : indexLength rebases binds ≤ length index → length (indexed rebases binds index) ≡ length index
   unfolding indexed
   length-indexed room =
       simp (length-append, length-heads, length-nexts, length-drop) (omega arith)
 
-  past-rebase-heads : (q : ℕ) → getD (indexed rebases binds index) (4096 + q) 0
-      ≡ getD (heads 3 binds ++ (nexts 2 rebases ++ (nexts 3 binds ++ rest))) q 0
+  past-rebase-heads : (q : ℕ) → getD (indexed rebases binds index) (chains + q) 0
+      ≡ getD (headsOf bindWords binds ++ (nextsOf rebaseWords rebases ++ (nextsOf bindWords binds ++ untouched))) q 0
   unfolding indexed
-  past-rebase-heads q = back-word (heads 2 rebases) _ 4096 (length-heads 2 rebases) (4096 + q) q refl
+  past-rebase-heads q = back-word (headsOf rebaseWords rebases) _ chains (length-heads rebaseWords rebases) (chains + q) q refl
 
-  past-heads : (q : ℕ) → getD (indexed rebases binds index) (8192 + q) 0 ≡ getD (nexts 2 rebases ++ (nexts 3 binds ++ rest)) q 0
+  past-heads : (q : ℕ) → getD (indexed rebases binds index) (2 * chains + q) 0 ≡ getD (nextsOf rebaseWords rebases ++ (nextsOf bindWords binds ++ untouched)) q 0
   past-heads q =
       ap (λ (p : ℕ). getD (indexed rebases binds index) p 0) (omega arith)
-      ∙ past-rebase-heads (4096 + q)
-      ∙ back-word (heads 3 binds) _ 4096 (length-heads 3 binds) (4096 + q) q refl
+      ∙ past-rebase-heads (chains + q)
+      ∙ back-word (headsOf bindWords binds) _ chains (length-heads bindWords binds) (chains + q) q refl
 
-  past-rebase-nexts : (q : ℕ) → getD (indexed rebases binds index) (8192 + records 2 rebases + q) 0 ≡ getD (nexts 3 binds ++ rest) q 0
+  past-rebase-nexts : (q : ℕ) → getD (indexed rebases binds index) (bindNexts rebases + q) 0 ≡ getD (nextsOf bindWords binds ++ untouched) q 0
   past-rebase-nexts q =
       ap (λ (p : ℕ). getD (indexed rebases binds index) p 0) (omega arith)
-      ∙ past-heads (records 2 rebases + q)
-      ∙ back-word (nexts 2 rebases) _ (records 2 rebases) (length-nexts 2 rebases) (records 2 rebases + q) q refl
+      ∙ past-heads (records rebaseWords rebases + q)
+      ∙ back-word (nextsOf rebaseWords rebases) _ (records rebaseWords rebases) (length-nexts rebaseWords rebases) (records rebaseWords rebases + q) q refl
 
   -- Further words are untouched.
-  pub indexed-rest : (p : ℕ) → 8192 + records 2 rebases + records 3 binds ≤ p → getD (indexed rebases binds index) p 0 ≡ getD index p 0
+  pub indexed-rest : (p : ℕ) → indexLength rebases binds ≤ p → getD (indexed rebases binds index) p 0 ≡ getD index p 0
   indexed-rest p h =
-      let past = p - (8192 + records 2 rebases + records 3 binds) in
+      let past = p - indexLength rebases binds in
       ap (λ (p : ℕ). getD (indexed rebases binds index) p 0) (omega arith)
-      ∙ past-rebase-nexts (records 3 binds + past)
-      ∙ back-word (nexts 3 binds) _ (records 3 binds) (length-nexts 3 binds) (records 3 binds + past) past refl
-      ∙ getD-drop (8192 + records 2 rebases + records 3 binds) index past 0
+      ∙ past-rebase-nexts (records bindWords binds + past)
+      ∙ back-word (nextsOf bindWords binds) _ (records bindWords binds) (length-nexts bindWords binds) (records bindWords binds + past) past refl
+      ∙ getD-drop (indexLength rebases binds) index past 0
       ∙ ap (λ (k : ℕ). getD index k 0) (omega arith)
 
-  pub indexed-rebases : Words 2 rebases 0 8192 (indexed rebases binds index)
+  pub indexed-rebases : Words rebaseWords rebases 0 (2 * chains) (indexed rebases binds index)
   unfolding indexed
   indexed-rebases =
       record {
-        head = λ c h. rw zero-add (front-word (heads 2 rebases) _ 4096 (length-heads 2 rebases) c h ∙ getD-heads 2 rebases c h);
+        head = λ c h. rw zero-add (front-word (headsOf rebaseWords rebases) _ chains (length-heads rebaseWords rebases) c h ∙ getD-heads rebaseWords rebases c h);
         next = λ k h. past-heads k
-            ∙ front-word (nexts 2 rebases) _ (records 2 rebases) (length-nexts 2 rebases) k h
-            ∙ getD-nexts 2 rebases k h;
+            ∙ front-word (nextsOf rebaseWords rebases) _ (records rebaseWords rebases) (length-nexts rebaseWords rebases) k h
+            ∙ getD-nexts rebaseWords rebases k h;
       }
 
-  pub indexed-binds : Words 3 binds 4096 (8192 + records 2 rebases) (indexed rebases binds index)
+  pub indexed-binds : Words bindWords binds chains (bindNexts rebases) (indexed rebases binds index)
   indexed-binds =
       record {
-        head = λ c h. past-rebase-heads c ∙ front-word (heads 3 binds) _ 4096 (length-heads 3 binds) c h ∙ getD-heads 3 binds c h;
+        head = λ c h. past-rebase-heads c ∙ front-word (headsOf bindWords binds) _ chains (length-heads bindWords binds) c h ∙ getD-heads bindWords binds c h;
         next = λ k h. past-rebase-nexts k
-            ∙ front-word (nexts 3 binds) _ (records 3 binds) (length-nexts 3 binds) k h
-            ∙ getD-nexts 3 binds k h;
+            ∙ front-word (nextsOf bindWords binds) _ (records bindWords binds) (length-nexts bindWords binds) k h
+            ∙ getD-nexts bindWords binds k h;
       }
 
 -- Two lists of one length that both hold an index over the two tables, and agree past it, are equal.
 module _ (rebases binds one other : List ℕ)
-    (oneRebases : Words 2 rebases 0 8192 one) (otherRebases : Words 2 rebases 0 8192 other)
-    (oneBinds : Words 3 binds 4096 (8192 + records 2 rebases) one) (otherBinds : Words 3 binds 4096 (8192 + records 2 rebases) other)
-    (rest : (p : ℕ) → 8192 + records 2 rebases + records 3 binds ≤ p → getD one p 0 ≡ getD other p 0) where
+    (oneRebases : Words rebaseWords rebases 0 (2 * chains) one) (otherRebases : Words rebaseWords rebases 0 (2 * chains) other)
+    (oneBinds : Words bindWords binds chains (bindNexts rebases) one) (otherBinds : Words bindWords binds chains (bindNexts rebases) other)
+    (rest : (p : ℕ) → indexLength rebases binds ≤ p → getD one p 0 ≡ getD other p 0) where
   at-word : (p q : ℕ) → p ≡ q → getD one q 0 ≡ getD other q 0 → getD one p 0 ≡ getD other p 0
   at-word p q e h = rw e h
 
   same-word : (p : ℕ) → getD one p 0 ≡ getD other p 0
   same-word p =
-      elim (decLt p 4096) [
+      elim (decLt p chains) [
         | yes rebaseHead ↦ at-word p (0 + p) (omega arith) (oneRebases .head p rebaseHead ∙ sym (otherRebases .head p rebaseHead))
-        | no past0 ↦ elim (decLt p 8192) [
-          | yes bindHead ↦ at-word p (4096 + (p - 4096)) (omega arith)
-              (oneBinds .head (p - 4096) (omega arith) ∙ sym (otherBinds .head (p - 4096) (omega arith)))
-          | no past1 ↦ elim (decLt p (8192 + records 2 rebases)) [
-            | yes rebaseNext ↦ at-word p (8192 + (p - 8192)) (omega arith)
-                (oneRebases .next (p - 8192) (omega arith) ∙ sym (otherRebases .next (p - 8192) (omega arith)))
-            | no past2 ↦ elim (decLt p (8192 + records 2 rebases + records 3 binds)) [
-              | yes bindNext ↦ at-word p (8192 + records 2 rebases + (p - (8192 + records 2 rebases))) (omega arith)
-                  (oneBinds .next (p - (8192 + records 2 rebases)) (omega arith)
-                  ∙ sym (otherBinds .next (p - (8192 + records 2 rebases)) (omega arith)))
+        | no past0 ↦ elim (decLt p (2 * chains)) [
+          | yes bindHead ↦ at-word p (chains + (p - chains)) (omega arith)
+              (oneBinds .head (p - chains) (omega arith) ∙ sym (otherBinds .head (p - chains) (omega arith)))
+          | no past1 ↦ elim (decLt p (bindNexts rebases)) [
+            | yes rebaseNext ↦ at-word p (2 * chains + (p - 2 * chains)) (omega arith)
+                (oneRebases .next (p - 2 * chains) (omega arith) ∙ sym (otherRebases .next (p - 2 * chains) (omega arith)))
+            | no past2 ↦ elim (decLt p (indexLength rebases binds)) [
+              | yes bindNext ↦ at-word p (bindNexts rebases + (p - bindNexts rebases)) (omega arith)
+                  (oneBinds .next (p - bindNexts rebases) (omega arith)
+                  ∙ sym (otherBinds .next (p - bindNexts rebases) (omega arith)))
               | no past3 ↦ rest p (omega arith)
             ]
           ]

@@ -10,7 +10,7 @@ use lib.ListN.{length}
 use Rattle.reads.specs.Outcome.{Outcome, value, andThen}
 use Rattle.reads.specs.Segment.{placeAt}
 use Rattle.reads.specs.Place.{readableAt, wordIn}
-use Rattle.reads.specs.declared.answer.Place.{Place}
+use Rattle.reads.specs.declared.place.Place.{Place}
 use Rattle.reads.proofs.Numbers.{readable-in, readable-out, word-in}
 use Rattle.reads.proofs.Tests.{choose-true, choose-false}
 use Rattle.pointers.specs.ImageInfo.{imageInfo, infoOf}

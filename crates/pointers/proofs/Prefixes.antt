@@ -11,7 +11,7 @@ use lib.Seq.{drop-cons, take-all, take-take}
 use borrow.Author.Tests.{eq-eqb, ne-eqb}
 use Rattle.reads.specs.Outcome.{textOf}
 use Rattle.reads.specs.Place.{part}
-use Rattle.reads.specs.declared.answer.Text.{Text}
+use Rattle.reads.specs.declared.text.Text.{Text}
 use Rattle.reads.proofs.Tests.{by-choose, choose-true, choose-false}
 use Rattle.pointers.specs.Symbol.{starts, fitting, prefixes, strippedName}
 

@@ -1,25 +1,26 @@
--- Laws of the questions: what the code's tests come to, and rows of three words.
-use Prim.Native.Nat.{ℕ, suc, _+_, _-_, _*_, _/_, _%_, _≤_, _<_}
-use mathlib.Core.Path.{_≡_, refl, ap, sym, _∙_}
-use mathlib.Core.Bool.{Bool, true, false, _&&_, _||_, and-false}
-use mathlib.Core.List.{List, [], _∷_}
+-- Laws of the questions: what the code's tests come to, and tests of every row.
+use Prim.Native.Nat.{ℕ, zero, suc, _+_, _*_, _/_, _%_, _≤_, _<_}
+use mathlib.Core.Path.{_≡_, refl, ap, _∙_}
+use mathlib.Core.Bool.{Bool, true, false, and-false}
+use mathlib.Core.List.{List}
+use mathlib.Core.Logic.{⊎-elim}
 use native.Mathlib.Omega.{arith}
-use native.Mathlib.Numerals.{towards-suc}
+use native.Mathlib.Nat.{eq-or-lt-of-le, le-of-suc-le-suc}
+use native.Mathlib.Numerals.{add-one}
 use lib.Dec.{leb, eqb}
-use lib.ListN.{length, getD, drop, take, length-drop}
-use lib.Seq.{drop-cons}
+use lib.ListN.{length}
 use borrow.Author.Tests.{le-leb, lt-leb, leb-true, eq-eqb, ne-eqb, eqb-true}
-use Rattle.reads.specs.Outcome.{Outcome, value, absent, number, Unrefused, is-value, is-absent, andThen, choose}
+use Rattle.reads.specs.Outcome.{Outcome, value, number, andThen, choose}
+use Rattle.reads.specs.Table.{records}
 use Rattle.reads.specs.Place.{part}
 use Rattle.reads.specs.Utf8.{utf8}
 use Rattle.reads.proofs.Tests.{le-same, both-true}
-use Rattle.pointers.specs.Tables.{Tables, lent, records}
+use Rattle.reads.proofs.Outcomes.{on-value, on-number}
+use Rattle.pointers.specs.Tables.{tablesOf, sectionWords, chains, bindRecord, sectionTableWords}
+use Rattle.pointers.specs.Question.{question, askedOutcome, wholeRows, sectionFits, every, sectionRowFits, sectionTable, nameFits, bindFits, indexFits, askedTables}
+use Rattle.pointers.specs.declared.table.Bind.{Bind}
 use Rattle.pointers.specs.declared.question.Asked.{Asked}
 use Rattle.pointers.specs.declared.question.Asked.the-variants as asks
-use Rattle.reads.specs.Answer.{missed}
-use Rattle.reads.specs.declared.answer.Missing.{Missing}
-use Rattle.reads.proofs.Outcomes.{on-value, on-missing}
-use Rattle.pointers.specs.Question.{question, askedOutcome, imageFits, wholeRows, sectionFits, everyRow, nameFits, indexFits, askedTables, askedIndex, asked}
 
 -- A question that says yes goes on, and one that says no ends.
 pub question-yes : (k : ℕ) (b : Bool) → b ≡ true → question k b ≡ value tt
@@ -46,12 +47,12 @@ module _ {B : Type 0} where
   pub asked-on : (w : Asked) (x : Outcome (Unit {0})) (f : Unit {0} → Outcome B) (y : Outcome B) → askedOutcome w ≡ x → w ≡ asks.Yes → y ≡ f tt → y ≡ andThen x f
   asked-on w x f y e g h = on-value askedOutcome f e g refl h
 
-  pub asked-ends : (w : Asked) (x : Outcome (Unit {0})) (f : Unit {0} → Outcome B) (m : Missing) → askedOutcome w ≡ x → w ≡ asks.Missing m → missed m ≡ andThen x f
-  asked-ends w x f m e g = on-missing askedOutcome f m e g refl
+  pub asked-ends : (w : Asked) (x : Outcome (Unit {0})) (f : Unit {0} → Outcome B) (k : ℕ) → askedOutcome w ≡ x → w ≡ asks.Refused k → number k ≡ andThen x f
+  asked-ends w x f k e g = on-number askedOutcome f e g refl
 
 -- The questions 1 to 6 ask nothing of the index.
 pub asked-any-index : (image segments sections info rebases binds one other : List ℕ)
-    → askedTables (lent image segments sections info rebases binds one) ≡ askedTables (lent image segments sections info rebases binds other)
+    → askedTables (tablesOf image segments sections info rebases binds one) ≡ askedTables (tablesOf image segments sections info rebases binds other)
 unfolding askedTables
 asked-any-index image segments sections info rebases binds one other = refl
 
@@ -81,31 +82,39 @@ module _ (n present len : ℕ) where
   unfolding sectionFits
   section-by g h = simp (ne-eqb present 0 g, eq-eqb present 1 h)
 
--- Rows of three words, from word i on.
-module _ (test : ℕ → ℕ → ℕ → Bool) where
-  few : (ws : List ℕ) → length ws < 3 → everyRow test ws ≡ true
-  unfolding everyRow
-  few [] h = refl
-  few (a ∷ []) h = refl
-  few (a ∷ b ∷ []) h = refl
-  few (a ∷ b ∷ c ∷ ws) h = absurd (omega arith)
+-- Every row below a count.
+module _ (test : ℕ → Bool) where
+  pub every-more : (i : ℕ) → every test i ≡ true → test i ≡ true → every test (i + 1) ≡ true
+  unfolding every
+  every-more i e h = simp (add-one, e, h)
 
-  pub every-none : (ws : List ℕ) (i : ℕ) → length ws < i + 3 → everyRow test (drop i ws) ≡ true
-  every-none ws i h = few (drop i ws) (simp length-drop (omega arith))
+  -- One that fails fails all.
+  pub every-fails : (n i : ℕ) → i < n → test i ≡ false → false ≡ every test n
+  unfolding every
+  every-fails zero i h e = absurd (omega arith)
+  every-fails (suc n) i h e =
+      ⊎-elim
+      (λ same. rw (← same, e, and-false))
+      (λ less. rw (← every-fails n i less e))
+      (eq-or-lt-of-le (le-of-suc-le-suc h))
 
-  pub every-more : (ws : List ℕ) (i : ℕ) → i + 2 < length ws
-      → everyRow test (drop i ws) ≡ (test (getD ws i 0) (getD ws (i + 1) 0) (getD ws (i + 2) 0) && everyRow test (drop (i + 3) ws))
-  unfolding everyRow
-  every-more ws i h =
-      simp (towards-suc, drop-cons ws i 0 (omega arith), drop-cons ws (suc i) 0 (omega arith), drop-cons ws (suc (suc i)) 0 (omega arith))
+  -- Where all pass, each does.
+  pub every-at : (n : ℕ) → every test n ≡ true → (i : ℕ) → i < n → test i ≡ true
+  unfolding every
+  every-at zero e i h = absurd (omega arith)
+  every-at (suc n) e i h =
+      let both = both-true (every test n) (test n) e in
+      ⊎-elim
+      (λ same. rw same (both .1))
+      (λ less. every-at n (both .0) i less)
+      (eq-or-lt-of-le (le-of-suc-le-suc h))
 
-  -- A row that fails fails all, and one that passes leaves the rest.
-  module _ (ws : List ℕ) (i : ℕ) (h : i + 2 < length ws) (so-far : everyRow test (drop i ws) ≡ everyRow test ws) where
-    pub every-fails : test (getD ws i 0) (getD ws (i + 1) 0) (getD ws (i + 2) 0) ≡ false → false ≡ everyRow test ws
-    every-fails e = sym (every-more ws i h ∙ rw e) ∙ so-far
-
-    pub every-passes : test (getD ws i 0) (getD ws (i + 1) 0) (getD ws (i + 2) 0) ≡ true → everyRow test (drop (i + 3) ws) ≡ everyRow test ws
-    every-passes e = sym (every-more ws i h ∙ rw e) ∙ so-far
+-- Each row of a section table that passes question 3 fits.
+pub section-row : (n : ℕ) (ws : List ℕ) → sectionTable n ws ≡ true → (i : ℕ) → i < 5 → sectionRowFits n ws i ≡ true
+unfolding sectionTable
+section-row n ws e i h =
+    let both = both-true (eqb (length ws) sectionTableWords) (every (sectionRowFits n ws) (records sectionWords ws)) e in
+    every-at (sectionRowFits n ws) (records sectionWords ws) (both .1) i (omega (arith, eqb-true (length ws) sectionTableWords (both .0)))
 
 module _ (image : List ℕ) (offset len : ℕ) where
   pub name-outside : length image < offset + len → false ≡ nameFits image offset len
@@ -116,15 +125,20 @@ module _ (image : List ℕ) (offset len : ℕ) where
   unfolding nameFits
   name-by h = simp (le-leb (offset + len) (length image) h)
 
+-- Bind record i, as the code has it.
+pub bind-by : (image binds : List ℕ) (i : ℕ) (b : Bind) {r : Bool} → b ≡ bindRecord binds i → r ≡ nameFits image (b .name .offset) (b .name .len)
+    → r ≡ bindFits image binds i
+bind-by image binds i b e g = g ∙ ap (λ (x : Bind). nameFits image (x .name .offset) (x .name .len)) e
+
 module _ (rebases binds words : ℕ) where
-  pub index-short : words < 8192 + rebases + binds → false ≡ indexFits rebases binds words
+  pub index-short : words < 2 * chains + rebases + binds → false ≡ indexFits rebases binds words
   unfolding indexFits
-  index-short h = simp (lt-leb (8192 + rebases + binds) words h)
+  index-short h = simp (lt-leb (2 * chains + rebases + binds) words h)
 
-  pub index-by : (left : ℕ) → words ≡ 8192 + rebases + left → leb binds left ≡ indexFits rebases binds words
+  pub index-by : (left : ℕ) → words ≡ 2 * chains + rebases + left → leb binds left ≡ indexFits rebases binds words
   unfolding indexFits
-  index-by left h = le-same binds left (8192 + rebases + binds) words (λ u. omega arith) (λ u. omega arith)
+  index-by left h = le-same binds left (2 * chains + rebases + binds) words (λ u. omega arith) (λ u. omega arith)
 
-  pub index-room : indexFits rebases binds words ≡ true → 8192 + rebases + binds ≤ words
+  pub index-room : indexFits rebases binds words ≡ true → 2 * chains + rebases + binds ≤ words
   unfolding indexFits
-  index-room e = leb-true (8192 + rebases + binds) words e
+  index-room e = leb-true (2 * chains + rebases + binds) words e

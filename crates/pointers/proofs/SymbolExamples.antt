@@ -8,38 +8,38 @@ use Rattle.reads.specs.Outcome.{choose, textOf}
 use Rattle.reads.specs.Place.{part}
 use Rattle.pointers.specs.Symbol.{ascii, starts, fitting, strippedName}
 
--- What is left of a name that stands at offset 2 of an image, between other bytes.
-abbrev left : String → List ℕ
-left name =
+-- What remains of a name that stands at offset 2 of an image, between other bytes.
+abbrev remains : String → List ℕ
+remains name =
     let image = ascii "a " ++ ascii name ++ ascii " b" in
     let t = strippedName image (textOf 2 (length (ascii name))) in
     part image (t .offset) (t .len)
 
-class : left "_OBJC_CLASS_$_NSObject" ≡ ascii "NSObject"
+class : remains "_OBJC_CLASS_$_NSObject" ≡ ascii "NSObject"
 unfolding strippedName fitting starts choose
 class = refl
 
-metaclass : left "_OBJC_METACLASS_$_X" ≡ ascii "X"
+metaclass : remains "_OBJC_METACLASS_$_X" ≡ ascii "X"
 unfolding strippedName fitting starts choose
 metaclass = refl
 
-label-protocol : left "_OBJC_LABEL_PROTOCOL_$_NSCopying" ≡ ascii "NSCopying"
+label-protocol : remains "_OBJC_LABEL_PROTOCOL_$_NSCopying" ≡ ascii "NSCopying"
 unfolding strippedName fitting starts choose
 label-protocol = refl
 
-prefix-alone : left "_OBJC_REF_$_" ≡ ascii ""
+prefix-alone : remains "_OBJC_REF_$_" ≡ ascii ""
 unfolding strippedName fitting starts choose
 prefix-alone = refl
 
-prefix-twice : left "_OBJC_PROTOCOL_$__OBJC_REF_$_Y" ≡ ascii "_OBJC_REF_$_Y"
+prefix-twice : remains "_OBJC_PROTOCOL_$__OBJC_REF_$_Y" ≡ ascii "_OBJC_REF_$_Y"
 unfolding strippedName fitting starts choose
 prefix-twice = refl
 
-no-prefix : left "NSObject" ≡ ascii "NSObject"
+no-prefix : remains "NSObject" ≡ ascii "NSObject"
 unfolding strippedName fitting starts choose
 no-prefix = refl
 
-prefix-cut : left "_OBJC_CLASS_$" ≡ ascii "_OBJC_CLASS_$"
+prefix-cut : remains "_OBJC_CLASS_$" ≡ ascii "_OBJC_CLASS_$"
 unfolding strippedName fitting starts choose
 prefix-cut = refl
 

@@ -1,12 +1,37 @@
 -- The lookup of a slot by its chain, for any contents of the index (document 01, question 9).
 use Prim.Native.Nat.{ℕ, zero, suc, _+_, _-_, _≤_, _<_}
 use mathlib.Core.Path.{_≡_}
-use mathlib.Core.List.{List}
-use lib.Dec.{eqb}
+use mathlib.Core.Bool.{Bool, true, _&&_}
+use mathlib.Core.List.{List, [], _∷_}
+use lib.Dec.{eqb, leb}
 use lib.ListN.{getD}
 use Rattle.reads.specs.Outcome.{Outcome, value, absent, number, choose}
-use Rattle.pointers.specs.Tables.{records, slotOf}
+use Rattle.reads.specs.Table.{records}
+use Rattle.pointers.specs.Tables.{slotOf}
 use Rattle.pointers.specs.Index.{chainOf}
+
+-- The record numbers of a chain from n on, at most so many: it is followed up to the slot's record, and zero is the end.
+unfoldable pub chainFrom : ℕ → List ℕ → ℕ → ℕ → List ℕ → ℕ → ℕ → List ℕ
+chainFrom width table nexts slot index zero n = []
+chainFrom width table nexts slot index (suc most) n =
+    choose (eqb n 0) []
+    (n ∷ choose (eqb (slotOf width table (n - 1)) slot) [] (chainFrom width table nexts slot index most (getD index (nexts + (n - 1)) 0)))
+
+-- Question 9: each record number below the one before it, the first at most the record count?
+unfoldable pub descends : ℕ → List ℕ → Bool
+descends limit [] = true
+descends limit (n ∷ ns) = leb n limit && descends (n - 1) ns
+
+-- The slot's record among the numbers.
+unfoldable pub slotsRecord : ℕ → List ℕ → ℕ → List ℕ → Outcome ℕ
+slotsRecord width table slot [] = absent
+slotsRecord width table slot (n ∷ ns) = choose (eqb (slotOf width table (n - 1)) slot) (value n) (slotsRecord width table slot ns)
+
+-- A lookup asks question 9 of the slot's chain; one that goes down from the record count has no more numbers than that. As the code goes
+-- on, this is `follow` below (proofs/ChainAsked.antt).
+unfoldable pub slotsChain : ℕ → List ℕ → ℕ → ℕ → ℕ → List ℕ → List ℕ
+slotsChain width table heads nexts slot index =
+    chainFrom width table nexts slot index (suc (records width table)) (getD index (heads + chainOf slot) 0)
 
 -- The chain goes on at record n, and every record above `limit` lies behind. Going down from `limit`: where n is met, it is the slot's
 -- record, or the chain goes on at its next word. Zero is the end; an n that is never met is above the limit, that is, not below the one

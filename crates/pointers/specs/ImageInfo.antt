@@ -5,8 +5,8 @@ use mathlib.Core.List.{List}
 use lib.Dec.{leb, eqb}
 use lib.ListN.{length}
 use Rattle.reads.specs.Outcome.{Outcome, value, absent, choose}
-use Rattle.reads.specs.Place.{le, part}
 use Rattle.reads.specs.Answer.{missed}
+use Rattle.reads.specs.Place.{le, part}
 use Rattle.pointers.specs.declared.imageinfo.ImageInfo.{ImageInfo}
 use Rattle.pointers.specs.declared.imageinfo.ImageInfoAnswer.{ImageInfoAnswer}
 use Rattle.pointers.specs.declared.imageinfo.ImageInfoAnswer.the-variants as answer

@@ -1,9 +1,10 @@
 -- The index as the code builds it, record by record; proofs/IndexFolds.antt shows that it is the one of specs/Index.antt.
-use Prim.Native.Nat.{ℕ, zero, suc, _+_}
+use Prim.Native.Nat.{ℕ, zero, suc, _+_, _*_}
 use mathlib.Core.List.{List, _++_}
 use lib.ListN.{getD, set, drop, replicate}
-use Rattle.pointers.specs.Tables.{records, slotOf}
-use Rattle.pointers.specs.Index.{chainOf}
+use Rattle.reads.specs.Table.{records}
+use Rattle.pointers.specs.Tables.{slotOf, rebaseWords, bindWords, chains}
+use Rattle.pointers.specs.Index.{chainOf, bindNexts}
 
 -- The first n words are zero.
 unfoldable pub cleared : ℕ → List ℕ → List ℕ
@@ -23,6 +24,6 @@ chained width table heads nexts (suc n) index =
 -- Empty chains, then every rebase, then every bind.
 unfoldable pub folded : List ℕ → List ℕ → List ℕ → List ℕ
 folded rebases binds index =
-    chained 3 binds 4096 (8192 + records 2 rebases) (records 3 binds)
-    (chained 2 rebases 0 8192 (records 2 rebases)
-    (cleared 8192 index))
+    chained bindWords binds chains (bindNexts rebases) (records bindWords binds)
+    (chained rebaseWords rebases 0 (2 * chains) (records rebaseWords rebases)
+    (cleared (2 * chains) index))

@@ -1,5 +1,6 @@
 -- The definitions that the contracts of pointers cite.
 pub mod Tables
+pub mod Bytes
 pub mod Question
 pub mod ImageInfo
 pub mod Section

@@ -29,9 +29,9 @@ leftBy (number k) new old = old
 unfoldable pub openedIndex : Tables → List ℕ
 openedIndex t = leftBy (askedOpening t) (indexed (t .rebases) (t .binds) (t .index)) (t .index)
 
--- t is what opening accepted, with the index as opening left it; `before` is what the index held.
+-- t is what opening accepted, with the index as opening left it; `indexBefore` is what it held.
 pub record Opened (t : Tables) : Type 0 where
-  pub before : List ℕ
+  pub indexBefore : List ℕ
   pub info : ImageInfo
-  pub accepted : opening (withIndex t before) ≡ value info
-  pub left : t .index ≡ openedIndex (withIndex t before)
+  pub accepted : opening (withIndex t indexBefore) ≡ value info
+  pub left : t .index ≡ openedIndex (withIndex t indexBefore)

@@ -1,16 +1,17 @@
 -- The questions of document 01 that are asked of tables, in its order. Each is a test that says yes (true) or no.
-use Prim.Native.Nat.{ℕ, _+_, _*_, _/_, _%_}
-use mathlib.Core.Bool.{Bool, true, false, _&&_, _||_}
-use mathlib.Core.List.{List, [], _∷_}
+use Prim.Native.Nat.{ℕ, zero, suc, _+_, _*_, _/_, _%_}
+use mathlib.Core.Bool.{Bool, true, _&&_, _||_}
+use mathlib.Core.List.{List}
 use lib.Dec.{leb, eqb}
-use lib.ListN.{length, getD}
+use lib.ListN.{length}
 use Rattle.reads.specs.Outcome.{Outcome, value, number, andThen, choose}
-use Rattle.reads.specs.Utf8.{utf8}
+use Rattle.reads.specs.Table.{records, wordOf}
+use Rattle.reads.specs.Segment.{segmentWords}
 use Rattle.reads.specs.Place.{part}
-use Rattle.pointers.specs.Tables.{Tables, records, wordOf}
+use Rattle.reads.specs.Utf8.{utf8}
+use Rattle.pointers.specs.Tables.{Tables, sectionWords, bindWords, sectionTableWords, rebaseWords, chains, bindRecord}
 use Rattle.pointers.specs.declared.question.Asked.{Asked}
 use Rattle.pointers.specs.declared.question.Asked.the-variants as answer
-use Rattle.reads.specs.Answer.{missed}
 
 -- A question with its number: a yes goes on, a no gives the number.
 unfoldable pub question : ℕ → Bool → Outcome (Unit {0})
@@ -19,7 +20,7 @@ question k says = choose says (value tt) (number k)
 -- Document 01's outcome of each case of the code's answer.
 abbrev pub askedOutcome : Asked → Outcome (Unit {0})
 askedOutcome answer.Yes = value tt
-askedOutcome (answer.Missing m) = missed m
+askedOutcome (answer.Refused k) = number k
 
 -- 1: image at most 4,294,967,295 bytes?
 unfoldable pub imageFits : ℕ → Bool
@@ -29,46 +30,52 @@ imageFits n = leb n 4294967295
 unfoldable pub wholeRows : ℕ → ℕ → ℕ → Bool
 wholeRows width most n = eqb (n % width) 0 && leb (n / width) most
 
+-- Every row passes a test, the rows numbered from 0 and below a count.
+unfoldable pub every : (ℕ → Bool) → ℕ → Bool
+every test zero = true
+every test (suc n) = every test n && test n
+
 -- 3, of a row: the presence word is 0 or 1, and a present length is at most n.
 unfoldable pub sectionFits : ℕ → ℕ → ℕ → Bool
 sectionFits n present len = eqb present 0 || (eqb present 1 && leb len n)
 
--- Every row of three words passes a test; a last partial row is none.
-unfoldable pub everyRow : (ℕ → ℕ → ℕ → Bool) → List ℕ → Bool
-everyRow test [] = true
-everyRow test (a ∷ []) = true
-everyRow test (a ∷ b ∷ []) = true
-everyRow test (a ∷ b ∷ c ∷ ws) = test a b c && everyRow test ws
+-- 3, of row i of the section table.
+abbrev pub sectionRowFits : ℕ → List ℕ → ℕ → Bool
+sectionRowFits n ws i = sectionFits n (wordOf sectionWords ws i 0) (wordOf sectionWords ws i 2)
 
 -- 3: section table 15 words, presence words 0 or 1, each present length at most n?
 unfoldable pub sectionTable : ℕ → List ℕ → Bool
-sectionTable n ws = eqb (length ws) 15 && everyRow (λ present va len. sectionFits n present len) ws
+sectionTable n ws = eqb (length ws) sectionTableWords && every (sectionRowFits n ws) (records sectionWords ws)
 
 -- 4: image info at least 8 bytes?
 unfoldable pub infoWhole : ℕ → Bool
 infoWhole bytes = leb 8 bytes
 
--- 7, of a bind record: is the name inside the image and UTF-8?
+-- 7, of a name: is it inside the image and UTF-8?
 unfoldable pub nameFits : List ℕ → ℕ → ℕ → Bool
 nameFits image offset len = leb (offset + len) (length image) && utf8 (part image offset len)
 
+-- 7, of the name of bind record i.
+abbrev pub bindFits : List ℕ → List ℕ → ℕ → Bool
+bindFits image binds i = nameFits image (bindRecord binds i .name .offset) (bindRecord binds i .name .len)
+
 -- 8: index at least 8,192 + rebases + binds words?
 unfoldable pub indexFits : ℕ → ℕ → ℕ → Bool
-indexFits rebases binds words = leb (8192 + rebases + binds) words
+indexFits rebases binds words = leb (2 * chains + rebases + binds) words
 
 -- The questions 1 to 6.
 unfoldable pub askedTables : Tables → Outcome (Unit {0})
 askedTables t =
     andThen (question 1 (imageFits (length (t .image)))) (λ _.
-    andThen (question 2 (wholeRows 4 64 (length (t .segments)))) (λ _.
+    andThen (question 2 (wholeRows segmentWords 64 (length (t .segments)))) (λ _.
     andThen (question 3 (sectionTable (length (t .image)) (t .sections))) (λ _.
     andThen (question 4 (infoWhole (length (t .info)))) (λ _.
-    andThen (question 5 (wholeRows 2 16777215 (length (t .rebases)))) (λ _.
-    question 6 (wholeRows 3 16777215 (length (t .binds))))))))
+    andThen (question 5 (wholeRows rebaseWords 16777215 (length (t .rebases)))) (λ _.
+    question 6 (wholeRows bindWords 16777215 (length (t .binds))))))))
 
 -- Question 8.
 unfoldable pub askedIndex : Tables → Outcome (Unit {0})
-askedIndex t = question 8 (indexFits (records 2 (t .rebases)) (records 3 (t .binds)) (length (t .index)))
+askedIndex t = question 8 (indexFits (records rebaseWords (t .rebases)) (records bindWords (t .binds)) (length (t .index)))
 
 -- The first of the questions 1 to 6 and 8 that says no: what every call after opening asks.
 unfoldable pub asked : Tables → Outcome (Unit {0})
@@ -80,4 +87,4 @@ guarded t o = andThen (asked t) (λ _. o)
 
 -- 7, of every bind record, in table order.
 unfoldable pub namesFit : List ℕ → List ℕ → Bool
-namesFit image binds = everyRow (λ slot offset len. nameFits image offset len) binds
+namesFit image binds = every (bindFits image binds) (records bindWords binds)

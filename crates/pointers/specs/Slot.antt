@@ -1,30 +1,30 @@
 -- What the tables say of a slot, and pointer slots (document 01, Reading rules; mod.rs).
-use Prim.Native.Nat.{ℕ, _+_, _-_}
+use Prim.Native.Nat.{ℕ, _-_, _*_}
 use mathlib.Core.List.{List}
-use Rattle.reads.specs.Outcome.{Outcome, value, andThen, orElse, orZero, sum64, textOf}
+use Rattle.reads.specs.Outcome.{Outcome, value, number, Unrefused, andThen, orElse, orZero, sum64}
 use Rattle.reads.specs.Place.{Image, word}
-use Rattle.reads.specs.Ptrauth.{stripped}
-use Rattle.reads.specs.declared.answer.Text.{Text}
-use Rattle.pointers.specs.Tables.{Tables, imageIn, records, wordOf}
-use Rattle.pointers.specs.Question.{question, nameFits}
+use Rattle.reads.specs.Address.{stripped}
+use Rattle.reads.specs.declared.text.Text.{Text}
+use Rattle.pointers.specs.Tables.{Tables, imageIn, rebaseWords, bindWords, chains, rebaseRecord, bindRecord}
+use Rattle.pointers.specs.Question.{question, bindFits}
+use Rattle.pointers.specs.Index.{bindNexts}
 use Rattle.pointers.specs.Chain.{follow}
 use Rattle.pointers.specs.Symbol.{strippedName}
 
 -- The target of a slot's rebase.
 unfoldable pub rebaseAt : List ℕ → List ℕ → ℕ → Outcome ℕ
 rebaseAt rebases index slot =
-    andThen (follow 2 rebases 0 8192 slot index) (λ n. value (wordOf 2 rebases (n - 1) 1))
+    andThen (follow rebaseWords rebases 0 (2 * chains) slot index) (λ n. value (rebaseRecord rebases (n - 1) .target))
 
 -- The name of bind record i, counted from 0; question 7 is asked of it.
-unfoldable pub nameOf : List ℕ → List ℕ → ℕ → Outcome Text
-nameOf image binds i =
-    andThen (question 7 (nameFits image (wordOf 3 binds i 1) (wordOf 3 binds i 2))) (λ _.
-    value (textOf (wordOf 3 binds i 1) (wordOf 3 binds i 2)))
+unfoldable pub bindName : List ℕ → List ℕ → ℕ → Outcome Text
+bindName image binds i =
+    andThen (question 7 (bindFits image binds i)) (λ _. value (bindRecord binds i .name))
 
 -- The name of a slot's bind.
 unfoldable pub bindAt : List ℕ → List ℕ → List ℕ → List ℕ → ℕ → Outcome Text
 bindAt image rebases binds index slot =
-    andThen (follow 3 binds 4096 (8192 + records 2 rebases) slot index) (λ n. nameOf image binds (n - 1))
+    andThen (follow bindWords binds chains (bindNexts rebases) slot index) (λ n. bindName image binds (n - 1))
 
 -- The same less its prefix.
 unfoldable pub symbolOf : List ℕ → List ℕ → List ℕ → List ℕ → ℕ → Outcome Text
@@ -49,16 +49,22 @@ pointerOr0At m rebases index va k = andThen (sum64 va k) (λ slot. orZero (resol
 
 -- The same, of all that is lent.
 abbrev pub rebase : Tables → ℕ → Outcome ℕ
-rebase t slot = rebaseAt (t .rebases) (t .index) slot
+rebase t a = rebaseAt (t .rebases) (t .index) a
 
 abbrev pub slot : Tables → ℕ → Outcome ℕ
 slot t a = resolve (imageIn t) (t .rebases) (t .index) a
 
 abbrev pub symbolAt : Tables → ℕ → Outcome Text
-symbolAt t slot = symbolOf (t .image) (t .rebases) (t .binds) (t .index) slot
+symbolAt t a = symbolOf (t .image) (t .rebases) (t .binds) (t .index) a
 
 abbrev pub pointer : Tables → ℕ → ℕ → Outcome ℕ
 pointer t va k = pointerAt (imageIn t) (t .rebases) (t .index) va k
 
 abbrev pub pointerOr0 : Tables → ℕ → ℕ → Outcome ℕ
 pointerOr0 t va k = pointerOr0At (imageIn t) (t .rebases) (t .index) va k
+
+-- What is made of lookups: a value, absent, or the number of one of the two questions that lookups ask.
+pub data NineOrSeven {A : Type 0} : Outcome A → Type 0 where
+  unrefused : {o : Outcome A} → Unrefused o → NineOrSeven o
+  is-9 : NineOrSeven (number 9)
+  is-7 : NineOrSeven (number 7)

@@ -1,6 +1,6 @@
 -- Symbol names of binds without the linker's prefix (mod.rs, strip_objc_symbol_prefix): the first of the five that fits is taken off.
 use Prim.Native.Nat.{ℕ, _+_, _-_}
-use Prim.Native.Char.{Char, code}
+use Prim.Native.Char.{code}
 use Prim.Native.String.{String}
 use Prim.Native.String
 use mathlib.Core.Bool.{Bool, true, false, _&&_}
@@ -9,7 +9,7 @@ use lib.Dec.{eqb}
 use lib.ListN.{length}
 use Rattle.reads.specs.Outcome.{choose, textOf}
 use Rattle.reads.specs.Place.{part}
-use Rattle.reads.specs.declared.answer.Text.{Text}
+use Rattle.reads.specs.declared.text.Text.{Text}
 
 -- The codes of an ASCII text.
 abbrev pub ascii : String → List ℕ

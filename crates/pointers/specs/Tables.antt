@@ -1,8 +1,13 @@
 -- All that a caller lends (document 01, "Tables lent by the caller"), as one argument.
-use Prim.Native.Nat.{ℕ, _+_, _*_, _/_}
+use Prim.Native.Nat.{ℕ, _*_}
 use mathlib.Core.List.{List}
-use lib.ListN.{length, getD}
+use lib.ListN.{getD}
+use Rattle.reads.specs.Reference.{Slice, before}
+use Rattle.reads.specs.Outcome.{textOf}
+use Rattle.reads.specs.Table.{wordOf}
 use Rattle.reads.specs.Place.{Image, imageOf}
+use Rattle.pointers.specs.declared.table.Bind.{Bind}
+use Rattle.pointers.specs.declared.table.Rebase.{Rebase}
 
 pub record Tables : Type 0 where
   pub image : List ℕ
@@ -13,8 +18,8 @@ pub record Tables : Type 0 where
   pub binds : List ℕ
   pub index : List ℕ
 
-abbrev pub lent : List ℕ → List ℕ → List ℕ → List ℕ → List ℕ → List ℕ → List ℕ → Tables
-lent image segments sections info rebases binds index =
+abbrev pub tablesOf : List ℕ → List ℕ → List ℕ → List ℕ → List ℕ → List ℕ → List ℕ → Tables
+tablesOf image segments sections info rebases binds index =
     record {
       image = image;
       segments = segments;
@@ -25,21 +30,47 @@ lent image segments sections info rebases binds index =
       index = index;
     }
 
+-- The same, of the slices that a function takes, as they are before the call.
+abbrev pub lent : Slice → Slice → Slice → Slice → Slice → Slice → Slice → Tables
+lent image segments sections info rebases binds index =
+    tablesOf (before image) (before segments) (before sections) (before info) (before rebases) (before binds) (before index)
+
 -- The image and the segment table, as the reads take them.
 abbrev pub imageIn : Tables → Image
 imageIn t = imageOf (t .image) (t .segments)
 
 -- The same tables with another index.
 abbrev pub withIndex : Tables → List ℕ → Tables
-withIndex t index = lent (t .image) (t .segments) (t .sections) (t .info) (t .rebases) (t .binds) index
+withIndex t index = tablesOf (t .image) (t .segments) (t .sections) (t .info) (t .rebases) (t .binds) index
 
--- Records of two words (rebases: slot, target) and of three (binds: slot, name offset, name length).
-abbrev pub records : ℕ → List ℕ → ℕ
-records width table = length table / width
+-- The words of a section (present, vmaddr, length), of the section table, of a rebase (slot, target) and of a bind (slot, name offset,
+-- name length).
+abbrev pub sectionWords : ℕ
+sectionWords = 3
 
--- The words of record i, counted from 0; the slot is the first.
-abbrev pub wordOf : ℕ → List ℕ → ℕ → ℕ → ℕ
-wordOf width table i k = getD table (i * width + k) 0
+abbrev pub sectionTableWords : ℕ
+sectionTableWords = 15
 
+abbrev pub rebaseWords : ℕ
+rebaseWords = 2
+
+abbrev pub bindWords : ℕ
+bindWords = 3
+
+-- The first word of a rebase or bind is its slot.
 abbrev pub slotOf : ℕ → List ℕ → ℕ → ℕ
 slotOf width table i = getD table (i * width) 0
+
+abbrev pub rebaseRecord : List ℕ → ℕ → Rebase
+rebaseRecord rebases i = record { slot = slotOf rebaseWords rebases i; target = wordOf rebaseWords rebases i 1 }
+
+abbrev pub bindRecord : List ℕ → ℕ → Bind
+bindRecord binds i =
+    record {
+      slot = slotOf bindWords binds i;
+      name = textOf (wordOf bindWords binds i 1) (wordOf bindWords binds i 2);
+    }
+
+-- How many chains the index has for each of the two.
+abbrev pub chains : ℕ
+chains = 4096

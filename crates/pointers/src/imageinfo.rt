@@ -1,11 +1,12 @@
 // The payload of __objc_imageinfo (objc-abi.h, objc_image_info).
 use reads::answer::Missing;
-use reads::answer::Placed;
+use reads::place::Placed;
 use reads::place::readable_at;
 use reads::place::u32_in;
 ghost use mathlib.Core.Bool.{not};
 ghost use mathlib.Core.Path.{_≡_};
 ghost use lib.Dec.{eqb};
+ghost use Rattle.reads.specs.Reference.{before};
 ghost use Rattle.pointers.specs.ImageInfo.{infoOutcome, imageInfo, bit, swiftUnstable, swiftStable};
 
 // Version, always 0 so far, and the flags.
@@ -43,7 +44,7 @@ pub const OBJC_IMAGE_SWIFT_STABLE_VERSION_MASK: u32 = 0xFFFF_0000;
 impl ImageInfo {
     // The image info of a section's bytes; absent where there are fewer than 8.
     pub fn parse(body: &[u8]) -> ImageInfoAnswer
-        ensures { λ r. ⌜ infoOutcome r ≡ imageInfo (now (body .entry)) ⌝ }
+        ensures { λ r. ⌜ infoOutcome r ≡ imageInfo (before body) ⌝ }
     {
         match readable_at(body, 0, 8) {
             Placed::At(p) => {

@@ -1,30 +1,37 @@
 // The index over the rebase and bind tables, in u32 words that the caller lends: the Rust's two HashMaps.
+use crate::table::Bind;
+use crate::table::Rebase;
+use reads::address::Address;
 use reads::answer::Missing;
 use reads::answer::Word;
-use reads::ptrauth::Address;
 ghost use mathlib.Core.Path.{_≡_};
-ghost use Prim.Native.Nat.{_+_, _*_, _/_, _^_, _≤_, _<_};
+ghost use Prim.Native.Nat.{_+_, _*_, _^_, _≤_, _<_};
 ghost use lib.ListN.{length, getD};
+ghost use Rattle.reads.specs.Reference.{before, after};
 ghost use Rattle.reads.specs.Answer.{wordOutcome};
-ghost use Rattle.pointers.specs.Tables.{records};
+ghost use Rattle.reads.specs.Table.{records};
+ghost use Rattle.pointers.specs.Tables.{rebaseWords, bindWords, chains};
+ghost use Rattle.pointers.specs.Index.{chainOf, indexed, indexLength};
+ghost use Rattle.pointers.specs.IndexFold.{cleared, linked, chained};
 ghost use Rattle.pointers.specs.Chain.{follow};
-ghost use Rattle.pointers.specs.Index.{chainOf, indexed};
-ghost use Rattle.pointers.specs.IndexFold.{cleared, linked, chained, folded};
+
+// The heads of the chains of both tables, before the next words.
+pub const HEADS: usize = 2 * Address::CHAINS;
 
 // The chain of a slot.
 pub fn chain(slot: u64) -> usize
     ensures { λ r. ⌜ r ≡ chainOf slot ⌝ }
 {
-    (slot / 8 % Address::CHAINS) as usize
+    (slot / 8) as usize % Address::CHAINS
 }
 
 // Empties every chain.
 fn clear_heads(index: &mut [u32])
-    requires { ⌜ 8192 ≤ length (now index) ⌝ }
-    ensures { λ _. ⌜ now (index .exit) ≡ cleared 8192 (now (index .entry)) ⌝ }
+    requires { ⌜ 2 * chains ≤ length (now index) ⌝ }
+    ensures { λ _. ⌜ after index ≡ cleared (2 * chains) (before index) ⌝ }
 {
     let mut i = 0;
-    while i < 8192 {
+    while i < HEADS {
         index[i] = 0;
         i += 1;
     }
@@ -32,8 +39,8 @@ fn clear_heads(index: &mut [u32])
 
 // Puts the record `number` at the front of the chain of its slot.
 fn link(index: &mut [u32], heads: usize, next: usize, number: u32, slot: u64)
-    requires { ⌜ (heads + 4096 ≤ next) × (next < length (now index)) ⌝ }
-    ensures { λ _. ⌜ now (index .exit) ≡ linked heads next number slot (now (index .entry)) ⌝ }
+    requires { ⌜ (heads + chains ≤ next) × (next < length (now index)) ⌝ }
+    ensures { λ _. ⌜ after index ≡ linked heads next number slot (before index) ⌝ }
 {
     let head = heads + chain(slot);
     index[next] = index[head];
@@ -42,9 +49,9 @@ fn link(index: &mut [u32], heads: usize, next: usize, number: u32, slot: u64)
 
 // Links every record of a table, in order.
 fn link_all(table: &[u64], width: usize, index: &mut [u32], heads: usize, nexts: usize)
-    requires { ⌜ (0 < width) × (records width (now table) ≤ 16777215) × (heads + 4096 ≤ nexts)
+    requires { ⌜ (0 < width) × (records width (now table) ≤ 16777215) × (heads + chains ≤ nexts)
         × (nexts + records width (now table) ≤ length (now index)) ⌝ }
-    ensures { λ _. ⌜ now (index .exit) ≡ chained width (now (table .entry)) heads nexts (records width (now (table .entry))) (now (index .entry)) ⌝ }
+    ensures { λ _. ⌜ after index ≡ chained width (before table) heads nexts (records width (before table)) (before index) ⌝ }
 {
     let count = table.len() / width;
     let mut i = 0;
@@ -56,18 +63,19 @@ fn link_all(table: &[u64], width: usize, index: &mut [u32], heads: usize, nexts:
 
 // Writes the index over two tables that no question refuses.
 pub(crate) fn fill_index(rebases: &[u64], binds: &[u64], index: &mut [u32])
-    requires { ⌜ (records 2 (now rebases) ≤ 16777215) × (records 3 (now binds) ≤ 16777215)
-        × (8192 + records 2 (now rebases) + records 3 (now binds) ≤ length (now index)) ⌝ }
-    ensures { λ _. ⌜ now (index .exit) ≡ indexed (now (rebases .entry)) (now (binds .entry)) (now (index .entry)) ⌝ }
+    requires { ⌜ (records rebaseWords (now rebases) ≤ 16777215) × (records bindWords (now binds) ≤ 16777215)
+        × (indexLength (now rebases) (now binds) ≤ length (now index)) ⌝ }
+    ensures { λ _. ⌜ after index ≡ indexed (before rebases) (before binds) (before index) ⌝ }
 {
     clear_heads(index);
-    link_all(rebases, 2, index, 0, 8192);
-    link_all(binds, 3, index, 4096, 8192 + rebases.len() / 2);
+    link_all(rebases, Rebase::WORDS, index, 0, HEADS);
+    let nexts = HEADS + rebases.len() / Rebase::WORDS;
+    link_all(binds, Bind::WORDS, index, Address::CHAINS, nexts);
 }
 
 // Word i of the index, 0 past its end.
 fn index_word(index: &[u32], i: usize) -> usize
-    ensures { λ r. ⌜ r ≡ getD (now (index .entry)) i 0 ⌝ }
+    ensures { λ r. ⌜ r ≡ getD (before index) i 0 ⌝ }
 {
     if i < index.len() {
         return index[i] as usize;
@@ -84,8 +92,8 @@ pub(crate) fn find(
     nexts: usize,
     slot: u64,
 ) -> Word
-    requires { ⌜ (0 < width) × (heads ≤ 4096) × (nexts + records width (now table) < 2 ^ 64) ⌝ }
-    ensures { λ r. ⌜ wordOutcome r ≡ follow width (now (table .entry)) heads nexts slot (now (index .entry)) ⌝ }
+    requires { ⌜ (0 < width) × (heads ≤ chains) × (nexts + records width (now table) < 2 ^ 64) ⌝ }
+    ensures { λ r. ⌜ wordOutcome r ≡ follow width (before table) heads nexts slot (before index) ⌝ }
 {
     let mut limit = table.len() / width;
     let mut number = index_word(index, heads + chain(slot));

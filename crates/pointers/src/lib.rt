@@ -6,3 +6,4 @@ pub mod question;
 pub mod section;
 pub mod slot;
 pub mod symbol;
+pub mod table;

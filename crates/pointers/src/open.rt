@@ -3,11 +3,12 @@ use crate::imageinfo::ImageInfo;
 use crate::imageinfo::ImageInfoAnswer;
 use crate::index::fill_index;
 use crate::question::Asked;
+use crate::question::ask_index;
 use crate::question::ask_tables;
-use crate::question::index_fits;
 use crate::question::names_fit;
 use reads::answer::Missing;
 ghost use mathlib.Core.Path.{_≡_};
+ghost use Rattle.reads.specs.Reference.{after};
 ghost use Rattle.pointers.specs.Tables.{lent};
 ghost use Rattle.pointers.specs.Question.{askedOutcome};
 ghost use Rattle.pointers.specs.ImageInfo.{infoOutcome};
@@ -23,19 +24,17 @@ fn ask_opening(
     binds: &[u64],
     index: &[u32],
 ) -> Asked
-    ensures { λ r. ⌜ askedOutcome r ≡ askedOpening (lent (now (image .entry)) (now (segments .entry)) (now (sections .entry)) (now (info .entry)) (now (rebases .entry)) (now (binds .entry)) (now (index .entry))) ⌝ }
+    ensures { λ r. let t = lent image segments sections info rebases binds index in
+        ⌜ askedOutcome r ≡ askedOpening t ⌝ }
 {
     match ask_tables(image, segments, sections, info, rebases, binds) {
         Asked::Yes => {
             if !names_fit(image, binds) {
-                return Asked::Missing(Missing::Refused(7));
+                return Asked::Refused(7);
             }
-            if index_fits(rebases.len() / 2, binds.len() / 3, index.len()) {
-                return Asked::Yes;
-            }
-            Asked::Missing(Missing::Refused(8))
+            ask_index(rebases, binds, index)
         }
-        Asked::Missing(m) => Asked::Missing(m),
+        Asked::Refused(k) => Asked::Refused(k),
     }
 }
 
@@ -49,14 +48,16 @@ pub fn open(
     binds: &[u64],
     index: &mut [u32],
 ) -> ImageInfoAnswer
-    ensures outcome { λ r. ⌜ infoOutcome r ≡ opening (lent (now (image .entry)) (now (segments .entry)) (now (sections .entry)) (now (info .entry)) (now (rebases .entry)) (now (binds .entry)) (now (index .entry))) ⌝ }
-    ensures contents { λ _. ⌜ now (index .exit) ≡ openedIndex (lent (now (image .entry)) (now (segments .entry)) (now (sections .entry)) (now (info .entry)) (now (rebases .entry)) (now (binds .entry)) (now (index .entry))) ⌝ }
+    ensures outcome { λ r. let t = lent image segments sections info rebases binds index in
+        ⌜ infoOutcome r ≡ opening t ⌝ }
+    ensures contents { λ _. let t = lent image segments sections info rebases binds index in
+        ⌜ after index ≡ openedIndex t ⌝ }
 {
     match ask_opening(image, segments, sections, info, rebases, binds, index) {
         Asked::Yes => {
             fill_index(rebases, binds, index);
             ImageInfo::parse(info)
         }
-        Asked::Missing(m) => ImageInfoAnswer::Missing(m),
+        Asked::Refused(k) => ImageInfoAnswer::Missing(Missing::Refused(k)),
     }
 }

@@ -1,17 +1,24 @@
 // The questions of document 01 that are asked of tables, each a function of its own; `ask` puts 1 to 6 and 8 in order.
-use reads::answer::Missing;
+use crate::index::HEADS;
+use crate::section::ObjcSection;
+use crate::table::Bind;
+use crate::table::Rebase;
+use reads::segment::Segment;
 use reads::text::utf8;
 ghost use mathlib.Core.List.{[]};
 ghost use mathlib.Core.Path.{_≡_};
 ghost use lib.ListN.{length};
 ghost use Prim.Native.Nat.{_≤_};
-ghost use Rattle.pointers.specs.Tables.{lent};
-ghost use Rattle.pointers.specs.Question.{askedOutcome, imageFits, wholeRows, sectionFits, sectionTable, infoWhole, nameFits, indexFits, askedTables, asked, namesFit};
+ghost use Rattle.reads.specs.Reference.{before};
+ghost use Rattle.reads.specs.Table.{records};
+ghost use Rattle.reads.specs.Segment.{segmentWords};
+ghost use Rattle.pointers.specs.Tables.{lent, tablesOf, rebaseWords, bindWords};
+ghost use Rattle.pointers.specs.Question.{question, askedOutcome, imageFits, wholeRows, sectionFits, sectionTable, infoWhole, nameFits, indexFits, askedTables, asked, namesFit};
 
 // Yes to every question, or the number of the first that says no.
 pub enum Asked {
     Yes,
-    Missing(Missing),
+    Refused(u8),
 }
 
 // 1: is the image at most 4,294,967,295 bytes long?
@@ -34,9 +41,9 @@ fn whole_rows(n: usize, width: usize, most: usize) -> bool
 
 // 2: is the segment table whole, with at most 64 segments?
 pub fn segments_whole(n: usize) -> bool
-    ensures { λ r. ⌜ r ≡ wholeRows 4 64 n ⌝ }
+    ensures { λ r. ⌜ r ≡ wholeRows segmentWords 64 n ⌝ }
 {
-    whole_rows(n, 4, 64)
+    whole_rows(n, Segment::WORDS, 64)
 }
 
 // 3, of a row: is the presence word 0 or 1, and a present length at most n?
@@ -54,17 +61,18 @@ pub fn section_fits(n: u64, present: u64, len: u64) -> bool
 
 // 3: is the section table 15 words long, and does each row fit?
 pub fn section_table(sections: &[u64], n: u64) -> bool
-    ensures { λ r. ⌜ r ≡ sectionTable n (now (sections .entry)) ⌝ }
+    ensures { λ r. ⌜ r ≡ sectionTable n (before sections) ⌝ }
 {
-    if sections.len() != 15 {
+    if sections.len() != ObjcSection::TABLE_WORDS {
         return false;
     }
     let mut i = 0;
-    while 3 <= sections.len() - i {
-        if !section_fits(n, sections[i], sections[i + 2]) {
+    while i < sections.len() / ObjcSection::WORDS {
+        let first = i * ObjcSection::WORDS;
+        if !section_fits(n, sections[first], sections[first + 2]) {
             return false;
         }
-        i += 3;
+        i += 1;
     }
     true
 }
@@ -78,21 +86,21 @@ pub fn info_whole(n: usize) -> bool
 
 // 5: is the rebase table whole, with at most 16,777,215 records?
 pub fn rebases_whole(n: usize) -> bool
-    ensures { λ r. ⌜ r ≡ wholeRows 2 16777215 n ⌝ }
+    ensures { λ r. ⌜ r ≡ wholeRows rebaseWords 16777215 n ⌝ }
 {
-    whole_rows(n, 2, 16_777_215)
+    whole_rows(n, Rebase::WORDS, 16_777_215)
 }
 
 // 6: is the bind table whole, with at most 16,777,215 records?
 pub fn binds_whole(n: usize) -> bool
-    ensures { λ r. ⌜ r ≡ wholeRows 3 16777215 n ⌝ }
+    ensures { λ r. ⌜ r ≡ wholeRows bindWords 16777215 n ⌝ }
 {
-    whole_rows(n, 3, 16_777_215)
+    whole_rows(n, Bind::WORDS, 16_777_215)
 }
 
 // 7, of a record: is the name inside the image and UTF-8?
 pub fn name_fits(image: &[u8], offset: u64, len: u64) -> bool
-    ensures { λ r. ⌜ r ≡ nameFits (now (image .entry)) offset len ⌝ }
+    ensures { λ r. ⌜ r ≡ nameFits (before image) offset len ⌝ }
 {
     let n = image.len() as u64;
     if n < offset {
@@ -108,14 +116,15 @@ pub fn name_fits(image: &[u8], offset: u64, len: u64) -> bool
 
 // 7: does the name of every bind record fit, in table order?
 pub fn names_fit(image: &[u8], binds: &[u64]) -> bool
-    ensures { λ r. ⌜ r ≡ namesFit (now (image .entry)) (now (binds .entry)) ⌝ }
+    ensures { λ r. ⌜ r ≡ namesFit (before image) (before binds) ⌝ }
 {
     let mut i = 0;
-    while 3 <= binds.len() - i {
-        if !name_fits(image, binds[i + 1], binds[i + 2]) {
+    while i < binds.len() / Bind::WORDS {
+        let bind = Bind::at(binds, i);
+        if !name_fits(image, bind.name.offset, bind.name.len) {
             return false;
         }
-        i += 3;
+        i += 1;
     }
     true
 }
@@ -124,10 +133,10 @@ pub fn names_fit(image: &[u8], binds: &[u64]) -> bool
 pub fn index_fits(rebases: usize, binds: usize, words: usize) -> bool
     ensures { λ r. ⌜ r ≡ indexFits rebases binds words ⌝ }
 {
-    if words < 8192 {
+    if words < HEADS {
         return false;
     }
-    let left = words - 8192;
+    let left = words - HEADS;
     if left < rebases {
         return false;
     }
@@ -143,27 +152,39 @@ pub fn ask_tables(
     rebases: &[u64],
     binds: &[u64],
 ) -> Asked
-    ensures { λ r. ⌜ askedOutcome r ≡ askedTables (lent (now (image .entry)) (now (segments .entry)) (now (sections .entry)) (now (info .entry)) (now (rebases .entry)) (now (binds .entry)) []) ⌝ }
+    ensures { λ r. ⌜ askedOutcome r ≡ askedTables (tablesOf (before image) (before segments) (before sections) (before info) (before rebases) (before binds) []) ⌝ }
 {
     if !image_fits(image.len()) {
-        return Asked::Missing(Missing::Refused(1));
+        return Asked::Refused(1);
     }
     if !segments_whole(segments.len()) {
-        return Asked::Missing(Missing::Refused(2));
+        return Asked::Refused(2);
     }
     if !section_table(sections, image.len() as u64) {
-        return Asked::Missing(Missing::Refused(3));
+        return Asked::Refused(3);
     }
     if !info_whole(info.len()) {
-        return Asked::Missing(Missing::Refused(4));
+        return Asked::Refused(4);
     }
     if !rebases_whole(rebases.len()) {
-        return Asked::Missing(Missing::Refused(5));
+        return Asked::Refused(5);
     }
     if !binds_whole(binds.len()) {
-        return Asked::Missing(Missing::Refused(6));
+        return Asked::Refused(6);
     }
     Asked::Yes
+}
+
+// 8, of the tables.
+pub(crate) fn ask_index(rebases: &[u64], binds: &[u64], index: &[u32]) -> Asked
+    ensures { λ r. ⌜ askedOutcome r ≡ question 8 (indexFits (records rebaseWords (before rebases)) (records bindWords (before binds)) (length (before index))) ⌝ }
+{
+    let rebase_count = rebases.len() / Rebase::WORDS;
+    let bind_count = binds.len() / Bind::WORDS;
+    if index_fits(rebase_count, bind_count, index.len()) {
+        return Asked::Yes;
+    }
+    Asked::Refused(8)
 }
 
 // 1 to 6 and 8, in order: what every call after opening asks.
@@ -176,15 +197,11 @@ pub fn ask(
     binds: &[u64],
     index: &[u32],
 ) -> Asked
-    ensures { λ r. ⌜ askedOutcome r ≡ asked (lent (now (image .entry)) (now (segments .entry)) (now (sections .entry)) (now (info .entry)) (now (rebases .entry)) (now (binds .entry)) (now (index .entry))) ⌝ }
+    ensures { λ r. let t = lent image segments sections info rebases binds index in
+        ⌜ askedOutcome r ≡ asked t ⌝ }
 {
     match ask_tables(image, segments, sections, info, rebases, binds) {
-        Asked::Yes => {
-            if index_fits(rebases.len() / 2, binds.len() / 3, index.len()) {
-                return Asked::Yes;
-            }
-            Asked::Missing(Missing::Refused(8))
-        }
-        Asked::Missing(m) => Asked::Missing(m),
+        Asked::Yes => ask_index(rebases, binds, index),
+        Asked::Refused(k) => Asked::Refused(k),
     }
 }

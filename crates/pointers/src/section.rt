@@ -1,5 +1,6 @@
 // The section table: class_list, nlclslist, cat_list, nlcat_list, proto_list, three words each (present, vmaddr, length).
 ghost use mathlib.Core.Path.{_≡_};
+ghost use Rattle.reads.specs.Reference.{before};
 ghost use Rattle.pointers.specs.Section.{sectionAt};
 
 // A section of pointer slots: where it starts, and how many full slots it has; an absent one has none.
@@ -9,6 +10,11 @@ pub struct ObjcSection {
 }
 
 impl ObjcSection {
+    // The words of a section, and of the table of five.
+    pub const WORDS: usize = 3;
+
+    pub const TABLE_WORDS: usize = 15;
+
     pub const CLASS_LIST: usize = 0;
 
     pub const NLCLSLIST: usize = 1;
@@ -21,14 +27,15 @@ impl ObjcSection {
 
     // Section i of the table; one past its end is absent.
     pub fn at(sections: &[u64], i: usize) -> ObjcSection
-        ensures { λ r. ⌜ r ≡ sectionAt (now (sections .entry)) i ⌝ }
+        ensures { λ r. ⌜ r ≡ sectionAt (before sections) i ⌝ }
     {
-        if i < sections.len() / 3 {
-            let present = sections[3 * i];
+        if i < sections.len() / ObjcSection::WORDS {
+            let first = i * ObjcSection::WORDS;
+            let present = sections[first];
             if present == 1 {
                 return ObjcSection {
-                    vmaddr: sections[3 * i + 1],
-                    slots: sections[3 * i + 2] / 8,
+                    vmaddr: sections[first + 1],
+                    slots: sections[first + 2] / 8,
                 };
             }
         }

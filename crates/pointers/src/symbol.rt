@@ -1,7 +1,8 @@
 // Symbol names of binds without the linker's prefix (mod.rs, strip_objc_symbol_prefix).
-use reads::answer::Text;
+use reads::text::Text;
 ghost use mathlib.Core.Path.{_≡_};
 ghost use Prim.Native.Nat.{min};
+ghost use Rattle.reads.specs.Reference.{before};
 ghost use Rattle.pointers.specs.Symbol.{starts, fitting, prefixes, strippedName};
 
 // In the order in which they are tried, padded with zeros.
@@ -17,7 +18,7 @@ const PREFIX_LENGTHS: [usize; 5] = [14, 18, 17, 12, 23];
 
 // Whether s starts with p.
 fn starts_with(s: &[u8], p: &[u8]) -> bool
-    ensures { λ r. ⌜ r ≡ starts (now (p .entry)) (now (s .entry)) ⌝ }
+    ensures { λ r. ⌜ r ≡ starts (before p) (before s) ⌝ }
 {
     if s.len() < p.len() {
         return false;
@@ -34,7 +35,7 @@ fn starts_with(s: &[u8], p: &[u8]) -> bool
 
 // The length of the first of the prefixes that s starts with, 0 where it starts with none.
 fn prefix_length(s: &[u8]) -> usize
-    ensures { λ r. ⌜ r ≡ fitting prefixes (now (s .entry)) ⌝ }
+    ensures { λ r. ⌜ r ≡ fitting prefixes (before s) ⌝ }
 {
     let mut k = 0;
     while k < 5 {
@@ -59,7 +60,7 @@ fn least(a: u64, b: u64) -> u64
 
 // A name of the image less the first of the prefixes that it starts with; what lies past the image's end matches none.
 pub fn strip_objc_symbol_prefix(image: &[u8], name: Text) -> Text
-    ensures { λ r. ⌜ r ≡ strippedName (now (image .entry)) name ⌝ }
+    ensures { λ r. ⌜ r ≡ strippedName (before image) name ⌝ }
 {
     let total = image.len() as u64;
     if total <= name.offset {

@@ -1,85 +1,78 @@
--- A bundle's text, by what opening and question 13 answered.
-use Prim.Native.Nat.{ℕ}
+-- What the calls over a bundle answer and leave, by what question 13 answered.
+use Prim.Native.Nat.{ℕ, _-_, min}
 use mathlib.Core.Path.{_≡_, refl, sym, ap, _∙_}
+use mathlib.Core.Bool.{Bool, true, false}
 use mathlib.Core.List.{List, []}
-use Rattle.reads.specs.Outcome.{value, absent, number}
+use native.Mathlib.Nat.{le-of-lt}
+use native.Mathlib.Omega.{arith}
+use lib.Dec.{leb}
+use lib.ListN.{length, take, drop}
+use lib.Seq.{take-all, take-length}
+use borrow.Author.Tests.{leb-true, leb-false}
+use Rattle.reads.specs.Answer.{missed}
+use Rattle.reads.specs.Outcome.{Outcome, value}
 use Rattle.reads.specs.declared.answer.Missing.{Missing}
 use Rattle.reads.specs.declared.answer.Missing.the-variants.{Absent, Refused}
-use Rattle.pointers.specs.ImageInfo.{infoOutcome}
-use Rattle.pointers.specs.Open.{opening, openedIndex}
-use Rattle.pointers.specs.Tables.{Tables, withIndex}
+use Rattle.pointers.specs.Tables.{Tables, tablesOf}
 use Rattle.pointers.specs.declared.imageinfo.ImageInfo.{ImageInfo}
-use Rattle.pointers.specs.declared.imageinfo.ImageInfoAnswer.{ImageInfoAnswer}
-use Rattle.pointers.specs.declared.imageinfo.ImageInfoAnswer.the-variants as info
-use Rattle.listing.specs.Bundle.{countsOutcome, counted, bundled}
-use Rattle.listing.specs.Listing.{start}
+use Rattle.listing.specs.Bundle.{countsOutcome, bundleCounts}
 use Rattle.listing.specs.declared.bundle.Counts.{Counts}
 use Rattle.listing.specs.declared.bundle.CountsAnswer.{CountsAnswer}
 use Rattle.listing.specs.declared.bundle.CountsAnswer.the-variants as counts
-use Rattle.printing.specs.Buffer.{Buffer, putAll}
-use Rattle.printing.specs.BundleText.{Says, SaysOpened, SaysCounted, Put, decodedInto, wordsAfter, indexAfter}
-use Rattle.printing.specs.LineText.{refusedText}
-use Rattle.printing.proofs.Puts.{put-none}
+use Rattle.printing.specs.BundleLent.{wordsBy, openingBy, indexBy, tablesBy}
+use Rattle.printing.specs.Pieces.{Standing, toCome, Handed, pieceOf}
 
-module _ (t : Tables) (r : ImageInfoAnswer) (e : infoOutcome r ≡ opening t) (l : List ℕ) (s : Buffer) where
-  pub opened-lists : (index m : List ℕ) (u : Buffer) (i : ImageInfo) → r ≡ info.Info i → index ≡ openedIndex t
-      → Put (Says (withIndex t index) start) l m s u → Put (SaysOpened t (opening t)) l m s u
-  opened-lists index m u i g x p =
-      let same : opening t ≡ value i = sym e ∙ ap infoOutcome g in
-      record { text = p .text; is = rw (same, ← x) (p .is); put = p .put }
+-- As many bytes as there are, at most n.
+pub first-bytes : (input : List ℕ) (n m : ℕ) → m ≡ min n (length input) → take (m - 0) (drop 0 input) ≡ take n input
+first-bytes input n m e =
+    let f : m - 0 ≡ min n (length input) = omega arith in rw f (go (leb n (length input)) refl)
+  where
+    go : (t : Bool) → leb n (length input) ≡ t → take (min n (length input)) input ≡ take n input
+    go true g = let h : min n (length input) ≡ n = omega (arith, leb-true n (length input) g) in rw h
+    go false g =
+        let less = leb-false n (length input) g in
+        let h : min n (length input) ≡ length input = omega arith in
+        rw (h, take-length input) (sym (take-all n input (le-of-lt less)))
 
-  module _ (m : Missing) (g : r ≡ info.Missing m) where
-    pub opened-absent : m ≡ Absent → Put (SaysOpened t (opening t)) l l s s
-    opened-absent h =
-        let same : opening t ≡ absent = rw (← e, g, h) in record { text = []; is = rw same (refl, refl); put = sym (put-none s) }
+-- An answer of the code, matched.
+module _ (bytes : List ℕ) (r : CountsAnswer) (e : countsOutcome r ≡ bundleCounts bytes) where
+  pub counted-is : (c : Counts) → r ≡ counts.Counts c → bundleCounts bytes ≡ value c
+  counted-is c g = sym e ∙ ap countsOutcome g
 
-    pub opened-refused : (k : ℕ) (u : Buffer) → m ≡ Refused k → u ≡ putAll s (refusedText k) → Put (SaysOpened t (opening t)) l l s u
-    opened-refused k u h p =
-        let same : opening t ≡ number k = rw (← e, g, h) in record { text = refusedText k; is = rw same (refl, refl); put = p }
+  pub uncounted-is : (m : Missing) → r ≡ counts.Missing m → bundleCounts bytes ≡ missed m
+  uncounted-is m g = sym e ∙ ap countsOutcome g
 
-module _ (bytes : List ℕ) (r : CountsAnswer) (e : countsOutcome r ≡ counted bytes) where
-  module _ (c : Counts) (g : r ≡ counts.Counts c) where
-    counted-is : counted bytes ≡ value c
-    counted-is = sym e ∙ ap countsOutcome g
+-- What a missing answer leaves.
+module _ (bytes : List ℕ) (m : Missing) (o : Outcome Counts) (e : o ≡ missed m) where
+  pub words-kept : (words : List ℕ) → words ≡ wordsBy bytes o words
+  words-kept words = rw e (go m)
+    where
+      go : (m : Missing) → words ≡ wordsBy bytes (missed m) words
+      go Absent = refl
+      go (Refused k) = refl
 
-    pub counted-lists : (index l m : List ℕ) (s u : Buffer)
-        → Put (SaysOpened (bundled bytes c index) (opening (bundled bytes c index))) l m s u
-        → Put (SaysCounted bytes index (counted bytes)) l m s u
-    counted-lists index l m s u p = record { text = p .text; is = rw counted-is (p .is); put = p .put }
+  pub index-kept : (words index : List ℕ) → index ≡ indexBy bytes o words index
+  index-kept words index = rw e (go m)
+    where
+      go : (m : Missing) → index ≡ indexBy bytes (missed m) words index
+      go Absent = refl
+      go (Refused k) = refl
 
-    pub counted-index : (index after : List ℕ) → after ≡ openedIndex (bundled bytes c index)
-        → after ≡ indexAfter bytes (counted bytes) index
-    counted-index index after p = rw counted-is p
+  pub not-opened : (words index : List ℕ) → missed m ≡ openingBy bytes o words index
+  not-opened words index = rw e (go m)
+    where
+      go : (m : Missing) → _≡_ {A = Outcome ImageInfo} (missed m) (openingBy bytes (missed m) words index)
+      go Absent = refl
+      go (Refused k) = refl
 
-    pub counted-words : (words after : List ℕ) → after ≡ decodedInto bytes c words → after ≡ wordsAfter bytes (counted bytes) words
-    counted-words words after p = rw counted-is p
+  pub no-tables : (words index : List ℕ) → tablesOf [] [] [] [] [] [] [] ≡ tablesBy bytes o words index
+  no-tables words index = rw e (go m)
+    where
+      go : (m : Missing) → tablesOf [] [] [] [] [] [] [] ≡ tablesBy bytes (missed m) words index
+      go Absent = refl
+      go (Refused k) = refl
 
-  module _ (m : Missing) (g : r ≡ counts.Missing m) where
-    pub uncounted-absent : (index l : List ℕ) (s : Buffer) → m ≡ Absent → Put (SaysCounted bytes index (counted bytes)) l l s s
-    uncounted-absent index l s h =
-        let same : counted bytes ≡ absent = rw (← e, g, h) in record { text = []; is = rw same (refl, refl); put = sym (put-none s) }
-
-    pub uncounted-refused : (index l : List ℕ) (s u : Buffer) (k : ℕ) → m ≡ Refused k → u ≡ putAll s (refusedText k)
-        → Put (SaysCounted bytes index (counted bytes)) l l s u
-    uncounted-refused index l s u k h p =
-        let same : counted bytes ≡ number k = rw (← e, g, h) in record { text = refusedText k; is = rw same (refl, refl); put = p }
-
-    pub uncounted-index : (index : List ℕ) → index ≡ indexAfter bytes (counted bytes) index
-    uncounted-index index = rw (← e, g) (go m)
-      where
-        go : (m : Missing) → index ≡ indexAfter bytes (countsOutcome (counts.Missing m)) index
-        go Absent = refl
-        go (Refused k) = refl
-
-    pub uncounted-words : (words : List ℕ) → words ≡ wordsAfter bytes (counted bytes) words
-    uncounted-words words = rw (← e, g) (go m)
-      where
-        go : (m : Missing) → words ≡ wordsAfter bytes (countsOutcome (counts.Missing m)) words
-        go Absent = refl
-        go (Refused k) = refl
-
--- The same tables say the same and leave the same index.
-pub same-tables : (t v : Tables) (l m : List ℕ) (s u : Buffer) (after : List ℕ) → t ≡ v
-    → (Put (SaysOpened t (opening t)) l m s u × (after ≡ openedIndex t))
-    → (Put (SaysOpened v (opening v)) l m s u × (after ≡ openedIndex v))
-same-tables t v l m s u after e p = rw (← e) p
+-- The same tables hand out the same pieces.
+pub piece-same : (t u : Tables) (p q : Standing) (n : ℕ) (x : Handed) (old : List ℕ) → t ≡ u
+    → ((x ≡ pieceOf t p n old) × (toCome t q ≡ drop n (toCome t p))) → ((x ≡ pieceOf u p n old) × (toCome u q ≡ drop n (toCome u p)))
+piece-same t u p q n x old e h = rw (← e) h

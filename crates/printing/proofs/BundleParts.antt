@@ -1,20 +1,54 @@
--- The parts of a decoded bundle are its tables.
+-- The parts of a bundle that the code lends: the words that its tables are decoded into, and the tables in them.
 use Prim.Native.Nat.{ℕ, zero, suc, _+_, _-_, _*_, _≤_}
-use mathlib.Core.Path.{_≡_, refl, sym, ap, _∙_}
+use mathlib.Core.Path.{_≡_, refl, ap, _∙_}
 use mathlib.Core.List.{List, _∷_, _++_}
 use native.Mathlib.Omega.{arith}
-use lib.ListN.{length, take, drop}
-use lib.Seq.{length-take-le, take-append-seam}
-use Rattle.pointers.specs.Tables.{lent}
-use Rattle.listing.specs.Bundle.{wordFrom, wordsFrom, segmentWords, rebaseWords, segmentsAt, sectionsAt, rebasesAt, bindsAt, imageAt, bindWords, bundled, Accepted}
+use lib.ListN.{length, take, drop, length-drop}
+use lib.Seq.{length-take-le, take-append-le, drop-append-le}
+use Rattle.reads.specs.Outcome.{Outcome}
+use Rattle.reads.specs.Place.{part}
+use Rattle.pointers.specs.Open.{opening, openedIndex}
+use Rattle.pointers.specs.Tables.{Tables, tablesOf}
+use Rattle.pointers.specs.declared.imageinfo.ImageInfo.{ImageInfo}
+use Rattle.listing.specs.Bundle.{wordFrom, wordsFrom, segmentTableWords, rebaseTableWords, bindTableWords, segmentsAt, sectionsAt, rebasesAt, bindsAt, imageAt, bundled, Accepted}
 use Rattle.listing.specs.declared.bundle.Counts.{Counts}
 use Rattle.listing.proofs.BundleWords.{length-words}
-use Rattle.printing.specs.BundleText.{tableWords, decodedInto}
+use Rattle.printing.specs.BundleText.{indexWords}
+use Rattle.printing.specs.BundleLent.{tableWords, tablesIn}
 
-pub decoded-length : (bytes words : List ℕ) (n : ℕ) → words ≡ wordsFrom bytes segmentsAt n → length words ≡ n
-decoded-length bytes words n e = ap length e ∙ length-words bytes segmentsAt n
+-- The words lent, after those of the tables were written.
+pub decoded-whole : (bytes words : List ℕ) (c : Counts) (f r b : ℕ) → f ≡ segmentTableWords c → r ≡ rebaseTableWords c → b ≡ bindTableWords c
+    → tableWords c ≤ length words → (written : List ℕ) → written ≡ wordsFrom bytes segmentsAt (length (take (f + 15 + r + b - 0) (drop 0 words)))
+    → written ++ drop (f + 15 + r + b - 0) (drop 0 words) ≡ wordsFrom bytes segmentsAt (tableWords c) ++ drop (tableWords c) words
+decoded-whole bytes words c f r b p q s room written e =
+    let end : f + 15 + r + b - 0 ≡ tableWords c = omega arith in
+    let long : length (take (f + 15 + r + b - 0) words) ≡ tableWords c = rw end (length-take-le (tableWords c) words room) in
+    rw (e, long, end)
 
--- k of the words, from word a on.
+-- The tables, each as its part is lent.
+pub parts-tables : (bytes words index : List ℕ) (c : Counts) (a f r b n : ℕ) → Accepted bytes c → a ≡ imageAt c → f ≡ segmentTableWords c
+    → r ≡ rebaseTableWords c → b ≡ bindTableWords c → n ≡ indexWords c
+    → tablesOf (take (length bytes - a) (drop a bytes)) (take (f - 0) (drop 0 words)) (take (f + 15 - f) (drop f words))
+    (take (40 - 32) (drop 32 bytes)) (take (f + 15 + r - (f + 15)) (drop (f + 15) words))
+    (take (f + 15 + r + b - (f + 15 + r)) (drop (f + 15 + r) words)) (take (n - 0) (drop 0 index))
+    ≡ tablesIn bytes c words index
+parts-tables bytes words index c a f r b n x p q s u v =
+    let image : length bytes - a ≡ c .image = omega (arith, p, x .exact) in
+    let first : f - 0 ≡ f = omega arith in
+    let second : f + 15 - f ≡ 15 = omega arith in
+    let third : f + 15 + r - (f + 15) ≡ r = omega arith in
+    let last : f + 15 + r + b - (f + 15 + r) ≡ b = omega arith in
+    let all : n - 0 ≡ n = omega arith in
+    rw (image, first, second, third, last, all, p, q, s, u, v)
+
+-- Opening by its parts.
+pub parts-opened : (t u : Tables) (o : Outcome ImageInfo) (index after : List ℕ) (n m : ℕ) → t ≡ u → n ≡ m
+    → ((o ≡ opening t) × (after ≡ openedIndex t))
+    → ((o ≡ opening u) × (after ++ drop (n - 0) (drop 0 index) ≡ openedIndex u ++ drop m index))
+parts-opened t u o index after n m e f p =
+    let g : n - 0 ≡ m = omega arith in (p .0 ∙ ap opening e, rw (g, p .1, e))
+
+-- k of the decoded words, from word a on.
 first-words : (bytes : List ℕ) (offset k n : ℕ) → k ≤ n → take k (wordsFrom bytes offset n) ≡ wordsFrom bytes offset k
 unfolding wordsFrom
 first-words bytes offset zero n h = refl
@@ -31,45 +65,26 @@ words-from bytes offset (suc a) k zero h = absurd (omega arith)
 words-from bytes offset (suc a) k (suc n) h =
     let e : offset + 8 * suc a ≡ offset + 8 + 8 * a = omega arith in rw e (words-from bytes (offset + 8) a k n (omega arith))
 
-module _ (bytes words index : List ℕ) (c : Counts) (e : words ≡ wordsFrom bytes segmentsAt (tableWords c)) where
-  -- A part from word a to word b.
-  part-words : (a b k at : ℕ) → b - a ≡ k → a + k ≤ tableWords c → at ≡ segmentsAt + 8 * a
-      → take (b - a) (drop a words) ≡ wordsFrom bytes at k
-  part-words a b k at same h g = rw (same, e, g) (words-from bytes segmentsAt a k (tableWords c) h)
+module _ (bytes more index : List ℕ) (c : Counts) where
+  abbrev decoded : List ℕ
+  decoded = wordsFrom bytes segmentsAt (tableWords c) ++ more
 
-  pub parts-bundled : (a f r : ℕ) → a ≡ imageAt c → f ≡ segmentWords c → r ≡ rebaseWords c → Accepted bytes c
-      → lent (take (length bytes - a) (drop a bytes)) (take (f - 0) (drop 0 words)) (take (f + 15 - f) (drop f words))
-      (take (40 - 32) (drop 32 bytes)) (take (f + 15 + r - (f + 15)) (drop (f + 15) words))
-      (take (length words - (f + 15 + r)) (drop (f + 15 + r) words)) index
-      ≡ bundled bytes c index
-  parts-bundled a f r p q s x =
-      let image : length bytes - a ≡ c .image = omega (arith, p, x .exact) in
-      let n = decoded-length bytes words (tableWords c) e in
+  part-decoded : (a k at : ℕ) → a + k ≤ tableWords c → at ≡ segmentsAt + 8 * a → part decoded a k ≡ wordsFrom bytes at k
+  part-decoded a k at h e =
+      let n = length-words bytes segmentsAt (tableWords c) in
       rw (
-        image,
-        part-words 0 f (segmentWords c) segmentsAt (omega (arith, q)) (omega (arith, q)) (omega arith),
-        part-words f (f + 15) 15 (sectionsAt c) (omega arith) (omega (arith, q)) (omega (arith, q)),
-        part-words (f + 15) (f + 15 + r) (rebaseWords c) (rebasesAt c) (omega (arith, s)) (omega (arith, q, s)) (omega (arith, q)),
-        part-words (f + 15 + r) (length words) (bindWords c) (bindsAt c) (omega (arith, q, s, n)) (omega (arith, q, s))
-            (omega (arith, q, s)),
-        p,
+        drop-append-le a (wordsFrom bytes segmentsAt (tableWords c)) more (omega arith),
+        take-append-le k (drop a (wordsFrom bytes segmentsAt (tableWords c))) more (simp length-drop (omega (arith, n))),
+        words-from bytes segmentsAt a k (tableWords c) h,
+        e,
       )
 
--- The words lent, after those of the tables were written: the tables' part, and all.
-module _ (bytes words : List ℕ) (c : Counts) (f r b : ℕ) (p : f ≡ segmentWords c) (q : r ≡ rebaseWords c) (s : b ≡ bindWords c)
-    (room : tableWords c ≤ length words) (written : List ℕ)
-    (e : written ≡ wordsFrom bytes segmentsAt (length (take (f + 15 + r + b - 0) (drop 0 words)))) where
-  end-is : f + 15 + r + b - 0 ≡ tableWords c
-  end-is = omega (arith, p, q, s)
-
-  written-words : written ≡ wordsFrom bytes segmentsAt (tableWords c)
-  written-words =
-      e ∙ ap (wordsFrom bytes segmentsAt) (ap (λ (n : ℕ). length (take n words)) end-is ∙ length-take-le (tableWords c) words room)
-
-  pub decoded-part : (after : List ℕ) → take (f + 15 + r + b - 0) (written ++ after) ≡ wordsFrom bytes segmentsAt (tableWords c)
-  decoded-part after =
-      let n = decoded-length bytes written (tableWords c) written-words in
-      rw (end-is, ← n) (take-append-seam written after ∙ written-words ∙ ap (wordsFrom bytes segmentsAt) (sym n))
-
-  pub decoded-whole : written ++ drop (f + 15 + r + b - 0) (drop 0 words) ≡ decodedInto bytes c words
-  decoded-whole = rw (end-is, written-words)
+  -- The tables in decoded words are those that the bundle says.
+  pub decoded-bundled : tablesIn bytes c decoded index ≡ bundled bytes c (take (indexWords c) index)
+  decoded-bundled =
+      rw (
+        part-decoded 0 (segmentTableWords c) segmentsAt (omega arith) (omega arith),
+        part-decoded (segmentTableWords c) 15 (sectionsAt c) (omega arith) (omega arith),
+        part-decoded (segmentTableWords c + 15) (rebaseTableWords c) (rebasesAt c) (omega arith) (omega arith),
+        part-decoded (segmentTableWords c + 15 + rebaseTableWords c) (bindTableWords c) (bindsAt c) (omega arith) (omega arith),
+      )

@@ -1,77 +1,165 @@
--- What is printed of a bundle that is accepted and opened is the text of the plain listing, line by line; a ledger of 8,192 words is always
--- long enough.
-use Prim.Native.Nat.{ℕ, _+_, _≤_, _<_}
+-- The text that is to come after a bundle was decoded and opened is the bundle's text, whatever the words, the index and the ledger held.
+use Prim.Native.Nat.{ℕ, _+_, _*_, _≤_, _<_}
 use mathlib.Core.Path.{_≡_, refl, sym, ap, _∙_, subst}
-use mathlib.Core.List.{List, _++_, flatMap}
+use mathlib.Core.Bool.{true, false}
+use mathlib.Core.List.{List, _++_, flatMap, append-nil}
 use native.Mathlib.Omega.{arith}
-use lib.ListN.{length, drop, length-take}
-use Rattle.reads.specs.Outcome.{Outcome, value}
+use lib.ListN.{length, take, drop, replicate, length-replicate}
+use lib.Seq.{length-take-le, take-at}
+use Rattle.reads.specs.Outcome.{Outcome, value, absent, number, andThen}
 use Rattle.pointers.specs.Open.{Opened, opening, openedIndex}
+use Rattle.reads.specs.Table.{records}
 use Rattle.pointers.specs.Tables.{Tables, withIndex}
 use Rattle.pointers.specs.declared.imageinfo.ImageInfo.{ImageInfo}
-use Rattle.records.specs.Sections.{slotCount}
-use Rattle.listing.specs.Bundle.{imageAt, counted, bundled}
-use Rattle.listing.specs.Listing.{State, Said, Left, leaves}
-use Rattle.listing.specs.PlainListing.{Event, plainListing}
+use Rattle.walks.specs.Slots.{slotCount}
+use Rattle.listing.specs.Bundle.{wordsFrom, segmentsAt, countsOf, bundled, Accepted}
+use Rattle.listing.specs.Listing.{State, Left, leaves, start, says, nothing, ended, listingStep}
+use Rattle.listing.specs.PlainListing.{Event, plainRecords, plainListing}
 use Rattle.listing.specs.declared.bundle.Counts.{Counts}
 use Rattle.listing.specs.declared.line.Line.{Line}
 use Rattle.listing.proofs.Bounds.{pair-slots}
-use Rattle.listing.proofs.Measured as measured
+use Rattle.listing.proofs.Remaining.{goesOn, InWords}
+use Rattle.listing.proofs.Gathers.{there-known}
+use Rattle.listing.proofs.PlainThere.{events-there, listing-there}
 use Rattle.listing.proofs.Rest.{Rest, over, silent, saying}
 use Rattle.listing.proofs.WholeListing.{whole-rest}
-use Rattle.printing.specs.BundleText as text
-use Rattle.printing.specs.BundleText.{Says, SaysCounted}
-use Rattle.printing.specs.LineText.{lineText}
+use Rattle.printing.specs.BundleLent.{tableWords, wordsBy, wordsAfter, tablesIn, openingBy, openingIn, indexBy, indexAfter, tablesBy, tablesLent}
+use Rattle.printing.specs.BundleText.{indexWords, bundleTables, bundleOpening, listingText, openedText, bundleText}
+use Rattle.printing.specs.LineText.{lineText, refusedText}
+use Rattle.printing.specs.Pieces.{Standing, standing, toCome, begun, pieces}
+use Rattle.printing.proofs.BundleOpens.{opening-same, index-whole, index-long, image-length, index-most, index-asks, counted-by}
+use Rattle.printing.proofs.BundleParts.{decoded-bundled}
+use Rattle.printing.proofs.Comes.{Sound, come-step, pieces-text}
+use Rattle.listing.proofs.WordsKept.{words-kept}
 
--- Two answers of one step are the same.
-answer-same : {a b : Outcome Said} {s v : State} {l m : List ℕ} {x : Left} → x ≡ leaves a s l → x ≡ leaves b v m → a ≡ b
-answer-same e d = ap (λ (y : Left). y .answer) (sym e ∙ d)
+-- What is left of a listing comes as the text of its lines.
+abbrev made : Left → Standing
+made x = standing (x .answer) 0 (x .state) (x .ledger)
 
 module _ (t : Tables) where
-  goes-on : {o a : Outcome Said} {s v : State} {l m : List ℕ} {x : Left} {words n : List ℕ} → x ≡ leaves o s l → x ≡ leaves a v m
-      → Says t v m words n → Says t s l words n
-  goes-on {words = words} {n = n} e d q =
-      let f = sym d ∙ e in
-      subst (λ (y : Left). Says t (y .state) (y .ledger) words n) f q
+  words-after : (s : State) (l : List ℕ) (x : Left) → InWords s → listingStep t s l ≡ x → goesOn (x .answer) ≡ true → InWords (x .state)
+  words-after s l x h e = subst (λ (y : Left). goesOn (y .answer) ≡ true → InWords (y .state)) e (words-kept t s l h)
 
-  same-text : {s : State} {l : List ℕ} {xs : List Line} {es : List Event} {words m : List ℕ} → Rest t s l xs es → Says t s l words m
-      → words ≡ flatMap (lineText (t .image)) xs
+  rest-comes : {s : State} {l : List ℕ} {xs : List Line} {es : List Event} → Rest t s l xs es → InWords s
+      → toCome t (made (listingStep t s l)) ≡ flatMap (lineText (t .image)) xs
   unfolding flatMap
-  same-text (over e f) (text.over d) = refl
-  same-text (over e f) (text.refuses k d) = let h = answer-same e d in let z : _≡_ {A = ℕ} 0 1 = cc in absurd (omega arith)
-  same-text (over e f) (text.silent d q) = let h = answer-same e d in let z : _≡_ {A = ℕ} 0 1 = cc in absurd (omega arith)
-  same-text (over e f) (text.saying x d q) = let h = answer-same e d in let z : _≡_ {A = ℕ} 0 1 = cc in absurd (omega arith)
-  same-text (silent e f r) (text.over d) = let h = answer-same e d in let z : _≡_ {A = ℕ} 0 1 = cc in absurd (omega arith)
-  same-text (silent e f r) (text.refuses k d) = let h = answer-same e d in let z : _≡_ {A = ℕ} 0 1 = cc in absurd (omega arith)
-  same-text (silent e f r) (text.silent d q) = same-text r (goes-on e d q)
-  same-text (silent e f r) (text.saying x d q) = let h = answer-same e d in let z : _≡_ {A = ℕ} 0 1 = cc in absurd (omega arith)
-  same-text (saying e f r) (text.over d) = let h = answer-same e d in let z : _≡_ {A = ℕ} 0 1 = cc in absurd (omega arith)
-  same-text (saying e f r) (text.refuses k d) = let h = answer-same e d in let z : _≡_ {A = ℕ} 0 1 = cc in absurd (omega arith)
-  same-text (saying e f r) (text.silent d q) = let h = answer-same e d in let z : _≡_ {A = ℕ} 0 1 = cc in absurd (omega arith)
-  same-text (saying {x = x} e f r) (text.saying y d q) =
-      let h = answer-same e d in
-      let g : y ≡ x = cc in
-      rw g (ap (λ (more : List ℕ). lineText (t .image) x ++ more) (same-text r (goes-on e d q)))
+  rest-comes {s} {l} (over e f) h =
+      ap (λ (x : Left). toCome t (made x)) e ∙ come-step t (made (leaves (value ended) s l)) (record { words = words-after s l _ h e })
+  rest-comes {s} {l} (silent {v = v} {m = m} e f r) h =
+      let k = words-after s l _ h e in
+      ap (λ (x : Left). toCome t (made x)) e ∙ come-step t (made (leaves (value nothing) v m)) (record { words = k }) ∙ rest-comes r (k refl)
+  rest-comes {s} {l} (saying {v = v} {m = m} {x = x} e f r) h =
+      let k = words-after s l _ h e in
+      ap (λ (y : Left). toCome t (made y)) e
+      ∙ come-step t (made (leaves (value (says x)) v m)) (record { words = k })
+      ∙ ap (λ (text : List ℕ). lineText (t .image) x ++ text) (rest-comes r (k refl))
 
--- A bundle that is accepted, and its tables with the index as opening left it.
-module _ (bytes index : List ℕ) (c : Counts) (accepted : counted bytes ≡ value c) (info : ImageInfo) (opens : opening (bundled bytes c index) ≡ value info) where
-  abbrev tables : Tables
-  tables = withIndex (bundled bytes c index) (openedIndex (bundled bytes c index))
+start-words : InWords start
+start-words = record { slot = omega arith; cursor = omega arith }
 
-  abbrev opened : Opened tables
-  opened = record { before = index; info = info; accepted = opens; left = refl }
+begun-sound : (o : Outcome ImageInfo) (l : List ℕ) → Sound (begun o l)
+begun-sound o l = record { words = λ e. start-words }
 
-  room : (first second : ℕ) → first < 5 → second < 5 → slotCount (tables .sections) first second ≤ 8192
-  room first second a b =
-      let most = pair-slots tables opened first second a b in
-      let fits = measured.accepted bytes c accepted in
-      let image = length-take (c .image) (drop (imageAt c) bytes) in
-      omega (arith, fits .short, fits .exact)
+-- A ledger of 8,192 words is always enough for an image of at most 32,768 bytes.
+module _ (t : Tables) (o : Opened t) (short : length (t .image) ≤ 32768) (l : List ℕ) (long : length l ≡ 8192) where
+  room : (first second : ℕ) → first < 5 → second < 5 → slotCount (t .sections) first second ≤ length l
+  room first second a b = omega (arith, pair-slots t o first second a b)
 
-  -- Nothing readable is left out of what is printed.
-  pub printed : (l words m : List ℕ) → 8192 ≤ length l → SaysCounted bytes index (counted bytes) l words m
-      → words ≡ flatMap (lineText (tables .image)) (plainListing tables info)
-  printed l words m long said =
-      let classes = room 0 1 (omega arith) (omega arith) in
-      let categories = room 2 3 (omega arith) (omega arith) in
-      same-text tables (whole-rest tables opened l (omega arith) (omega arith)) (rw (accepted, opens) at said)
+  listing-comes : toCome t (begun (value (o .info)) l) ≡ listingText (t .image) (plainListing t)
+  listing-comes =
+      let lines = there-known (listing-there t o) in
+      let events = there-known (events-there t o 0 (plainRecords t)) in
+      let rest = whole-rest t o l (room 0 1 (omega arith) (omega arith)) (room 2 3 (omega arith) (omega arith)) (lines .known) (events .known) (lines .is) (events .is) in
+      come-step t (begun (value (o .info)) l) (begun-sound (value (o .info)) l)
+      ∙ rest-comes t rest start-words
+      ∙ ap (listingText (t .image)) (sym (lines .is))
+
+-- A number that refuses comes as its text, and nothing comes where nothing was said.
+over-comes : (t : Tables) (o : Outcome ImageInfo) (l : List ℕ) → goesOn (begun o l .said) ≡ false → toCome t (begun o l) ≡ openedText t o
+over-comes t (value info) l e = let z : _≡_ {A = ℕ} 0 1 = cc in absurd (omega arith)
+over-comes t absent l e = come-step t (begun absent l) (begun-sound absent l)
+over-comes t (number k) l e = come-step t (begun (number k) l) (begun-sound (number k) l) ∙ append-nil (refusedText k)
+
+module _ (bytes : List ℕ) (c : Counts) (a : Accepted bytes c) (more index l : List ℕ) (room : 10240 ≤ length index) (long : length l ≡ 8192) where
+  abbrev words : List ℕ
+  words = wordsFrom bytes segmentsAt (tableWords c) ++ more
+
+  abbrev old : List ℕ
+  old = take (indexWords c) index
+
+  abbrev zeros : List ℕ
+  zeros = replicate (indexWords c) 0
+
+  old-long : length old ≡ indexWords c
+  old-long = length-take-le (indexWords c) index (omega (arith, index-most bytes c a))
+
+  zeros-long : length zeros ≡ indexWords c
+  zeros-long = length-replicate (indexWords c) 0
+
+  opens-same : opening (tablesIn bytes c words index) ≡ opening (bundled bytes c zeros)
+  opens-same = ap opening (decoded-bundled bytes more index c) ∙ opening-same (bundled bytes c zeros) old zeros (old-long ∙ sym zeros-long)
+
+  abbrev read : Tables
+  read = tablesIn bytes c words (openedIndex (tablesIn bytes c words index) ++ drop (indexWords c) index)
+
+  abbrev said : Tables
+  said = withIndex (bundled bytes c zeros) (openedIndex (bundled bytes c zeros))
+
+  module _ (info : ImageInfo) (e : opening (bundled bytes c zeros) ≡ value info) where
+    asks : (i : List ℕ) → length i ≡ indexWords c → length i ≡ 8192 + records 2 (bundled bytes c i .rebases) + records 3 (bundled bytes c i .binds)
+    asks i h = h ∙ sym (index-asks bytes c a)
+
+    old-opens : opening (bundled bytes c old) ≡ value info
+    old-opens = opening-same (bundled bytes c zeros) old zeros (old-long ∙ sym zeros-long) ∙ e
+
+    index-same : openedIndex (bundled bytes c old) ≡ openedIndex (bundled bytes c zeros)
+    index-same =
+        index-whole (bundled bytes c zeros) old (asks old old-long) info old-opens
+        ∙ sym (index-whole (bundled bytes c zeros) zeros (asks zeros zeros-long) info e)
+
+    read-said : read ≡ said
+    read-said =
+        decoded-bundled bytes more (openedIndex (tablesIn bytes c words index) ++ drop (indexWords c) index) c
+        ∙ ap (bundled bytes c)
+        (ap (λ (t : Tables). take (indexWords c) (openedIndex t ++ drop (indexWords c) index)) (decoded-bundled bytes more index c)
+        ∙ take-at (openedIndex (bundled bytes c old)) (drop (indexWords c) index) (indexWords c)
+        (index-long (bundled bytes c zeros) old (asks old old-long) info old-opens ∙ old-long)
+        ∙ index-same)
+
+    opened-comes : toCome read (begun (value info) l) ≡ openedText said (value info)
+    opened-comes =
+        ap (λ (t : Tables). toCome t (begun (value info) l)) read-said
+        ∙ listing-comes said (record { indexBefore = zeros; info = info; accepted = e; left = refl }) (image-length bytes c a) l long
+
+  accepted-comes : toCome read (begun (opening (tablesIn bytes c words index)) l) ≡ openedText said (opening (bundled bytes c zeros))
+  accepted-comes = rw opens-same (go (opening (bundled bytes c zeros)) refl)
+    where
+      go : (o : Outcome ImageInfo) → opening (bundled bytes c zeros) ≡ o → toCome read (begun o l) ≡ openedText said o
+      go (value info) e = opened-comes info e
+      go absent e = over-comes read absent l refl
+      go (number k) e = over-comes read (number k) l refl
+
+-- What comes of a bundle that was decoded and then opened.
+module _ (bytes words index l : List ℕ) where
+  abbrev decoded : List ℕ
+  decoded = wordsAfter bytes words
+
+  abbrev opened : List ℕ
+  opened = indexAfter bytes decoded index
+
+  module _ (room : 10240 ≤ length index) (long : length l ≡ 8192) where
+    pub printed : toCome (tablesLent bytes decoded opened) (begun (openingIn bytes decoded index) l) ≡ bundleText bytes
+    unfolding bundleText bundleOpening
+    printed =
+        counted-by bytes
+        (λ (o : Outcome Counts). toCome (tablesBy bytes o (wordsBy bytes o words) (indexBy bytes o (wordsBy bytes o words) index))
+        (begun (openingBy bytes o (wordsBy bytes o words) index) l)
+        ≡ openedText (withIndex (bundleTables bytes) (openedIndex (bundleTables bytes))) (andThen o (λ c. opening (bundleTables bytes))))
+        (λ a. accepted-comes bytes (countsOf bytes) a (drop (tableWords (countsOf bytes)) words) index l room long)
+        (over-comes _ (number 13) l refl)
+
+    -- The pieces that are handed out, one after the other, are the bundle's text.
+    pub printed-pieces : (k : ℕ) → pieces (tablesLent bytes decoded opened) 4096 k (begun (openingIn bytes decoded index) l) ≡ take (k * 4096) (bundleText bytes)
+    printed-pieces k =
+        pieces-text (tablesLent bytes decoded opened) 4096 k (begun (openingIn bytes decoded index) l) (begun-sound (openingIn bytes decoded index) l)
+        ∙ ap (take (k * 4096)) printed

@@ -6,7 +6,7 @@ use native.Mathlib.Omega.{arith}
 use lib.ListN.{length}
 use borrow.Author.Tests.{le-leb, lt-leb}
 use Rattle.reads.specs.Place.{part}
-use Rattle.reads.specs.declared.answer.Text.{Text}
+use Rattle.reads.specs.declared.text.Text.{Text}
 use Rattle.reads.proofs.Tests.{choose-true, choose-false}
 use Rattle.printing.specs.LineText.{noneField, stringField, textField}
 

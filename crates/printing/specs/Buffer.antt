@@ -1,31 +1,36 @@
--- A lent buffer of which some bytes wait to be written, and numbers as text.
-use Prim.Native.Nat.{ℕ, zero, suc, _+_, _/_}
-use mathlib.Core.List.{List, [], _∷_}
+-- A lent buffer that takes a part of a text, and numbers as text.
+use Prim.Native.Nat.{ℕ, zero, suc, _+_, _-_, _/_, min}
+use mathlib.Core.List.{List}
 use lib.Dec.{ltb}
-use lib.ListN.{length, set}
+use lib.ListN.{length, drop}
+use lib.Seq.{paste}
 use Rattle.io.specs.Digits.{digits}
 use Rattle.reads.specs.Outcome.{choose}
+use Rattle.printing.specs.declared.buffer.Window.{Window}
 
--- The buffer's bytes, and how many of them wait.
+-- The buffer's bytes, how many bytes of the text to come are passed over, and how many bytes of the buffer are taken.
 pub record Buffer : Type 0 where
   pub bytes : List ℕ
+  pub skip : ℕ
   pub at : ℕ
 
-abbrev pub buffer : List ℕ → ℕ → Buffer
-buffer bytes at = record { bytes = bytes; at = at }
+abbrev pub held : List ℕ → ℕ → ℕ → Buffer
+held bytes skip at = record { bytes = bytes; skip = skip; at = at }
 
--- Where there is no room what waits is written, and the byte is the first that waits; a buffer of no bytes has none wait.
-unfoldable pub begun : List ℕ → ℕ → Buffer
-begun bytes b = choose (ltb 0 (length bytes)) (buffer (set bytes 0 b) 1) (buffer bytes 0)
+abbrev pub buffer : List ℕ → Window → Buffer
+buffer bytes w = held bytes (w .skip) (w .at)
 
--- A byte after those that wait.
-unfoldable pub put : Buffer → ℕ → Buffer
-put s b = choose (ltb (s .at) (length (s .bytes))) (buffer (set (s .bytes) (s .at) b) (s .at + 1)) (begun (s .bytes) b)
+-- How many bytes of a text go in: those after the ones that are passed over, as far as there is room.
+abbrev pub fitting : Buffer → List ℕ → ℕ
+fitting s text = min (length (s .bytes) - s .at) (length text - s .skip)
 
--- A text, byte by byte.
+-- The buffer then: they stand after those that were taken before.
 unfoldable pub putAll : Buffer → List ℕ → Buffer
-putAll s [] = s
-putAll s (b ∷ bs) = putAll (put s b) bs
+putAll s text =
+    held
+    (paste (s .bytes) (s .at) (drop (s .skip) text) (fitting s text))
+    (s .skip - length text)
+    (s .at + fitting s text)
 
 -- The digits that a number takes in base b, at least one; k bounds those after the first.
 unfoldable pub places : ℕ → ℕ → ℕ → ℕ

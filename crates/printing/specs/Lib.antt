@@ -2,3 +2,5 @@
 pub mod Buffer
 pub mod LineText
 pub mod BundleText
+pub mod Pieces
+pub mod BundleLent

@@ -7,7 +7,7 @@ use lib.Dec.{leb}
 use lib.ListN.{length}
 use Rattle.reads.specs.Outcome.{choose}
 use Rattle.reads.specs.Place.{part}
-use Rattle.reads.specs.declared.answer.Text.{Text}
+use Rattle.reads.specs.declared.text.Text.{Text}
 use Rattle.pointers.specs.Symbol.{ascii}
 use Rattle.pointers.specs.declared.imageinfo.ImageInfo.{ImageInfo}
 use Rattle.records.specs.declared.class.ClassRo.{ClassRo}

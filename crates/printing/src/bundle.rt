@@ -1,180 +1,216 @@
-// The listing of a bundle, as text.
-use crate::print;
+// The listing of a bundle: its tables are decoded, opened, and its text handed out piece by piece. Each call writes nothing with its own
+// number. The buffers' sizes are those of the longest bundle, 32,768 bytes: its tables have at most 4,091 words, its index at most 8,192 +
+// 2,038, and the two lists of a section walk at most 8,152 slots. One byte more of input tells a longer bundle.
+use crate::buffer::least;
+use crate::pieces::Piece;
+use crate::pieces::Progress;
 use listing::bundle::Counts;
 use listing::bundle::CountsAnswer;
 use listing::bundle::measure;
 use listing::bundle::words_at;
-use listing::listing::Listing;
-use listing::listing::Said;
 use pointers::imageinfo::ImageInfoAnswer;
-use pointers::open::open;
-use reads::answer::Missing;
+use pointers::section::ObjcSection;
 ghost use Prim.Native.Nat.{_≤_};
 ghost use mathlib.Core.Path.{_≡_};
-ghost use lib.ListN.{length};
-ghost use Rattle.listing.specs.Bundle.{Accepted, bundled, counted, wordsFrom, segmentsAt};
-ghost use Rattle.listing.specs.Listing.{start};
+ghost use mathlib.Core.List.{_++_};
+ghost use lib.ListN.{length, take, drop};
+ghost use Rattle.reads.specs.Reference.{before, after};
+ghost use Rattle.pointers.specs.ImageInfo.{infoOutcome};
 ghost use Rattle.pointers.specs.Open.{opening, openedIndex};
-ghost use Rattle.pointers.specs.Tables.{lent};
-ghost use Rattle.printing.specs.Buffer.{buffer};
-ghost use Rattle.printing.specs.BundleText.{Put, Says, SaysOpened, SaysCounted, indexAfter, tableWords, decodedInto, wordsAfter};
+ghost use Rattle.listing.specs.Bundle.{Accepted, countsOutcome, bundleCounts, wordsFrom, segmentsAt};
+ghost use Rattle.printing.specs.BundleText.{indexWords};
+ghost use Rattle.printing.specs.BundleLent.{tableWords, wordsAfter, tablesIn, openingIn, indexAfter, tablesLent};
+ghost use Rattle.printing.specs.Pieces.{standingOf, toCome, handedOf, pieceOf};
 
-// The lines of opened tables, one step of the listing after the other.
-fn list_all(
-    image: &[u8],
-    segments: &[u64],
-    sections: &[u64],
-    info: &[u8],
-    rebases: &[u64],
-    binds: &[u64],
-    index: &[u32],
-    ledger: &mut [u64],
-    out: &mut [u8],
-    at: usize,
-) -> usize
-    ensures { λ r. ⌜ Put (Says (lent (now (image .entry)) (now (segments .entry)) (now (sections .entry)) (now (info .entry)) (now (rebases .entry)) (now (binds .entry)) (now (index .entry))) start) (now (ledger .entry)) (now (ledger .exit)) (buffer (now (out .entry)) at) (buffer (now (out .exit)) r) ⌝ }
-{
-    let mut listing = Listing::new();
-    let mut to = at;
-    loop {
-        let listed = listing.next(
-            image,
-            segments,
-            sections,
-            info,
-            rebases,
-            binds,
-            index,
-            ledger,
-        );
-        let said = listed.said;
-        listing = listed.listing;
-        match said {
-            Said::Line(line) => {
-                to = print::line(image, line, out, to);
-            }
-            Said::Nothing => {}
-            Said::Ended => {
-                return to;
-            }
-            Said::Refused(k) => {
-                return print::refused(k, out, to);
-            }
-        }
-    }
-}
-
-// Opens the tables and lists them; nothing is printed before opening has accepted.
-fn list_tables(
-    image: &[u8],
-    segments: &[u64],
-    sections: &[u64],
-    info: &[u8],
-    rebases: &[u64],
-    binds: &[u64],
-    index: &mut [u32],
-    ledger: &mut [u64],
-    out: &mut [u8],
-    at: usize,
-) -> usize
-    ensures text { λ r. ⌜ Put (SaysOpened (lent (now (image .entry)) (now (segments .entry)) (now (sections .entry)) (now (info .entry)) (now (rebases .entry)) (now (binds .entry)) (now (index .entry))) (opening (lent (now (image .entry)) (now (segments .entry)) (now (sections .entry)) (now (info .entry)) (now (rebases .entry)) (now (binds .entry)) (now (index .entry))))) (now (ledger .entry)) (now (ledger .exit)) (buffer (now (out .entry)) at) (buffer (now (out .exit)) r) ⌝ }
-    ensures contents { λ _. ⌜ now (index .exit) ≡ openedIndex (lent (now (image .entry)) (now (segments .entry)) (now (sections .entry)) (now (info .entry)) (now (rebases .entry)) (now (binds .entry)) (now (index .entry))) ⌝ }
-{
-    match open(image, segments, sections, info, rebases, binds, index) {
-        ImageInfoAnswer::Info(_) => list_all(
-            image,
-            segments,
-            sections,
-            info,
-            rebases,
-            binds,
-            index,
-            ledger,
-            out,
-            at,
-        ),
-        ImageInfoAnswer::Missing(m) => match m {
-            Missing::Absent => at,
-            Missing::Refused(k) => print::refused(k, out, at),
-        },
-    }
-}
-
-// A bundle of these counts, its tables decoded: each is lent as its part of the words.
-fn list_words(
-    bytes: &[u8],
-    counts: Counts,
-    words: &[u64],
-    index: &mut [u32],
-    ledger: &mut [u64],
-    out: &mut [u8],
-    at: usize,
-) -> usize
+// The tables of a bundle of these counts.
+fn decode_counted(bytes: &[u8], counts: Counts, words: &mut [u64])
     requires { ⌜ Accepted (now bytes) counts ⌝ }
-    requires { ⌜ now words ≡ wordsFrom (now bytes) segmentsAt (tableWords counts) ⌝ }
-    ensures text { λ r. ⌜ Put (SaysOpened (bundled (now (bytes .entry)) counts (now (index .entry))) (opening (bundled (now (bytes .entry)) counts (now (index .entry))))) (now (ledger .entry)) (now (ledger .exit)) (buffer (now (out .entry)) at) (buffer (now (out .exit)) r) ⌝ }
-    ensures contents { λ _. ⌜ now (index .exit) ≡ openedIndex (bundled (now (bytes .entry)) counts (now (index .entry))) ⌝ }
+    requires { ⌜ 4096 ≤ length (now words) ⌝ }
+    ensures { λ _. ⌜ after words ≡ wordsFrom (before bytes) segmentsAt (tableWords counts) ++ drop (tableWords counts) (before words) ⌝ }
+{
+    let end = counts.segment_words()
+        + ObjcSection::TABLE_WORDS
+        + counts.rebase_words()
+        + counts.bind_words();
+    words_at(bytes, Counts::SEGMENTS_AT, &mut words[0..end]);
+}
+
+fn decode_bytes(bytes: &[u8], words: &mut [u64]) -> CountsAnswer
+    requires { ⌜ 4096 ≤ length (now words) ⌝ }
+    ensures outcome { λ r. ⌜ countsOutcome r ≡ bundleCounts (before bytes) ⌝ }
+    ensures contents { λ _. ⌜ after words ≡ wordsAfter (before bytes) (before words) ⌝ }
+{
+    match measure(bytes) {
+        CountsAnswer::Counts(counts) => {
+            decode_counted(bytes, counts, words);
+            CountsAnswer::Counts(counts)
+        }
+        CountsAnswer::Missing(m) => CountsAnswer::Missing(m),
+    }
+}
+
+// Question 13; then the words of the bundle's tables.
+pub fn decode(input: &[u8; 32769], n: usize, words: &mut [u64; 4096]) -> CountsAnswer
+    ensures outcome { λ r. ⌜ countsOutcome r ≡ bundleCounts (take n (before input)) ⌝ }
+    ensures contents { λ _. ⌜ after words ≡ wordsAfter (take n (before input)) (before words) ⌝ }
+{
+    let all: &[u8] = input;
+    let end = least(n, all.len());
+    decode_bytes(&all[0..end], words)
+}
+
+// The words of the index that question 8 asks for these counts.
+fn index_words(counts: Counts) -> usize
+    ensures { λ r. ⌜ r ≡ indexWords counts ⌝ }
+{
+    8192 + counts.rebases as usize + counts.binds as usize
+}
+
+// Opens the tables of a bundle of these counts, each its part of the words.
+fn open_counted(bytes: &[u8], counts: Counts, words: &[u64], index: &mut [u32]) -> ImageInfoAnswer
+    requires { ⌜ Accepted (now bytes) counts ⌝ }
+    requires { ⌜ 4096 ≤ length (now words) ⌝ }
+    requires { ⌜ 10240 ≤ length (now index) ⌝ }
+    ensures outcome { λ r. ⌜ infoOutcome r ≡ opening (tablesIn (before bytes) counts (before words) (before index)) ⌝ }
+    ensures contents { λ _. ⌜ after index ≡ openedIndex (tablesIn (before bytes) counts (before words) (before index)) ++ drop (indexWords counts) (before index) ⌝ }
 {
     let image_at = counts.image_at();
     let first = counts.segment_words();
-    let second = first + Counts::SECTION_WORDS;
+    let second = first + ObjcSection::TABLE_WORDS;
     let third = second + counts.rebase_words();
-    list_tables(
+    let end = third + counts.bind_words();
+    let entries = index_words(counts);
+    pointers::open::open(
         &bytes[image_at..],
         &words[0..first],
         &words[first..second],
         &bytes[32..40],
         &words[second..third],
-        &words[third..],
-        index,
-        ledger,
-        out,
-        at,
+        &words[third..end],
+        &mut index[0..entries],
     )
 }
 
-// A bundle of these counts: its tables are decoded into `words`.
-fn list_counted(
-    bytes: &[u8],
-    counts: Counts,
-    words: &mut [u64],
-    index: &mut [u32],
-    ledger: &mut [u64],
-    out: &mut [u8],
-    at: usize,
-) -> usize
-    requires { ⌜ Accepted (now bytes) counts ⌝ }
+fn open_bytes(bytes: &[u8], words: &[u64], index: &mut [u32]) -> ImageInfoAnswer
     requires { ⌜ 4096 ≤ length (now words) ⌝ }
-    ensures text { λ r. ⌜ Put (SaysOpened (bundled (now (bytes .entry)) counts (now (index .entry))) (opening (bundled (now (bytes .entry)) counts (now (index .entry))))) (now (ledger .entry)) (now (ledger .exit)) (buffer (now (out .entry)) at) (buffer (now (out .exit)) r) ⌝ }
-    ensures contents { λ _. ⌜ now (index .exit) ≡ openedIndex (bundled (now (bytes .entry)) counts (now (index .entry))) ⌝ }
-    ensures decoded { λ _. ⌜ now (words .exit) ≡ decodedInto (now (bytes .entry)) counts (now (words .entry)) ⌝ }
-{
-    let end = counts.segment_words()
-        + Counts::SECTION_WORDS
-        + counts.rebase_words()
-        + counts.bind_words();
-    words_at(bytes, Counts::SEGMENTS_AT, &mut words[0..end]);
-    list_words(bytes, counts, &words[0..end], index, ledger, out, at)
-}
-
-// Question 13, then the bundle's listing: its text, and each lent buffer as it is then.
-pub fn list_bundle(
-    bytes: &[u8],
-    words: &mut [u64; 4096],
-    index: &mut [u32],
-    ledger: &mut [u64],
-    out: &mut [u8],
-    at: usize,
-) -> usize
-    ensures text { λ r. ⌜ Put (SaysCounted (now (bytes .entry)) (now (index .entry)) (counted (now (bytes .entry)))) (now (ledger .entry)) (now (ledger .exit)) (buffer (now (out .entry)) at) (buffer (now (out .exit)) r) ⌝ }
-    ensures contents { λ _. ⌜ now (index .exit) ≡ indexAfter (now (bytes .entry)) (counted (now (bytes .entry))) (now (index .entry)) ⌝ }
-    ensures decoded { λ _. ⌜ now (words .exit) ≡ wordsAfter (now (bytes .entry)) (counted (now (bytes .entry))) (now (words .entry)) ⌝ }
+    requires { ⌜ 10240 ≤ length (now index) ⌝ }
+    ensures outcome { λ r. ⌜ infoOutcome r ≡ openingIn (before bytes) (before words) (before index) ⌝ }
+    ensures contents { λ _. ⌜ after index ≡ indexAfter (before bytes) (before words) (before index) ⌝ }
 {
     match measure(bytes) {
-        CountsAnswer::Counts(counts) => list_counted(bytes, counts, words, index, ledger, out, at),
-        CountsAnswer::Missing(m) => match m {
-            Missing::Absent => at,
-            Missing::Refused(k) => print::refused(k, out, at),
-        },
+        CountsAnswer::Counts(counts) => open_counted(bytes, counts, words, index),
+        CountsAnswer::Missing(m) => ImageInfoAnswer::Missing(m),
     }
+}
+
+// Question 13; then opening, of the tables that the words hold.
+pub fn open(
+    input: &[u8; 32769],
+    n: usize,
+    words: &[u64; 4096],
+    index: &mut [u32; 10240],
+) -> ImageInfoAnswer
+    ensures outcome { λ r. ⌜ infoOutcome r ≡ openingIn (take n (before input)) (before words) (before index) ⌝ }
+    ensures contents { λ _. ⌜ after index ≡ indexAfter (take n (before input)) (before words) (before index) ⌝ }
+{
+    let all: &[u8] = input;
+    let end = least(n, all.len());
+    open_bytes(&all[0..end], words, index)
+}
+
+// The next piece of a bundle of these counts.
+fn piece_counted(
+    progress: Progress,
+    bytes: &[u8],
+    counts: Counts,
+    words: &[u64],
+    index: &[u32],
+    ledger: &mut [u64],
+    out: &mut [u8],
+) -> Piece
+    requires { ⌜ Accepted (now bytes) counts ⌝ }
+    requires { ⌜ 4096 ≤ length (now words) ⌝ }
+    requires { ⌜ 10240 ≤ length (now index) ⌝ }
+    ensures piece { λ r. let t = tablesIn (before bytes) counts (before words) (before index) in
+        ⌜ handedOf r (after ledger) (after out) ≡ pieceOf t (standingOf progress (before ledger)) (length (before out)) (before out) ⌝ }
+    ensures rest { λ r. let t = tablesIn (before bytes) counts (before words) (before index) in
+        ⌜ toCome t (standingOf (r .progress) (after ledger)) ≡ drop (length (before out)) (toCome t (standingOf progress (before ledger))) ⌝ }
+{
+    let image_at = counts.image_at();
+    let first = counts.segment_words();
+    let second = first + ObjcSection::TABLE_WORDS;
+    let third = second + counts.rebase_words();
+    let end = third + counts.bind_words();
+    let entries = index_words(counts);
+    progress.fill(
+        &bytes[image_at..],
+        &words[0..first],
+        &words[first..second],
+        &bytes[32..40],
+        &words[second..third],
+        &words[third..end],
+        &index[0..entries],
+        ledger,
+        out,
+    )
+}
+
+// The next piece; a bundle that is not accepted has no tables.
+fn piece_bytes(
+    progress: Progress,
+    bytes: &[u8],
+    words: &[u64],
+    index: &[u32],
+    ledger: &mut [u64],
+    out: &mut [u8],
+) -> Piece
+    requires { ⌜ 4096 ≤ length (now words) ⌝ }
+    requires { ⌜ 10240 ≤ length (now index) ⌝ }
+    ensures piece { λ r. let t = tablesLent (before bytes) (before words) (before index) in
+        ⌜ handedOf r (after ledger) (after out) ≡ pieceOf t (standingOf progress (before ledger)) (length (before out)) (before out) ⌝ }
+    ensures rest { λ r. let t = tablesLent (before bytes) (before words) (before index) in
+        ⌜ toCome t (standingOf (r .progress) (after ledger)) ≡ drop (length (before out)) (toCome t (standingOf progress (before ledger))) ⌝ }
+{
+    match measure(bytes) {
+        CountsAnswer::Counts(counts) => piece_counted(
+            progress,
+            bytes,
+            counts,
+            words,
+            index,
+            ledger,
+            out,
+        ),
+        CountsAnswer::Missing(_) => progress.fill(
+            &bytes[0..0],
+            &words[0..0],
+            &words[0..0],
+            &bytes[0..0],
+            &words[0..0],
+            &words[0..0],
+            &index[0..0],
+            ledger,
+            out,
+        ),
+    }
+}
+
+// The next piece of the text: its length, 0 where nothing is still to come, and where the printing stands after it.
+pub fn next_piece(
+    progress: Progress,
+    input: &[u8; 32769],
+    n: usize,
+    words: &[u64; 4096],
+    index: &[u32; 10240],
+    ledger: &mut [u64; 8192],
+    out: &mut [u8; 4096],
+) -> Piece
+    ensures piece { λ r. let t = tablesLent (take n (before input)) (before words) (before index) in
+        ⌜ handedOf r (after ledger) (after out) ≡ pieceOf t (standingOf progress (before ledger)) 4096 (before out) ⌝ }
+    ensures rest { λ r. let t = tablesLent (take n (before input)) (before words) (before index) in
+        ⌜ toCome t (standingOf (r .progress) (after ledger)) ≡ drop 4096 (toCome t (standingOf progress (before ledger))) ⌝ }
+{
+    let all: &[u8] = input;
+    let end = least(n, all.len());
+    piece_bytes(progress, &all[0..end], words, index, ledger, out)
 }

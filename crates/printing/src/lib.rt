@@ -1,4 +1,5 @@
-// Printing a listing: the text of each line, and the listing of a bundle, through a buffer that the caller lends.
-pub mod buffer;
+// Printing a listing: the text of each line, and the listing of a bundle, piece by piece through a buffer that the caller lends.
+mod buffer;
 pub mod bundle;
-pub mod print;
+pub mod pieces;
+mod print;

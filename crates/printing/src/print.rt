@@ -1,5 +1,6 @@
 // The lines of a listing as text (document 01, "The program's listing"): fields split by one space, numbers lower-case hex, strings as
 // length, colon and bytes, `-` for none, each line with its newline. Only the number after `refused` is decimal.
+use crate::buffer::Window;
 use crate::buffer::byte;
 use crate::buffer::bytes;
 use crate::buffer::decimal;
@@ -13,7 +14,7 @@ use listing::line::NameLine;
 use listing::line::Named;
 use listing::line::RowLine;
 use pointers::imageinfo::ImageInfo;
-use reads::answer::Text;
+use reads::text::Text;
 use records::class::ClassRo;
 use records::ivar::Ivar;
 use records::ivar::IvarOffset;
@@ -25,92 +26,93 @@ use records::protocol::ObjcProtocol;
 use records::row::Row;
 ghost use mathlib.Core.List.{_∷_};
 ghost use mathlib.Core.Path.{_≡_};
+ghost use Rattle.reads.specs.Reference.{before, after};
 ghost use Rattle.printing.specs.Buffer.{buffer, putAll};
 ghost use Rattle.printing.specs.LineText.{noneField, numberField, stringField, textField, textFields, namedField, impField, offsetField, kindNumber, classLetter, infoText, classText, roText, protocolText, categoryText, methodText, ivarText, propertyText, rowText, nameText, endText, fieldsText, lineText, refusedText};
 
 // A field that is none.
-fn none(out: &mut [u8], at: usize) -> usize
-    ensures { λ r. ⌜ buffer (now (out .exit)) r ≡ putAll (buffer (now (out .entry)) at) noneField ⌝ }
+fn none(out: &mut [u8], w: Window) -> Window
+    ensures { λ r. ⌜ buffer (after out) r ≡ putAll (buffer (before out) w) noneField ⌝ }
 {
-    bytes(b" -", out, at)
+    bytes(b" -", out, w)
 }
 
 // A field that is a number.
-fn number(n: u64, out: &mut [u8], at: usize) -> usize
-    ensures { λ r. ⌜ buffer (now (out .exit)) r ≡ putAll (buffer (now (out .entry)) at) (numberField n) ⌝ }
+fn number(n: u64, out: &mut [u8], w: Window) -> Window
+    ensures { λ r. ⌜ buffer (after out) r ≡ putAll (buffer (before out) w) (numberField n) ⌝ }
 {
-    let next = byte(b' ', out, at);
+    let next = byte(b' ', out, w);
     hex(n, out, next)
 }
 
 // A line's letter and its first field, a number.
-fn start(letter: u8, n: u64, out: &mut [u8], at: usize) -> usize
-    ensures { λ r. ⌜ buffer (now (out .exit)) r ≡ putAll (buffer (now (out .entry)) at) (letter ∷ numberField n) ⌝ }
+fn start(letter: u8, n: u64, out: &mut [u8], w: Window) -> Window
+    ensures { λ r. ⌜ buffer (after out) r ≡ putAll (buffer (before out) w) (letter ∷ numberField n) ⌝ }
 {
-    let next = byte(letter, out, at);
+    let next = byte(letter, out, w);
     number(n, out, next)
 }
 
 // A field that is these bytes.
-fn string(s: &[u8], out: &mut [u8], at: usize) -> usize
-    ensures { λ r. ⌜ buffer (now (out .exit)) r ≡ putAll (buffer (now (out .entry)) at) (stringField (now (s .entry))) ⌝ }
+fn string(s: &[u8], out: &mut [u8], w: Window) -> Window
+    ensures { λ r. ⌜ buffer (after out) r ≡ putAll (buffer (before out) w) (stringField (before s)) ⌝ }
 {
-    let next = number(s.len() as u64, out, at);
+    let next = number(s.len() as u64, out, w);
     let then = byte(b':', out, next);
     bytes(s, out, then)
 }
 
 // A field that is a text; none where it does not lie in the image.
-fn text(image: &[u8], t: Text, out: &mut [u8], at: usize) -> usize
-    ensures { λ r. ⌜ buffer (now (out .exit)) r ≡ putAll (buffer (now (out .entry)) at) (textField (now (image .entry)) t) ⌝ }
+fn text(image: &[u8], t: Text, out: &mut [u8], w: Window) -> Window
+    ensures { λ r. ⌜ buffer (after out) r ≡ putAll (buffer (before out) w) (textField (before image) t) ⌝ }
 {
     let n = image.len() as u64;
     if t.offset > n {
-        return none(out, at);
+        return none(out, w);
     }
     if t.len > n - t.offset {
-        return none(out, at);
+        return none(out, w);
     }
     let from = t.offset as usize;
     let end = from + t.len as usize;
-    string(&image[from..end], out, at)
+    string(&image[from..end], out, w)
 }
 
 // Two fields that are texts.
-fn texts(image: &[u8], first: Text, second: Text, out: &mut [u8], at: usize) -> usize
-    ensures { λ r. ⌜ buffer (now (out .exit)) r ≡ putAll (buffer (now (out .entry)) at) (textFields (now (image .entry)) first second) ⌝ }
+fn texts(image: &[u8], first: Text, second: Text, out: &mut [u8], w: Window) -> Window
+    ensures { λ r. ⌜ buffer (after out) r ≡ putAll (buffer (before out) w) (textFields (before image) first second) ⌝ }
 {
-    let next = text(image, first, out, at);
+    let next = text(image, first, out, w);
     text(image, second, out, next)
 }
 
 // A field that is a name or none.
-fn named(image: &[u8], name: Named, out: &mut [u8], at: usize) -> usize
-    ensures { λ r. ⌜ buffer (now (out .exit)) r ≡ putAll (buffer (now (out .entry)) at) (namedField (now (image .entry)) name) ⌝ }
+fn named(image: &[u8], name: Named, out: &mut [u8], w: Window) -> Window
+    ensures { λ r. ⌜ buffer (after out) r ≡ putAll (buffer (before out) w) (namedField (before image) name) ⌝ }
 {
     match name {
-        Named::Text(t) => text(image, t, out, at),
-        Named::Nothing => none(out, at),
+        Named::Text(t) => text(image, t, out, w),
+        Named::Nothing => none(out, w),
     }
 }
 
 // An implementation's address, or none.
-fn imp(imp: Imp, out: &mut [u8], at: usize) -> usize
-    ensures { λ r. ⌜ buffer (now (out .exit)) r ≡ putAll (buffer (now (out .entry)) at) (impField imp) ⌝ }
+fn imp(imp: Imp, out: &mut [u8], w: Window) -> Window
+    ensures { λ r. ⌜ buffer (after out) r ≡ putAll (buffer (before out) w) (impField imp) ⌝ }
 {
     match imp {
-        Imp::At(va) => number(va, out, at),
-        Imp::Nothing => none(out, at),
+        Imp::At(va) => number(va, out, w),
+        Imp::Nothing => none(out, w),
     }
 }
 
 // An ivar's offset, or none.
-fn offset(offset: IvarOffset, out: &mut [u8], at: usize) -> usize
-    ensures { λ r. ⌜ buffer (now (out .exit)) r ≡ putAll (buffer (now (out .entry)) at) (offsetField offset) ⌝ }
+fn offset(offset: IvarOffset, out: &mut [u8], w: Window) -> Window
+    ensures { λ r. ⌜ buffer (after out) r ≡ putAll (buffer (before out) w) (offsetField offset) ⌝ }
 {
     match offset {
-        IvarOffset::At(n) => number(n as u64, out, at),
-        IvarOffset::Nothing => none(out, at),
+        IvarOffset::At(n) => number(n as u64, out, w),
+        IvarOffset::Nothing => none(out, w),
     }
 }
 
@@ -126,10 +128,10 @@ fn kind_number(kind: MethodKind) -> u64
 }
 
 // I: version, flags.
-fn info(i: ImageInfo, out: &mut [u8], at: usize) -> usize
-    ensures { λ r. ⌜ buffer (now (out .exit)) r ≡ putAll (buffer (now (out .entry)) at) (infoText i) ⌝ }
+fn info(i: ImageInfo, out: &mut [u8], w: Window) -> Window
+    ensures { λ r. ⌜ buffer (after out) r ≡ putAll (buffer (before out) w) (infoText i) ⌝ }
 {
-    let a = start(b'I', i.version as u64, out, at);
+    let a = start(b'I', i.version as u64, out, w);
     number(i.flags as u64, out, a)
 }
 
@@ -144,13 +146,13 @@ fn class_letter(meta: bool) -> u8
 }
 
 // C or M: address, isa, superclass, bits, superclass name.
-fn class(image: &[u8], line: ClassLine, out: &mut [u8], at: usize) -> usize
-    ensures { λ r. ⌜ buffer (now (out .exit)) r ≡ putAll (buffer (now (out .entry)) at) (classText (now (image .entry)) line) ⌝ }
+fn class(image: &[u8], line: ClassLine, out: &mut [u8], w: Window) -> Window
+    ensures { λ r. ⌜ buffer (after out) r ≡ putAll (buffer (before out) w) (classText (before image) line) ⌝ }
 {
     let class = line.class;
     let name = line.superclass_name;
     let letter = class_letter(class.is_meta);
-    let a = start(letter, class.address, out, at);
+    let a = start(letter, class.address, out, w);
     let b = number(class.isa, out, a);
     let c = number(class.superclass_address, out, b);
     let d = number(class.bits, out, c);
@@ -158,11 +160,11 @@ fn class(image: &[u8], line: ClassLine, out: &mut [u8], at: usize) -> usize
 }
 
 // R: address, flags, start, size, name.
-fn ro(image: &[u8], ro: ClassRo, out: &mut [u8], at: usize) -> usize
-    ensures { λ r. ⌜ buffer (now (out .exit)) r ≡ putAll (buffer (now (out .entry)) at) (roText (now (image .entry)) ro) ⌝ }
+fn ro(image: &[u8], ro: ClassRo, out: &mut [u8], w: Window) -> Window
+    ensures { λ r. ⌜ buffer (after out) r ≡ putAll (buffer (before out) w) (roText (before image) ro) ⌝ }
 {
     let name = ro.name;
-    let a = start(b'R', ro.address, out, at);
+    let a = start(b'R', ro.address, out, w);
     let b = number(ro.flags as u64, out, a);
     let c = number(ro.instance_start as u64, out, b);
     let d = number(ro.instance_size as u64, out, c);
@@ -170,51 +172,51 @@ fn ro(image: &[u8], ro: ClassRo, out: &mut [u8], at: usize) -> usize
 }
 
 // P: address, size, flags, name.
-fn protocol(image: &[u8], protocol: ObjcProtocol, out: &mut [u8], at: usize) -> usize
-    ensures { λ r. ⌜ buffer (now (out .exit)) r ≡ putAll (buffer (now (out .entry)) at) (protocolText (now (image .entry)) protocol) ⌝ }
+fn protocol(image: &[u8], protocol: ObjcProtocol, out: &mut [u8], w: Window) -> Window
+    ensures { λ r. ⌜ buffer (after out) r ≡ putAll (buffer (before out) w) (protocolText (before image) protocol) ⌝ }
 {
     let name = protocol.name;
-    let a = start(b'P', protocol.address, out, at);
+    let a = start(b'P', protocol.address, out, w);
     let b = number(protocol.size as u64, out, a);
     let c = number(protocol.flags as u64, out, b);
     text(image, name, out, c)
 }
 
 // K: address, class address, name, class name.
-fn category(image: &[u8], line: CategoryLine, out: &mut [u8], at: usize) -> usize
-    ensures { λ r. ⌜ buffer (now (out .exit)) r ≡ putAll (buffer (now (out .entry)) at) (categoryText (now (image .entry)) line) ⌝ }
+fn category(image: &[u8], line: CategoryLine, out: &mut [u8], w: Window) -> Window
+    ensures { λ r. ⌜ buffer (after out) r ≡ putAll (buffer (before out) w) (categoryText (before image) line) ⌝ }
 {
     let category = line.category;
     let class_name = line.class_name;
     let name = category.name;
-    let a = start(b'K', category.address, out, at);
+    let a = start(b'K', category.address, out, w);
     let b = number(category.class_address, out, a);
     let c = text(image, name, out, b);
     named(image, class_name, out, c)
 }
 
 // m: list number, selector, types, imp, kind.
-fn method(image: &[u8], list: u8, m: Method, out: &mut [u8], at: usize) -> usize
-    ensures { λ r. ⌜ buffer (now (out .exit)) r ≡ putAll (buffer (now (out .entry)) at) (methodText (now (image .entry)) list m) ⌝ }
+fn method(image: &[u8], list: u8, m: Method, out: &mut [u8], w: Window) -> Window
+    ensures { λ r. ⌜ buffer (after out) r ≡ putAll (buffer (before out) w) (methodText (before image) list m) ⌝ }
 {
     let selector = m.selector;
     let types = m.types;
     let implementation = m.implementation;
     let kind = m.kind;
-    let a = start(b'm', list as u64, out, at);
+    let a = start(b'm', list as u64, out, w);
     let b = texts(image, selector, types, out, a);
     let c = imp(implementation, out, b);
     number(kind_number(kind), out, c)
 }
 
 // v: list number, name, type, offset, size, alignment.
-fn ivar(image: &[u8], list: u8, v: Ivar, out: &mut [u8], at: usize) -> usize
-    ensures { λ r. ⌜ buffer (now (out .exit)) r ≡ putAll (buffer (now (out .entry)) at) (ivarText (now (image .entry)) list v) ⌝ }
+fn ivar(image: &[u8], list: u8, v: Ivar, out: &mut [u8], w: Window) -> Window
+    ensures { λ r. ⌜ buffer (after out) r ≡ putAll (buffer (before out) w) (ivarText (before image) list v) ⌝ }
 {
     let name = v.name;
     let encoding = v.type_encoding;
     let place = v.offset;
-    let a = start(b'v', list as u64, out, at);
+    let a = start(b'v', list as u64, out, w);
     let b = texts(image, name, encoding, out, a);
     let c = offset(place, out, b);
     let d = number(v.size as u64, out, c);
@@ -222,74 +224,74 @@ fn ivar(image: &[u8], list: u8, v: Ivar, out: &mut [u8], at: usize) -> usize
 }
 
 // p: list number, name, attributes.
-fn property(image: &[u8], list: u8, p: Property, out: &mut [u8], at: usize) -> usize
-    ensures { λ r. ⌜ buffer (now (out .exit)) r ≡ putAll (buffer (now (out .entry)) at) (propertyText (now (image .entry)) list p) ⌝ }
+fn property(image: &[u8], list: u8, p: Property, out: &mut [u8], w: Window) -> Window
+    ensures { λ r. ⌜ buffer (after out) r ≡ putAll (buffer (before out) w) (propertyText (before image) list p) ⌝ }
 {
     let name = p.name;
     let attributes = p.attributes;
-    let a = start(b'p', list as u64, out, at);
+    let a = start(b'p', list as u64, out, w);
     texts(image, name, attributes, out, a)
 }
 
 // m, v or p.
-fn row(image: &[u8], line: RowLine, out: &mut [u8], at: usize) -> usize
-    ensures { λ r. ⌜ buffer (now (out .exit)) r ≡ putAll (buffer (now (out .entry)) at) (rowText (now (image .entry)) (line .list) (line .row)) ⌝ }
+fn row(image: &[u8], line: RowLine, out: &mut [u8], w: Window) -> Window
+    ensures { λ r. ⌜ buffer (after out) r ≡ putAll (buffer (before out) w) (rowText (before image) (line .list) (line .row)) ⌝ }
 {
     let row = line.row;
     match row {
-        Row::Method(m) => method(image, line.list, m, out, at),
-        Row::Ivar(v) => ivar(image, line.list, v, out, at),
-        Row::Property(p) => property(image, line.list, p, out, at),
+        Row::Method(m) => method(image, line.list, m, out, w),
+        Row::Ivar(v) => ivar(image, line.list, v, out, w),
+        Row::Property(p) => property(image, line.list, p, out, w),
     }
 }
 
 // q: list number, protocol name.
-fn protocol_name(image: &[u8], line: NameLine, out: &mut [u8], at: usize) -> usize
-    ensures { λ r. ⌜ buffer (now (out .exit)) r ≡ putAll (buffer (now (out .entry)) at) (nameText (now (image .entry)) line) ⌝ }
+fn protocol_name(image: &[u8], line: NameLine, out: &mut [u8], w: Window) -> Window
+    ensures { λ r. ⌜ buffer (after out) r ≡ putAll (buffer (before out) w) (nameText (before image) line) ⌝ }
 {
     let name = line.name;
-    let a = start(b'q', line.list as u64, out, at);
+    let a = start(b'q', line.list as u64, out, w);
     text(image, name, out, a)
 }
 
 // E: records, settled.
-fn end(line: EndLine, out: &mut [u8], at: usize) -> usize
-    ensures { λ r. ⌜ buffer (now (out .exit)) r ≡ putAll (buffer (now (out .entry)) at) (endText line) ⌝ }
+fn end(line: EndLine, out: &mut [u8], w: Window) -> Window
+    ensures { λ r. ⌜ buffer (after out) r ≡ putAll (buffer (before out) w) (endText line) ⌝ }
 {
-    let a = start(b'E', line.records, out, at);
+    let a = start(b'E', line.records, out, w);
     let b = byte(b' ', out, a);
     hex_of_two(line.settled_high, line.settled_low, out, b)
 }
 
 // A line without its newline.
-fn fields(image: &[u8], line: Line, out: &mut [u8], at: usize) -> usize
-    ensures { λ r. ⌜ buffer (now (out .exit)) r ≡ putAll (buffer (now (out .entry)) at) (fieldsText (now (image .entry)) line) ⌝ }
+fn fields(image: &[u8], line: Line, out: &mut [u8], w: Window) -> Window
+    ensures { λ r. ⌜ buffer (after out) r ≡ putAll (buffer (before out) w) (fieldsText (before image) line) ⌝ }
 {
     match line {
-        Line::Info(i) => info(i, out, at),
-        Line::Class(c) => class(image, c, out, at),
-        Line::Ro(r) => ro(image, r, out, at),
-        Line::Protocol(p) => protocol(image, p, out, at),
-        Line::Category(k) => category(image, k, out, at),
-        Line::Row(r) => row(image, r, out, at),
-        Line::Name(n) => protocol_name(image, n, out, at),
-        Line::End(e) => end(e, out, at),
+        Line::Info(i) => info(i, out, w),
+        Line::Class(c) => class(image, c, out, w),
+        Line::Ro(r) => ro(image, r, out, w),
+        Line::Protocol(p) => protocol(image, p, out, w),
+        Line::Category(k) => category(image, k, out, w),
+        Line::Row(r) => row(image, r, out, w),
+        Line::Name(n) => protocol_name(image, n, out, w),
+        Line::End(e) => end(e, out, w),
     }
 }
 
 // A line.
-pub fn line(image: &[u8], line: Line, out: &mut [u8], at: usize) -> usize
-    ensures { λ r. ⌜ buffer (now (out .exit)) r ≡ putAll (buffer (now (out .entry)) at) (lineText (now (image .entry)) line) ⌝ }
+pub(crate) fn line(image: &[u8], line: Line, out: &mut [u8], w: Window) -> Window
+    ensures { λ r. ⌜ buffer (after out) r ≡ putAll (buffer (before out) w) (lineText (before image) line) ⌝ }
 {
-    let end = fields(image, line, out, at);
+    let end = fields(image, line, out, w);
     byte(b'\n', out, end)
 }
 
 // `refused` and the number of the question, in decimal.
-pub fn refused(k: u8, out: &mut [u8], at: usize) -> usize
-    ensures { λ r. ⌜ buffer (now (out .exit)) r ≡ putAll (buffer (now (out .entry)) at) (refusedText k) ⌝ }
+pub(crate) fn refused(k: u8, out: &mut [u8], w: Window) -> Window
+    ensures { λ r. ⌜ buffer (after out) r ≡ putAll (buffer (before out) w) (refusedText k) ⌝ }
 {
-    let a = bytes(b"refused ", out, at);
+    let a = bytes(b"refused ", out, w);
     let b = decimal(k as u64, out, a);
     byte(b'\n', out, b)
 }

@@ -1,18 +1,18 @@
--- The next breakpoint as a walk over the rows of a table finds it, from word i on.
+-- The next breakpoint as a walk over the rows of a table finds it, from row i on.
 use mathlib.Core.Path.{_≡_, refl, sym, ap, _∙_}
 use mathlib.Core.Bool.{Bool, true, false}
 use mathlib.Core.List.{List, [], _∷_}
 use Prim.Native.Nat.{ℕ, _+_, _≤_, _<_}
 use native.Mathlib.Omega.{arith}
 use lib.Dec.{ltb}
-use lib.ListN.{length, drop}
 use Rattle.reads.specs.declared.breaks.Break.{Break}
 use Rattle.reads.specs.declared.breaks.Break.the-variants.{At, Nothing}
 use Rattle.reads.specs.declared.segment.Segment.{Segment}
 use Rattle.reads.specs.Outcome.{choose}
-use Rattle.reads.specs.Segment.{segmentAt, rows, ends}
+use Rattle.reads.specs.Table.{records}
+use Rattle.reads.specs.Segment.{segmentWords, segmentAt, ends}
 use Rattle.reads.specs.Breaks.{readablePart, breaks, lesser, lower, nextBreak}
-use Rattle.reads.proofs.SegmentRows.{rows-more, rows-none}
+use Rattle.reads.proofs.SegmentRows.{rowsFrom, rows-read, rows-none}
 
 -- The lesser of `best` and the least of a list above va, the list's first taken first.
 unfoldable pub lowest : ℕ → Break → List ℕ → Break
@@ -48,23 +48,20 @@ module _ (s : Segment) where
   unfolding readablePart
   readable-part-size n k = omega arith
 
--- The breakpoints of the rows from word i on, with the best so far; r is what the whole walk gives.
-module _ (ws : List ℕ) (i : ℕ) (n k va : ℕ) (best r : Break) (so-far : lowest va best (breaks n k (rows (drop i ws))) ≡ r) where
-  pub lowest-out : length ws < i + 4 → best ≡ r
+-- The breakpoints of the rows from row i on, with the best so far; r is what the whole walk gives.
+module _ (ws : List ℕ) (i : ℕ) (n k va : ℕ) (best r : Break) (so-far : lowest va best (breaks n k (rowsFrom ws i)) ≡ r) where
+  pub lowest-out : records segmentWords ws ≤ i → best ≡ r
   unfolding breaks lowest
   lowest-out h = sym (simp (rows-none ws i h)) ∙ so-far
 
-  -- The row at word i, as the code has it.
-  module _ (fits : i + 3 < length ws) (s : Segment) (at : s ≡ segmentAt ws i) where
-    more : rows (drop i ws) ≡ s ∷ rows (drop (i + 4) ws)
-    more = rows-more ws i fits ∙ ap (λ (x : Segment). x ∷ rows (drop (i + 4) ws)) (sym at)
-
+  -- Row i, as the code has it.
+  module _ (fits : i < records segmentWords ws) (s : Segment) (at : s ≡ segmentAt ws i) where
     pub lowest-ends : ends s ≡ true → best ≡ r
     unfolding breaks lowest choose
-    lowest-ends e = sym (simp (more, e)) ∙ so-far
+    lowest-ends e = sym (simp (rows-read ws i fits s at, e)) ∙ so-far
 
     pub lowest-more : ends s ≡ false → (size : ℕ) (a b c : Break) → size ≡ readablePart n k s
         → a ≡ lower va best (s .vmaddr) → b ≡ lower va a (s .vmaddr + size) → c ≡ lower va b (s .vmaddr + s .vmsize)
-        → lowest va c (breaks n k (rows (drop (i + 4) ws))) ≡ r
+        → lowest va c (breaks n k (rowsFrom ws (i + 1))) ≡ r
     unfolding breaks lowest choose
-    lowest-more e size a b c p x y z = simp (z, y, x, p) (sym (simp (more, e)) ∙ so-far)
+    lowest-more e size a b c p x y z = simp (z, y, x, p) (sym (simp (rows-read ws i fits s at, e)) ∙ so-far)

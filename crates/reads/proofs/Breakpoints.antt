@@ -1,19 +1,20 @@
 -- Between two breakpoints it is the same at every address whether k bytes can be read, and past the last nothing can be.
 -- The segments may overlap, and may stand in any order.
 use mathlib.Core.Path.{_≡_, refl, sym, _∙_}
-use mathlib.Core.Bool.{Bool, true, false, _&&_, and-false}
+use mathlib.Core.Bool.{Bool, true, false, and-false}
 use mathlib.Core.List.{List, [], _∷_, List·Memᴰ, List·Memᴰ·head, List·Memᴰ·tail, List·Memᴰ·not-nil, List·Memᴰ·cases-cons}
 use mathlib.Core.Logic.{_⊎_, inl, inr, ⊎-elim}
-use Prim.Native.Nat.{ℕ, suc, _+_, _-_, _*_, _/_, _^_, _≤_, _<_}
+use Prim.Native.Nat.{ℕ, suc, _+_, _-_, _*_, _^_, _≤_, _<_}
 use native.Mathlib.Omega.{arith}
 use native.Mathlib.Decide.{decLe}
 use lib.ListN.{length}
 use lib.Dec.{leb, ltb}
-use borrow.Author.Tests.{leb-true, leb-false, ltb-true, ltb-false, le-ltb, lt-ltb}
+use borrow.Author.Tests.{leb-true, leb-false, ltb-false, le-ltb, lt-ltb}
 use Rattle.reads.specs.Outcome.{Outcome, value, absent, andThen, choose, sum64}
-use Rattle.reads.specs.Segment.{rows, ends, holds, placeAt, placed, lookup}
+use Rattle.reads.specs.Table.{records}
+use Rattle.reads.specs.Segment.{segmentWords, rows, ends, holds, placeAt, placed, lookup}
 use Rattle.reads.specs.Place.{Image, readableAt, readable}
-use Rattle.reads.specs.declared.answer.Place.{Place}
+use Rattle.reads.specs.declared.place.Place.{Place}
 use Rattle.reads.specs.declared.breaks.Break.the-variants.{At, Nothing}
 use Rattle.reads.specs.declared.segment.Segment.{Segment}
 use Rattle.reads.specs.Breaks.{isValue, canRead, readablePart, breaks, breaksOf, nextBreak, above}
@@ -161,6 +162,6 @@ module _ (m : Image) (k va : ℕ) where
   next-break-fits b e = breaks-fit (length (m .bytes)) k (rows (m .words)) b (next-break-member (breaksOf m k) va b e)
 
   -- At most three breakpoints for each row of the table lie above any address.
-  pub above-few : above (breaksOf m k) va ≤ 3 * (length (m .words) / 4)
+  pub above-few : above (breaksOf m k) va ≤ 3 * records segmentWords (m .words)
   above-few =
       omega (arith, above-length (breaksOf m k) va, breaks-length (length (m .bytes)) k (rows (m .words)), rows-length (m .words))

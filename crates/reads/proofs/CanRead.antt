@@ -5,7 +5,7 @@ use Prim.Native.Nat.{ℕ}
 use Rattle.reads.specs.Outcome.{value, absent}
 use Rattle.reads.specs.Place.{Image, readable}
 use Rattle.reads.specs.Breaks.{canRead}
-use Rattle.reads.specs.declared.answer.Place.{Place}
+use Rattle.reads.specs.declared.place.Place.{Place}
 use Rattle.reads.proofs.Unrefused.{unrefused-absent, readable-unrefused}
 
 module _ (m : Image) (k va : ℕ) where

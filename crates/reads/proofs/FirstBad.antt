@@ -11,7 +11,7 @@ use lib.ListN.{length, take}
 use borrow.Author.Tests.{leb-true}
 use Rattle.reads.proofs.Tests.{both-true}
 use Rattle.reads.specs.Outcome.{choose}
-use Rattle.reads.specs.Utf8.{Range, _to_, inside, chars, Octets, after, bad, goOn, judge, verdict, isGood, utf8}
+use Rattle.reads.specs.Utf8.{Range, _to_, inside, chars, Octets, dueAfter, bad, goOn, judge, verdict, isGood, utf8}
 use Rattle.reads.proofs.Rows.{inside-between, all, begun-all}
 use Rattle.reads.proofs.Grammar.{accepts, utf8-accepts, octets-accepts, utf8-octets}
 
@@ -19,7 +19,7 @@ use Rattle.reads.proofs.Grammar.{accepts, utf8-accepts, octets-accepts,
 abbrev filled : Range → Bool
 filled (lo to hi) = leb lo hi
 
-filled-after : (w : List Range) (b : ℕ) (w′ : List Range) → all filled w ≡ true → after w b ≡ some w′ → all filled w′ ≡ true
+filled-after : (w : List Range) (b : ℕ) (w′ : List Range) → all filled w ≡ true → dueAfter w b ≡ some w′ → all filled w′ ≡ true
 filled-after [] b w′ a q = begun-all filled chars b w′ refl q
 filled-after (r ∷ rs) b w′ a q = go (inside r b) q
   where
@@ -58,9 +58,9 @@ bad-at [] at (r ∷ w) k a e =
       goes = (lows (r ∷ w), accepts-lows (r ∷ w) a);
       stops = λ h. absurd (omega arith);
     }
-bad-at (b ∷ s) at w k a e = go (after w b) refl e (λ w′ a′ e′. bad-at s (suc at) w′ k a′ e′)
+bad-at (b ∷ s) at w k a e = go (dueAfter w b) refl e (λ w′ a′ e′. bad-at s (suc at) w′ k a′ e′)
   where
-    go : (o : Option (List Range)) → after w b ≡ o → goOn o (bad at) (λ w′. judge (suc at) w′ s) ≡ bad k
+    go : (o : Option (List Range)) → dueAfter w b ≡ o → goOn o (bad at) (λ w′. judge (suc at) w′ s) ≡ bad k
         → ((w′ : List Range) → all filled w′ ≡ true → judge (suc at) w′ s ≡ bad k → BadAt (suc at) w′ s k) → BadAt at w (b ∷ s) k
     go none q e′ f =
         let z : at ≡ k = cc in

@@ -6,7 +6,7 @@ use mathlib.Core.Bool.{Bool, true, false, false≢true}
 use mathlib.Core.List.{List, [], _∷_, _++_, List·Memᴰ}
 use mathlib.Core.Option.{Option, none, some, Option·none-ne-some}
 use Rattle.reads.specs.Outcome.{choose}
-use Rattle.reads.specs.Utf8.{Range, inside, chars, Fit, fit-none, fit-more, Octets, octets-none, octets-more, after, bad, goOn, judge, isGood, utf8}
+use Rattle.reads.specs.Utf8.{Range, inside, chars, Fit, fit-none, fit-more, Octets, octets-none, octets-more, dueAfter, bad, goOn, judge, isGood, utf8}
 use Rattle.reads.proofs.Rows.{begun-unique, begun-some}
 
 -- What is accepted, without the offsets
@@ -18,13 +18,13 @@ onward (some w) f = f w
 unfoldable pub accepts : List Range → List ℕ → Bool
 accepts [] [] = true
 accepts (r ∷ w) [] = false
-accepts w (b ∷ s) = onward (after w b) (λ w′. accepts w′ s)
+accepts w (b ∷ s) = onward (dueAfter w b) (λ w′. accepts w′ s)
 
 pub judge-accepts : (s : List ℕ) (at : ℕ) (w : List Range) → isGood (judge at w s) ≡ accepts w s
 unfolding judge accepts
 judge-accepts [] at [] = refl
 judge-accepts [] at (r ∷ w) = refl
-judge-accepts (b ∷ s) at w = go (after w b) (λ w′. judge-accepts s (suc at) w′)
+judge-accepts (b ∷ s) at w = go (dueAfter w b) (λ w′. judge-accepts s (suc at) w′)
   where
     go : (o : Option (List Range)) → ((w′ : List Range) → isGood (judge (suc at) w′ s) ≡ accepts w′ s)
         → isGood (goOn o (bad at) (λ w′. judge (suc at) w′ s)) ≡ onward o (λ w′. accepts w′ s)
@@ -44,14 +44,14 @@ record Completes (w : List Range) (s : List ℕ) : Type 0 where
   octets : Octets rest
   is : s ≡ c ++ rest
 
-back : (w : List Range) (b : ℕ) (s : List ℕ) (w′ : List Range) → after w b ≡ some w′ → Completes w′ s → Completes w (b ∷ s)
+back : (w : List Range) (b : ℕ) (s : List ℕ) (w′ : List Range) → dueAfter w b ≡ some w′ → Completes w′ s → Completes w (b ∷ s)
 back [] b s w′ q k =
     let m = begun-some chars b w′ q in
     record {
       c = [];
       rest = b ∷ s;
       fit = fit-none;
-      octets = octets-more (m .row) (fit-more (m .holds) (k .fit)) (k .octets) (ap (λ (l : List ℕ). b ∷ l) (k .is));
+      octets = octets-more (m .row) (fit-more (m .in-first) (k .fit)) (k .octets) (ap (λ (l : List ℕ). b ∷ l) (k .is));
       is = refl;
     }
 back (r ∷ rs) b s w′ q k = go (inside r b) refl q
@@ -72,9 +72,9 @@ accepts-completes : (s : List ℕ) (w : List Range) → accepts w s ≡ true →
 unfolding accepts
 accepts-completes [] [] e = record { c = []; rest = []; fit = fit-none; octets = octets-none; is = refl }
 accepts-completes [] (r ∷ w) e = absurd (false≢true e)
-accepts-completes (b ∷ s) w e = go (after w b) refl e (λ w′ e′. accepts-completes s w′ e′)
+accepts-completes (b ∷ s) w e = go (dueAfter w b) refl e (λ w′ e′. accepts-completes s w′ e′)
   where
-    go : (o : Option (List Range)) → after w b ≡ o → onward o (λ w′. accepts w′ s) ≡ true
+    go : (o : Option (List Range)) → dueAfter w b ≡ o → onward o (λ w′. accepts w′ s) ≡ true
         → ((w′ : List Range) → accepts w′ s ≡ true → Completes w′ s) → Completes w (b ∷ s)
     go none q e′ f = absurd (false≢true e′)
     go (some w′) q e′ f = back w b s w′ q (f w′ e′)

@@ -17,35 +17,35 @@ use mir.Facts.{toZ-ofZ}
 use Rattle.reads.specs.Answer.{missed, wordOutcome}
 use Rattle.reads.specs.Outcome.{Outcome, value, absent, number, andThen, choose}
 use Rattle.reads.specs.Signed.{twos}
-use Rattle.reads.specs.Leb128.{digitCount, unsigned, negative, signed, within64, withinSigned64, bySign, magnitude, digit, signedRead, slebOf}
+use Rattle.reads.specs.Leb128.{digitCount, unsignedDigits, negative, signedDigits, within64, withinSigned64, bySign, magnitude, digit, signedRead, slebOf}
 use Rattle.reads.specs.declared.answer.Missing.{Missing}
 use Rattle.reads.specs.declared.answer.Missing.the-variants.{Absent, Refused}
 use Rattle.reads.specs.declared.answer.Word.{Word}
 use Rattle.reads.specs.declared.answer.Word.the-variants as word
 use Rattle.reads.proofs.TwosLaws.{twos-negative, twos-positive}
 
-rest : (b : ℕ) → b % 128 < 128
-rest b = mod-lt b (omega arith)
+low-below : (b : ℕ) → b % 128 < 128
+low-below b = mod-lt b (omega arith)
 
 -- k digits say a number below 128^k.
-pub unsigned-below : (ds : List ℕ) → unsigned ds < 128 ^ length ds
-unfolding unsigned
+pub unsigned-below : (ds : List ℕ) → unsignedDigits ds < 128 ^ length ds
+unfolding unsignedDigits
 unsigned-below [] = omega arith
-unsigned-below (b ∷ bs) = rw (pow-succ' 128 (length bs)) (omega (arith, rest b, unsigned-below bs))
+unsigned-below (b ∷ bs) = rw (pow-succ' 128 (length bs)) (omega (arith, low-below b, unsigned-below bs))
 
 pub digit-below : (sign : Bool) (b n : ℕ) → n ≡ digit sign b → n < 128
 unfolding digit
 digit-below true b n e = omega arith
-digit-below false b n e = omega (arith, rest b)
+digit-below false b n e = omega (arith, low-below b)
 
 magnitude-cons : (sign : Bool) (b : ℕ) (bs : List ℕ) → magnitude sign (b ∷ bs) ≡ digit sign b + 128 * magnitude sign bs
-unfolding magnitude digit unsigned
+unfolding magnitude digit unsignedDigits
 magnitude-cons true b bs =
-    rw (pow-succ' 128 (length bs)) (omega (arith, rest b, unsigned-below bs))
+    rw (pow-succ' 128 (length bs)) (omega (arith, low-below b, unsigned-below bs))
 magnitude-cons false b bs = refl
 
 pub magnitude-nil : (sign : Bool) → magnitude sign [] ≡ 0
-unfolding magnitude unsigned
+unfolding magnitude unsignedDigits
 magnitude-nil true = refl
 magnitude-nil false = refl
 
@@ -77,15 +77,15 @@ magnitude-all sign ds i n e z h =
     rw m (simp (lt-ltb n (2 ^ 64) h))
 
 -- A signed number by its sign and magnitude.
-twos-by-sign : (sign : Bool) (ds : List ℕ) → twos sign (unsigned ds) (128 ^ length ds) ≡ bySign sign (magnitude sign ds)
+twos-by-sign : (sign : Bool) (ds : List ℕ) → twos sign (unsignedDigits ds) (128 ^ length ds) ≡ bySign sign (magnitude sign ds)
 unfolding bySign magnitude
 twos-by-sign true ds =
-    let e : 128 ^ length ds - suc (unsigned ds) ≡ 128 ^ length ds - 1 - unsigned ds = omega arith in
-    twos-negative (unsigned ds) (128 ^ length ds) (unsigned-below ds) ∙ ap negsuc e
-twos-by-sign false ds = twos-positive (unsigned ds) (128 ^ length ds)
+    let e : 128 ^ length ds - suc (unsignedDigits ds) ≡ 128 ^ length ds - 1 - unsignedDigits ds = omega arith in
+    twos-negative (unsignedDigits ds) (128 ^ length ds) (unsigned-below ds) ∙ ap negsuc e
+twos-by-sign false ds = twos-positive (unsignedDigits ds) (128 ^ length ds)
 
-pub signed-by-sign : (ds : List ℕ) → signed ds ≡ bySign (negative ds) (magnitude (negative ds) ds)
-unfolding signed
+pub signed-by-sign : (ds : List ℕ) → signedDigits ds ≡ bySign (negative ds) (magnitude (negative ds) ds)
+unfolding signedDigits
 signed-by-sign ds = twos-by-sign (negative ds) ds
 
 value-fits : (fits : Bool) (n m : ℕ) → value m ≡ choose fits (value n) absent → n ≡ m
@@ -120,16 +120,16 @@ sleb-beyond ds h = simp (signed-by-sign ds, within-signed, le-ltb _ (2 ^ 63) h)
 
 -- The signed number of digits of which the code has the magnitude.
 module _ (ds : List ℕ) (w : Word) (said : wordOutcome w ≡ within64 (magnitude (negative ds) ds)) where
-  found : (m : ℕ) → w ≡ word.Value m → magnitude (negative ds) ds ≡ m
+  magnitude-is : (m : ℕ) → w ≡ word.Value m → magnitude (negative ds) ds ≡ m
   unfolding within64
-  found m g = value-fits (ltb (magnitude (negative ds) ds) (2 ^ 64)) _ m (cc (ap wordOutcome g))
+  magnitude-is m g = value-fits (ltb (magnitude (negative ds) ds) (2 ^ 64)) _ m (cc (ap wordOutcome g))
 
   pub sleb-fits : (m : ℕ) → w ≡ word.Value m → m < 2 ^ 63 → value (signedRead (bySign (negative ds) m) (length ds)) ≡ slebOf ds
   unfolding slebOf choose
-  sleb-fits m g h = simp (signed-by-sign ds, found m g, within-signed, lt-ltb m (2 ^ 63) h)
+  sleb-fits m g h = simp (signed-by-sign ds, magnitude-is m g, within-signed, lt-ltb m (2 ^ 63) h)
 
   pub sleb-over : (m : ℕ) → w ≡ word.Value m → 2 ^ 63 ≤ m → absent ≡ slebOf ds
-  sleb-over m g h = sleb-beyond ds (rw (found m g) h)
+  sleb-over m g h = sleb-beyond ds (rw (magnitude-is m g) h)
 
   pub sleb-missing : (m : Missing) → w ≡ word.Missing m → missed m ≡ slebOf ds
   unfolding within64
@@ -139,27 +139,27 @@ module _ (ds : List ℕ) (w : Word) (said : wordOutcome w ≡ within64 (magnitud
       rw (a .1) (sleb-beyond ds (omega (arith, ltb-false n (2 ^ 64) (a .0))))
 
 -- The digits of all bytes, where i bytes that are not the last digit come before.
-abbrev pub after : ℕ → Outcome ℕ → Outcome ℕ
-after i o = andThen o (λ k. value (i + k))
+abbrev pub shifted : ℕ → Outcome ℕ → Outcome ℕ
+shifted i o = andThen o (λ k. value (i + k))
 
-after-zero : (o : Outcome ℕ) → o ≡ after 0 o
-after-zero (value k) = ap value (sym (zero-add k))
-after-zero absent = refl
-after-zero (number k) = refl
+shifted-zero : (o : Outcome ℕ) → o ≡ shifted 0 o
+shifted-zero (value k) = ap value (sym (zero-add k))
+shifted-zero absent = refl
+shifted-zero (number k) = refl
 
-after-suc : (i : ℕ) (o : Outcome ℕ) → after i (andThen o (λ k. value (suc k))) ≡ after (suc i) o
-after-suc i (value k) = ap value (omega arith)
-after-suc i absent = refl
-after-suc i (number k) = refl
+shifted-suc : (i : ℕ) (o : Outcome ℕ) → shifted i (andThen o (λ k. value (suc k))) ≡ shifted (suc i) o
+shifted-suc i (value k) = ap value (omega arith)
+shifted-suc i absent = refl
+shifted-suc i (number k) = refl
 
 -- The count of the digits as the code comes to byte i.
 pub Counted : List ℕ → ℕ → Type 0
-Counted bs i = digitCount bs ≡ after i (digitCount (drop i bs))
+Counted bs i = digitCount bs ≡ shifted i (digitCount (drop i bs))
 
 module _ (bs : List ℕ) where
   pub counted-start : Counted bs 0
   unfolding Counted
-  counted-start = after-zero (digitCount bs)
+  counted-start = shifted-zero (digitCount bs)
 
   module _ (i : ℕ) (seen : Counted bs i) (h : i < length bs) where
     pub counted-last : getD bs i 0 < 128 → digitCount bs ≡ value (i + 1)
@@ -169,7 +169,7 @@ module _ (bs : List ℕ) where
     pub counted-more : 128 ≤ getD bs i 0 → Counted bs (i + 1)
     unfolding Counted digitCount choose
     counted-more l =
-        seen ∙ simp (drop-cons bs i 0 h, le-ltb _ _ l, add-one) (after-suc i (digitCount (drop (suc i) bs)))
+        seen ∙ simp (drop-cons bs i 0 h, le-ltb _ _ l, add-one) (shifted-suc i (digitCount (drop (suc i) bs)))
 
   pub counted-end : (i : ℕ) → Counted bs i → i ≡ length bs → digitCount bs ≡ absent
   unfolding Counted digitCount

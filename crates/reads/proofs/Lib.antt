@@ -3,6 +3,7 @@ pub mod Tests
 pub mod Outcomes
 pub mod Masks
 pub mod Numbers
+pub mod Tabulates
 pub mod SegmentRows
 pub mod Lookups
 pub mod LeastAbove

@@ -1,17 +1,17 @@
--- What a segment answers, by the tests that the code makes, and the walk over the rows from word i on.
-use mathlib.Core.Path.{_≡_, refl, sym, ap, _∙_}
-use mathlib.Core.Bool.{Bool, true, false, _&&_, and-false}
-use mathlib.Core.List.{List, [], _∷_}
-use Prim.Native.Nat.{ℕ, suc, _+_, _-_, _^_, min, _≤_, _<_}
+-- What a segment answers, by the tests that the code makes, and the walk over the rows from row i on.
+use mathlib.Core.Path.{_≡_}
+use mathlib.Core.Bool.{true, false, _&&_, and-false}
+use mathlib.Core.List.{List}
+use Prim.Native.Nat.{ℕ, suc, _+_, _-_, _^_, _≤_, _<_}
 use native.Mathlib.Omega.{arith}
 use lib.Dec.{leb, ltb}
-use lib.ListN.{length, drop}
 use borrow.Author.Tests.{leb-true, leb-false, ltb-true, le-leb, lt-leb, lt-ltb, le-ltb}
-use Rattle.reads.specs.Outcome.{Outcome, value, absent, choose, sum64}
-use Rattle.reads.specs.Segment.{segmentAt, rows, ends, holds, placeAt, placed, lookup, mappedSize, endsInFile, carries, addressOf}
+use Rattle.reads.specs.Outcome.{value, absent, choose, sum64}
+use Rattle.reads.specs.Table.{records}
+use Rattle.reads.specs.Segment.{segmentWords, segmentAt, ends, holds, placeAt, placed, lookup, mappedSize, endsInFile, carries, addressOf}
 use Rattle.reads.specs.declared.segment.Segment.{Segment}
 use Rattle.reads.proofs.Outcomes.{sum-fits, sum-over}
-use Rattle.reads.proofs.SegmentRows.{rows-more, rows-none}
+use Rattle.reads.proofs.SegmentRows.{rowsFrom, rows-read, rows-none}
 use Rattle.reads.proofs.Tests.{le-same, both-true}
 
 -- A sum over 64 bits, as the code tests it.
@@ -89,41 +89,38 @@ module _ (s : Segment) where
   unfolding endsInFile
   ends-in-file-by m e h = rw e (over-by (s .fileoff) (mappedSize s) h)
 
-pub lookup-out : (ws : List ℕ) (i va : ℕ) → length ws < i + 4 → lookup (rows (drop i ws)) va ≡ absent
+pub lookup-out : (ws : List ℕ) (i va : ℕ) → records segmentWords ws ≤ i → lookup (rowsFrom ws i) va ≡ absent
 unfolding lookup
 lookup-out ws i va h = simp (rows-none ws i h)
 
-pub address-out : (ws : List ℕ) (i offset : ℕ) → length ws < i + 4 → addressOf (rows (drop i ws)) offset ≡ absent
+pub address-out : (ws : List ℕ) (i offset : ℕ) → records segmentWords ws ≤ i → addressOf (rowsFrom ws i) offset ≡ absent
 unfolding addressOf
 address-out ws i offset h = simp (rows-none ws i h)
 
--- The row at word i, as the code has it.
-module _ (ws : List ℕ) (i : ℕ) (fits : i + 3 < length ws) (s : Segment) (at : s ≡ segmentAt ws i) where
-  row : rows (drop i ws) ≡ s ∷ rows (drop (i + 4) ws)
-  row = rows-more ws i fits ∙ ap (λ (r : Segment). r ∷ rows (drop (i + 4) ws)) (sym at)
-
-  pub lookup-ends : (va : ℕ) → ends s ≡ true → lookup (rows (drop i ws)) va ≡ absent
+-- Row i, as the code has it.
+module _ (ws : List ℕ) (i : ℕ) (fits : i < records segmentWords ws) (s : Segment) (at : s ≡ segmentAt ws i) where
+  pub lookup-ends : (va : ℕ) → ends s ≡ true → lookup (rowsFrom ws i) va ≡ absent
   unfolding lookup choose
-  lookup-ends va e = simp (row, e)
+  lookup-ends va e = simp (rows-read ws i fits s at, e)
 
-  pub lookup-holds : (va : ℕ) → ends s ≡ false → holds s va ≡ true → lookup (rows (drop i ws)) va ≡ placed s va
+  pub lookup-holds : (va : ℕ) → ends s ≡ false → holds s va ≡ true → lookup (rowsFrom ws i) va ≡ placed s va
   unfolding lookup choose
-  lookup-holds va e h = simp (row, e, h)
+  lookup-holds va e h = simp (rows-read ws i fits s at, e, h)
 
-  pub lookup-on : (va : ℕ) → ends s ≡ false → holds s va ≡ false → lookup (rows (drop i ws)) va ≡ lookup (rows (drop (i + 4) ws)) va
+  pub lookup-on : (va : ℕ) → ends s ≡ false → holds s va ≡ false → lookup (rowsFrom ws i) va ≡ lookup (rowsFrom ws (i + 1)) va
   unfolding lookup choose
-  lookup-on va e h = simp (row, e, h)
+  lookup-on va e h = simp (rows-read ws i fits s at, e, h)
 
-  pub address-ends : (offset : ℕ) → endsInFile s ≡ true → addressOf (rows (drop i ws)) offset ≡ absent
+  pub address-ends : (offset : ℕ) → endsInFile s ≡ true → addressOf (rowsFrom ws i) offset ≡ absent
   unfolding addressOf choose
-  address-ends offset e = simp (row, e)
+  address-ends offset e = simp (rows-read ws i fits s at, e)
 
   pub address-carries : (offset : ℕ) → endsInFile s ≡ false → carries s offset ≡ true
-      → addressOf (rows (drop i ws)) offset ≡ sum64 (s .vmaddr) (offset - s .fileoff)
+      → addressOf (rowsFrom ws i) offset ≡ sum64 (s .vmaddr) (offset - s .fileoff)
   unfolding addressOf choose
-  address-carries offset e h = simp (row, e, h)
+  address-carries offset e h = simp (rows-read ws i fits s at, e, h)
 
   pub address-on : (offset : ℕ) → endsInFile s ≡ false → carries s offset ≡ false
-      → addressOf (rows (drop i ws)) offset ≡ addressOf (rows (drop (i + 4) ws)) offset
+      → addressOf (rowsFrom ws i) offset ≡ addressOf (rowsFrom ws (i + 1)) offset
   unfolding addressOf choose
-  address-on offset e h = simp (row, e, h)
+  address-on offset e h = simp (rows-read ws i fits s at, e, h)

@@ -1,10 +1,10 @@
--- Each mask of specs/Ptrauth.antt is the one that document 01 prints.
+-- Each mask of specs/Address.antt is the one that document 01 prints.
 use Prim.Native.Nat.{ℕ, _+_, _*_, _/_, _%_, _^_, _<_}
 use mathlib.Core.Path.{_≡_, ap, _∙_}
 use native.Mathlib.Omega.{arith}
 use lib.Bits.{bitAnd, and-mask, and-high, and-block}
 use lib.Dec.{lit<}
-use Rattle.reads.specs.Ptrauth.{stripped, dataArm64e, data64}
+use Rattle.reads.specs.Address.{stripped, dataArm64e, data64}
 
 pub va-mask : (w : ℕ) → bitAnd w 0x0000FFFFFFFFFFFF ≡ stripped w
 unfolding stripped

@@ -14,8 +14,8 @@ module _ (n : ℕ) where
   parts : 2 ^ 64 * (n / 2 ^ 64) + n % 2 ^ 64 ≡ n
   parts = div-add-mod n (2 ^ 64)
 
-  rest : n % 2 ^ 64 < 2 ^ 64
-  rest = mod-lt n (omega arith)
+  rest-below : n % 2 ^ 64 < 2 ^ 64
+  rest-below = mod-lt n (omega arith)
 
 -- A multiple of 2^64 does not count.
 multiple : (n k q : ℕ) → n ≡ k + 2 ^ 64 * q → n % 2 ^ 64 ≡ k % 2 ^ 64
@@ -31,11 +31,11 @@ modulo64-of-sum a (negsuc n) = go (ltb a (suc n)) refl
     go true e =
         simp e
         (multiple _ (2 ^ 64 - 1 - (suc n - suc a) % 2 ^ 64) (n / 2 ^ 64 - (suc n - suc a) / 2 ^ 64)
-        (omega (arith, parts n, rest n, parts (suc n - suc a), rest (suc n - suc a), ltb-true a (suc n) e))
+        (omega (arith, parts n, rest-below n, parts (suc n - suc a), rest-below (suc n - suc a), ltb-true a (suc n) e))
         ∙ mod-eq-of-lt (omega arith))
     go false e =
         simp e
-        (multiple _ (a - suc n) (suc (n / 2 ^ 64)) (omega (arith, parts n, rest n, ltb-false a (suc n) e)))
+        (multiple _ (a - suc n) (suc (n / 2 ^ 64)) (omega (arith, parts n, rest-below n, ltb-false a (suc n) e)))
 
 pub slot-modulo : (vmaddr k : ℕ) → (vmaddr + k % 2 ^ 61 * 8) % 2 ^ 64 ≡ slotAddress vmaddr k
 unfolding slotAddress

@@ -1,5 +1,5 @@
 -- Numbers in the image, over the width: a number of j + k bytes from those of j and of k, and where k bytes can be read.
-use Prim.Native.Nat.{ℕ, zero, suc, _+_, _-_, _*_, _<_, _≤_, min}
+use Prim.Native.Nat.{ℕ, zero, suc, _+_, _*_, _<_, _≤_}
 use mathlib.Core.Path.{_≡_, refl, ap, sym, _∙_}
 use mathlib.Core.Bool.{Bool, true, false}
 use mathlib.Core.List.{List, [], _∷_, _++_, reverse, reverse-append}
@@ -12,9 +12,9 @@ use Rattle.reads.specs.Outcome.{Outcome, value, absent, number, andThen,
 use Rattle.reads.specs.Segment.{rows, lookup, placeAt}
 use Rattle.reads.specs.Place.{Image, imageOf, le, be, part, readableAt, readable, wordIn}
 use Rattle.reads.specs.Answer.{placeOutcome}
-use Rattle.reads.specs.declared.answer.Place.{Place}
-use Rattle.reads.specs.declared.answer.Placed.{Placed}
-use Rattle.reads.specs.declared.answer.Placed.the-variants as placed
+use Rattle.reads.specs.declared.place.Place.{Place}
+use Rattle.reads.specs.declared.place.Placed.{Placed}
+use Rattle.reads.specs.declared.place.Placed.the-variants as placed
 
 -- x after n bytes: times 256 for each.
 abbrev pub scaled : ℕ → ℕ → ℕ

@@ -1,18 +1,19 @@
 -- Laws of outcomes, in the form in which a proof of code uses them: w is an answer of the code whose outcome is x.
 use Prim.Native.Nat.{ℕ, _+_, _^_, _<_, _≤_}
 use mathlib.Core.Path.{_≡_, refl, ap, _∙_}
+use mathlib.Core.Bool.{Bool, true, false}
 use native.Mathlib.Omega.{arith}
 use borrow.Author.Tests.{lt-ltb, le-ltb, ne-eqb}
-use Rattle.reads.specs.Outcome.{Outcome, value, absent, number, andThen, orElse, orZero, orEmpty, choose, sum64, nonzero}
+use Rattle.reads.specs.Outcome.{Outcome, value, absent, number, andThen, orElse, isAbsent, orZero, orEmpty, choose, sum64, nonzero}
 use Rattle.reads.specs.Answer.{missed, wordOutcome, placeOutcome, textOutcome}
 use Rattle.reads.specs.declared.answer.Missing.{Missing}
 use Rattle.reads.specs.declared.answer.Missing.the-variants.{Absent, Refused}
-use Rattle.reads.specs.declared.answer.Place.{Place}
-use Rattle.reads.specs.declared.answer.Placed.{Placed}
-use Rattle.reads.specs.declared.answer.Placed.the-variants as placed
-use Rattle.reads.specs.declared.answer.Text.{Text}
-use Rattle.reads.specs.declared.answer.TextAnswer.{TextAnswer}
-use Rattle.reads.specs.declared.answer.TextAnswer.the-variants as text
+use Rattle.reads.specs.declared.place.Place.{Place}
+use Rattle.reads.specs.declared.place.Placed.{Placed}
+use Rattle.reads.specs.declared.place.Placed.the-variants as placed
+use Rattle.reads.specs.declared.text.Text.{Text}
+use Rattle.reads.specs.declared.text.TextAnswer.{TextAnswer}
+use Rattle.reads.specs.declared.text.TextAnswer.the-variants as text
 use Rattle.reads.specs.declared.answer.Word.{Word}
 use Rattle.reads.specs.declared.answer.Word.the-variants as word
 
@@ -63,6 +64,9 @@ module _ {W A B : Type 0} (out : W → Outcome A) (f : A → Outcome B) where
   pub on-missing : {w v : W} {x : Outcome A} (m : Missing) → out w ≡ x → w ≡ v → out v ≡ missed m → missed m ≡ andThen x f
   on-missing m e g h = rw (← e, g, h) (missed-then m f)
 
+  pub on-number : {w v : W} {x : Outcome A} {k : ℕ} → out w ≡ x → w ≡ v → out v ≡ number k → number k ≡ andThen x f
+  on-number e g h = rw (← e, g, h)
+
 module _ {B : Type 0} where
   pub word-value : (w : Word) (x : Outcome ℕ) (f : ℕ → Outcome B) (n : ℕ) (y : Outcome B)
       → wordOutcome w ≡ x → w ≡ word.Value n → y ≡ f n → y ≡ andThen x f
@@ -98,6 +102,26 @@ module _ {W A : Type 0} (out : W → Outcome A) (y : Outcome A) where
 
   pub else-number : {w v : W} {x : Outcome A} {k : ℕ} → out w ≡ x → w ≡ v → out v ≡ number k → number k ≡ orElse x y
   else-number e g h = rw (← e, g, h)
+
+-- The same, where the code has tested the first for absence.
+module _ {A : Type 0} (y : Outcome A) where
+  absent-else : (o : Outcome A) → true ≡ isAbsent o → y ≡ orElse o y
+  absent-else (value a) e = let z : _≡_ {A = ℕ} 0 1 = cc in absurd (omega arith)
+  absent-else absent e = refl
+  absent-else (number k) e = let z : _≡_ {A = ℕ} 0 1 = cc in absurd (omega arith)
+
+  present-else : (o : Outcome A) → false ≡ isAbsent o → o ≡ orElse o y
+  present-else (value a) e = refl
+  present-else absent e = let z : _≡_ {A = ℕ} 0 1 = cc in absurd (omega arith)
+  present-else (number k) e = refl
+
+-- b is what the test gave of the answer w.
+module _ {W A : Type 0} (out : W → Outcome A) (y : Outcome A) where
+  pub when-absent : (w : W) {x z : Outcome A} {b : Bool} → out w ≡ x → b ≡ isAbsent (out w) → b ≡ true → z ≡ y → z ≡ orElse x y
+  when-absent w e t b h = rw (h, ← e) (absent-else y (out w) (rw (← b) t))
+
+  pub when-present : (w : W) {x : Outcome A} {b : Bool} → out w ≡ x → b ≡ isAbsent (out w) → b ≡ false → out w ≡ orElse x y
+  when-present w e t b = rw (← e) (present-else y (out w) (rw (← b) t))
 
 -- "or 0" and "or empty" of an answer whose outcome is x.
 pub or-zero-of : (r w : Word) (x : Outcome ℕ) → wordOutcome r ≡ orZero (wordOutcome w) → wordOutcome w ≡ x → wordOutcome r ≡ orZero x

@@ -5,7 +5,7 @@ use mathlib.Core.List.{List, [], _∷_}
 use Rattle.reads.specs.Outcome.{value, absent, choose, sum64, nonzero}
 use Rattle.reads.specs.Segment.{rows, ends, holds, placeAt, placed, lookup, mappedSize, endsInFile, carries, addressOf}
 use Rattle.reads.specs.Place.{imageOf, le, readableAt, readable, word}
-use Rattle.reads.specs.Ptrauth.{stripped, dataArm64e, data64, mapped, pickedWide, picked}
+use Rattle.reads.specs.Address.{dataArm64e, data64, mapped, pickedWide, picked}
 
 -- 0x1000, 0x100, 0, 0x80, and a later segment that has what the first has no bytes for.
 abbrev table : List ℕ
@@ -27,9 +27,9 @@ unfolding lookup rows ends holds placed sum64 choose
 later = refl
 
 -- a segment whose end exceeds 64 bits ends the lookup
-ended : lookup (rows (0xFFFFFFFFFFFFFFFF ∷ 1 ∷ 0 ∷ 1 ∷ table)) 0x1000 ≡ absent
+over-64-ends : lookup (rows (0xFFFFFFFFFFFFFFFF ∷ 1 ∷ 0 ∷ 1 ∷ table)) 0x1000 ≡ absent
 unfolding lookup rows ends holds placed sum64 choose
-ended = refl
+over-64-ends = refl
 
 -- filesize 0 is passed over
 passed-over : lookup (rows (0x1000 ∷ 0x100 ∷ 7 ∷ 0 ∷ table)) 0x1000 ≡ value (placeAt 0)
@@ -37,13 +37,13 @@ unfolding lookup rows ends holds placed sum64 choose
 passed-over = refl
 
 -- fileoff and the distance exceed 64 bits
-over : lookup (rows (0x1000 ∷ 0x100 ∷ 0xFFFFFFFFFFFFFFFF ∷ 0x100 ∷ [])) 0x1001 ≡ absent
+place-over-64 : lookup (rows (0x1000 ∷ 0x100 ∷ 0xFFFFFFFFFFFFFFFF ∷ 0x100 ∷ [])) 0x1001 ≡ absent
 unfolding lookup rows ends holds placed sum64 choose
-over = refl
+place-over-64 = refl
 
-back : addressOf (rows table) 0x7F ≡ value 0x107F
+offset-back : addressOf (rows table) 0x7F ≡ value 0x107F
 unfolding addressOf rows endsInFile carries mappedSize sum64 choose
-back = refl
+offset-back = refl
 
 -- only the first byte of a read is looked up: the second lies past the segment
 beyond : word (imageOf (1 ∷ 2 ∷ 3 ∷ []) (0x1000 ∷ 1 ∷ 0 ∷ 1 ∷ [])) 2 0x1000 ≡ value 0x201

@@ -36,16 +36,16 @@ ascending [] = true
 ascending ([] ∷ rows) = ascending rows
 ascending (((lo to hi) ∷ w) ∷ rows) = aboveAll hi rows && ascending rows
 
-above : (rows : List (List Range)) (n lo hi : ℕ) (w : List Range) → aboveAll n rows ≡ true → List·Memᴰ ((lo to hi) ∷ w) rows → n < lo
-above [] n lo hi w a m = absurd (List·Memᴰ·not-nil m)
-above ([] ∷ rows) n lo hi w a m =
-    ⊎-elim (λ e. let z : _≡_ {A = ℕ} 0 1 = cc in omega arith) (λ m′. above rows n lo hi w a m′) (List·Memᴰ·cases-cons m)
-above (((l to h) ∷ v) ∷ rows) n lo hi w a m =
+all-above : (rows : List (List Range)) (n lo hi : ℕ) (w : List Range) → aboveAll n rows ≡ true → List·Memᴰ ((lo to hi) ∷ w) rows → n < lo
+all-above [] n lo hi w a m = absurd (List·Memᴰ·not-nil m)
+all-above ([] ∷ rows) n lo hi w a m =
+    ⊎-elim (λ e. let z : _≡_ {A = ℕ} 0 1 = cc in omega arith) (λ m′. all-above rows n lo hi w a m′) (List·Memᴰ·cases-cons m)
+all-above (((l to h) ∷ v) ∷ rows) n lo hi w a m =
     ⊎-elim
     (λ (e : _≡_ {A = List Range} ((lo to hi) ∷ w) ((l to h) ∷ v)).
     let z : lo ≡ l = cc in
     omega (arith, ltb-true n l (both-true (ltb n l) (aboveAll n rows) a .0)))
-    (λ m′. above rows n lo hi w (both-true (ltb n l) (aboveAll n rows) a .1) m′)
+    (λ m′. all-above rows n lo hi w (both-true (ltb n l) (aboveAll n rows) a .1) m′)
     (List·Memᴰ·cases-cons m)
 
 -- The row that holds a byte in its first range is the one begun.
@@ -63,7 +63,7 @@ begun-unique (((l to h) ∷ v) ∷ rows) (lo to hi) w b a m t =
     let i : inside (l to h) b ≡ true = subst (λ (x : Range). inside x b ≡ true) p t in
     simp i (ap some (sym q)))
     (λ m′.
-    let n : h < lo = above rows h lo hi w (both-true (aboveAll h rows) (ascending rows) a .0) m′ in
+    let n : h < lo = all-above rows h lo hi w (both-true (aboveAll h rows) (ascending rows) a .0) m′ in
     let k : h < b = omega (arith, leb-true lo b (both-true (leb lo b) (leb b hi) t .0)) in
     simp (inside-over l h b k) (begun-unique rows (lo to hi) w b (both-true (aboveAll h rows) (ascending rows) a .1) m′ t))
     (List·Memᴰ·cases-cons m)
@@ -111,22 +111,22 @@ multi-over b h =
 pub record Begun (rows : List (List Range)) (b : ℕ) (w : List Range) : Type 0 where
   pub first : Range
   pub row : List·Memᴰ (first ∷ w) rows
-  pub holds : inside first b ≡ true
+  pub in-first : inside first b ≡ true
 
 pub begun-some : (rows : List (List Range)) (b : ℕ) (w : List Range) → begun rows b ≡ some w → Begun rows b w
 unfolding choose
 begun-some [] b w q = absurd (Option·none-ne-some w q)
 begun-some ([] ∷ rows) b w q =
     let m = begun-some rows b w q in
-    record { first = m .first; row = List·Memᴰ·tail (m .row); holds = m .holds }
+    record { first = m .first; row = List·Memᴰ·tail (m .row); in-first = m .in-first }
 begun-some ((r ∷ rs) ∷ rows) b w q = go (inside r b) refl q (λ q′. begun-some rows b w q′)
   where
     go : (x : Bool) → inside r b ≡ x → choose x (some rs) (begun rows b) ≡ some w → (begun rows b ≡ some w → Begun rows b w)
         → Begun ((r ∷ rs) ∷ rows) b w
-    go true i q′ f = let e : r ∷ w ≡ r ∷ rs = cc in record { first = r; row = List·Memᴰ·head e; holds = i }
+    go true i q′ f = let e : r ∷ w ≡ r ∷ rs = cc in record { first = r; row = List·Memᴰ·head e; in-first = i }
     go false i q′ f =
         let m = f q′ in
-        record { first = m .first; row = List·Memᴰ·tail (m .row); holds = m .holds }
+        record { first = m .first; row = List·Memᴰ·tail (m .row); in-first = m .in-first }
 
 -- What holds of every range of the rows holds of what is due after a byte
 abbrev pub all : {A : Type 0} → (A → Bool) → List A → Bool

@@ -1,39 +1,34 @@
--- The rows of a segment table from word i on.
-use mathlib.Core.Path.{_≡_, refl}
+-- The rows of a segment table from row i on.
+use Prim.Native.Nat.{ℕ, _+_, _-_, _≤_, _<_}
+use mathlib.Core.Path.{_≡_, sym, ap, _∙_}
 use mathlib.Core.List.{List, [], _∷_}
-use Prim.Native.Nat.{ℕ, suc, _+_, _/_, _≤_, _<_}
-use native.Mathlib.Omega.{arith}
-use native.Mathlib.Numerals.{towards-suc}
-use lib.ListN.{length, getD, drop, length-drop}
-use lib.Seq.{drop-cons}
-use Rattle.reads.specs.Segment.{segmentAt, rows}
+use native.Mathlib.Nat.{sub-zero}
+use lib.ListN.{length}
+use Rattle.reads.specs.Table.{records, tabulate}
+use Rattle.reads.specs.Segment.{segmentWords, segmentAt, rows}
+use Rattle.reads.specs.declared.segment.Segment.{Segment}
+use Rattle.reads.proofs.Tabulates.{length-tabulate, tabulate-more, tabulate-none}
 
-four-words : (ws : List ℕ) (i : ℕ) → i + 3 < length ws
-    → drop i ws ≡ getD ws i 0 ∷ getD ws (suc i) 0 ∷ getD ws (suc (suc i)) 0 ∷ getD ws (suc (suc (suc i))) 0 ∷ drop (suc (suc (suc (suc i)))) ws
-four-words ws i h =
-    simp (drop-cons ws i 0 (omega arith), drop-cons ws (suc i) 0 (omega arith), drop-cons ws (suc (suc i)) 0 (omega arith), drop-cons ws (suc (suc (suc i))) 0 (omega arith))
+unfoldable pub rowsFrom : List ℕ → ℕ → List Segment
+rowsFrom ws i = tabulate (segmentAt ws) i (records segmentWords ws - i)
 
--- Where four words or more are left, the next four are a row.
-pub rows-more : (ws : List ℕ) (i : ℕ) → i + 3 < length ws → rows (drop i ws) ≡ segmentAt ws i ∷ rows (drop (i + 4) ws)
-unfolding rows
-rows-more ws i h = simp (towards-suc, four-words ws i h)
+module _ (ws : List ℕ) where
+  pub rows-all : rowsFrom ws 0 ≡ rows ws
+  unfolding rowsFrom rows
+  rows-all = rw sub-zero
 
-few-words : (ws : List ℕ) → length ws < 4 → rows ws ≡ []
-unfolding rows
-few-words [] h = refl
-few-words (a ∷ []) h = refl
-few-words (a ∷ b ∷ []) h = refl
-few-words (a ∷ b ∷ c ∷ []) h = refl
-few-words (a ∷ b ∷ c ∷ d ∷ ws) h = absurd (omega arith)
+  rows-more : (i : ℕ) → i < records segmentWords ws → rowsFrom ws i ≡ segmentAt ws i ∷ rowsFrom ws (i + 1)
+  unfolding rowsFrom
+  rows-more i h = tabulate-more (segmentAt ws) i (records segmentWords ws) h
 
--- Where fewer are left, there is none.
-pub rows-none : (ws : List ℕ) (i : ℕ) → length ws < i + 4 → rows (drop i ws) ≡ []
-rows-none ws i h = few-words (drop i ws) (simp length-drop (omega arith))
+  -- The same, of the row that the code has read.
+  pub rows-read : (i : ℕ) → i < records segmentWords ws → (s : Segment) → s ≡ segmentAt ws i → rowsFrom ws i ≡ s ∷ rowsFrom ws (i + 1)
+  rows-read i h s e = rows-more i h ∙ ap (λ (r : Segment). r ∷ rowsFrom ws (i + 1)) (sym e)
 
-pub rows-length : (ws : List ℕ) → length (rows ws) ≡ length ws / 4
-unfolding rows
-rows-length [] = refl
-rows-length (a ∷ []) = refl
-rows-length (a ∷ b ∷ []) = refl
-rows-length (a ∷ b ∷ c ∷ []) = refl
-rows-length (a ∷ b ∷ c ∷ d ∷ ws) = omega (arith, rows-length ws)
+  pub rows-none : (i : ℕ) → records segmentWords ws ≤ i → rowsFrom ws i ≡ []
+  unfolding rowsFrom
+  rows-none i h = tabulate-none (segmentAt ws) i (records segmentWords ws) h
+
+  pub rows-length : length (rows ws) ≡ records segmentWords ws
+  unfolding rows
+  rows-length = length-tabulate (segmentAt ws) 0 (records segmentWords ws)

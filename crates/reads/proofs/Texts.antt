@@ -11,14 +11,14 @@ use borrow.Author.Tests.{le-leb, lt-leb, leb-true, ltb-true, eqb-true, eq-eqb, n
 use lib.Seq.{take-all, drop-drop}
 use Rattle.reads.proofs.Tests.{both-true}
 use Rattle.reads.proofs.Outcomes.{missed-then}
-use Rattle.reads.specs.Outcome.{Outcome, value, absent, number, andThen, choose, nonzero as nonzeroNumber, textOf}
+use Rattle.reads.specs.Outcome.{Outcome, value, absent, number, andThen, choose, nonzero, textOf}
 use Rattle.reads.specs.Segment.{rows, lookup}
 use Rattle.reads.specs.Place.{Image}
-use Rattle.reads.specs.declared.answer.Place.{Place}
+use Rattle.reads.specs.declared.place.Place.{Place}
 use Rattle.reads.specs.Answer.{missed}
 use Rattle.reads.specs.Utf8.{Range, _to_, inside, multi, begun, utf8, judge, fits, lengthWith, multiLength}
 use Rattle.reads.specs.Text.{text, textLength, textAt, textIn, lengthPlusOne, fixedLength}
-use Rattle.reads.specs.declared.answer.Text.{Text}
+use Rattle.reads.specs.declared.text.Text.{Text}
 use Rattle.reads.specs.declared.answer.Missing.{Missing}
 use Rattle.reads.specs.declared.answer.Missing.the-variants.{Absent, Refused}
 use Rattle.reads.proofs.Rows.{all, begun-all}
@@ -34,29 +34,29 @@ module _ (b : ℕ) (s : List ℕ) where
   text-next z = simp (ne-eqb b 0 z)
 
 -- A range without the zero byte.
-abbrev nonzero : Range → Bool
-nonzero (lo to hi) = ltb 0 lo
+abbrev aboveZero : Range → Bool
+aboveZero (lo to hi) = ltb 0 lo
 
-nonzero-inside : (r : Range) (b : ℕ) → nonzero r ≡ true → inside r b ≡ true → b ≡ 0 → ⊥
-nonzero-inside (lo to hi) b a i z = omega (arith, ltb-true 0 lo a, leb-true lo b (both-true (leb lo b) (leb b hi) i .0))
+above-zero-inside : (r : Range) (b : ℕ) → aboveZero r ≡ true → inside r b ≡ true → b ≡ 0 → ⊥
+above-zero-inside (lo to hi) b a i z = omega (arith, ltb-true 0 lo a, leb-true lo b (both-true (leb lo b) (leb b hi) i .0))
 
 -- The bytes of the text that fit w are those in front, where w holds no zero byte.
-fits-text : (w : List Range) (s : List ℕ) → all nonzero w ≡ true → fits w (text s) ≡ fits w s
+fits-text : (w : List Range) (s : List ℕ) → all aboveZero w ≡ true → fits w (text s) ≡ fits w s
 unfolding fits text choose
 fits-text [] s a = refl
 fits-text (r ∷ w) [] a = refl
-fits-text (r ∷ w) (b ∷ s) a = go (eqb b 0) refl (fits-text w s (both-true (nonzero r) (all nonzero w) a .1))
+fits-text (r ∷ w) (b ∷ s) a = go (eqb b 0) refl (fits-text w s (both-true (aboveZero r) (all aboveZero w) a .1))
   where
     zero-out : (x : Bool) → inside r b ≡ x → b ≡ 0 → (x && fits w s) ≡ false
-    zero-out true i z = absurd (nonzero-inside r b (both-true (nonzero r) (all nonzero w) a .0) i z)
+    zero-out true i z = absurd (above-zero-inside r b (both-true (aboveZero r) (all aboveZero w) a .0) i z)
     zero-out false i z = refl
 
     go : (x : Bool) → eqb b 0 ≡ x → fits w (text s) ≡ fits w s → fits (r ∷ w) (choose x [] (b ∷ text s)) ≡ (inside r b && fits w s)
     go true e q = sym (zero-out (inside r b) refl (eqb-true b 0 e))
     go false e q = ap (λ (y : Bool). inside r b && y) q
 
-begun-nonzero : (b : ℕ) (w : List Range) → begun multi b ≡ some w → all nonzero w ≡ true
-begun-nonzero b w q = begun-all nonzero multi b w refl q
+begun-above-zero : (b : ℕ) (w : List Range) → begun multi b ≡ some w → all aboveZero w ≡ true
+begun-above-zero b w q = begun-all aboveZero multi b w refl q
 
 -- A character of more than one byte holds no zero byte, so the text's is the list's.
 multi-text : (b : ℕ) (s : List ℕ) → multiLength (b ∷ text s) ≡ multiLength (b ∷ s)
@@ -65,30 +65,30 @@ multi-text b s = go (begun multi b) refl
   where
     go : (o : Option (List Range)) → begun multi b ≡ o → lengthWith o (text s) ≡ lengthWith o s
     go none q = refl
-    go (some w) q = ap (λ (x : Bool). choose x (suc (length w)) 0) (fits-text w s (begun-nonzero b w q))
+    go (some w) q = ap (λ (x : Bool). choose x (suc (length w)) 0) (fits-text w s (begun-above-zero b w q))
 
 -- Past n bytes of s its text goes on as the text there.
 record PastN (s : List ℕ) (n : ℕ) : Type 0 where
   rest : drop n (text s) ≡ text (drop n s)
   long : length (text s) ≡ n + length (text (drop n s))
 
-past : (w : List Range) (s : List ℕ) → all nonzero w ≡ true → fits w s ≡ true → PastN s (length w)
+past : (w : List Range) (s : List ℕ) → all aboveZero w ≡ true → fits w s ≡ true → PastN s (length w)
 unfolding fits
 past [] s a f = record { rest = refl; long = omega arith }
 past (r ∷ w) [] a f = let z : _≡_ {A = ℕ} 0 1 = cc in absurd (omega arith)
 past (r ∷ w) (b ∷ s) a f =
-    let m = past w s (both-true (nonzero r) (all nonzero w) a .1) (both-true (inside r b) (fits w s) f .1) in
-    let e = text-next b s (nonzero-inside r b (both-true (nonzero r) (all nonzero w) a .0) (both-true (inside r b) (fits w s) f .0)) in
+    let m = past w s (both-true (aboveZero r) (all aboveZero w) a .1) (both-true (inside r b) (fits w s) f .1) in
+    let e = text-next b s (above-zero-inside r b (both-true (aboveZero r) (all aboveZero w) a .0) (both-true (inside r b) (fits w s) f .0)) in
     record { rest = ap (drop (suc (length w))) e ∙ m .rest; long = omega (arith, ap length e, m .long) }
 
 -- Past the character in front of s, the text is UTF-8 if the text there is.
 pub record Past (s : List ℕ) (n : ℕ) : Type 0 where
-  pub good : utf8 (text s) ≡ utf8 (text (drop n s))
+  pub judged : utf8 (text s) ≡ utf8 (text (drop n s))
   pub long : length (text s) ≡ n + length (text (drop n s))
 
 module _ (b : ℕ) (s : List ℕ) where
   past-ascii : b < 0x80 → (b ≡ 0 → ⊥) → Past (b ∷ s) 1
-  past-ascii a z = let e = text-next b s z in record { good = ap utf8 e ∙ utf8-ascii b (text s) a; long = omega (arith, ap length e) }
+  past-ascii a z = let e = text-next b s z in record { judged = ap utf8 e ∙ utf8-ascii b (text s) a; long = omega (arith, ap length e) }
 
   module _ (a : 0x80 ≤ b) where
     text-high : text (b ∷ s) ≡ b ∷ text s
@@ -105,7 +105,7 @@ module _ (b : ℕ) (s : List ℕ) where
           where
             on : (x : Bool) → fits w s ≡ x → (choose x (suc (length w)) 0 ≡ 0 → ⊥) → PastN (b ∷ s) (choose x (suc (length w)) 0)
             on true f n″ =
-                let m = past w s (begun-nonzero b w q) f in
+                let m = past w s (begun-above-zero b w q) f in
                 unfold choose in record { rest = ap (drop (suc (length w))) text-high ∙ m .rest; long = omega (arith, m .long, ap length text-high) }
             on false f n″ = absurd (n″ (unfold choose in refl))
 
@@ -113,19 +113,19 @@ module _ (b : ℕ) (s : List ℕ) where
     past-multi n =
         let m = past-row n in
         let u = utf8-multi b (text s) a (rw (multi-text b s) n) in
-        record { good = ap utf8 text-high ∙ u ∙ rw (multi-text b s, ← text-high) (ap utf8 (m .rest)); long = m .long }
+        record { judged = ap utf8 text-high ∙ u ∙ rw (multi-text b s, ← text-high) (ap utf8 (m .rest)); long = m .long }
 
     text-malformed : multiLength (b ∷ s) ≡ 0 → utf8 (text (b ∷ s)) ≡ false
     text-malformed z = ap utf8 text-high ∙ utf8-malformed b (text s) a (multi-text b s ∙ z)
 
 -- In a pass over s, at i
--- What is both-true of the text .0 at i is as good as the text, and as long less i.
+-- What is left of the text at i is as good as the text, and as long less i.
 pub record Left (s : List ℕ) (i : ℕ) : Type 0 where
   pub long : i + length (text (drop i s)) ≡ length (text s)
-  pub good : utf8 (text (drop i s)) ≡ utf8 (text s)
+  pub judged : utf8 (text (drop i s)) ≡ utf8 (text s)
 
 pub left-start : (s : List ℕ) → Left s 0
-left-start s = record { long = omega arith; good = refl }
+left-start s = record { long = omega arith; judged = refl }
 
 module _ {s : List ℕ} {i : ℕ} (l : Left s i) where
   left-past : (n : ℕ) → Past (drop i s) n → Left s (i + n)
@@ -133,12 +133,12 @@ module _ {s : List ℕ} {i : ℕ} (l : Left s i) where
       let d = drop-drop n i s in
       record {
         long = omega (arith, l .long, p .long, ap (λ (x : List ℕ). length (text x)) d);
-        good = ap (λ (x : List ℕ). utf8 (text x)) (sym d) ∙ sym (p .good) ∙ l .good;
+        judged = ap (λ (x : List ℕ). utf8 (text x)) (sym d) ∙ sym (p .judged) ∙ l .judged;
       }
 
   left-found : text (drop i s) ≡ [] → value i ≡ textLength s
   unfolding textLength choose utf8 judge
-  left-found e = simp (sym (l .good), e) (ap value (omega (arith, l .long, ap length e)))
+  left-found e = simp (sym (l .judged), e) (ap value (omega (arith, l .long, ap length e)))
 
   pub left-end : length s ≤ i → value i ≡ textLength s
   unfolding text
@@ -160,7 +160,7 @@ module _ {s : List ℕ} {i : ℕ} (l : Left s i) where
       unfolding textLength choose
       left-malformed z =
           let f = text-malformed (getD s i 0) (drop (i + 1) s) a (rw (e, here s i h) at z) in
-          simp (sym (l .good), here s i h, f)
+          simp (sym (l .judged), here s i h, f)
 
 -- What the answers come to
 
@@ -239,7 +239,7 @@ place-inside bytes (number k) t e = let z : _≡_ {A = ℕ} 0 1 = cc in absurd (
 
 pub text-in-inside : (m : Image) (va : ℕ) (t : Text) → value t ≡ textIn m va → t .offset + t .len ≤ length (m .bytes)
 unfolding textIn
-text-in-inside m va t e = go (nonzeroNumber va) e
+text-in-inside m va t e = go (nonzero va) e
   where
     go : (o : Outcome ℕ) → value t ≡ andThen o (λ a. andThen (lookup (rows (m .words)) a) (λ p. textAt (m .bytes) (p .offset))) → t .offset + t .len ≤ length (m .bytes)
     go (value a) q = place-inside (m .bytes) (lookup (rows (m .words)) a) t q

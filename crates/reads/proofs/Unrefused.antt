@@ -1,6 +1,6 @@
 -- The reads ask no question: none of them gives a number. What is made of unrefused outcomes is unrefused.
 use mathlib.Core.Path.{_≡_, refl}
-use mathlib.Core.Bool.{Bool, true, false, true≢false}
+use mathlib.Core.Bool.{Bool, false, true≢false}
 use mathlib.Core.List.{List, [], _∷_}
 use Prim.Native.Nat.{ℕ, _+_, _-_}
 use lib.ListN.{length, drop}
@@ -8,9 +8,9 @@ use Rattle.reads.specs.Outcome.{Outcome, value, absent, Unrefused, is-va
 use Rattle.reads.specs.Segment.{rows, placeAt, placed, lookup}
 use Rattle.reads.specs.Place.{Image, le, part, readableAt, readable, word}
 use Rattle.reads.specs.Text.{text, textLength, textAt, textIn}
-use Rattle.reads.specs.Ptrauth.{dataArm64e, data64, mapped, pickedWide, picked}
+use Rattle.reads.specs.Address.{dataArm64e, data64, mapped, pickedWide, picked}
 use Rattle.reads.specs.Breaks.{isValue}
-use Rattle.reads.specs.declared.answer.Text.{Text}
+use Rattle.reads.specs.declared.text.Text.{Text}
 use Rattle.reads.specs.declared.segment.Segment.{Segment}
 use Rattle.reads.proofs.Tests.{by-choose}
 

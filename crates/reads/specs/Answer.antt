@@ -4,14 +4,14 @@ use lib.IntN.{ℤ}
 use Rattle.reads.specs.Outcome.{Outcome, value, absent, number}
 use Rattle.reads.specs.declared.answer.Missing.{Missing}
 use Rattle.reads.specs.declared.answer.Missing.the-variants.{Absent, Refused}
-use Rattle.reads.specs.declared.answer.Place.{Place}
-use Rattle.reads.specs.declared.answer.Placed.{Placed}
-use Rattle.reads.specs.declared.answer.Placed.the-variants as placed
+use Rattle.reads.specs.declared.place.Place.{Place}
+use Rattle.reads.specs.declared.place.Placed.{Placed}
+use Rattle.reads.specs.declared.place.Placed.the-variants as placed
 use Rattle.reads.specs.declared.answer.Signed.{Signed}
 use Rattle.reads.specs.declared.answer.Signed.the-variants as signed
-use Rattle.reads.specs.declared.answer.Text.{Text}
-use Rattle.reads.specs.declared.answer.TextAnswer.{TextAnswer}
-use Rattle.reads.specs.declared.answer.TextAnswer.the-variants as text
+use Rattle.reads.specs.declared.text.Text.{Text}
+use Rattle.reads.specs.declared.text.TextAnswer.{TextAnswer}
+use Rattle.reads.specs.declared.text.TextAnswer.the-variants as text
 use Rattle.reads.specs.declared.answer.Word.{Word}
 use Rattle.reads.specs.declared.answer.Word.the-variants as word
 

@@ -35,17 +35,17 @@ digitCount [] = absent
 digitCount (b ∷ bs) = choose (ltb b 128) (value 1) (andThen (digitCount bs) (λ k. value (suc k)))
 
 -- The number that digits say: the sum of (b_i % 128) * 128^i.
-unfoldable pub unsigned : List ℕ → ℕ
-unsigned [] = 0
-unsigned (b ∷ bs) = b % 128 + 128 * unsigned bs
+unfoldable pub unsignedDigits : List ℕ → ℕ
+unsignedDigits [] = 0
+unsignedDigits (b ∷ bs) = b % 128 + 128 * unsignedDigits bs
 
 -- Bit 6 of the last digit is the sign.
 unfoldable pub negative : List ℕ → Bool
 negative ds = eqb (getD ds (length ds - 1) 0 / 64 % 2) 1
 
 -- The signed number that k digits say: the same sum, less 128^k where it is negative.
-unfoldable pub signed : List ℕ → ℤ
-signed ds = twos (negative ds) (unsigned ds) (128 ^ length ds)
+unfoldable pub signedDigits : List ℕ → ℤ
+signedDigits ds = twos (negative ds) (unsignedDigits ds) (128 ^ length ds)
 
 -- A number, absent at 2^64 and above.
 unfoldable pub within64 : ℕ → Outcome ℕ
@@ -57,10 +57,10 @@ withinSigned64 (pos n) = choose (ltb n (2 ^ 63)) (value (pos n)) absent
 withinSigned64 (negsuc n) = choose (ltb n (2 ^ 63)) (value (negsuc n)) absent
 
 unfoldable pub ulebOf : List ℕ → Outcome Uleb
-ulebOf ds = andThen (within64 (unsigned ds)) (λ n. value (unsignedRead n (length ds)))
+ulebOf ds = andThen (within64 (unsignedDigits ds)) (λ n. value (unsignedRead n (length ds)))
 
 unfoldable pub slebOf : List ℕ → Outcome Sleb
-slebOf ds = andThen (withinSigned64 (signed ds)) (λ z. value (signedRead z (length ds)))
+slebOf ds = andThen (withinSigned64 (signedDigits ds)) (λ z. value (signedRead z (length ds)))
 
 -- Unsigned LEB128: the number that the digits say and how many there are, absent where it needs more than 64 bits.
 unfoldable pub uleb128 : List ℕ → Outcome Uleb
@@ -76,8 +76,8 @@ bySign true m = negsuc m
 bySign false m = pos m
 
 unfoldable pub magnitude : Bool → List ℕ → ℕ
-magnitude true ds = 128 ^ length ds - 1 - unsigned ds
-magnitude false ds = unsigned ds
+magnitude true ds = 128 ^ length ds - 1 - unsignedDigits ds
+magnitude false ds = unsignedDigits ds
 
 -- What a digit adds to it.
 unfoldable pub digit : Bool → ℕ → ℕ

@@ -1,6 +1,8 @@
 -- The definitions that the contracts of reads cite.
+pub mod Reference
 pub mod Outcome
 pub mod Answer
+pub mod Table
 pub mod Segment
 pub mod Place
 pub mod Breaks
@@ -8,5 +10,6 @@ pub mod Utf8
 pub mod Text
 pub mod Signed
 pub mod Relative
+pub mod Address
 pub mod Ptrauth
 pub mod Leb128

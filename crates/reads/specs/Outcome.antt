@@ -2,7 +2,7 @@
 use Prim.Native.Nat.{ℕ, _+_, _^_}
 use mathlib.Core.Bool.{Bool, true, false}
 use lib.Dec.{ltb, eqb}
-use Rattle.reads.specs.declared.answer.Text.{Text}
+use Rattle.reads.specs.declared.text.Text.{Text}
 
 pub data Outcome (A : Type 0) : Type 0 where
   value : A → Outcome A
@@ -25,6 +25,11 @@ abbrev pub orElse : {A : Type 0} → Outcome A → Outcome A → Outcome A
 orElse (value a) o = value a
 orElse absent o = o
 orElse (number k) o = number k
+
+abbrev pub isAbsent : {A : Type 0} → Outcome A → Bool
+isAbsent (value a) = false
+isAbsent absent = true
+isAbsent (number k) = false
 
 -- "or 0" (document 01, Records): absent counts as 0.
 abbrev pub orZero : Outcome ℕ → Outcome ℕ

@@ -1,12 +1,12 @@
 -- Numbers in the image, at an offset and at an address (document 01, Reading rules, second point; util.rs, mod.rs).
 use Prim.Native.Nat.{ℕ, _+_, _*_}
-use mathlib.Core.Bool.{Bool}
 use mathlib.Core.List.{List, [], _∷_, reverse}
 use lib.Dec.{leb}
 use lib.ListN.{length, take, drop}
+use Rattle.reads.specs.Reference.{Slice, before}
 use Rattle.reads.specs.Outcome.{Outcome, value, absent, andThen, choose}
 use Rattle.reads.specs.Segment.{rows, lookup, placeAt}
-use Rattle.reads.specs.declared.answer.Place.{Place}
+use Rattle.reads.specs.declared.place.Place.{Place}
 
 -- What the reads are lent: the image's bytes and the segment table's words.
 pub record Image : Type 0 where
@@ -15,6 +15,10 @@ pub record Image : Type 0 where
 
 abbrev pub imageOf : List ℕ → List ℕ → Image
 imageOf bytes words = record { bytes = bytes; words = words }
+
+-- The same, of the slices that a function takes.
+abbrev pub lentImage : Slice → Slice → Image
+lentImage image segments = imageOf (before image) (before segments)
 
 -- The number of bytes in little-endian order, and in big-endian order.
 unfoldable pub le : List ℕ → ℕ

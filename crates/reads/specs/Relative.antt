@@ -7,7 +7,7 @@ use mathlib.Core.List.{List}
 use Rattle.reads.specs.Outcome.{Outcome, value, andThen}
 use Rattle.reads.specs.Place.{le, part, readableAt, wordIn}
 use Rattle.reads.specs.Signed.{twos}
-use Rattle.reads.specs.declared.answer.Place.{Place}
+use Rattle.reads.specs.declared.place.Place.{Place}
 
 -- The signed number of 32 bits.
 unfoldable pub signed32 : ℕ → ℤ

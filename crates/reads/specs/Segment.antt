@@ -2,26 +2,28 @@
 use Prim.Native.Nat.{ℕ, _+_, _-_, _^_, min}
 use mathlib.Core.Bool.{Bool, _&&_}
 use mathlib.Core.List.{List, [], _∷_}
-use lib.ListN.{getD}
 use lib.Dec.{leb, ltb}
 use Rattle.reads.specs.Outcome.{Outcome, value, absent, andThen, choose, sum64}
-use Rattle.reads.specs.declared.answer.Place.{Place}
+use Rattle.reads.specs.Table.{records, wordOf, tabulate}
+use Rattle.reads.specs.declared.place.Place.{Place}
 use Rattle.reads.specs.declared.segment.Segment.{Segment}
 
 abbrev pub segment : ℕ → ℕ → ℕ → ℕ → Segment
 segment a b c d = record { vmaddr = a; vmsize = b; fileoff = c; filesize = d }
 
--- The row whose words start at word i.
-abbrev pub segmentAt : List ℕ → ℕ → Segment
-segmentAt ws i = segment (getD ws i 0) (getD ws (i + 1) 0) (getD ws (i + 2) 0) (getD ws (i + 3) 0)
+-- The words of a segment.
+abbrev pub segmentWords : ℕ
+segmentWords = 4
 
--- Four words are a row; a last partial row is none.
+-- Row i of the table.
+abbrev pub segmentAt : List ℕ → ℕ → Segment
+segmentAt ws i =
+    segment (wordOf segmentWords ws i 0) (wordOf segmentWords ws i 1) (wordOf segmentWords ws i 2) (wordOf segmentWords ws i 3)
+
+-- The rows of the table, in order.
 unfoldable pub rows : List ℕ → List Segment
-rows [] = []
-rows (a ∷ []) = []
-rows (a ∷ b ∷ []) = []
-rows (a ∷ b ∷ c ∷ []) = []
-rows (a ∷ b ∷ c ∷ d ∷ ws) = segment a b c d ∷ rows ws
+unfolding tabulate
+rows ws = tabulate (segmentAt ws) 0 (records segmentWords ws)
 
 -- vmaddr + vmsize exceeds 64 bits.
 unfoldable pub ends : Segment → Bool

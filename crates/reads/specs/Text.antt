@@ -7,7 +7,7 @@ use Rattle.reads.specs.Outcome.{Outcome, value, absent, number, andThen,
 use Rattle.reads.specs.Segment.{rows, lookup}
 use Rattle.reads.specs.Place.{Image}
 use Rattle.reads.specs.Utf8.{utf8}
-use Rattle.reads.specs.declared.answer.Text.{Text}
+use Rattle.reads.specs.declared.text.Text.{Text}
 
 -- The bytes before the first zero byte, all of them where there is none.
 unfoldable pub text : List ℕ → List ℕ

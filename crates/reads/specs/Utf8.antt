@@ -70,9 +70,9 @@ begun ([] ∷ rows) b = begun rows b
 begun ((r ∷ rs) ∷ rows) b = choose (inside r b) (some rs) (begun rows b)
 
 -- The ranges that are due after b, where w are due before it (none between characters), if any text goes on so.
-abbrev pub after : List Range → ℕ → Option (List Range)
-after [] b = begun chars b
-after (r ∷ rs) b = choose (inside r b) (some rs) none
+abbrev pub dueAfter : List Range → ℕ → Option (List Range)
+dueAfter [] b = begun chars b
+dueAfter (r ∷ rs) b = choose (inside r b) (some rs) none
 
 pub data Verdict : Type 0 where
   good : Verdict
@@ -90,7 +90,7 @@ goOn (some w) v f = f w
 -- the grammar continues with, or at its length where it ends inside a character.
 unfoldable pub judge : ℕ → List Range → List ℕ → Verdict
 judge at w [] = ended w at
-judge at w (b ∷ s) = goOn (after w b) (bad at) (λ w′. judge (suc at) w′ s)
+judge at w (b ∷ s) = goOn (dueAfter w b) (bad at) (λ w′. judge (suc at) w′ s)
 
 abbrev pub verdict : List ℕ → Verdict
 verdict s = judge 0 [] s

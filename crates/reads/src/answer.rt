@@ -1,18 +1,7 @@
 // The answers of the reading functions, by cases: what was found, or what stands in its place.
 ghost use mathlib.Core.Path.{_≡_};
-ghost use Rattle.reads.specs.Outcome.{orZero, orEmpty, sum64, nonzero};
-ghost use Rattle.reads.specs.Answer.{wordOutcome, textOutcome};
-
-// A place in the image: the offset of a byte.
-pub struct Place {
-    pub offset: u64,
-}
-
-// A text: a part of the image.
-pub struct Text {
-    pub offset: u64,
-    pub len: u64,
-}
+ghost use Rattle.reads.specs.Outcome.{isAbsent, orZero, sum64, nonzero};
+ghost use Rattle.reads.specs.Answer.{wordOutcome};
 
 // What stands in place of a value: absent, or the number of the question that refuses.
 pub enum Missing {
@@ -32,42 +21,27 @@ pub enum Signed {
     Missing(Missing),
 }
 
-// A place, or none.
-pub enum Placed {
-    At(Place),
-    Missing(Missing),
-}
-
-// A text, or none.
-pub enum TextAnswer {
-    Found(Text),
-    Missing(Missing),
+// Neither a number nor refused.
+pub fn is_absent(w: Word) -> bool
+    ensures { λ r. ⌜ r ≡ isAbsent (wordOutcome w) ⌝ }
+{
+    match w {
+        Word::Value(_) => false,
+        Word::Missing(m) => match m {
+            Missing::Absent => true,
+            Missing::Refused(_) => false,
+        },
+    }
 }
 
 // "or 0": an absent number counts as 0.
 pub fn or_zero(w: Word) -> Word
     ensures { λ r. ⌜ wordOutcome r ≡ orZero (wordOutcome w) ⌝ }
 {
-    match w {
-        Word::Value(x) => Word::Value(x),
-        Word::Missing(m) => match m {
-            Missing::Absent => Word::Value(0),
-            Missing::Refused(k) => Word::Missing(Missing::Refused(k)),
-        },
+    if is_absent(w) {
+        return Word::Value(0);
     }
-}
-
-// An absent text counts as the text at offset 0 of length 0.
-pub fn or_empty(t: TextAnswer) -> TextAnswer
-    ensures { λ r. ⌜ textOutcome r ≡ orEmpty (textOutcome t) ⌝ }
-{
-    match t {
-        TextAnswer::Found(s) => TextAnswer::Found(s),
-        TextAnswer::Missing(m) => match m {
-            Missing::Absent => TextAnswer::Found(Text { offset: 0, len: 0 }),
-            Missing::Refused(k) => TextAnswer::Missing(Missing::Refused(k)),
-        },
-    }
+    w
 }
 
 // a + b, absent over 64 bits: checked_add.

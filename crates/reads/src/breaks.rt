@@ -1,7 +1,7 @@
 // The breakpoints of an image: between two of them it does not change whether bytes can be read.
 use crate::segment::Segment;
 ghost use mathlib.Core.Path.{_≡_};
-ghost use Rattle.reads.specs.Place.{imageOf};
+ghost use Rattle.reads.specs.Place.{lentImage};
 ghost use Rattle.reads.specs.Breaks.{readablePart, breaksOf, lower, nextBreak};
 
 // A breakpoint, or none.
@@ -49,12 +49,12 @@ fn lower(va: u64, best: Break, b: u64) -> Break
 // The least breakpoint above an address: until there, `least` bytes can be read everywhere or nowhere. The segments may
 // overlap, and may stand in any order.
 pub fn next_break(image: &[u8], segments: &[u64], least: u64, va: u64) -> Break
-    ensures { λ r. ⌜ r ≡ nextBreak (breaksOf (imageOf (now (image .entry)) (now (segments .entry))) least) va ⌝ }
+    ensures { λ r. ⌜ r ≡ nextBreak (breaksOf (lentImage image segments) least) va ⌝ }
 {
     let n = image.len() as u64;
     let mut best = Break::Nothing;
     let mut i = 0;
-    while 4 <= segments.len() - i {
+    while i < segments.len() / Segment::WORDS {
         let s = Segment::at(segments, i);
         if s.ends() {
             return best;
@@ -63,7 +63,7 @@ pub fn next_break(image: &[u8], segments: &[u64], least: u64, va: u64) -> Break
         best = lower(va, best, s.vmaddr);
         best = lower(va, best, s.vmaddr + size);
         best = lower(va, best, s.vmaddr + s.vmsize);
-        i += 4;
+        i += 1;
     }
     best
 }

@@ -4,6 +4,7 @@ use crate::answer::Word;
 ghost use mathlib.Core.Path.{_≡_};
 ghost use Prim.Native.Nat.{_<_, _^_};
 ghost use lib.ListN.{length};
+ghost use Rattle.reads.specs.Reference.{before};
 ghost use Rattle.reads.specs.Answer.{wordOutcome};
 ghost use Rattle.reads.specs.Leb128.{ulebOutcome, slebOutcome, digitCount, digit, magnitude, within64, bySign, ulebOf, slebOf, uleb128, sleb128};
 
@@ -33,7 +34,7 @@ pub enum SlebAnswer {
 
 // How many bytes the digits are, the last being the first byte without bit 7.
 fn digit_count(bytes: &[u8]) -> Word
-    ensures { λ r. ⌜ wordOutcome r ≡ digitCount (now (bytes .entry)) ⌝ }
+    ensures { λ r. ⌜ wordOutcome r ≡ digitCount (before bytes) ⌝ }
 {
     let mut i = 0;
     while i < bytes.len() {
@@ -58,7 +59,7 @@ fn digit(b: u8, negative: bool) -> u64
 
 // The number of the digits, or of their complements, from the last to the first: from 2^57 on no further digit fits.
 fn magnitude(digits: &[u8], negative: bool) -> Word
-    ensures { λ r. ⌜ wordOutcome r ≡ within64 (magnitude negative (now (digits .entry))) ⌝ }
+    ensures { λ r. ⌜ wordOutcome r ≡ within64 (magnitude negative (before digits)) ⌝ }
 {
     let mut n: u64 = 0;
     let mut i = digits.len();
@@ -86,7 +87,7 @@ fn by_sign(negative: bool, m: u64) -> i64
 
 // The unsigned number of the digits.
 fn uleb_of(digits: &[u8]) -> UlebAnswer
-    ensures { λ r. ⌜ ulebOutcome r ≡ ulebOf (now (digits .entry)) ⌝ }
+    ensures { λ r. ⌜ ulebOutcome r ≡ ulebOf (before digits) ⌝ }
 {
     match magnitude(digits, false) {
         Word::Value(value) => UlebAnswer::Read(Uleb {
@@ -100,7 +101,7 @@ fn uleb_of(digits: &[u8]) -> UlebAnswer
 // The signed number of the digits, by its sign and magnitude: bit 6 of the last digit is the sign.
 fn sleb_of(digits: &[u8]) -> SlebAnswer
     requires { ⌜ 0 < length (now digits) ⌝ }
-    ensures { λ r. ⌜ slebOutcome r ≡ slebOf (now (digits .entry)) ⌝ }
+    ensures { λ r. ⌜ slebOutcome r ≡ slebOf (before digits) ⌝ }
 {
     let consumed = digits.len();
     let last = digits[consumed - 1];
@@ -119,7 +120,7 @@ fn sleb_of(digits: &[u8]) -> SlebAnswer
 
 // The unsigned number that bytes begin with.
 pub fn read_uleb128(bytes: &[u8]) -> UlebAnswer
-    ensures { λ r. ⌜ ulebOutcome r ≡ uleb128 (now (bytes .entry)) ⌝ }
+    ensures { λ r. ⌜ ulebOutcome r ≡ uleb128 (before bytes) ⌝ }
 {
     match digit_count(bytes) {
         Word::Value(k) => {
@@ -132,7 +133,7 @@ pub fn read_uleb128(bytes: &[u8]) -> UlebAnswer
 
 // The signed number that bytes begin with.
 pub fn read_sleb128(bytes: &[u8]) -> SlebAnswer
-    ensures { λ r. ⌜ slebOutcome r ≡ sleb128 (now (bytes .entry)) ⌝ }
+    ensures { λ r. ⌜ slebOutcome r ≡ sleb128 (before bytes) ⌝ }
 {
     match digit_count(bytes) {
         Word::Value(k) => {

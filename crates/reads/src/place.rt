@@ -1,19 +1,29 @@
 // Numbers in the image, at an offset and at an address.
 use crate::answer::Missing;
-use crate::answer::Place;
-use crate::answer::Placed;
 use crate::answer::Word;
 use crate::segment::vm_to_file_offset_in;
 ghost use mathlib.Core.Path.{_≡_};
 ghost use Prim.Native.Nat.{_+_, _≤_, _<_, _^_};
 ghost use lib.Dec.{leb};
 ghost use lib.ListN.{length};
+ghost use Rattle.reads.specs.Reference.{before};
 ghost use Rattle.reads.specs.Answer.{wordOutcome, placeOutcome};
-ghost use Rattle.reads.specs.Place.{imageOf, le, be, part, readableAt, readable, leAt, beAt, word, wordIn};
+ghost use Rattle.reads.specs.Place.{lentImage, le, be, part, readableAt, readable, leAt, beAt, word, wordIn};
+
+// A place in the image: the offset of a byte.
+pub struct Place {
+    pub offset: u64,
+}
+
+// A place, or none.
+pub enum Placed {
+    At(Place),
+    Missing(Missing),
+}
 
 // The place at an offset, if k bytes from it lie in the image.
 pub fn readable_at(image: &[u8], offset: u64, k: u64) -> Placed
-    ensures { λ r. ⌜ placeOutcome r ≡ readableAt (now (image .entry)) offset k ⌝ }
+    ensures { λ r. ⌜ placeOutcome r ≡ readableAt (before image) offset k ⌝ }
 {
     let n = image.len() as u64;
     if offset <= n {
@@ -26,7 +36,7 @@ pub fn readable_at(image: &[u8], offset: u64, k: u64) -> Placed
 
 // The place of an address, if k bytes can be read there: only the first byte is looked up.
 pub fn readable(image: &[u8], segments: &[u64], va: u64, k: u64) -> Placed
-    ensures { λ r. ⌜ placeOutcome r ≡ readable (imageOf (now (image .entry)) (now (segments .entry))) va k ⌝ }
+    ensures { λ r. ⌜ placeOutcome r ≡ readable (lentImage image segments) va k ⌝ }
 {
     match vm_to_file_offset_in(segments, va) {
         Placed::At(p) => readable_at(image, p.offset, k),
@@ -43,7 +53,7 @@ fn wide(x: u8) -> u64
 // The number of two bytes that lie in the image, in little-endian order.
 fn le2(image: &[u8], at: usize) -> u64
     requires { ⌜ at + 2 ≤ length (now image) ⌝ }
-    ensures { λ r. ⌜ (r ≡ le (part (now (image .entry)) at 2)) × (r < 2 ^ 16) ⌝ }
+    ensures { λ r. ⌜ (r ≡ le (part (before image) at 2)) × (r < 2 ^ 16) ⌝ }
 {
     wide(image[at]) + wide(image[at + 1]) * 0x100
 }
@@ -51,7 +61,7 @@ fn le2(image: &[u8], at: usize) -> u64
 // The number of four bytes that lie in the image, in little-endian order.
 fn le4(image: &[u8], at: usize) -> u64
     requires { ⌜ at + 4 ≤ length (now image) ⌝ }
-    ensures { λ r. ⌜ (r ≡ le (part (now (image .entry)) at 4)) × (r < 2 ^ 32) ⌝ }
+    ensures { λ r. ⌜ (r ≡ le (part (before image) at 4)) × (r < 2 ^ 32) ⌝ }
 {
     le2(image, at) + le2(image, at + 2) * 0x1_0000
 }
@@ -59,7 +69,7 @@ fn le4(image: &[u8], at: usize) -> u64
 // The number of eight bytes that lie in the image, in little-endian order.
 fn le8(image: &[u8], at: usize) -> u64
     requires { ⌜ at + 8 ≤ length (now image) ⌝ }
-    ensures { λ r. ⌜ (r ≡ le (part (now (image .entry)) at 8)) × (r < 2 ^ 64) ⌝ }
+    ensures { λ r. ⌜ (r ≡ le (part (before image) at 8)) × (r < 2 ^ 64) ⌝ }
 {
     le4(image, at) + le4(image, at + 4) * 0x1_0000_0000
 }
@@ -67,7 +77,7 @@ fn le8(image: &[u8], at: usize) -> u64
 // The number of two bytes that lie in the image, in big-endian order.
 fn be2(image: &[u8], at: usize) -> u64
     requires { ⌜ at + 2 ≤ length (now image) ⌝ }
-    ensures { λ r. ⌜ (r ≡ be (part (now (image .entry)) at 2)) × (r < 2 ^ 16) ⌝ }
+    ensures { λ r. ⌜ (r ≡ be (part (before image) at 2)) × (r < 2 ^ 16) ⌝ }
 {
     wide(image[at + 1]) + wide(image[at]) * 0x100
 }
@@ -75,7 +85,7 @@ fn be2(image: &[u8], at: usize) -> u64
 // The number of four bytes that lie in the image, in big-endian order.
 fn be4(image: &[u8], at: usize) -> u64
     requires { ⌜ at + 4 ≤ length (now image) ⌝ }
-    ensures { λ r. ⌜ (r ≡ be (part (now (image .entry)) at 4)) × (r < 2 ^ 32) ⌝ }
+    ensures { λ r. ⌜ (r ≡ be (part (before image) at 4)) × (r < 2 ^ 32) ⌝ }
 {
     be2(image, at + 2) + be2(image, at) * 0x1_0000
 }
@@ -83,14 +93,14 @@ fn be4(image: &[u8], at: usize) -> u64
 // The number of eight bytes that lie in the image, in big-endian order.
 fn be8(image: &[u8], at: usize) -> u64
     requires { ⌜ at + 8 ≤ length (now image) ⌝ }
-    ensures { λ r. ⌜ (r ≡ be (part (now (image .entry)) at 8)) × (r < 2 ^ 64) ⌝ }
+    ensures { λ r. ⌜ (r ≡ be (part (before image) at 8)) × (r < 2 ^ 64) ⌝ }
 {
     be4(image, at + 4) + be4(image, at) * 0x1_0000_0000
 }
 
 // The number of two bytes at an offset.
 pub fn read_u16_le_at(image: &[u8], offset: u64) -> Word
-    ensures { λ r. ⌜ wordOutcome r ≡ leAt (now (image .entry)) 2 offset ⌝ }
+    ensures { λ r. ⌜ wordOutcome r ≡ leAt (before image) 2 offset ⌝ }
 {
     match readable_at(image, offset, 2) {
         Placed::At(p) => {
@@ -103,7 +113,7 @@ pub fn read_u16_le_at(image: &[u8], offset: u64) -> Word
 
 // The number of four bytes at an offset.
 pub fn read_u32_le_at(image: &[u8], offset: u64) -> Word
-    ensures { λ r. ⌜ wordOutcome r ≡ leAt (now (image .entry)) 4 offset ⌝ }
+    ensures { λ r. ⌜ wordOutcome r ≡ leAt (before image) 4 offset ⌝ }
 {
     match readable_at(image, offset, 4) {
         Placed::At(p) => {
@@ -116,7 +126,7 @@ pub fn read_u32_le_at(image: &[u8], offset: u64) -> Word
 
 // The number of eight bytes at an offset.
 pub fn read_u64_le_at(image: &[u8], offset: u64) -> Word
-    ensures { λ r. ⌜ wordOutcome r ≡ leAt (now (image .entry)) 8 offset ⌝ }
+    ensures { λ r. ⌜ wordOutcome r ≡ leAt (before image) 8 offset ⌝ }
 {
     match readable_at(image, offset, 8) {
         Placed::At(p) => {
@@ -129,7 +139,7 @@ pub fn read_u64_le_at(image: &[u8], offset: u64) -> Word
 
 // The number of four bytes at an offset, in big-endian order.
 pub fn read_u32_be_at(image: &[u8], offset: u64) -> Word
-    ensures { λ r. ⌜ wordOutcome r ≡ beAt (now (image .entry)) 4 offset ⌝ }
+    ensures { λ r. ⌜ wordOutcome r ≡ beAt (before image) 4 offset ⌝ }
 {
     match readable_at(image, offset, 4) {
         Placed::At(p) => {
@@ -142,7 +152,7 @@ pub fn read_u32_be_at(image: &[u8], offset: u64) -> Word
 
 // The number of eight bytes at an offset, in big-endian order.
 pub fn read_u64_be_at(image: &[u8], offset: u64) -> Word
-    ensures { λ r. ⌜ wordOutcome r ≡ beAt (now (image .entry)) 8 offset ⌝ }
+    ensures { λ r. ⌜ wordOutcome r ≡ beAt (before image) 8 offset ⌝ }
 {
     match readable_at(image, offset, 8) {
         Placed::At(p) => {
@@ -155,7 +165,7 @@ pub fn read_u64_be_at(image: &[u8], offset: u64) -> Word
 
 // The number of two bytes at an address.
 pub fn read_u16(image: &[u8], segments: &[u64], va: u64) -> Word
-    ensures { λ r. ⌜ wordOutcome r ≡ word (imageOf (now (image .entry)) (now (segments .entry))) 2 va ⌝ }
+    ensures { λ r. ⌜ wordOutcome r ≡ word (lentImage image segments) 2 va ⌝ }
 {
     match readable(image, segments, va, 2) {
         Placed::At(p) => {
@@ -168,7 +178,7 @@ pub fn read_u16(image: &[u8], segments: &[u64], va: u64) -> Word
 
 // The number of four bytes at an address.
 pub fn read_u32(image: &[u8], segments: &[u64], va: u64) -> Word
-    ensures { λ r. ⌜ wordOutcome r ≡ word (imageOf (now (image .entry)) (now (segments .entry))) 4 va ⌝ }
+    ensures { λ r. ⌜ wordOutcome r ≡ word (lentImage image segments) 4 va ⌝ }
 {
     match readable(image, segments, va, 4) {
         Placed::At(p) => {
@@ -181,7 +191,7 @@ pub fn read_u32(image: &[u8], segments: &[u64], va: u64) -> Word
 
 // The number of eight bytes at an address.
 pub fn read_u64(image: &[u8], segments: &[u64], va: u64) -> Word
-    ensures { λ r. ⌜ wordOutcome r ≡ word (imageOf (now (image .entry)) (now (segments .entry))) 8 va ⌝ }
+    ensures { λ r. ⌜ wordOutcome r ≡ word (lentImage image segments) 8 va ⌝ }
 {
     match readable(image, segments, va, 8) {
         Placed::At(p) => {
@@ -193,7 +203,7 @@ pub fn read_u64(image: &[u8], segments: &[u64], va: u64) -> Word
 }
 
 // Whether k bytes at i bytes from an offset lie in n bytes.
-fn inside(n: u64, from: u64, i: u64, k: u64) -> bool
+fn lies_in(n: u64, from: u64, i: u64, k: u64) -> bool
     ensures { λ r. ⌜ r ≡ leb (from + i + k) n ⌝ }
 {
     if n < from {
@@ -207,9 +217,9 @@ fn inside(n: u64, from: u64, i: u64, k: u64) -> bool
 
 // The number of four bytes at i bytes from a place; 0 where they do not lie in the image.
 pub fn u32_in(image: &[u8], p: Place, i: u64) -> u32
-    ensures { λ r. ⌜ r ≡ wordIn (now (image .entry)) 4 p i ⌝ }
+    ensures { λ r. ⌜ r ≡ wordIn (before image) 4 p i ⌝ }
 {
-    if inside(image.len() as u64, p.offset, i, 4) {
+    if lies_in(image.len() as u64, p.offset, i, 4) {
         let at = (p.offset + i) as usize;
         return le4(image, at) as u32;
     }
@@ -218,9 +228,9 @@ pub fn u32_in(image: &[u8], p: Place, i: u64) -> u32
 
 // The number of eight.
 pub fn u64_in(image: &[u8], p: Place, i: u64) -> u64
-    ensures { λ r. ⌜ r ≡ wordIn (now (image .entry)) 8 p i ⌝ }
+    ensures { λ r. ⌜ r ≡ wordIn (before image) 8 p i ⌝ }
 {
-    if inside(image.len() as u64, p.offset, i, 8) {
+    if lies_in(image.len() as u64, p.offset, i, 8) {
         let at = (p.offset + i) as usize;
         return le8(image, at);
     }

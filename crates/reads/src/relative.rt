@@ -1,10 +1,11 @@
 // Signed 32-bit offsets, the addresses that they are relative to, and the addresses of slots.
-use crate::answer::Place;
-use crate::answer::Placed;
 use crate::answer::Signed;
+use crate::place::Place;
+use crate::place::Placed;
 use crate::place::readable_at;
 use crate::place::u32_in;
 ghost use mathlib.Core.Path.{_≡_};
+ghost use Rattle.reads.specs.Reference.{before};
 ghost use Rattle.reads.specs.Answer.{signedOutcome};
 ghost use Rattle.reads.specs.Relative.{signed32, signedIn, signedAt, modulo64, relative, slotAddress};
 
@@ -20,7 +21,7 @@ pub fn signed(x: u32) -> i32
 
 // The signed number of four bytes at an offset.
 pub fn read_i32_le_at(image: &[u8], offset: u64) -> Signed
-    ensures { λ r. ⌜ signedOutcome r ≡ signedAt (now (image .entry)) offset ⌝ }
+    ensures { λ r. ⌜ signedOutcome r ≡ signedAt (before image) offset ⌝ }
 {
     match readable_at(image, offset, 4) {
         Placed::At(p) => Signed::Value(i32_in(image, p, 0)),
@@ -30,7 +31,7 @@ pub fn read_i32_le_at(image: &[u8], offset: u64) -> Signed
 
 // The signed number of four bytes at i bytes from a place; 0 where they do not lie in the image.
 pub fn i32_in(image: &[u8], p: Place, i: u64) -> i32
-    ensures { λ r. ⌜ r ≡ signedIn (now (image .entry)) p i ⌝ }
+    ensures { λ r. ⌜ r ≡ signedIn (before image) p i ⌝ }
 {
     signed(u32_in(image, p, i))
 }

@@ -1,14 +1,15 @@
 // The segment table, lent as words, and the translation between addresses and offsets.
 use crate::answer::Missing;
-use crate::answer::Place;
-use crate::answer::Placed;
 use crate::answer::Word;
 use crate::answer::checked_add;
+use crate::place::Place;
+use crate::place::Placed;
 ghost use mathlib.Core.Path.{_≡_};
-ghost use Prim.Native.Nat.{_+_, _≤_, _<_};
-ghost use lib.ListN.{length};
+ghost use Prim.Native.Nat.{_≤_, _<_};
+ghost use Rattle.reads.specs.Reference.{before};
 ghost use Rattle.reads.specs.Answer.{wordOutcome, placeOutcome};
-ghost use Rattle.reads.specs.Segment.{segmentAt, rows, ends, holds, placed, lookup, endsInFile, mappedSize, carries, addressOf};
+ghost use Rattle.reads.specs.Table.{records};
+ghost use Rattle.reads.specs.Segment.{segmentWords, segmentAt, rows, ends, holds, placed, lookup, endsInFile, mappedSize, carries, addressOf};
 
 // A row of the segment table.
 pub struct Segment {
@@ -22,16 +23,20 @@ impl Segment {
     // The greatest number of 64 bits.
     pub const MAX: u64 = 0xFFFF_FFFF_FFFF_FFFF;
 
-    // The row whose words start at word i.
+    // The words of a row.
+    pub const WORDS: usize = 4;
+
+    // Row i of the table.
     pub(crate) fn at(segments: &[u64], i: usize) -> Segment
-        requires { ⌜ i + 3 < length (now segments) ⌝ }
-        ensures { λ r. ⌜ r ≡ segmentAt (now (segments .entry)) i ⌝ }
+        requires { ⌜ i < records segmentWords (now segments) ⌝ }
+        ensures { λ r. ⌜ r ≡ segmentAt (before segments) i ⌝ }
     {
+        let first = i * Segment::WORDS;
         Segment {
-            vmaddr: segments[i],
-            vmsize: segments[i + 1],
-            fileoff: segments[i + 2],
-            filesize: segments[i + 3],
+            vmaddr: segments[first],
+            vmsize: segments[first + 1],
+            fileoff: segments[first + 2],
+            filesize: segments[first + 3],
         }
     }
 
@@ -76,10 +81,10 @@ impl Segment {
 // The place of an address. Segments count in order: one that exceeds 64 bits ends the lookup, the first that holds the
 // address decides.
 pub fn vm_to_file_offset_in(segments: &[u64], va: u64) -> Placed
-    ensures { λ r. ⌜ placeOutcome r ≡ lookup (rows (now (segments .entry))) va ⌝ }
+    ensures { λ r. ⌜ placeOutcome r ≡ lookup (rows (before segments)) va ⌝ }
 {
     let mut i = 0;
-    while 4 <= segments.len() - i {
+    while i < segments.len() / Segment::WORDS {
         let s = Segment::at(segments, i);
         if s.ends() {
             return Placed::Missing(Missing::Absent);
@@ -87,7 +92,7 @@ pub fn vm_to_file_offset_in(segments: &[u64], va: u64) -> Placed
         if s.holds(va) {
             return s.place(va);
         }
-        i += 4;
+        i += 1;
     }
     Placed::Missing(Missing::Absent)
 }
@@ -97,11 +102,11 @@ impl Segment {
     pub fn ends_in_file(self) -> bool
         ensures { λ r. ⌜ r ≡ endsInFile self ⌝ }
     {
-        Segment::MAX - self.fileoff < self.mapped()
+        Segment::MAX - self.fileoff < self.mapped_size()
     }
 
     // How many bytes of the file are mapped: a segment's file bytes stand at the start of its addresses.
-    pub fn mapped(self) -> u64
+    pub fn mapped_size(self) -> u64
         ensures { λ r. ⌜ r ≡ mappedSize self ⌝ }
     {
         if self.vmsize < self.filesize {
@@ -117,16 +122,16 @@ impl Segment {
         if offset < self.fileoff {
             return false;
         }
-        offset - self.fileoff < self.mapped()
+        offset - self.fileoff < self.mapped_size()
     }
 }
 
 // The address of an offset: the inverse of `vm_to_file_offset_in`. The first segment that maps the offset decides.
 pub fn file_offset_to_vm_in(segments: &[u64], offset: u64) -> Word
-    ensures { λ r. ⌜ wordOutcome r ≡ addressOf (rows (now (segments .entry))) offset ⌝ }
+    ensures { λ r. ⌜ wordOutcome r ≡ addressOf (rows (before segments)) offset ⌝ }
 {
     let mut i = 0;
-    while 4 <= segments.len() - i {
+    while i < segments.len() / Segment::WORDS {
         let s = Segment::at(segments, i);
         if s.ends_in_file() {
             return Word::Missing(Missing::Absent);
@@ -134,7 +139,7 @@ pub fn file_offset_to_vm_in(segments: &[u64], offset: u64) -> Word
         if s.carries(offset) {
             return checked_add(s.vmaddr, offset - s.fileoff);
         }
-        i += 4;
+        i += 1;
     }
     Word::Missing(Missing::Absent)
 }

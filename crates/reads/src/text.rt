@@ -1,25 +1,48 @@
 // Texts in the image: UTF-8 up to a zero byte, or to the end.
 use crate::answer::Missing;
-use crate::answer::Placed;
-use crate::answer::Text;
-use crate::answer::TextAnswer;
 use crate::answer::Word;
 use crate::answer::nonzero;
-use crate::answer::or_empty;
+use crate::place::Placed;
 use crate::segment::vm_to_file_offset_in;
 ghost use mathlib.Core.Path.{_≡_};
 ghost use mathlib.Core.List.{[], _∷_};
 ghost use Prim.Native.Nat.{_+_, _≤_, _<_};
 ghost use lib.ListN.{length, drop, replicate};
+ghost use Rattle.reads.specs.Reference.{before};
 ghost use Rattle.reads.specs.Answer.{wordOutcome, textOutcome};
 ghost use Rattle.reads.specs.Outcome.{choose, orEmpty};
 ghost use Rattle.reads.specs.Utf8.{_to_, tail, fits, multiLength, utf8};
-ghost use Rattle.reads.specs.Place.{imageOf};
+ghost use Rattle.reads.specs.Place.{lentImage};
 ghost use Rattle.reads.specs.Text.{textLength, textAt, textIn, fixedLength, lengthPlusOne};
+
+// A text: a part of the image.
+pub struct Text {
+    pub offset: u64,
+    pub len: u64,
+}
+
+// A text, or none.
+pub enum TextAnswer {
+    Found(Text),
+    Missing(Missing),
+}
+
+// An absent text counts as the text at offset 0 of length 0.
+pub fn or_empty(t: TextAnswer) -> TextAnswer
+    ensures { λ r. ⌜ textOutcome r ≡ orEmpty (textOutcome t) ⌝ }
+{
+    match t {
+        TextAnswer::Found(s) => TextAnswer::Found(s),
+        TextAnswer::Missing(m) => match m {
+            Missing::Absent => TextAnswer::Found(Text { offset: 0, len: 0 }),
+            Missing::Refused(k) => TextAnswer::Missing(Missing::Refused(k)),
+        },
+    }
+}
 
 // A byte stands at i, and lies between lo and hi.
 fn within(s: &[u8], i: usize, lo: u8, hi: u8) -> bool
-    ensures { λ r. ⌜ r ≡ fits (lo to hi ∷ []) (drop i (now (s .entry))) ⌝ }
+    ensures { λ r. ⌜ r ≡ fits (lo to hi ∷ []) (drop i (before s)) ⌝ }
 {
     if s.len() <= i {
         return false;
@@ -35,7 +58,7 @@ fn within(s: &[u8], i: usize, lo: u8, hi: u8) -> bool
 // 0 where it is malformed.
 fn rest(s: &[u8], i: usize, lo: u8, hi: u8, n: usize) -> usize
     requires { ⌜ n ≤ 2 ⌝ }
-    ensures { λ r. ⌜ r ≡ choose (fits (lo to hi ∷ replicate n tail) (drop i (now (s .entry)))) (n + 2) 0 ⌝ }
+    ensures { λ r. ⌜ r ≡ choose (fits (lo to hi ∷ replicate n tail) (drop i (before s))) (n + 2) 0 ⌝ }
 {
     if !within(s, i, lo, hi) {
         return 0;
@@ -55,7 +78,7 @@ fn rest(s: &[u8], i: usize, lo: u8, hi: u8, n: usize) -> usize
 // The length of the character of more than one byte at i, 0 where there is none: a line for each row of the grammar.
 fn multi_length(s: &[u8], i: usize) -> usize
     requires { ⌜ i < length (now s) ⌝ }
-    ensures { λ r. ⌜ r ≡ multiLength (drop i (now (s .entry))) ⌝ }
+    ensures { λ r. ⌜ r ≡ multiLength (drop i (before s)) ⌝ }
 {
     let second = i + 1;
     match s[i] {
@@ -73,7 +96,7 @@ fn multi_length(s: &[u8], i: usize) -> usize
 
 // The bytes are UTF-8.
 pub fn utf8(s: &[u8]) -> bool
-    ensures { λ r. ⌜ r ≡ utf8 (now (s .entry)) ⌝ }
+    ensures { λ r. ⌜ r ≡ utf8 (before s) ⌝ }
 {
     let mut i = 0;
     while i < s.len() {
@@ -92,7 +115,7 @@ pub fn utf8(s: &[u8]) -> bool
 
 // The length of the text in front of s, in one pass. A zero byte inside a character is no UTF8-tail, so such a text is absent.
 pub fn text_length(s: &[u8]) -> Word
-    ensures { λ r. ⌜ wordOutcome r ≡ textLength (now (s .entry)) ⌝ }
+    ensures { λ r. ⌜ wordOutcome r ≡ textLength (before s) ⌝ }
 {
     let mut i = 0;
     while i < s.len() {
@@ -119,7 +142,7 @@ pub fn text_length(s: &[u8]) -> Word
 
 // The text at an offset of the image.
 pub fn read_cstr_at(image: &[u8], offset: u64) -> TextAnswer
-    ensures { λ r. ⌜ textOutcome r ≡ textAt (now (image .entry)) offset ⌝ }
+    ensures { λ r. ⌜ textOutcome r ≡ textAt (before image) offset ⌝ }
 {
     if (image.len() as u64) < offset {
         return TextAnswer::Missing(Missing::Absent);
@@ -132,7 +155,7 @@ pub fn read_cstr_at(image: &[u8], offset: u64) -> TextAnswer
 
 // The text at an address: absent at 0 and where nothing is mapped.
 pub fn read_cstr(image: &[u8], segments: &[u64], va: u64) -> TextAnswer
-    ensures { λ r. ⌜ textOutcome r ≡ textIn (imageOf (now (image .entry)) (now (segments .entry))) va ⌝ }
+    ensures { λ r. ⌜ textOutcome r ≡ textIn (lentImage image segments) va ⌝ }
 {
     match nonzero(va) {
         Word::Value(a) => match vm_to_file_offset_in(segments, a) {
@@ -145,14 +168,14 @@ pub fn read_cstr(image: &[u8], segments: &[u64], va: u64) -> TextAnswer
 
 // The same, an absent text counting as the empty one.
 pub fn read_cstr_or_empty(image: &[u8], segments: &[u64], va: u64) -> TextAnswer
-    ensures { λ r. ⌜ textOutcome r ≡ orEmpty (textIn (imageOf (now (image .entry)) (now (segments .entry))) va) ⌝ }
+    ensures { λ r. ⌜ textOutcome r ≡ orEmpty (textIn (lentImage image segments) va) ⌝ }
 {
     or_empty(read_cstr(image, segments, va))
 }
 
 // The length of the text in a field of 16 bytes, as segname and sectname: 0 where it is not UTF-8.
 pub fn cstr_from_fixed(bytes: &[u8; 16]) -> u64
-    ensures { λ r. ⌜ r ≡ fixedLength (now (bytes .entry)) ⌝ }
+    ensures { λ r. ⌜ r ≡ fixedLength (before bytes) ⌝ }
 {
     match text_length(bytes) {
         Word::Value(len) => len,
@@ -163,7 +186,7 @@ pub fn cstr_from_fixed(bytes: &[u8; 16]) -> u64
 // For callers in C or Rust: one more than the length of the text at an offset of the image, 0 where there is none.
 #[no_mangle]
 pub extern "C" fn reads_cstr_length_plus_one(image: &[u8], offset: u64) -> u64
-    ensures { λ r. ⌜ r ≡ lengthPlusOne (textAt (now (image .entry)) offset) ⌝ }
+    ensures { λ r. ⌜ r ≡ lengthPlusOne (textAt (before image) offset) ⌝ }
 {
     match read_cstr_at(image, offset) {
         TextAnswer::Found(t) => t.len + 1,

@@ -3,10 +3,10 @@ use Prim.Native.Nat.{ℕ, zero, suc, _+_, _-_, _≤_, _<_}
 use mathlib.Core.Path.{_≡_, refl, ap, _∙_}
 use mathlib.Core.Bool.{Bool, true, false}
 use mathlib.Core.List.{List, [], _∷_, _++_, append-nil}
+use mathlib.Core.Option.{none, some}
 use mathlib.Core.Logic.{⊎-elim}
 use native.Mathlib.Nat.{zero-add, add-zero, suc-add, add-suc, eq-or-lt-of-le}
 use native.Mathlib.Omega.{arith}
-use Rattle.reads.specs.Outcome.{value, absent, Unrefused, is-value, is-absent}
 use Rattle.reads.proofs.Tests.{by-choose, choose-true, choose-false}
 use Rattle.records.specs.Search.{first, allFrom}
 
@@ -18,13 +18,13 @@ pub record FirstOf (test : ℕ → Bool) (k i j : ℕ) : Type 0 where
   pub before : (x : ℕ) → i ≤ x → x < j → test x ≡ false
 
 module _ (test : ℕ → Bool) where
-  first-pass : (k i : ℕ) → test i ≡ true → first test (suc k) i ≡ value i
+  first-pass : (k i : ℕ) → test i ≡ true → first test (suc k) i ≡ some i
   unfolding first
-  first-pass k i t = choose-true (value i) (first test k (suc i)) t
+  first-pass k i t = choose-true (some i) (first test k (suc i)) t
 
   first-fail : (k i : ℕ) → test i ≡ false → first test (suc k) i ≡ first test k (suc i)
   unfolding first
-  first-fail k i t = choose-false (value i) (first test k (suc i)) t
+  first-fail k i t = choose-false (some i) (first test k (suc i)) t
 
   all-pass : (k i : ℕ) → test i ≡ true → allFrom test (suc k) i ≡ i ∷ allFrom test k (suc i)
   unfolding allFrom
@@ -39,16 +39,11 @@ module _ (test : ℕ → Bool) where
   fails-from i P here later x l =
       ⊎-elim (λ (e : i ≡ x). rw (← e) here) (λ u. later x u) (eq-or-lt-of-le l)
 
-  pub first-unrefused : (k i : ℕ) → Unrefused (first test k i)
+  pub first-some : (k i j : ℕ) → first test k i ≡ some j → FirstOf test k i j
   unfolding first
-  first-unrefused zero i = is-absent
-  first-unrefused (suc k) i = by-choose Unrefused (λ t. is-value i) (λ t. first-unrefused k (suc i))
-
-  pub first-value : (k i j : ℕ) → first test k i ≡ value j → FirstOf test k i j
-  unfolding first
-  first-value zero i j = λ e. let z : _≡_ {A = ℕ} 0 1 = cc in absurd (omega arith)
-  first-value (suc k) i j =
-      by-choose (λ o. o ≡ value j → FirstOf test (suc k) i j) (λ t e. here t (cc)) (λ t e. later t (first-value k (suc i) j e))
+  first-some zero i j = λ e. let z : _≡_ {A = ℕ} 0 1 = cc in absurd (omega arith)
+  first-some (suc k) i j =
+      by-choose (λ o. o ≡ some j → FirstOf test (suc k) i j) (λ t e. here t (cc)) (λ t e. later t (first-some k (suc i) j e))
     where
       here : test i ≡ true → i ≡ j → FirstOf test (suc k) i j
       here t e = record { from = omega arith; below = omega arith; passes = rw (← e) t; before = λ x l u. absurd (omega arith) }
@@ -62,21 +57,21 @@ module _ (test : ℕ → Bool) where
             before = λ x l. fails-from i (λ y. y < j → test y ≡ false) (λ u. t) (λ y p. f .before y p) x l;
           }
 
-  pub first-absent : (k i : ℕ) → first test k i ≡ absent → (x : ℕ) → i ≤ x → x < i + k → test x ≡ false
+  pub first-is-none : (k i : ℕ) → first test k i ≡ none → (x : ℕ) → i ≤ x → x < i + k → test x ≡ false
   unfolding first
-  first-absent zero i = λ e x l u. absurd (omega arith)
-  first-absent (suc k) i =
-      by-choose (λ o. o ≡ absent → (x : ℕ) → i ≤ x → x < i + suc k → test x ≡ false)
+  first-is-none zero i = λ e x l u. absurd (omega arith)
+  first-is-none (suc k) i =
+      by-choose (λ o. o ≡ none → (x : ℕ) → i ≤ x → x < i + suc k → test x ≡ false)
       (λ t e. let z : _≡_ {A = ℕ} 0 1 = cc in absurd (omega arith))
-      (λ t e. fails-from i (λ y. y < i + suc k → test y ≡ false) (λ u. t) (λ y p u. first-absent k (suc i) e y p (omega arith)))
+      (λ t e. fails-from i (λ y. y < i + suc k → test y ≡ false) (λ u. t) (λ y p u. first-is-none k (suc i) e y p (omega arith)))
 
   -- The first of all is the one found, and the others come after it.
-  pub all-of-value : (k i j : ℕ) → first test k i ≡ value j → allFrom test k i ≡ j ∷ allFrom test (k - (suc j - i)) (suc j)
+  pub all-of-some : (k i j : ℕ) → first test k i ≡ some j → allFrom test k i ≡ j ∷ allFrom test (k - (suc j - i)) (suc j)
   unfolding first allFrom
-  all-of-value zero i j = λ e. cc
-  all-of-value (suc k) i j =
-      by-choose (λ o. o ≡ value j → allFrom test (suc k) i ≡ j ∷ allFrom test (suc k - (suc j - i)) (suc j)) (λ t e. here t (cc))
-      (λ t e. later t (first-value k (suc i) j e .from) (all-of-value k (suc i) j e))
+  all-of-some zero i j = λ e. cc
+  all-of-some (suc k) i j =
+      by-choose (λ o. o ≡ some j → allFrom test (suc k) i ≡ j ∷ allFrom test (suc k - (suc j - i)) (suc j)) (λ t e. here t (cc))
+      (λ t e. later t (first-some k (suc i) j e .from) (all-of-some k (suc i) j e))
     where
       here : test i ≡ true → i ≡ j → allFrom test (suc k) i ≡ j ∷ allFrom test (suc k - (suc j - i)) (suc j)
       here t e =
@@ -89,18 +84,18 @@ module _ (test : ℕ → Bool) where
           let n : suc k - (suc j - i) ≡ k - (suc j - suc i) = omega arith in
           all-fail k i t ∙ ih ∙ rw n
 
-  pub all-of-absent : (k i : ℕ) → first test k i ≡ absent → allFrom test k i ≡ []
+  pub all-of-first-none : (k i : ℕ) → first test k i ≡ none → allFrom test k i ≡ []
   unfolding first allFrom
-  all-of-absent zero i = λ e. refl
-  all-of-absent (suc k) i =
-      by-choose (λ o. o ≡ absent → allFrom test (suc k) i ≡ []) (λ t e. cc) (λ t e. all-fail k i t ∙ all-of-absent k (suc i) e)
+  all-of-first-none zero i = λ e. refl
+  all-of-first-none (suc k) i =
+      by-choose (λ o. o ≡ none → allFrom test (suc k) i ≡ []) (λ t e. cc) (λ t e. all-fail k i t ∙ all-of-first-none k (suc i) e)
 
   -- What is found among k indices is found among more.
-  pub first-of-more : (k d i j : ℕ) → first test k i ≡ value j → first test (k + d) i ≡ value j
+  pub first-of-more : (k d i j : ℕ) → first test k i ≡ some j → first test (k + d) i ≡ some j
   unfolding first
   first-of-more zero d i j = λ e. let z : _≡_ {A = ℕ} 0 1 = cc in absurd (omega arith)
   first-of-more (suc k) d i j =
-      by-choose (λ o. o ≡ value j → first test (suc k + d) i ≡ value j) (λ t e. rw suc-add (first-pass (k + d) i t ∙ e))
+      by-choose (λ o. o ≡ some j → first test (suc k + d) i ≡ some j) (λ t e. rw suc-add (first-pass (k + d) i t ∙ e))
       (λ t e. rw suc-add (first-fail (k + d) i t ∙ first-of-more k d (suc i) j e))
 
   -- d indices that fail are passed over.
@@ -144,14 +139,14 @@ module _ (test : ℕ → Bool) (count i : ℕ) where
       let b : i + (j - i) ≡ j = omega arith in
       rw a (first-run test (j - i) (count - j) i (λ x p q. f x p (omega arith)) ∙ ap (first test (count - j)) b)
 
-  pub first-past : count ≤ i → first test (count - i) i ≡ absent
+  pub first-past : count ≤ i → first test (count - i) i ≡ none
   unfolding first
   first-past h = let a : count - i ≡ 0 = omega arith in rw a
 
-  pub first-here : i < count → test i ≡ true → first test (count - i) i ≡ value i
+  pub first-here : i < count → test i ≡ true → first test (count - i) i ≡ some i
   first-here h e =
       let a : count - i ≡ suc (count - suc i) = omega arith in
       rw a (first-pass test (count - suc i) i e)
 
-pub first-none : (test : ℕ → Bool) (count i : ℕ) → ((x : ℕ) → i ≤ x → x < count → test x ≡ false) → i ≤ count → first test (count - i) i ≡ absent
+pub first-none : (test : ℕ → Bool) (count i : ℕ) → ((x : ℕ) → i ≤ x → x < count → test x ≡ false) → i ≤ count → first test (count - i) i ≡ none
 first-none test count i f l = first-skip test count i count l (omega arith) f ∙ first-past test count count (omega arith)

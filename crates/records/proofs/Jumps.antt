@@ -2,24 +2,24 @@
 use Prim.Native.Nat.{ℕ, _+_, _-_, _*_, _/_, _^_, _≤_, _<_}
 use mathlib.Core.Path.{_≡_, refl, sym, _∙_}
 use mathlib.Core.Bool.{true, false, and-false}
+use mathlib.Core.Option.{none, some}
 use native.Mathlib.Nat.{mul-zero, mul-le-mul, le-dest, mul-le-mul-right, div-mul-le-self, lt-div-mul-add}
 use native.Mathlib.Omega.{arith}
 use borrow.Author.Tests.{lt-ltb, le-ltb}
 use lib.ListN.{length}
-use Rattle.reads.specs.Answer.{missed, wordOutcome}
+use Rattle.reads.specs.Answer.{missed}
 use Rattle.reads.specs.Breaks.{isValue, canRead, breaksOf, nextBreak, above}
-use Rattle.reads.specs.Outcome.{value, absent}
 use Rattle.reads.specs.Place.{Image, readable}
 use Rattle.reads.specs.declared.answer.Missing.{Missing}
 use Rattle.reads.specs.declared.answer.Missing.the-variants.{Absent, Refused}
-use Rattle.reads.specs.declared.answer.Place.{Place}
-use Rattle.reads.specs.declared.answer.Word.{Word}
+use Rattle.reads.specs.declared.place.Place.{Place}
 use Rattle.reads.specs.declared.breaks.Break.the-variants.{At, Nothing}
 use Rattle.reads.proofs.Breakpoints.{can-read-until-break, unreadable-past-breaks, above-few}
 use Rattle.reads.proofs.LeastAbove.{next-break-above, above-falls}
 use Rattle.records.specs.List.{least, entryAddress, entry}
-use Rattle.records.specs.Search.{firstReadable}
+use Rattle.records.specs.Search.{entryOf, firstReadable, searchBudget}
 use Rattle.records.specs.Tries.{ahead, Tried}
+use Rattle.records.specs.declared.list.Entry.{Entry}
 use Rattle.records.specs.declared.list.Layout.{Layout}
 use Rattle.records.specs.declared.list.Try.{Try}
 use Rattle.records.specs.declared.list.Try.the-variants.{Stop, Go}
@@ -60,20 +60,20 @@ module _ (m : Image) (h : Layout) (i : ℕ) where
   entry-readable l e = rw (lt-ltb (entryAddress h i) (2 ^ 64) l, e)
 
 module _ (m : Image) (h : Layout) (i : ℕ) where
-  pub search-past : h .count ≤ i → absent ≡ firstReadable m h i
+  pub search-past : h .count ≤ i → none ≡ firstReadable m h i
   unfolding firstReadable
   search-past l = sym (first-past (entry m h) (h .count) i l)
 
   -- No entry from i on can be read.
-  none : i < h .count → ((x : ℕ) → i ≤ x → x < h .count → entry m h x ≡ false) → absent ≡ firstReadable m h i
+  nowhere : i < h .count → ((x : ℕ) → i ≤ x → x < h .count → entry m h x ≡ false) → none ≡ firstReadable m h i
   unfolding firstReadable
-  none l f = sym (first-none (entry m h) (h .count) i f (omega arith))
+  nowhere l f = sym (first-none (entry m h) (h .count) i f (omega arith))
 
   -- The address of entry i is over 64 bits, and so is each later one.
-  pub search-over : i < h .count → 2 ^ 64 ≤ entryAddress h i → absent ≡ firstReadable m h i
-  search-over l w = none l (λ x p q. entry-over m h x (omega (arith, addresses-rise h i x p)))
+  pub search-over : i < h .count → 2 ^ 64 ≤ entryAddress h i → none ≡ firstReadable m h i
+  search-over l w = nowhere l (λ x p q. entry-over m h x (omega (arith, addresses-rise h i x p)))
 
-  pub search-here : i < h .count → entryAddress h i < 2 ^ 64 → canRead m (least (h .kind)) (entryAddress h i) ≡ true → value i ≡ firstReadable m h i
+  pub search-here : i < h .count → entryAddress h i < 2 ^ 64 → canRead m (least (h .kind)) (entryAddress h i) ≡ true → some i ≡ firstReadable m h i
   unfolding firstReadable
   search-here l f e = sym (first-here (entry m h) (h .count) i l (entry-readable m h i f e))
 
@@ -82,13 +82,13 @@ module _ (m : Image) (h : Layout) (i : ℕ) where
   entries-past-breaks e x l =
       entry-unreadable m h x (unreadable-past-breaks m (least (h .kind)) (entryAddress h i) (entryAddress h x) e (addresses-rise h i x l))
 
-  pub search-past-breaks : i < h .count → nextBreak (breaksOf m (least (h .kind))) (entryAddress h i) ≡ Nothing → absent ≡ firstReadable m h i
-  search-past-breaks l e = none l (λ x p q. entries-past-breaks e x p)
+  pub search-past-breaks : i < h .count → nextBreak (breaksOf m (least (h .kind))) (entryAddress h i) ≡ Nothing → none ≡ firstReadable m h i
+  search-past-breaks l e = nowhere l (λ x p q. entries-past-breaks e x p)
 
   module _ (low : i < h .count) (not : canRead m (least (h .kind)) (entryAddress h i) ≡ false) where
     -- Entries of size 0 all have one address.
-    pub search-flat : h .size ≡ 0 → absent ≡ firstReadable m h i
-    search-flat z = none low (λ x p q. entry-unreadable m h x (rw (one-place x) not))
+    pub search-flat : h .size ≡ 0 → none ≡ firstReadable m h i
+    search-flat z = nowhere low (λ x p q. entry-unreadable m h x (rw (one-place x) not))
       where
         one-place : (x : ℕ) → entryAddress h x ≡ entryAddress h i
         one-place x = simp (z, mul-zero)
@@ -108,8 +108,8 @@ module _ (m : Image) (h : Layout) (i : ℕ) where
       fails x l u =
           entry-unreadable m h x (can-read-until-break m (least (h .kind)) (entryAddress h i) b (entryAddress h x) short next (addresses-rise h i x l) (below x l u) ∙ not)
 
-      pub jump-out : h .count - i - 1 ≤ gap h i b → absent ≡ firstReadable m h i
-      jump-out g = none low (λ x p q. fails x p (omega arith))
+      pub jump-out : h .count - i - 1 ≤ gap h i b → none ≡ firstReadable m h i
+      jump-out g = nowhere low (λ x p q. fails x p (omega arith))
 
       pub jump-same : gap h i b < h .count - i - 1 → firstReadable m h (i + gap h i b + 1) ≡ firstReadable m h i
       unfolding firstReadable
@@ -122,14 +122,14 @@ module _ (m : Image) (h : Layout) (i : ℕ) where
           (omega (arith, over, lt-div-mul-add {a = b - entryAddress h i - 1} {b = h .size} (omega arith)))
 
   -- The budget of 3 x S + 1 covers the breakpoints ahead of any entry.
-  pub ahead-few : ahead m h i < 3 * (length (m .words) / 4) + 1
+  pub ahead-few : ahead m h i < searchBudget (m .words)
   unfolding ahead
   ahead-few = omega (arith, above-few m (least (h .kind)) (entryAddress h i))
 
 -- What trying an index leaves, by the case that came.
 module _ (m : Image) (h : Layout) (i : ℕ) (r : Try) (tried : Tried m h i r) where
-  pub stopped : (w : Word) → r ≡ Stop w → wordOutcome w ≡ firstReadable m h i
-  stopped w e = rw e at tried
+  pub stopped : (entry : Entry) → r ≡ Stop entry → entryOf entry ≡ firstReadable m h i
+  stopped entry e = rw e at tried
 
   pub went : (j : ℕ) → r ≡ Go j → (firstReadable m h j ≡ firstReadable m h i) × (ahead m h j < ahead m h i)
   went j e = rw e at tried

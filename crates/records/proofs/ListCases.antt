@@ -2,15 +2,17 @@
 use Prim.Native.Nat.{ℕ, _-_, _/_, _%_, _^_}
 use mathlib.Core.Path.{_≡_, refl}
 use mathlib.Core.List.{List, [], _∷_, map}
+use mathlib.Core.Option.{some}
 use native.Mathlib.Omega.{arith}
 use lib.ListN.{length, replicate}
 use Rattle.reads.specs.Outcome.{Outcome, value, absent, choose, sum64, nonzero}
 use Rattle.reads.specs.Segment.{rows, ends, holds, placed, lookup}
 use Rattle.reads.specs.Place.{Image, imageOf, le, readableAt, readable, wordIn}
 use Rattle.reads.specs.Breaks.{canRead, readablePart, breaks, lower, nextBreak}
-use Rattle.pointers.specs.Tables.{Tables, lent}
+use Rattle.pointers.specs.Tables.{Tables, tablesOf}
 use Rattle.pointers.specs.ImageInfo.{bit}
-use Rattle.records.specs.List.{methodRows, layoutOf, listAt, entry}
+use Rattle.records.specs.Ask.{evenList, entrySize}
+use Rattle.records.specs.List.{methodRows, listAt, decodeList, entry}
 use Rattle.records.specs.Search.{first, firstReadable, allFrom, readables}
 use Rattle.records.specs.declared.list.Layout.{Layout}
 use Rattle.records.specs.declared.list.ListKind.{ListKind}
@@ -21,12 +23,12 @@ use Rattle.records.proofs.Firsts.{first-of-more}
 use Rattle.records.proofs.HubImage.{counted, bytes, segments}
 use Rattle.records.proofs.Readables.{readables-before-breaks-end}
 
-abbrev layout : ℕ → ℕ → ℕ → RowKind → Layout
-layout base size count kind = record { base = base; size = size; count = count; kind = kind }
+abbrev laid : ℕ → ℕ → ℕ → RowKind → Layout
+laid base size count kind = record { base = base; size = size; count = count; kind = kind }
 
 -- One segment at 0x1000 that maps the whole image.
 abbrev over : List ℕ → Tables
-over bytes = lent bytes (0x1000 ∷ length bytes ∷ 0 ∷ length bytes ∷ []) [] [] [] [] []
+over bytes = tablesOf bytes (0x1000 ∷ length bytes ∷ 0 ∷ length bytes ∷ []) [] [] [] [] []
 
 -- The list at 0x1000 whose header is a word of four bytes and the count 3.
 abbrev headed : ListKind → ℕ → Outcome Layout
@@ -36,24 +38,24 @@ headed kind w =
 -- ◆ 27: legacy, 24. ◆ 23: absent. ◆ 0x8000000C: small. ◆ 0x80000008: absent. 0xC000000C: small, with direct selectors.
 -- 0x4000001B: legacy, since bit 30 says nothing of it.
 pub method-words : map (headed list.Methods) (27 ∷ 23 ∷ 0x8000000C ∷ 0x80000008 ∷ 0xC000000C ∷ 0x4000001B ∷ [])
-    ≡ value (layout 0x1008 24 3 row.Legacy)
+    ≡ value (laid 0x1008 24 3 row.Legacy)
     ∷ absent
-    ∷ value (layout 0x1008 12 3 row.SmallIndirect)
+    ∷ value (laid 0x1008 12 3 row.SmallIndirect)
     ∷ absent
-    ∷ value (layout 0x1008 12 3 row.SmallDirect)
-    ∷ value (layout 0x1008 24 3 row.Legacy)
+    ∷ value (laid 0x1008 12 3 row.SmallDirect)
+    ∷ value (laid 0x1008 24 3 row.Legacy)
     ∷ []
-unfolding listAt layoutOf methodRows bit nonzero readable readableAt lookup rows ends holds placed sum64 wordIn le choose
+unfolding decodeList evenList entrySize methodRows bit nonzero readable readableAt lookup rows ends holds placed sum64 wordIn le choose
 method-words = refl
 
 -- Of properties and ivars the whole word is the size.
 pub property-words : map (headed list.Properties) (27 ∷ 15 ∷ 0x80000010 ∷ [])
-    ≡ value (layout 0x1008 27 3 row.Property) ∷ absent ∷ value (layout 0x1008 0x80000010 3 row.Property) ∷ []
-unfolding listAt layoutOf nonzero readable readableAt lookup rows ends holds placed sum64 wordIn le choose
+    ≡ value (laid 0x1008 27 3 row.Property) ∷ absent ∷ value (laid 0x1008 0x80000010 3 row.Property) ∷ []
+unfolding decodeList evenList entrySize nonzero readable readableAt lookup rows ends holds placed sum64 wordIn le choose
 property-words = refl
 
-pub ivar-words : map (headed list.Ivars) (33 ∷ 31 ∷ []) ≡ value (layout 0x1008 33 3 row.Ivar) ∷ absent ∷ []
-unfolding listAt layoutOf nonzero readable readableAt lookup rows ends holds placed sum64 wordIn le choose
+pub ivar-words : map (headed list.Ivars) (33 ∷ 31 ∷ []) ≡ value (laid 0x1008 33 3 row.Ivar) ∷ absent ∷ []
+unfolding decodeList evenList entrySize nonzero readable readableAt lookup rows ends holds placed sum64 wordIn le choose
 ivar-words = refl
 
 -- An odd address: absent, except of ivars.
@@ -61,13 +63,13 @@ abbrev odd : List ℕ
 odd = 0 ∷ 33 ∷ 0 ∷ 0 ∷ 0 ∷ 1 ∷ 0 ∷ 0 ∷ 0 ∷ []
 
 pub odd-lists : map (λ kind. listAt (over odd) kind 0x1001) (list.Methods ∷ list.Ivars ∷ list.Properties ∷ [])
-    ≡ absent ∷ value (layout 0x1009 33 1 row.Ivar) ∷ absent ∷ []
-unfolding listAt layoutOf nonzero readable readableAt lookup rows ends holds placed sum64 wordIn le choose
+    ≡ absent ∷ value (laid 0x1009 33 1 row.Ivar) ∷ absent ∷ []
+unfolding decodeList evenList entrySize nonzero readable readableAt lookup rows ends holds placed sum64 wordIn le choose
 odd-lists = refl
 
 -- ◆ the listing's method list: 4,294,967,295 rows claimed, two readable in 191 bytes.
 abbrev pub hub-list : Layout
-hub-list = layout 0x1078 24 4294967295 row.Legacy
+hub-list = laid 0x1078 24 4294967295 row.Legacy
 
 abbrev pub hub-image : Image
 hub-image = imageOf bytes segments
@@ -82,13 +84,13 @@ abbrev hidden-image : Image
 hidden-image = imageOf (replicate 96 0) (0x1018 ∷ 0x30 ∷ 0 ∷ 1 ∷ 0x1000 ∷ 96 ∷ 0 ∷ 96 ∷ [])
 
 abbrev hidden : Layout
-hidden = layout 0x1008 16 4294967295 row.Property
+hidden = laid 0x1008 16 4294967295 row.Property
 
 pub hidden-three : readables hidden-image hidden ≡ 0 ∷ 1 ∷ 4 ∷ []
 unfolding allFrom entry canRead readable readableAt lookup rows ends holds placed sum64 choose breaks readablePart nextBreak lower
 hidden-three = readables-before-breaks-end hidden-image hidden 6 (omega arith) refl
 
 -- From entry 2 on, the search finds what is no longer hidden.
-pub hidden-next : firstReadable hidden-image hidden 2 ≡ value 4
+pub hidden-next : firstReadable hidden-image hidden 2 ≡ some 4
 unfolding firstReadable first entry canRead readable readableAt lookup rows ends holds placed sum64 choose
 hidden-next = first-of-more (entry hidden-image hidden) 3 (4294967295 - 2 - 3) 2 4 refl

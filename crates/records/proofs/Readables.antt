@@ -3,20 +3,20 @@ use Prim.Native.Nat.{ℕ, suc, _-_, _*_, _/_, _^_, _≤_, _<_}
 use mathlib.Core.Path.{_≡_, refl, _∙_}
 use mathlib.Core.Bool.{true, false}
 use mathlib.Core.List.{List, [], _∷_}
+use mathlib.Core.Option.{none, some}
 use mathlib.Core.Logic.{inl}
 use native.Mathlib.Nat.{sub-zero, sub-self}
 use native.Mathlib.Omega.{arith}
 use lib.Dec.{ltb}
 use lib.ListN.{length}
 use Rattle.reads.specs.Breaks.{canRead, breaksOf, nextBreak}
-use Rattle.reads.specs.Outcome.{value, absent, Unrefused}
 use Rattle.reads.specs.Place.{Image}
 use Rattle.reads.specs.declared.breaks.Break.the-variants.{Nothing}
 use Rattle.reads.proofs.Tests.{both-true}
 use Rattle.records.specs.List.{least, entryAddress, entry}
 use Rattle.records.specs.Search.{allFrom, firstReadable, readables}
 use Rattle.records.specs.declared.list.Layout.{Layout}
-use Rattle.records.proofs.Firsts.{FirstOf, first-unrefused, first-value, first-absent, all-of-value, all-of-absent, all-of-none, all-of-less}
+use Rattle.records.proofs.Firsts.{FirstOf, first-some, first-is-none, all-of-some, all-of-first-none, all-of-none, all-of-less}
 use Rattle.records.proofs.Headers.{least-12}
 use Rattle.records.proofs.Jumps.{entries-past-breaks}
 use Rattle.records.proofs.Windows.{passing-either, reads-few}
@@ -33,31 +33,27 @@ module _ (m : Image) (h : Layout) where
 
   -- What a search from i on finds, and what is then left of the readable entries from there on.
   module _ (i : ℕ) where
-    pub first-readable-unrefused : Unrefused (firstReadable m h i)
+    pub found : (j : ℕ) → firstReadable m h i ≡ some j → FirstOf (entry m h) (h .count - i) i j
     unfolding firstReadable
-    first-readable-unrefused = first-unrefused (entry m h) (h .count - i) i
+    found j e = first-some (entry m h) (h .count - i) i j e
 
-    pub found : (j : ℕ) → firstReadable m h i ≡ value j → FirstOf (entry m h) (h .count - i) i j
-    unfolding firstReadable
-    found j e = first-value (entry m h) (h .count - i) i j e
-
-    pub found-below-count : (j : ℕ) → firstReadable m h i ≡ value j → j < h .count
+    pub found-below-count : (j : ℕ) → firstReadable m h i ≡ some j → j < h .count
     found-below-count j e = let f = found j e in omega (arith, f .from, f .below)
 
-    pub not-found : firstReadable m h i ≡ absent → (x : ℕ) → i ≤ x → x < h .count → entry m h x ≡ false
+    pub not-found : firstReadable m h i ≡ none → (x : ℕ) → i ≤ x → x < h .count → entry m h x ≡ false
     unfolding firstReadable
-    not-found e x l u = first-absent (entry m h) (h .count - i) i e x l (omega arith)
+    not-found e x l u = first-is-none (entry m h) (h .count - i) i e x l (omega arith)
 
-    pub rest-of-value : (j : ℕ) → firstReadable m h i ≡ value j → restFrom m h i ≡ j ∷ restFrom m h (suc j)
+    pub rest-of-some : (j : ℕ) → firstReadable m h i ≡ some j → restFrom m h i ≡ j ∷ restFrom m h (suc j)
     unfolding firstReadable
-    rest-of-value j e =
+    rest-of-some j e =
         let f = found j e in
         let n : h .count - i - (suc j - i) ≡ h .count - suc j = omega (arith, f .from, f .below) in
-        all-of-value (entry m h) (h .count - i) i j e ∙ rw n
+        all-of-some (entry m h) (h .count - i) i j e ∙ rw n
 
-    pub rest-of-absent : firstReadable m h i ≡ absent → restFrom m h i ≡ []
+    pub rest-of-none : firstReadable m h i ≡ none → restFrom m h i ≡ []
     unfolding firstReadable
-    rest-of-absent e = all-of-absent (entry m h) (h .count - i) i e
+    rest-of-none e = all-of-first-none (entry m h) (h .count - i) i e
 
   -- From 0 on they are all, and from the count on none.
   pub rest-from-0 : readables m h ≡ restFrom m h 0

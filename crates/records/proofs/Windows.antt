@@ -13,7 +13,7 @@ use Rattle.reads.specs.Breaks.{isValue, canRead}
 use Rattle.reads.specs.Outcome.{Outcome, value, andThen, choose, sum64}
 use Rattle.reads.specs.Place.{Image, readableAt, readable}
 use Rattle.reads.specs.Segment.{rows, holds, placeAt, placed, lookup}
-use Rattle.reads.specs.declared.answer.Place.{Place}
+use Rattle.reads.specs.declared.place.Place.{Place}
 use Rattle.reads.specs.declared.segment.Segment.{Segment}
 use Rattle.reads.proofs.Lookups.{holds-is}
 use Rattle.reads.proofs.SegmentRows.{rows-length}

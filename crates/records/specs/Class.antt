@@ -2,20 +2,21 @@
 use Prim.Native.Nat.{ℕ, _+_, _-_, _%_}
 use mathlib.Core.Bool.{Bool, _||_}
 use Rattle.pointers.specs.ImageInfo.{bit}
-use Rattle.reads.specs.Outcome.{Outcome, value, andThen, orElse, orZero, sum64, nonzero}
+use Rattle.reads.specs.Outcome.{Outcome, value}
 use Rattle.reads.specs.Answer.{missed}
-use Rattle.reads.specs.Place.{Image, readable, word, wordIn}
-use Rattle.reads.specs.Ptrauth.{picked}
-use Rattle.reads.specs.Text.{textIn}
-use Rattle.reads.specs.declared.answer.Text.{Text}
-use Rattle.pointers.specs.Tables.{Tables, imageIn}
-use Rattle.pointers.specs.Slot.{rebase, slot, symbolAt, pointer, pointerOr0}
+use Rattle.reads.specs.declared.text.Text.{Text}
+use Rattle.pointers.specs.Tables.{Tables}
+use Rattle.records.specs.Decode.{Decode, run, done, then, else, or0, sum64, nonzero, readable, u32In, u64At, picked, pickedAt, slot, rebase, pointer, pointerOr0, string, symbol}
+use Rattle.records.specs.Header.{class·size, class·superclass, class·bits, ro·size, ro·flags, ro·instanceStart, ro·instanceSize, ro·ivarLayout, ro·name, ro·baseMethods, ro·baseProtocols, ro·ivars, ro·weakIvarLayout, ro·baseProperties}
 use Rattle.records.specs.declared.class.ObjcClass.{ObjcClass}
 use Rattle.records.specs.declared.class.ClassAnswer.{ClassAnswer}
 use Rattle.records.specs.declared.class.ClassAnswer.the-variants as class
 use Rattle.records.specs.declared.class.ClassRo.{ClassRo}
 use Rattle.records.specs.declared.class.ClassRoAnswer.{ClassRoAnswer}
 use Rattle.records.specs.declared.class.ClassRoAnswer.the-variants as ro
+use Rattle.records.specs.declared.class.RoLists.{RoLists}
+use Rattle.records.specs.declared.class.RoListsAnswer.{RoListsAnswer}
+use Rattle.records.specs.declared.class.RoListsAnswer.the-variants as lists
 
 abbrev pub classOutcome : ClassAnswer → Outcome ObjcClass
 classOutcome (class.Class c) = value c
@@ -25,83 +26,123 @@ abbrev pub classRoOutcome : ClassRoAnswer → Outcome ClassRo
 classRoOutcome (ro.Ro r) = value r
 classRoOutcome (ro.Missing m) = missed m
 
+abbrev pub roListsOutcome : RoListsAnswer → Outcome RoLists
+roListsOutcome (lists.Lists l) = value l
+roListsOutcome (lists.Missing m) = missed m
+
 -- The data address without its low three bits, and the three of the stored word.
 unfoldable pub bitsOf : ℕ → ℕ → ℕ
 bitsOf target raw = target - target % 8 + raw % 8
 
 -- The data address: the rebase target of the bits word, else the pick of the stored word.
-unfoldable pub dataAt : Tables → ℕ → ℕ → Outcome ℕ
-dataAt t slot raw = orElse (rebase t slot) (picked (t .segments) raw)
+unfoldable pub decodeData : ℕ → ℕ → Decode ℕ
+decodeData a raw = else (rebase a) (picked raw)
 
--- class_t, 40 bytes: isa +0, superclass +8, both or 0; the bits word +32.
-unfoldable pub classAt : Tables → ℕ → Bool → Outcome ObjcClass
-classAt t va meta =
-    andThen (readable (imageIn t) va 40) (λ p.
-    andThen (sum64 va 8) (λ super.
-    andThen (sum64 va 32) (λ bits.
-    andThen (orZero (slot t va)) (λ isa.
-    andThen (orZero (slot t super)) (λ superclass.
-    andThen (word (imageIn t) 8 bits) (λ raw.
-    andThen (orZero (dataAt t bits raw)) (λ target.
-    value (record { address = va; isa = isa; «superclass_address» = superclass; bits = bitsOf target raw; «is_meta» = meta }))))))))
+abbrev pub dataAt : Tables → ℕ → ℕ → Outcome ℕ
+dataAt t a raw = run t (decodeData a raw)
 
--- class_ro_t, 72 bytes: an absent name ends it, the other pointers are or 0.
-unfoldable pub classRoAt : Tables → ℕ → Outcome ClassRo
-classRoAt t va =
-    andThen (readable (imageIn t) va 72) (λ p.
-    andThen (pointerOr0 t va 16) (λ layout.
-    andThen (pointer t va 24) (λ named.
-    andThen (pointerOr0 t va 32) (λ methods.
-    andThen (pointerOr0 t va 40) (λ protocols.
-    andThen (pointerOr0 t va 48) (λ ivars.
-    andThen (pointerOr0 t va 56) (λ weak.
-    andThen (pointerOr0 t va 64) (λ properties.
-    andThen (textIn (imageIn t) named) (λ name.
-    value
+-- class_t: isa and superclass, both or 0; the bits word. Both field addresses are tested before the first lookup.
+unfoldable pub decodeClass : ℕ → Bool → Decode ObjcClass
+decodeClass va meta =
+    then (readable va class·size) (λ p.
+    then (sum64 va class·superclass) (λ super.
+    then (sum64 va class·bits) (λ bits.
+    then (or0 (slot va)) (λ isa.
+    then (or0 (slot super)) (λ superclass.
+    then (u64At bits) (λ raw.
+    then (or0 (decodeData bits raw)) (λ target.
+    done (record { address = va; isa = isa; «superclass_address» = superclass; bits = bitsOf target raw; «is_meta» = meta }))))))))
+
+abbrev pub classAt : Tables → ℕ → Bool → Outcome ObjcClass
+classAt t va meta = run t (decodeClass va meta)
+
+-- What stands behind the name of a class_ro_t: its lists, and the weak ivar layout among them; each or 0.
+unfoldable pub decodeRoLists : ℕ → Decode RoLists
+decodeRoLists va =
+    then (pointerOr0 va ro·baseMethods) (λ methods.
+    then (pointerOr0 va ro·baseProtocols) (λ protocols.
+    then (pointerOr0 va ro·ivars) (λ ivars.
+    then (pointerOr0 va ro·weakIvarLayout) (λ weak.
+    then (pointerOr0 va ro·baseProperties) (λ properties.
+    done (record { methods = methods; protocols = protocols; ivars = ivars; «weak_ivar_layout» = weak; properties = properties }))))))
+
+abbrev pub roListsAt : Tables → ℕ → Outcome RoLists
+roListsAt t va = run t (decodeRoLists va)
+
+-- class_ro_t: an absent name ends it, the other pointers are or 0.
+unfoldable pub decodeClassRo : ℕ → Decode ClassRo
+decodeClassRo va =
+    then (readable va ro·size) (λ p.
+    then (u32In p ro·flags) (λ flags.
+    then (u32In p ro·instanceStart) (λ start.
+    then (u32In p ro·instanceSize) (λ size.
+    then (pointerOr0 va ro·ivarLayout) (λ layout.
+    then (pointer va ro·name) (λ named.
+    then (decodeRoLists va) (λ lists.
+    then (string named) (λ name.
+    done
     (record {
       address = va;
-      flags = wordIn (t .image) 4 p 0;
-      «instance_start» = wordIn (t .image) 4 p 4;
-      «instance_size» = wordIn (t .image) 4 p 8;
+      flags = flags;
+      «instance_start» = start;
+      «instance_size» = size;
       name = name;
       «ivar_layout_address» = layout;
-      methods = methods;
-      protocols = protocols;
-      ivars = ivars;
-      «weak_ivar_layout_address» = weak;
-      properties = properties;
-    }))))))))))
+      methods = lists .methods;
+      protocols = lists .protocols;
+      ivars = lists .ivars;
+      «weak_ivar_layout_address» = lists .«weak_ivar_layout»;
+      properties = lists .properties;
+    })))))))))
+
+abbrev pub classRoAt : Tables → ℕ → Outcome ClassRo
+classRoAt t va = run t (decodeClassRo va)
 
 -- ObjcClass::ro picks again, from the bits of the class.
-unfoldable pub roOf : Tables → ObjcClass → Outcome ClassRo
-roOf t c = andThen (picked (t .segments) (c .bits)) (classRoAt t)
+unfoldable pub decodeRoOf : ObjcClass → Decode ClassRo
+decodeRoOf c = then (picked (c .bits)) decodeClassRo
 
--- The pick of the word in a slot.
-unfoldable pub pickedAt : Image → ℕ → Outcome ℕ
-pickedAt m a = andThen (word m 8 a) (picked (m .words))
+abbrev pub roOf : Tables → ObjcClass → Outcome ClassRo
+roOf t c = run t (decodeRoOf c)
 
 -- The class_ro_t of the bits word in a slot: a rebase target is not picked from.
-unfoldable pub roDataAt : Tables → ℕ → Outcome ℕ
-roDataAt t a = orElse (rebase t a) (pickedAt (imageIn t) a)
+unfoldable pub decodeRoData : ℕ → Decode ℕ
+decodeRoData a = else (rebase a) (pickedAt a)
+
+abbrev pub roDataAt : Tables → ℕ → Outcome ℕ
+roDataAt t a = run t (decodeRoData a)
 
 -- decode_class_name does not pick from a rebase target.
-unfoldable pub classNameAt : Tables → ℕ → Outcome Text
-classNameAt t va =
-    andThen (readable (imageIn t) va 40) (λ p.
-    andThen (sum64 va 32) (λ bits.
-    andThen (roDataAt t bits) (λ ro.
-    andThen (pointer t ro 24) (textIn (imageIn t)))))
+unfoldable pub decodeClassName : ℕ → Decode Text
+decodeClassName va =
+    then (readable va class·size) (λ p.
+    then (sum64 va class·bits) (λ bits.
+    then (decodeRoData bits) (λ ro.
+    then (pointer ro ro·name) string)))
+
+abbrev pub classNameAt : Tables → ℕ → Outcome Text
+classNameAt t va = run t (decodeClassName va)
 
 -- The name of the class that a slot at +8 of a record holds: the decoded name of a class that is not 0, else the bind of the slot less its
 -- prefix.
-unfoldable pub decodedName : Tables → ℕ → Outcome Text
-decodedName t class = andThen (nonzero class) (classNameAt t)
+unfoldable pub decodeNonzeroClassName : ℕ → Decode Text
+decodeNonzeroClassName class = then (nonzero class) decodeClassName
 
-unfoldable pub boundName : Tables → ℕ → Outcome Text
-boundName t address = andThen (sum64 address 8) (symbolAt t)
+abbrev pub decodedName : Tables → ℕ → Outcome Text
+decodedName t class = run t (decodeNonzeroClassName class)
 
-unfoldable pub classNameOf : Tables → ℕ → ℕ → Outcome Text
-classNameOf t address class = orElse (decodedName t class) (boundName t address)
+-- The bind of the slot at +8, where both class_t.superclass and category_t.cls stand.
+unfoldable pub decodeBoundName : ℕ → Decode Text
+decodeBoundName address = then (sum64 address class·superclass) symbol
+
+abbrev pub boundName : Tables → ℕ → Outcome Text
+boundName t address = run t (decodeBoundName address)
+
+unfoldable pub decodeClassNameOf : ℕ → ℕ → Decode Text
+decodeClassNameOf address class = else (decodeNonzeroClassName class) (decodeBoundName address)
+
+abbrev pub classNameOf : Tables → ℕ → ℕ → Outcome Text
+classNameOf t address class = run t (decodeClassNameOf address class)
 
 abbrev pub superclassName : Tables → ObjcClass → Outcome Text
 superclassName t c = classNameOf t (c .address) (c .«superclass_address»)

@@ -1,4 +1,7 @@
 -- The definitions that the contracts of records cite.
+pub mod Header
+pub mod Ask
+pub mod Decode
 pub mod Class
 pub mod Protocol
 pub mod Category
@@ -6,10 +9,3 @@ pub mod List
 pub mod Search
 pub mod Tries
 pub mod Row
-pub mod Walk
-pub mod PlainWalk
-pub mod Sections
-pub mod WalkRoom
-pub mod PlainSections
-pub mod ProtocolNames
-pub mod Attributes

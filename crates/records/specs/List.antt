@@ -1,13 +1,15 @@
 -- Lists (document 01, Lists; objc-runtime-new.h, entsize_list_tt; method.rs, ivar.rs, property.rs).
-use Prim.Native.Nat.{ℕ, _+_, _-_, _*_, _/_, _%_, _^_}
+use Prim.Native.Nat.{ℕ, _+_, _-_, _*_, _%_, _^_}
 use mathlib.Core.Bool.{Bool, true, false, _&&_}
-use lib.Dec.{leb, ltb, eqb}
-use Rattle.reads.specs.Outcome.{Outcome, value, absent, andThen, choose, sum64, nonzero}
+use lib.Dec.{ltb}
+use Rattle.reads.specs.Outcome.{Outcome, value, absent, choose}
 use Rattle.reads.specs.Answer.{missed}
 use Rattle.reads.specs.Breaks.{canRead}
-use Rattle.reads.specs.Place.{Image, readable, wordIn}
-use Rattle.pointers.specs.Tables.{Tables, imageIn}
+use Rattle.reads.specs.Place.{Image}
+use Rattle.pointers.specs.Tables.{Tables}
 use Rattle.pointers.specs.ImageInfo.{bit}
+use Rattle.records.specs.Decode.{Decode, run, done, then, when, sum64, nonzero, even, atLeast, readable, u32In}
+use Rattle.records.specs.Header.{list·size, list·entsizeAndFlags, list·count, method·size, small·size, ivar·size, property·size}
 use Rattle.records.specs.declared.list.ListKind.{ListKind}
 use Rattle.records.specs.declared.list.ListKind.the-variants as list
 use Rattle.records.specs.declared.list.RowKind.{RowKind}
@@ -20,13 +22,13 @@ abbrev pub layoutOutcome : LayoutAnswer → Outcome Layout
 layoutOutcome (answer.List h) = value h
 layoutOutcome (answer.Missing m) = missed m
 
--- Least sizes: legacy method 24, small 12, ivar 32, property 16.
+-- Least sizes: those of the structs.
 abbrev pub least : RowKind → ℕ
-least row.Legacy = 24
-least row.SmallIndirect = 12
-least row.SmallDirect = 12
-least row.Ivar = 32
-least row.Property = 16
+least row.Legacy = method·size
+least row.SmallIndirect = small·size
+least row.SmallDirect = small·size
+least row.Ivar = ivar·size
+least row.Property = property·size
 
 -- A method list's word: 0x80000000 marks small, 0x40000000 direct selectors.
 unfoldable pub methodRows : ℕ → RowKind
@@ -43,27 +45,30 @@ sizeOf list.Methods w = w % 2 ^ 16 - w % 4
 sizeOf list.Ivars w = w
 sizeOf list.Properties w = w
 
--- The layout of a header's two words; absent where the size is below the least.
-unfoldable pub layoutOf : ListKind → ℕ → ℕ → ℕ → Outcome Layout
-layoutOf k base w count =
-    choose (leb (least (rowsOf k w)) (sizeOf k w))
-    (value (record { base = base; size = sizeOf k w; count = count; kind = rowsOf k w }))
-    absent
+-- The layout of a header's two words.
+abbrev pub layout : ListKind → ℕ → ℕ → ℕ → Layout
+layout k base w count = record { base = base; size = sizeOf k w; count = count; kind = rowsOf k w }
 
--- An odd address is absent, except of ivars.
-abbrev pub evenFor : ListKind → ℕ → Bool
-evenFor list.Methods va = eqb (va % 2) 0
-evenFor list.Ivars va = true
-evenFor list.Properties va = eqb (va % 2) 0
+-- Methods and properties are listed at even addresses.
+abbrev pub mustBeEven : ListKind → Bool
+mustBeEven list.Methods = true
+mustBeEven list.Ivars = false
+mustBeEven list.Properties = true
 
--- The list at an address: absent at 0, odd (except ivars), its 8-byte header unreadable, address + 8 over 64 bits, size below the least.
-unfoldable pub listAt : Tables → ListKind → ℕ → Outcome Layout
-listAt t k va =
-    andThen (nonzero va) (λ a.
-    andThen (choose (evenFor k va) (value va) absent) (λ b.
-    andThen (readable (imageIn t) va 8) (λ p.
-    andThen (sum64 va 8) (λ base.
-    layoutOf k base (wordIn (t .image) 4 p 0) (wordIn (t .image) 4 p 4)))))
+-- The list at an address: absent at 0, odd (except ivars), its 8-byte header unreadable, size below the least, address + 8 over 64 bits.
+unfoldable pub decodeList : ListKind → ℕ → Decode Layout
+decodeList k va =
+    then (nonzero va) (λ _.
+    then (when (mustBeEven k) (even va) (done va)) (λ _.
+    then (readable va list·size) (λ p.
+    then (u32In p list·entsizeAndFlags) (λ w.
+    then (u32In p list·count) (λ count.
+    then (atLeast (least (rowsOf k w)) (sizeOf k w)) (λ _.
+    then (sum64 va list·size) (λ base.
+    done (layout k base w count))))))))
+
+abbrev pub listAt : Tables → ListKind → ℕ → Outcome Layout
+listAt t k va = run t (decodeList k va)
 
 -- Entry i is at list + 8 + i x size.
 abbrev pub entryAddress : Layout → ℕ → ℕ

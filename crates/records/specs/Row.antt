@@ -3,16 +3,15 @@
 use Prim.Native.Nat.{ℕ, _%_}
 use mathlib.Core.Bool.{Bool, true, false}
 use lib.Dec.{eqb}
-use Rattle.reads.specs.Outcome.{Outcome, value, absent, number, andThen, orZero, orEmpty, choose, sum64, nonzero}
+use Rattle.reads.specs.Outcome.{Outcome, value, choose}
 use Rattle.reads.specs.Answer.{missed}
-use Rattle.reads.specs.Place.{readable, word, wordIn}
-use Rattle.reads.specs.Ptrauth.{stripped}
-use Rattle.reads.specs.Relative.{signed32, signedIn, relative}
-use Rattle.reads.specs.Text.{textIn}
-use Rattle.reads.specs.declared.answer.Place.{Place}
-use Rattle.reads.specs.declared.answer.Text.{Text}
-use Rattle.pointers.specs.Tables.{Tables, imageIn}
-use Rattle.pointers.specs.Slot.{slot, pointer, pointerOr0}
+use Rattle.reads.specs.Address.{stripped}
+use Rattle.reads.specs.Relative.{signed32, relative}
+use Rattle.reads.specs.declared.place.Place.{Place}
+use Rattle.reads.specs.declared.text.Text.{Text}
+use Rattle.pointers.specs.Tables.{Tables}
+use Rattle.records.specs.Decode.{Decode, run, done, then, else, when, or0, orEmpty, sum64, nonzero, readable, u32In, i32In, slot, pointer, pointerOr0, string}
+use Rattle.records.specs.Header.{method·size, method·types, method·imp, small·size, small·name, small·types, small·imp, ivar·size, ivar·name, ivar·type, ivar·alignmentRaw, ivar·ownSize, property·size, property·attributes}
 use Rattle.records.specs.declared.row.Row.{Row}
 use Rattle.records.specs.declared.row.Row.the-variants as row
 use Rattle.records.specs.declared.list.RowKind.{RowKind}
@@ -29,6 +28,8 @@ use Rattle.records.specs.declared.method.MethodAnswer.the-variants as me
 use Rattle.records.specs.declared.ivar.Ivar.{Ivar}
 use Rattle.records.specs.declared.ivar.IvarOffset.{IvarOffset}
 use Rattle.records.specs.declared.ivar.IvarOffset.the-variants as offset
+use Rattle.records.specs.declared.ivar.OffsetAnswer.{OffsetAnswer}
+use Rattle.records.specs.declared.ivar.OffsetAnswer.the-variants as offsets
 use Rattle.records.specs.declared.ivar.IvarAnswer.{IvarAnswer}
 use Rattle.records.specs.declared.ivar.IvarAnswer.the-variants as ivar
 use Rattle.records.specs.declared.property.Property.{Property}
@@ -47,6 +48,10 @@ abbrev pub ivarOutcome : IvarAnswer → Outcome Ivar
 ivarOutcome (ivar.Row r) = value r
 ivarOutcome (ivar.Missing m) = missed m
 
+abbrev pub offsetOutcome : OffsetAnswer → Outcome IvarOffset
+offsetOutcome (offsets.Offset o) = value o
+offsetOutcome (offsets.Missing m) = missed m
+
 abbrev pub propertyOutcome : PropertyAnswer → Outcome Property
 propertyOutcome (property.Row r) = value r
 propertyOutcome (property.Missing m) = missed m
@@ -58,29 +63,38 @@ methodOf selector types implementation kind = record { selector = selector; type
 unfoldable pub legacyImp : ℕ → Imp
 legacyImp va = choose (eqb va 0) imp.Nothing (imp.At va)
 
--- method_t, 24 bytes: name +0 and types +8 must resolve, imp +16 or 0.
-unfoldable pub legacyMethodAt : Tables → ℕ → Outcome Method
-legacyMethodAt t va =
-    andThen (readable (imageIn t) va 24) (λ p.
-    andThen (slot t va) (λ name.
-    andThen (pointer t va 8) (λ typed.
-    andThen (pointerOr0 t va 16) (λ imp.
-    andThen (textIn (imageIn t) name) (λ selector.
-    andThen (orEmpty (textIn (imageIn t) typed)) (λ types.
-    value (methodOf selector types (legacyImp imp) kind.Legacy)))))))
+-- method_t::big: name and types must resolve, imp or 0.
+unfoldable pub decodeLegacyMethod : ℕ → Decode Method
+decodeLegacyMethod va =
+    then (readable va method·size) (λ p.
+    then (slot va) (λ name.
+    then (pointer va method·types) (λ typed.
+    then (pointerOr0 va method·imp) (λ imp.
+    then (string name) (λ selector.
+    then (orEmpty (string typed)) (λ types.
+    done (methodOf selector types (legacyImp imp) kind.Legacy)))))))
+
+abbrev pub legacyMethodAt : Tables → ℕ → Outcome Method
+legacyMethodAt t va = run t (decodeLegacyMethod va)
 
 -- A small method's imp, from its stored word and the address of its field: none exactly if the offset is 0, else masked to 48 bits.
 unfoldable pub smallImp : ℕ → ℕ → Imp
-smallImp raw field = choose (eqb raw 0) imp.Nothing (imp.At (stripped (relative field (signed32 raw))))
+smallImp raw va = choose (eqb raw 0) imp.Nothing (imp.At (stripped (relative va (signed32 raw))))
 
 -- A small method's selector: its offset's target itself, or indirect, through one slot.
-unfoldable pub selectorAt : Tables → Bool → ℕ → Place → Outcome ℕ
-selectorAt t direct field p =
-    choose direct (value (relative field (signedIn (t .image) p 0))) (slot t (relative field (signedIn (t .image) p 0)))
+unfoldable pub decodeSelector : Bool → ℕ → Place → Decode ℕ
+decodeSelector direct va p =
+    then (i32In p small·name) (λ offset. when direct (done (relative va offset)) (slot (relative va offset)))
+
+abbrev pub selectorAt : Tables → Bool → ℕ → Place → Outcome ℕ
+selectorAt t direct va p = run t (decodeSelector direct va p)
 
 -- Its types: the text at its offset's target.
-unfoldable pub typesAt : Tables → ℕ → Place → Outcome Text
-typesAt t field p = orEmpty (textIn (imageIn t) (relative field (signedIn (t .image) p 4)))
+unfoldable pub decodeTypes : ℕ → Place → Decode Text
+decodeTypes va p = then (i32In p small·types) (λ offset. orEmpty (string (relative va offset)))
+
+abbrev pub typesAt : Tables → ℕ → Place → Outcome Text
+typesAt t va p = run t (decodeTypes va p)
 
 unfoldable pub smallKind : Bool → MethodKind
 smallKind direct = choose direct kind.SmallDirect kind.SmallIndirect
@@ -90,58 +104,72 @@ isSmall kind.Legacy = false
 isSmall kind.SmallIndirect = true
 isSmall kind.SmallDirect = true
 
--- method_t::small, 12 bytes: three offsets, each counted from its own field.
-unfoldable pub smallMethodAt : Tables → ℕ → Bool → Outcome Method
-smallMethodAt t va direct =
-    andThen (readable (imageIn t) va 12) (λ p.
-    andThen (sum64 va 4) (λ typesField.
-    andThen (sum64 va 8) (λ impField.
-    andThen (selectorAt t direct va p) (λ name.
-    andThen (textIn (imageIn t) name) (λ selector.
-    andThen (typesAt t typesField p) (λ types.
-    value (methodOf selector types (smallImp (wordIn (t .image) 4 p 8) impField) (smallKind direct))))))))
+-- method_t::small: three offsets, each counted from its own field. The Rust reads all three first.
+unfoldable pub decodeSmallMethod : ℕ → Bool → Decode Method
+decodeSmallMethod va direct =
+    then (readable va small·size) (λ p.
+    then (i32In p small·name) (λ _.
+    then (i32In p small·types) (λ _.
+    then (u32In p small·imp) (λ raw.
+    then (sum64 va small·types) (λ typesField.
+    then (sum64 va small·imp) (λ impField.
+    then (decodeSelector direct va p) (λ name.
+    then (string name) (λ selector.
+    then (decodeTypes typesField p) (λ types.
+    done (methodOf selector types (smallImp raw impField) (smallKind direct)))))))))))
+
+abbrev pub smallMethodAt : Tables → ℕ → Bool → Outcome Method
+smallMethodAt t va direct = run t (decodeSmallMethod va direct)
 
 -- An ivar's alignment: 0xFFFFFFFF gives 3 (WORD_SHIFT), else the low byte.
 unfoldable pub alignmentOf : ℕ → ℕ
 alignmentOf raw = choose (eqb raw 4294967295) 3 (raw % 256)
 
 -- An ivar's offset: the four bytes at the pointed place, none if the pointer is 0 or they cannot be read.
-unfoldable pub offsetAt : Tables → ℕ → Outcome ℕ
-offsetAt t place =
-    andThen (nonzero place) (λ a. andThen (readable (imageIn t) a 4) (λ p. value (wordIn (t .image) 4 p 0)))
+unfoldable pub decodeOffset : ℕ → Decode IvarOffset
+decodeOffset place =
+    else (then (nonzero place) (λ a. then (readable a 4) (λ p. then (u32In p 0) (λ n. done (offset.At n)))))
+    (done offset.Nothing)
 
-abbrev pub offsetOf : Outcome ℕ → IvarOffset
-offsetOf (value n) = offset.At n
-offsetOf absent = offset.Nothing
-offsetOf (number k) = offset.Nothing
+abbrev pub offsetAt : Tables → ℕ → Outcome IvarOffset
+offsetAt t place = run t (decodeOffset place)
 
--- ivar_t, 32 bytes: offset +0 or 0, name +8 must resolve, type +16 or 0, alignment +24, size +28.
-unfoldable pub ivarAt : Tables → ℕ → Outcome Ivar
-ivarAt t va =
-    andThen (readable (imageIn t) va 32) (λ p.
-    andThen (orZero (slot t va)) (λ place.
-    andThen (pointer t va 8) (λ named.
-    andThen (pointerOr0 t va 16) (λ typed.
-    andThen (textIn (imageIn t) named) (λ name.
-    andThen (orEmpty (textIn (imageIn t) typed)) (λ encoding.
-    value
+-- ivar_t: the offset's pointer or 0, name must resolve, type or 0.
+unfoldable pub decodeIvar : ℕ → Decode Ivar
+decodeIvar va =
+    then (readable va ivar·size) (λ p.
+    then (or0 (slot va)) (λ place.
+    then (pointer va ivar·name) (λ named.
+    then (pointerOr0 va ivar·type) (λ typed.
+    then (u32In p ivar·alignmentRaw) (λ alignment.
+    then (u32In p ivar·ownSize) (λ size.
+    then (string named) (λ name.
+    then (orEmpty (string typed)) (λ encoding.
+    then (decodeOffset place) (λ offset.
+    done
     (record {
       name = name;
       «type_encoding» = encoding;
-      offset = offsetOf (offsetAt t place);
-      size = wordIn (t .image) 4 p 28;
-      «log2_alignment» = alignmentOf (wordIn (t .image) 4 p 24);
-    })))))))
+      offset = offset;
+      size = size;
+      «log2_alignment» = alignmentOf alignment;
+    }))))))))))
 
--- property_t, 16 bytes: name +0 must resolve, attributes +8 or 0.
-unfoldable pub propertyAt : Tables → ℕ → Outcome Property
-propertyAt t va =
-    andThen (readable (imageIn t) va 16) (λ p.
-    andThen (slot t va) (λ named.
-    andThen (pointerOr0 t va 8) (λ told.
-    andThen (textIn (imageIn t) named) (λ name.
-    andThen (orEmpty (textIn (imageIn t) told)) (λ attributes.
-    value (record { name = name; attributes = attributes }))))))
+abbrev pub ivarAt : Tables → ℕ → Outcome Ivar
+ivarAt t va = run t (decodeIvar va)
+
+-- property_t: name must resolve, attributes or 0.
+unfoldable pub decodeProperty : ℕ → Decode Property
+decodeProperty va =
+    then (readable va property·size) (λ p.
+    then (slot va) (λ named.
+    then (pointerOr0 va property·attributes) (λ told.
+    then (string named) (λ name.
+    then (orEmpty (string told)) (λ attributes.
+    done (record { name = name; attributes = attributes }))))))
+
+abbrev pub propertyAt : Tables → ℕ → Outcome Property
+propertyAt t va = run t (decodeProperty va)
 
 -- A row by what the entries of its list are.
 abbrev pub methodRow : Method → Outcome Row
@@ -153,9 +181,12 @@ ivarRow i = value (row.Ivar i)
 abbrev pub propertyRow : Property → Outcome Row
 propertyRow p = value (row.Property p)
 
-unfoldable pub rowAt : Tables → RowKind → ℕ → Outcome Row
-rowAt t rows.Legacy va = andThen (legacyMethodAt t va) methodRow
-rowAt t rows.SmallIndirect va = andThen (smallMethodAt t va false) methodRow
-rowAt t rows.SmallDirect va = andThen (smallMethodAt t va true) methodRow
-rowAt t rows.Ivar va = andThen (ivarAt t va) ivarRow
-rowAt t rows.Property va = andThen (propertyAt t va) propertyRow
+unfoldable pub decodeRow : RowKind → ℕ → Decode Row
+decodeRow rows.Legacy va = then (decodeLegacyMethod va) (λ m. done (row.Method m))
+decodeRow rows.SmallIndirect va = then (decodeSmallMethod va false) (λ m. done (row.Method m))
+decodeRow rows.SmallDirect va = then (decodeSmallMethod va true) (λ m. done (row.Method m))
+decodeRow rows.Ivar va = then (decodeIvar va) (λ i. done (row.Ivar i))
+decodeRow rows.Property va = then (decodeProperty va) (λ p. done (row.Property p))
+
+abbrev pub rowAt : Tables → RowKind → ℕ → Outcome Row
+rowAt t k va = run t (decodeRow k va)

@@ -1,25 +1,22 @@
 // Categories (objc-runtime-new.h, category_t).
-use crate::class::class_name_of;
 use pointers::imageinfo::ImageInfo;
 use pointers::imageinfo::ImageInfoAnswer;
-use pointers::question::Asked;
-use pointers::question::ask;
 use pointers::slot::pointer_or_0;
 use pointers::slot::resolve_pointer;
 use reads::answer::Missing;
-use reads::answer::Placed;
-use reads::answer::Text;
-use reads::answer::TextAnswer;
 use reads::answer::Word;
+use reads::place::Placed;
 use reads::place::readable;
+use reads::text::Text;
+use reads::text::TextAnswer;
 use reads::text::read_cstr;
 ghost use mathlib.Core.Path.{_≡_};
-ghost use Rattle.reads.specs.Answer.{wordOutcome, placeOutcome, textOutcome};
+ghost use Rattle.reads.specs.Answer.{wordOutcome, placeOutcome};
 ghost use Rattle.reads.specs.Outcome.{choose};
-ghost use Rattle.reads.specs.Place.{imageOf, readable};
-ghost use Rattle.pointers.specs.Question.{guarded};
+ghost use Rattle.reads.specs.Place.{lentImage, readable};
 ghost use Rattle.pointers.specs.Tables.{lent};
-ghost use Rattle.records.specs.Category.{categoryOutcome, categoryPropertiesAt, categoryOf, categoryAt, categoryClassName};
+ghost use Rattle.records.specs.Header.{category·size, category·sizeWithClassProperties};
+ghost use Rattle.records.specs.Category.{categoryOutcome, categoryListsOutcome, categoryListsAt, categoryPropertiesAt, categoryOf, categoryAt};
 
 // A category: name, host class, and the addresses of its lists; class_properties is 0 where it has none.
 pub struct ObjcCategory {
@@ -33,22 +30,55 @@ pub struct ObjcCategory {
     pub class_properties: u64,
 }
 
+impl ObjcCategory {
+    // The size of category_t without _classProperties.
+    pub const SIZE: u64 = 48;
+}
+
 pub enum CategoryAnswer {
     Category(ObjcCategory),
     Missing(Missing),
 }
 
-// category_t is 56 bytes where it has the field for class properties, else 48.
-fn whole_category(image: &[u8], segments: &[u64], va: u64, wide: bool) -> Placed
-    ensures { λ r. ⌜ placeOutcome r ≡ readable (imageOf (now (image .entry)) (now (segments .entry))) va (choose wide 56 48) ⌝ }
-{
-    if wide {
-        return readable(image, segments, va, 56);
-    }
-    readable(image, segments, va, 48)
+// The size of category_t with _classProperties, and its fields (its name is at 0).
+const SIZE_WITH_CLASS_PROPERTIES: u64 = 56;
+
+const CLS: u64 = 8;
+
+const INSTANCE_METHODS: u64 = 16;
+
+const CLASS_METHODS: u64 = 24;
+
+const PROTOCOLS: u64 = 32;
+
+const INSTANCE_PROPERTIES: u64 = 40;
+
+const CLASS_PROPERTIES: u64 = 48;
+
+// The lists of a category_t but its class properties; each or 0.
+struct CategoryLists {
+    instance_methods: u64,
+    class_methods: u64,
+    protocols: u64,
+    instance_properties: u64,
 }
 
-// _classProperties, +48, where the image has the field; or 0.
+enum CategoryListsAnswer {
+    Lists(CategoryLists),
+    Missing(Missing),
+}
+
+// category_t is wider where it has the field for class properties.
+fn whole_category(image: &[u8], segments: &[u64], va: u64, wide: bool) -> Placed
+    ensures { λ r. ⌜ placeOutcome r ≡ readable (lentImage image segments) va (choose wide category·sizeWithClassProperties category·size) ⌝ }
+{
+    if wide {
+        return readable(image, segments, va, SIZE_WITH_CLASS_PROPERTIES);
+    }
+    readable(image, segments, va, ObjcCategory::SIZE)
+}
+
+// _classProperties where the image has the field; or 0.
 fn category_properties_at(
     image: &[u8],
     segments: &[u64],
@@ -60,12 +90,65 @@ fn category_properties_at(
     va: u64,
     wide: bool,
 ) -> Word
-    ensures { λ r. ⌜ wordOutcome r ≡ categoryPropertiesAt (lent (now (image .entry)) (now (segments .entry)) (now (sections .entry)) (now (info .entry)) (now (rebases .entry)) (now (binds .entry)) (now (index .entry))) va wide ⌝ }
+    ensures { λ r. let t = lent image segments sections info rebases binds index in
+        ⌜ wordOutcome r ≡ categoryPropertiesAt t va wide ⌝ }
 {
     if wide {
-        return pointer_or_0(image, segments, rebases, index, va, 48);
+        return pointer_or_0(image, segments, rebases, index, va, CLASS_PROPERTIES);
     }
     Word::Value(0)
+}
+
+// The lists of a category_t but its class properties; each or 0.
+fn category_lists_at(
+    image: &[u8],
+    segments: &[u64],
+    sections: &[u64],
+    info: &[u8],
+    rebases: &[u64],
+    binds: &[u64],
+    index: &[u32],
+    va: u64,
+) -> CategoryListsAnswer
+    ensures { λ r. let t = lent image segments sections info rebases binds index in
+        ⌜ categoryListsOutcome r ≡ categoryListsAt t va ⌝ }
+{
+    let instance_methods = match pointer_or_0(
+        image,
+        segments,
+        rebases,
+        index,
+        va,
+        INSTANCE_METHODS,
+    ) {
+        Word::Value(instance_methods) => instance_methods,
+        Word::Missing(m) => return CategoryListsAnswer::Missing(m),
+    };
+    let class_methods = match pointer_or_0(image, segments, rebases, index, va, CLASS_METHODS) {
+        Word::Value(class_methods) => class_methods,
+        Word::Missing(m) => return CategoryListsAnswer::Missing(m),
+    };
+    let protocols = match pointer_or_0(image, segments, rebases, index, va, PROTOCOLS) {
+        Word::Value(protocols) => protocols,
+        Word::Missing(m) => return CategoryListsAnswer::Missing(m),
+    };
+    let instance_properties = match pointer_or_0(
+        image,
+        segments,
+        rebases,
+        index,
+        va,
+        INSTANCE_PROPERTIES,
+    ) {
+        Word::Value(instance_properties) => instance_properties,
+        Word::Missing(m) => return CategoryListsAnswer::Missing(m),
+    };
+    CategoryListsAnswer::Lists(CategoryLists {
+        instance_methods,
+        class_methods,
+        protocols,
+        instance_properties,
+    })
 }
 
 // category_t, its fields in the order of category.rs, the name's text last.
@@ -80,7 +163,8 @@ fn category_of(
     va: u64,
     wide: bool,
 ) -> CategoryAnswer
-    ensures { λ r. ⌜ categoryOutcome r ≡ categoryOf (lent (now (image .entry)) (now (segments .entry)) (now (sections .entry)) (now (info .entry)) (now (rebases .entry)) (now (binds .entry)) (now (index .entry))) va wide ⌝ }
+    ensures { λ r. let t = lent image segments sections info rebases binds index in
+        ⌜ categoryOutcome r ≡ categoryOf t va wide ⌝ }
 {
     let _p = match whole_category(image, segments, va, wide) {
         Placed::At(p) => p,
@@ -90,25 +174,22 @@ fn category_of(
         Word::Value(name_va) => name_va,
         Word::Missing(m) => return CategoryAnswer::Missing(m),
     };
-    let class_address = match pointer_or_0(image, segments, rebases, index, va, 8) {
+    let class_address = match pointer_or_0(image, segments, rebases, index, va, CLS) {
         Word::Value(class_address) => class_address,
         Word::Missing(m) => return CategoryAnswer::Missing(m),
     };
-    let instance_methods = match pointer_or_0(image, segments, rebases, index, va, 16) {
-        Word::Value(instance_methods) => instance_methods,
-        Word::Missing(m) => return CategoryAnswer::Missing(m),
-    };
-    let class_methods = match pointer_or_0(image, segments, rebases, index, va, 24) {
-        Word::Value(class_methods) => class_methods,
-        Word::Missing(m) => return CategoryAnswer::Missing(m),
-    };
-    let protocols = match pointer_or_0(image, segments, rebases, index, va, 32) {
-        Word::Value(protocols) => protocols,
-        Word::Missing(m) => return CategoryAnswer::Missing(m),
-    };
-    let instance_properties = match pointer_or_0(image, segments, rebases, index, va, 40) {
-        Word::Value(instance_properties) => instance_properties,
-        Word::Missing(m) => return CategoryAnswer::Missing(m),
+    let lists = match category_lists_at(
+        image,
+        segments,
+        sections,
+        info,
+        rebases,
+        binds,
+        index,
+        va,
+    ) {
+        CategoryListsAnswer::Lists(lists) => lists,
+        CategoryListsAnswer::Missing(m) => return CategoryAnswer::Missing(m),
     };
     let class_properties = match category_properties_at(
         image,
@@ -132,16 +213,16 @@ fn category_of(
         address: va,
         name,
         class_address,
-        instance_methods,
-        class_methods,
-        protocols,
-        instance_properties,
+        instance_methods: lists.instance_methods,
+        class_methods: lists.class_methods,
+        protocols: lists.protocols,
+        instance_properties: lists.instance_properties,
         class_properties,
     })
 }
 
 // The category at an address, by bit 6 of the image info's flags.
-pub(crate) fn category_at(
+pub fn category_at(
     image: &[u8],
     segments: &[u64],
     sections: &[u64],
@@ -151,7 +232,8 @@ pub(crate) fn category_at(
     index: &[u32],
     va: u64,
 ) -> CategoryAnswer
-    ensures { λ r. ⌜ categoryOutcome r ≡ categoryAt (lent (now (image .entry)) (now (segments .entry)) (now (sections .entry)) (now (info .entry)) (now (rebases .entry)) (now (binds .entry)) (now (index .entry))) va ⌝ }
+    ensures { λ r. let t = lent image segments sections info rebases binds index in
+        ⌜ categoryOutcome r ≡ categoryAt t va ⌝ }
 {
     match ImageInfo::parse(info) {
         ImageInfoAnswer::Info(i) => {
@@ -169,55 +251,5 @@ pub(crate) fn category_at(
             )
         }
         ImageInfoAnswer::Missing(m) => CategoryAnswer::Missing(m),
-    }
-}
-
-// The category at an address.
-pub fn decode_category(
-    image: &[u8],
-    segments: &[u64],
-    sections: &[u64],
-    info: &[u8],
-    rebases: &[u64],
-    binds: &[u64],
-    index: &[u32],
-    va: u64,
-) -> CategoryAnswer
-    ensures { λ r. ⌜ categoryOutcome r ≡ guarded (lent (now (image .entry)) (now (segments .entry)) (now (sections .entry)) (now (info .entry)) (now (rebases .entry)) (now (binds .entry)) (now (index .entry))) (categoryAt (lent (now (image .entry)) (now (segments .entry)) (now (sections .entry)) (now (info .entry)) (now (rebases .entry)) (now (binds .entry)) (now (index .entry))) va) ⌝ }
-{
-    match ask(image, segments, sections, info, rebases, binds, index) {
-        Asked::Yes => category_at(image, segments, sections, info, rebases, binds, index, va),
-        Asked::Missing(m) => CategoryAnswer::Missing(m),
-    }
-}
-
-impl ObjcCategory {
-    // The host class's name: decoded, or by the bind at +8.
-    pub fn class_name(
-        self,
-        image: &[u8],
-        segments: &[u64],
-        sections: &[u64],
-        info: &[u8],
-        rebases: &[u64],
-        binds: &[u64],
-        index: &[u32],
-    ) -> TextAnswer
-        ensures { λ r. ⌜ textOutcome r ≡ guarded (lent (now (image .entry)) (now (segments .entry)) (now (sections .entry)) (now (info .entry)) (now (rebases .entry)) (now (binds .entry)) (now (index .entry))) (categoryClassName (lent (now (image .entry)) (now (segments .entry)) (now (sections .entry)) (now (info .entry)) (now (rebases .entry)) (now (binds .entry)) (now (index .entry))) self) ⌝ }
-    {
-        match ask(image, segments, sections, info, rebases, binds, index) {
-            Asked::Yes => class_name_of(
-                image,
-                segments,
-                sections,
-                info,
-                rebases,
-                binds,
-                index,
-                self.address,
-                self.class_address,
-            ),
-            Asked::Missing(m) => TextAnswer::Missing(m),
-        }
     }
 }

@@ -1,33 +1,31 @@
 // Classes and their read-only records (objc-runtime-new.h, class_t and class_ro_t).
-use pointers::question::Asked;
-use pointers::question::ask;
 use pointers::slot::pointer;
 use pointers::slot::pointer_or_0;
 use pointers::slot::rebase_at;
 use pointers::slot::slot_or_0;
 use pointers::slot::symbol_at;
+use reads::address::Address;
 use reads::answer::Missing;
-use reads::answer::Place;
-use reads::answer::Placed;
-use reads::answer::Text;
-use reads::answer::TextAnswer;
 use reads::answer::Word;
 use reads::answer::checked_add;
+use reads::answer::is_absent;
 use reads::answer::nonzero;
 use reads::answer::or_zero;
+use reads::place::Placed;
 use reads::place::read_u64;
 use reads::place::readable;
 use reads::place::u32_in;
-use reads::ptrauth::Address;
+use reads::text::Text;
+use reads::text::TextAnswer;
 use reads::text::read_cstr;
 ghost use mathlib.Core.Path.{_≡_};
 ghost use Rattle.reads.specs.Answer.{wordOutcome, textOutcome};
 ghost use Rattle.reads.specs.Outcome.{orZero};
-ghost use Rattle.reads.specs.Place.{imageOf};
+ghost use Rattle.reads.specs.Place.{lentImage};
 ghost use Rattle.pointers.specs.ImageInfo.{bit};
-ghost use Rattle.pointers.specs.Question.{guarded};
 ghost use Rattle.pointers.specs.Tables.{lent};
-ghost use Rattle.records.specs.Class.{classOutcome, classRoOutcome, bitsOf, dataAt, classAt, classRoAt, roOf, pickedAt, roDataAt, classNameAt, boundName, decodedName, classNameOf, superclassName, fastFlags, isSwift};
+ghost use Rattle.records.specs.Class.{classOutcome, classRoOutcome, bitsOf, dataAt, classAt, roListsOutcome, roListsAt, classRoAt, roOf, roDataAt, classNameAt, boundName, decodedName, classNameOf, fastFlags, isSwift};
+ghost use Rattle.records.specs.Ask.{pickedIn};
 
 // A class or metaclass.
 pub struct ObjcClass {
@@ -63,6 +61,41 @@ pub enum ClassRoAnswer {
     Missing(Missing),
 }
 
+// What stands behind the name of a class_ro_t: its lists, and the weak ivar layout among them; each or 0.
+struct RoLists {
+    methods: u64,
+    protocols: u64,
+    ivars: u64,
+    weak_ivar_layout: u64,
+    properties: u64,
+}
+
+enum RoListsAnswer {
+    Lists(RoLists),
+    Missing(Missing),
+}
+
+// The fields of class_ro_t.
+const FLAGS: u64 = 0;
+
+const INSTANCE_START: u64 = 4;
+
+const INSTANCE_SIZE: u64 = 8;
+
+const IVAR_LAYOUT: u64 = 16;
+
+const NAME: u64 = 24;
+
+const BASE_METHODS: u64 = 32;
+
+const BASE_PROTOCOLS: u64 = 40;
+
+const IVARS: u64 = 48;
+
+const WEAK_IVAR_LAYOUT: u64 = 56;
+
+const BASE_PROPERTIES: u64 = 64;
+
 // The data address without its low three bits, and the three of the stored word.
 fn bits_of(target: u64, raw: u64) -> u64
     ensures { λ r. ⌜ r ≡ bitsOf target raw ⌝ }
@@ -82,15 +115,14 @@ fn data_at(
     slot: u64,
     raw: u64,
 ) -> Word
-    ensures { λ r. ⌜ wordOutcome r ≡ dataAt (lent (now (image .entry)) (now (segments .entry)) (now (sections .entry)) (now (info .entry)) (now (rebases .entry)) (now (binds .entry)) (now (index .entry))) slot raw ⌝ }
+    ensures { λ r. let t = lent image segments sections info rebases binds index in
+        ⌜ wordOutcome r ≡ dataAt t slot raw ⌝ }
 {
-    match rebase_at(rebases, index, slot) {
-        Word::Value(target) => Word::Value(target),
-        Word::Missing(m) => match m {
-            Missing::Absent => Address::pick(segments, raw),
-            Missing::Refused(k) => Word::Missing(Missing::Refused(k)),
-        },
+    let target = rebase_at(rebases, index, slot);
+    if is_absent(target) {
+        return Address::pick(segments, raw);
     }
+    target
 }
 
 // The same, or 0.
@@ -105,7 +137,8 @@ fn data_or_0(
     slot: u64,
     raw: u64,
 ) -> Word
-    ensures { λ r. ⌜ wordOutcome r ≡ orZero (dataAt (lent (now (image .entry)) (now (segments .entry)) (now (sections .entry)) (now (info .entry)) (now (rebases .entry)) (now (binds .entry)) (now (index .entry))) slot raw) ⌝ }
+    ensures { λ r. let t = lent image segments sections info rebases binds index in
+        ⌜ wordOutcome r ≡ orZero (dataAt t slot raw) ⌝ }
 {
     or_zero(data_at(
         image,
@@ -120,8 +153,8 @@ fn data_or_0(
     ))
 }
 
-// class_t, 40 bytes: both field addresses are tested before the first lookup.
-pub(crate) fn class_at(
+// class_t: both field addresses are tested before the first lookup.
+pub fn class_at(
     image: &[u8],
     segments: &[u64],
     sections: &[u64],
@@ -132,17 +165,18 @@ pub(crate) fn class_at(
     va: u64,
     is_meta: bool,
 ) -> ClassAnswer
-    ensures { λ r. ⌜ classOutcome r ≡ classAt (lent (now (image .entry)) (now (segments .entry)) (now (sections .entry)) (now (info .entry)) (now (rebases .entry)) (now (binds .entry)) (now (index .entry))) va «is_meta» ⌝ }
+    ensures { λ r. let t = lent image segments sections info rebases binds index in
+        ⌜ classOutcome r ≡ classAt t va «is_meta» ⌝ }
 {
-    let _p = match readable(image, segments, va, 40) {
+    let _p = match readable(image, segments, va, ObjcClass::SIZE) {
         Placed::At(p) => p,
         Placed::Missing(m) => return ClassAnswer::Missing(m),
     };
-    let super_slot = match checked_add(va, 8) {
+    let super_slot = match checked_add(va, ObjcClass::SUPERCLASS) {
         Word::Value(super_slot) => super_slot,
         Word::Missing(m) => return ClassAnswer::Missing(m),
     };
-    let bits_slot = match checked_add(va, 32) {
+    let bits_slot = match checked_add(va, ObjcClass::BITS) {
         Word::Value(bits_slot) => bits_slot,
         Word::Missing(m) => return ClassAnswer::Missing(m),
     };
@@ -181,8 +215,58 @@ pub(crate) fn class_at(
     })
 }
 
-// class_ro_t, 72 bytes: seven pointers in the order of class.rs, the name's text last.
-pub(crate) fn class_ro_at(
+// What stands behind the name of a class_ro_t: its lists, and the weak ivar layout among them; each or 0.
+fn ro_lists_at(
+    image: &[u8],
+    segments: &[u64],
+    sections: &[u64],
+    info: &[u8],
+    rebases: &[u64],
+    binds: &[u64],
+    index: &[u32],
+    va: u64,
+) -> RoListsAnswer
+    ensures { λ r. let t = lent image segments sections info rebases binds index in
+        ⌜ roListsOutcome r ≡ roListsAt t va ⌝ }
+{
+    let methods = match pointer_or_0(image, segments, rebases, index, va, BASE_METHODS) {
+        Word::Value(methods) => methods,
+        Word::Missing(m) => return RoListsAnswer::Missing(m),
+    };
+    let protocols = match pointer_or_0(image, segments, rebases, index, va, BASE_PROTOCOLS) {
+        Word::Value(protocols) => protocols,
+        Word::Missing(m) => return RoListsAnswer::Missing(m),
+    };
+    let ivars = match pointer_or_0(image, segments, rebases, index, va, IVARS) {
+        Word::Value(ivars) => ivars,
+        Word::Missing(m) => return RoListsAnswer::Missing(m),
+    };
+    let weak_ivar_layout = match pointer_or_0(
+        image,
+        segments,
+        rebases,
+        index,
+        va,
+        WEAK_IVAR_LAYOUT,
+    ) {
+        Word::Value(weak_ivar_layout) => weak_ivar_layout,
+        Word::Missing(m) => return RoListsAnswer::Missing(m),
+    };
+    let properties = match pointer_or_0(image, segments, rebases, index, va, BASE_PROPERTIES) {
+        Word::Value(properties) => properties,
+        Word::Missing(m) => return RoListsAnswer::Missing(m),
+    };
+    RoListsAnswer::Lists(RoLists {
+        methods,
+        protocols,
+        ivars,
+        weak_ivar_layout,
+        properties,
+    })
+}
+
+// class_ro_t: the pointers in the order of class.rs, the name's text last.
+pub fn class_ro_at(
     image: &[u8],
     segments: &[u64],
     sections: &[u64],
@@ -192,39 +276,24 @@ pub(crate) fn class_ro_at(
     index: &[u32],
     va: u64,
 ) -> ClassRoAnswer
-    ensures { λ r. ⌜ classRoOutcome r ≡ classRoAt (lent (now (image .entry)) (now (segments .entry)) (now (sections .entry)) (now (info .entry)) (now (rebases .entry)) (now (binds .entry)) (now (index .entry))) va ⌝ }
+    ensures { λ r. let t = lent image segments sections info rebases binds index in
+        ⌜ classRoOutcome r ≡ classRoAt t va ⌝ }
 {
-    let p = match readable(image, segments, va, 72) {
+    let p = match readable(image, segments, va, ClassRo::SIZE) {
         Placed::At(p) => p,
         Placed::Missing(m) => return ClassRoAnswer::Missing(m),
     };
-    let ivar_layout = match pointer_or_0(image, segments, rebases, index, va, 16) {
+    let ivar_layout = match pointer_or_0(image, segments, rebases, index, va, IVAR_LAYOUT) {
         Word::Value(ivar_layout) => ivar_layout,
         Word::Missing(m) => return ClassRoAnswer::Missing(m),
     };
-    let name_va = match pointer(image, segments, rebases, index, va, 24) {
+    let name_va = match pointer(image, segments, rebases, index, va, NAME) {
         Word::Value(name_va) => name_va,
         Word::Missing(m) => return ClassRoAnswer::Missing(m),
     };
-    let methods = match pointer_or_0(image, segments, rebases, index, va, 32) {
-        Word::Value(methods) => methods,
-        Word::Missing(m) => return ClassRoAnswer::Missing(m),
-    };
-    let protocols = match pointer_or_0(image, segments, rebases, index, va, 40) {
-        Word::Value(protocols) => protocols,
-        Word::Missing(m) => return ClassRoAnswer::Missing(m),
-    };
-    let ivars = match pointer_or_0(image, segments, rebases, index, va, 48) {
-        Word::Value(ivars) => ivars,
-        Word::Missing(m) => return ClassRoAnswer::Missing(m),
-    };
-    let weak_ivar_layout = match pointer_or_0(image, segments, rebases, index, va, 56) {
-        Word::Value(weak_ivar_layout) => weak_ivar_layout,
-        Word::Missing(m) => return ClassRoAnswer::Missing(m),
-    };
-    let properties = match pointer_or_0(image, segments, rebases, index, va, 64) {
-        Word::Value(properties) => properties,
-        Word::Missing(m) => return ClassRoAnswer::Missing(m),
+    let lists = match ro_lists_at(image, segments, sections, info, rebases, binds, index, va) {
+        RoListsAnswer::Lists(lists) => lists,
+        RoListsAnswer::Missing(m) => return ClassRoAnswer::Missing(m),
     };
     let name = match read_cstr(image, segments, name_va) {
         TextAnswer::Found(name) => name,
@@ -232,21 +301,21 @@ pub(crate) fn class_ro_at(
     };
     ClassRoAnswer::Ro(ClassRo {
         address: va,
-        flags: u32_in(image, p, 0),
-        instance_start: u32_in(image, p, 4),
-        instance_size: u32_in(image, p, 8),
+        flags: u32_in(image, p, FLAGS),
+        instance_start: u32_in(image, p, INSTANCE_START),
+        instance_size: u32_in(image, p, INSTANCE_SIZE),
         name,
         ivar_layout_address: ivar_layout,
-        methods,
-        protocols,
-        ivars,
-        weak_ivar_layout_address: weak_ivar_layout,
-        properties,
+        methods: lists.methods,
+        protocols: lists.protocols,
+        ivars: lists.ivars,
+        weak_ivar_layout_address: lists.weak_ivar_layout,
+        properties: lists.properties,
     })
 }
 
 // The class_ro_t of a class: picked again from its bits.
-pub(crate) fn ro_of(
+pub fn ro_of(
     image: &[u8],
     segments: &[u64],
     sections: &[u64],
@@ -256,7 +325,8 @@ pub(crate) fn ro_of(
     index: &[u32],
     class: ObjcClass,
 ) -> ClassRoAnswer
-    ensures { λ r. ⌜ classRoOutcome r ≡ roOf (lent (now (image .entry)) (now (segments .entry)) (now (sections .entry)) (now (info .entry)) (now (rebases .entry)) (now (binds .entry)) (now (index .entry))) class ⌝ }
+    ensures { λ r. let t = lent image segments sections info rebases binds index in
+        ⌜ classRoOutcome r ≡ roOf t class ⌝ }
 {
     match Address::pick(segments, class.bits) {
         Word::Value(va) => class_ro_at(image, segments, sections, info, rebases, binds, index, va),
@@ -275,20 +345,19 @@ fn ro_data_at(
     index: &[u32],
     slot: u64,
 ) -> Word
-    ensures { λ r. ⌜ wordOutcome r ≡ roDataAt (lent (now (image .entry)) (now (segments .entry)) (now (sections .entry)) (now (info .entry)) (now (rebases .entry)) (now (binds .entry)) (now (index .entry))) slot ⌝ }
+    ensures { λ r. let t = lent image segments sections info rebases binds index in
+        ⌜ wordOutcome r ≡ roDataAt t slot ⌝ }
 {
-    match rebase_at(rebases, index, slot) {
-        Word::Value(target) => Word::Value(target),
-        Word::Missing(m) => match m {
-            Missing::Absent => picked_at(image, segments, slot),
-            Missing::Refused(k) => Word::Missing(Missing::Refused(k)),
-        },
+    let target = rebase_at(rebases, index, slot);
+    if is_absent(target) {
+        return picked_at(image, segments, slot);
     }
+    target
 }
 
 // The pick of the word in a slot.
 fn picked_at(image: &[u8], segments: &[u64], slot: u64) -> Word
-    ensures { λ r. ⌜ wordOutcome r ≡ pickedAt (imageOf (now (image .entry)) (now (segments .entry))) slot ⌝ }
+    ensures { λ r. ⌜ wordOutcome r ≡ pickedIn (lentImage image segments) slot ⌝ }
 {
     match read_u64(image, segments, slot) {
         Word::Value(raw) => Address::pick(segments, raw),
@@ -297,7 +366,7 @@ fn picked_at(image: &[u8], segments: &[u64], slot: u64) -> Word
 }
 
 // The name of the class at an address, by its class_ro_t's name slot alone.
-pub(crate) fn class_name_at(
+pub fn class_name_at(
     image: &[u8],
     segments: &[u64],
     sections: &[u64],
@@ -307,13 +376,14 @@ pub(crate) fn class_name_at(
     index: &[u32],
     va: u64,
 ) -> TextAnswer
-    ensures { λ r. ⌜ textOutcome r ≡ classNameAt (lent (now (image .entry)) (now (segments .entry)) (now (sections .entry)) (now (info .entry)) (now (rebases .entry)) (now (binds .entry)) (now (index .entry))) va ⌝ }
+    ensures { λ r. let t = lent image segments sections info rebases binds index in
+        ⌜ textOutcome r ≡ classNameAt t va ⌝ }
 {
-    let _p = match readable(image, segments, va, 40) {
+    let _p = match readable(image, segments, va, ObjcClass::SIZE) {
         Placed::At(p) => p,
         Placed::Missing(m) => return TextAnswer::Missing(m),
     };
-    let bits_slot = match checked_add(va, 32) {
+    let bits_slot = match checked_add(va, ObjcClass::BITS) {
         Word::Value(bits_slot) => bits_slot,
         Word::Missing(m) => return TextAnswer::Missing(m),
     };
@@ -330,14 +400,14 @@ pub(crate) fn class_name_at(
         Word::Value(ro_va) => ro_va,
         Word::Missing(m) => return TextAnswer::Missing(m),
     };
-    let name_va = match pointer(image, segments, rebases, index, ro_va, 24) {
+    let name_va = match pointer(image, segments, rebases, index, ro_va, NAME) {
         Word::Value(name_va) => name_va,
         Word::Missing(m) => return TextAnswer::Missing(m),
     };
     read_cstr(image, segments, name_va)
 }
 
-// The bind of the slot at +8, less its prefix.
+// The bind of the slot at +8, where both class_t.superclass and category_t.cls stand, less its prefix.
 fn bound_name(
     image: &[u8],
     segments: &[u64],
@@ -348,9 +418,10 @@ fn bound_name(
     index: &[u32],
     address: u64,
 ) -> TextAnswer
-    ensures { λ r. ⌜ textOutcome r ≡ boundName (lent (now (image .entry)) (now (segments .entry)) (now (sections .entry)) (now (info .entry)) (now (rebases .entry)) (now (binds .entry)) (now (index .entry))) address ⌝ }
+    ensures { λ r. let t = lent image segments sections info rebases binds index in
+        ⌜ textOutcome r ≡ boundName t address ⌝ }
 {
-    match checked_add(address, 8) {
+    match checked_add(address, ObjcClass::SUPERCLASS) {
         Word::Value(slot) => symbol_at(image, rebases, binds, index, slot),
         Word::Missing(m) => TextAnswer::Missing(m),
     }
@@ -367,7 +438,8 @@ fn decoded_name(
     index: &[u32],
     class_va: u64,
 ) -> TextAnswer
-    ensures { λ r. ⌜ textOutcome r ≡ decodedName (lent (now (image .entry)) (now (segments .entry)) (now (sections .entry)) (now (info .entry)) (now (rebases .entry)) (now (binds .entry)) (now (index .entry))) «class_va» ⌝ }
+    ensures { λ r. let t = lent image segments sections info rebases binds index in
+        ⌜ textOutcome r ≡ decodedName t «class_va» ⌝ }
 {
     match nonzero(class_va) {
         Word::Value(va) => class_name_at(
@@ -385,7 +457,7 @@ fn decoded_name(
 }
 
 // The name of the class in the slot at +8 of a record: a class that decodes goes before the bind.
-pub(crate) fn class_name_of(
+pub fn class_name_of(
     image: &[u8],
     segments: &[u64],
     sections: &[u64],
@@ -396,7 +468,8 @@ pub(crate) fn class_name_of(
     address: u64,
     class_va: u64,
 ) -> TextAnswer
-    ensures { λ r. ⌜ textOutcome r ≡ classNameOf (lent (now (image .entry)) (now (segments .entry)) (now (sections .entry)) (now (info .entry)) (now (rebases .entry)) (now (binds .entry)) (now (index .entry))) address «class_va» ⌝ }
+    ensures { λ r. let t = lent image segments sections info rebases binds index in
+        ⌜ textOutcome r ≡ classNameOf t address «class_va» ⌝ }
 {
     match decoded_name(
         image,
@@ -425,75 +498,14 @@ pub(crate) fn class_name_of(
     }
 }
 
-// The class at an address.
-pub fn decode_class(
-    image: &[u8],
-    segments: &[u64],
-    sections: &[u64],
-    info: &[u8],
-    rebases: &[u64],
-    binds: &[u64],
-    index: &[u32],
-    va: u64,
-    is_meta: bool,
-) -> ClassAnswer
-    ensures { λ r. ⌜ classOutcome r ≡ guarded (lent (now (image .entry)) (now (segments .entry)) (now (sections .entry)) (now (info .entry)) (now (rebases .entry)) (now (binds .entry)) (now (index .entry))) (classAt (lent (now (image .entry)) (now (segments .entry)) (now (sections .entry)) (now (info .entry)) (now (rebases .entry)) (now (binds .entry)) (now (index .entry))) va «is_meta») ⌝ }
-{
-    match ask(image, segments, sections, info, rebases, binds, index) {
-        Asked::Yes => class_at(
-            image,
-            segments,
-            sections,
-            info,
-            rebases,
-            binds,
-            index,
-            va,
-            is_meta,
-        ),
-        Asked::Missing(m) => ClassAnswer::Missing(m),
-    }
-}
-
-// The class_ro_t at an address.
-pub fn decode_class_ro(
-    image: &[u8],
-    segments: &[u64],
-    sections: &[u64],
-    info: &[u8],
-    rebases: &[u64],
-    binds: &[u64],
-    index: &[u32],
-    va: u64,
-) -> ClassRoAnswer
-    ensures { λ r. ⌜ classRoOutcome r ≡ guarded (lent (now (image .entry)) (now (segments .entry)) (now (sections .entry)) (now (info .entry)) (now (rebases .entry)) (now (binds .entry)) (now (index .entry))) (classRoAt (lent (now (image .entry)) (now (segments .entry)) (now (sections .entry)) (now (info .entry)) (now (rebases .entry)) (now (binds .entry)) (now (index .entry))) va) ⌝ }
-{
-    match ask(image, segments, sections, info, rebases, binds, index) {
-        Asked::Yes => class_ro_at(image, segments, sections, info, rebases, binds, index, va),
-        Asked::Missing(m) => ClassRoAnswer::Missing(m),
-    }
-}
-
-// The name of the class at an address.
-pub fn decode_class_name(
-    image: &[u8],
-    segments: &[u64],
-    sections: &[u64],
-    info: &[u8],
-    rebases: &[u64],
-    binds: &[u64],
-    index: &[u32],
-    va: u64,
-) -> TextAnswer
-    ensures { λ r. ⌜ textOutcome r ≡ guarded (lent (now (image .entry)) (now (segments .entry)) (now (sections .entry)) (now (info .entry)) (now (rebases .entry)) (now (binds .entry)) (now (index .entry))) (classNameAt (lent (now (image .entry)) (now (segments .entry)) (now (sections .entry)) (now (info .entry)) (now (rebases .entry)) (now (binds .entry)) (now (index .entry))) va) ⌝ }
-{
-    match ask(image, segments, sections, info, rebases, binds, index) {
-        Asked::Yes => class_name_at(image, segments, sections, info, rebases, binds, index, va),
-        Asked::Missing(m) => TextAnswer::Missing(m),
-    }
-}
-
 impl ObjcClass {
+    // class_t: its size, superclass, bits (isa is at 0).
+    pub const SIZE: u64 = 40;
+
+    pub const SUPERCLASS: u64 = 8;
+
+    pub const BITS: u64 = 32;
+
     // class_data_bits_t's three flags (objc-runtime-new.h, FAST_*).
     pub const FAST_IS_SWIFT_LEGACY: u64 = 0x1;
 
@@ -522,54 +534,6 @@ impl ObjcClass {
         ensures { λ r. ⌜ r ≡ bit 2 (self .bits) ⌝ }
     {
         self.bits & ObjcClass::FAST_HAS_DEFAULT_RR != 0
-    }
-
-    // The superclass's name: decoded, or by the bind at +8.
-    pub fn superclass_name(
-        self,
-        image: &[u8],
-        segments: &[u64],
-        sections: &[u64],
-        info: &[u8],
-        rebases: &[u64],
-        binds: &[u64],
-        index: &[u32],
-    ) -> TextAnswer
-        ensures { λ r. ⌜ textOutcome r ≡ guarded (lent (now (image .entry)) (now (segments .entry)) (now (sections .entry)) (now (info .entry)) (now (rebases .entry)) (now (binds .entry)) (now (index .entry))) (superclassName (lent (now (image .entry)) (now (segments .entry)) (now (sections .entry)) (now (info .entry)) (now (rebases .entry)) (now (binds .entry)) (now (index .entry))) self) ⌝ }
-    {
-        match ask(image, segments, sections, info, rebases, binds, index) {
-            Asked::Yes => class_name_of(
-                image,
-                segments,
-                sections,
-                info,
-                rebases,
-                binds,
-                index,
-                self.address,
-                self.superclass_address,
-            ),
-            Asked::Missing(m) => TextAnswer::Missing(m),
-        }
-    }
-
-    // The class_ro_t, picked again from the bits.
-    pub fn ro(
-        self,
-        image: &[u8],
-        segments: &[u64],
-        sections: &[u64],
-        info: &[u8],
-        rebases: &[u64],
-        binds: &[u64],
-        index: &[u32],
-    ) -> ClassRoAnswer
-        ensures { λ r. ⌜ classRoOutcome r ≡ guarded (lent (now (image .entry)) (now (segments .entry)) (now (sections .entry)) (now (info .entry)) (now (rebases .entry)) (now (binds .entry)) (now (index .entry))) (roOf (lent (now (image .entry)) (now (segments .entry)) (now (sections .entry)) (now (info .entry)) (now (rebases .entry)) (now (binds .entry)) (now (index .entry))) self) ⌝ }
-    {
-        match ask(image, segments, sections, info, rebases, binds, index) {
-            Asked::Yes => ro_of(image, segments, sections, info, rebases, binds, index, self),
-            Asked::Missing(m) => ClassRoAnswer::Missing(m),
-        }
     }
 }
 
@@ -605,6 +569,9 @@ impl RoFlags {
 }
 
 impl ClassRo {
+    // The size of class_ro_t.
+    pub const SIZE: u64 = 72;
+
     pub fn is_meta(self) -> bool
         ensures { λ r. ⌜ r ≡ bit 0 (self .flags) ⌝ }
     {

@@ -3,25 +3,31 @@ use pointers::slot::pointer;
 use pointers::slot::pointer_or_0;
 use pointers::slot::slot_or_0;
 use reads::answer::Missing;
-use reads::answer::Place;
-use reads::answer::Placed;
-use reads::answer::Text;
-use reads::answer::TextAnswer;
 use reads::answer::Word;
 use reads::answer::nonzero;
+use reads::place::Placed;
 use reads::place::readable;
 use reads::place::u32_in;
+use reads::text::Text;
+use reads::text::TextAnswer;
 use reads::text::read_cstr;
 use reads::text::read_cstr_or_empty;
 ghost use mathlib.Core.Path.{_≡_};
 ghost use Rattle.reads.specs.Answer.{missed};
+ghost use Rattle.reads.specs.Outcome.{value, orElse};
 ghost use Rattle.pointers.specs.Tables.{lent};
-ghost use Rattle.records.specs.Row.{ivarOutcome, alignmentOf, offsetOf, offsetAt, ivarAt};
+ghost use Rattle.records.specs.Row.{ivarOutcome, alignmentOf, offsetOutcome, offsetAt, ivarAt};
+ghost use Rattle.records.specs.declared.ivar.IvarOffset.the-variants as none;
 
 // An ivar's offset in its instance, or none: a stored 0 is the offset 0.
 pub enum IvarOffset {
     At(u32),
     Nothing,
+}
+
+enum OffsetAnswer {
+    Offset(IvarOffset),
+    Missing(Missing),
 }
 
 // A row of an ivar list.
@@ -31,6 +37,19 @@ pub struct Ivar {
     pub offset: IvarOffset,
     pub size: u32,
     pub log2_alignment: u8,
+}
+
+impl Ivar {
+    // ivar_t: its size, and its fields (the offset's pointer is at 0).
+    pub const SIZE: u64 = 32;
+
+    pub const NAME: u64 = 8;
+
+    pub const TYPE: u64 = 16;
+
+    pub const ALIGNMENT_RAW: u64 = 24;
+
+    pub const OWN_SIZE: u64 = 28;
 }
 
 pub enum IvarAnswer {
@@ -48,13 +67,13 @@ fn alignment_of(raw: u32) -> u8
     (raw % 256) as u8
 }
 
-// What is missing is no offset.
-fn no_offset(m: Missing) -> IvarOffset
-    ensures { λ r. ⌜ r ≡ offsetOf (missed m) ⌝ }
+// No offset, where it is absent.
+fn or_none(m: Missing) -> OffsetAnswer
+    ensures { λ r. ⌜ offsetOutcome r ≡ orElse (missed m) (value none.Nothing) ⌝ }
 {
     match m {
-        Missing::Absent => IvarOffset::Nothing,
-        Missing::Refused(_) => IvarOffset::Nothing,
+        Missing::Absent => OffsetAnswer::Offset(IvarOffset::Nothing),
+        Missing::Refused(k) => OffsetAnswer::Missing(Missing::Refused(k)),
     }
 }
 
@@ -68,19 +87,20 @@ fn offset_at(
     binds: &[u64],
     index: &[u32],
     place: u64,
-) -> IvarOffset
-    ensures { λ r. ⌜ r ≡ offsetOf (offsetAt (lent (now (image .entry)) (now (segments .entry)) (now (sections .entry)) (now (info .entry)) (now (rebases .entry)) (now (binds .entry)) (now (index .entry))) place) ⌝ }
+) -> OffsetAnswer
+    ensures { λ r. let t = lent image segments sections info rebases binds index in
+        ⌜ offsetOutcome r ≡ offsetAt t place ⌝ }
 {
     match nonzero(place) {
         Word::Value(va) => match readable(image, segments, va, 4) {
-            Placed::At(p) => IvarOffset::At(u32_in(image, p, 0)),
-            Placed::Missing(m) => no_offset(m),
+            Placed::At(p) => OffsetAnswer::Offset(IvarOffset::At(u32_in(image, p, 0))),
+            Placed::Missing(m) => or_none(m),
         },
-        Word::Missing(m) => no_offset(m),
+        Word::Missing(m) => or_none(m),
     }
 }
 
-// ivar_t, 32 bytes; the offset's place is read last.
+// ivar_t; the offset's place is read last.
 pub(crate) fn ivar_at(
     image: &[u8],
     segments: &[u64],
@@ -91,9 +111,10 @@ pub(crate) fn ivar_at(
     index: &[u32],
     va: u64,
 ) -> IvarAnswer
-    ensures { λ r. ⌜ ivarOutcome r ≡ ivarAt (lent (now (image .entry)) (now (segments .entry)) (now (sections .entry)) (now (info .entry)) (now (rebases .entry)) (now (binds .entry)) (now (index .entry))) va ⌝ }
+    ensures { λ r. let t = lent image segments sections info rebases binds index in
+        ⌜ ivarOutcome r ≡ ivarAt t va ⌝ }
 {
-    let p = match readable(image, segments, va, 32) {
+    let p = match readable(image, segments, va, Ivar::SIZE) {
         Placed::At(p) => p,
         Placed::Missing(m) => return IvarAnswer::Missing(m),
     };
@@ -101,11 +122,11 @@ pub(crate) fn ivar_at(
         Word::Value(place) => place,
         Word::Missing(m) => return IvarAnswer::Missing(m),
     };
-    let name_va = match pointer(image, segments, rebases, index, va, 8) {
+    let name_va = match pointer(image, segments, rebases, index, va, Ivar::NAME) {
         Word::Value(name_va) => name_va,
         Word::Missing(m) => return IvarAnswer::Missing(m),
     };
-    let type_va = match pointer_or_0(image, segments, rebases, index, va, 16) {
+    let type_va = match pointer_or_0(image, segments, rebases, index, va, Ivar::TYPE) {
         Word::Value(type_va) => type_va,
         Word::Missing(m) => return IvarAnswer::Missing(m),
     };
@@ -117,20 +138,24 @@ pub(crate) fn ivar_at(
         TextAnswer::Found(type_encoding) => type_encoding,
         TextAnswer::Missing(m) => return IvarAnswer::Missing(m),
     };
+    let offset = match offset_at(
+        image,
+        segments,
+        sections,
+        info,
+        rebases,
+        binds,
+        index,
+        place,
+    ) {
+        OffsetAnswer::Offset(offset) => offset,
+        OffsetAnswer::Missing(m) => return IvarAnswer::Missing(m),
+    };
     IvarAnswer::Row(Ivar {
         name,
         type_encoding,
-        offset: offset_at(
-            image,
-            segments,
-            sections,
-            info,
-            rebases,
-            binds,
-            index,
-            place,
-        ),
-        size: u32_in(image, p, 28),
-        log2_alignment: alignment_of(u32_in(image, p, 24)),
+        offset,
+        size: u32_in(image, p, Ivar::OWN_SIZE),
+        log2_alignment: alignment_of(u32_in(image, p, Ivar::ALIGNMENT_RAW)),
     })
 }

@@ -1,22 +1,28 @@
 // Headers of method, ivar and property lists, and the search for the next entry that can be read.
+use crate::ivar::Ivar;
+use crate::method::Method;
+use crate::property::Property;
 use reads::answer::Missing;
-use reads::answer::Placed;
 use reads::answer::Word;
 use reads::answer::checked_add;
 use reads::answer::nonzero;
 use reads::breaks::Break;
 use reads::breaks::next_break;
+use reads::place::Placed;
 use reads::place::readable;
 use reads::place::u32_in;
+use reads::segment::Segment;
 ghost use mathlib.Core.Path.{_≡_};
 ghost use Prim.Native.Nat.{_<_};
+ghost use Rattle.reads.specs.Reference.{before};
 ghost use Rattle.reads.specs.Answer.{wordOutcome};
 ghost use Rattle.reads.specs.Breaks.{canRead};
-ghost use Rattle.reads.specs.Outcome.{value, absent, choose};
-ghost use Rattle.reads.specs.Place.{imageOf};
+ghost use Rattle.reads.specs.Outcome.{value, choose};
+ghost use Rattle.reads.specs.Place.{imageOf, lentImage};
 ghost use Rattle.pointers.specs.Tables.{lent};
-ghost use Rattle.records.specs.List.{layoutOutcome, least, methodRows, rowsOf, sizeOf, layoutOf, evenFor, listAt};
-ghost use Rattle.records.specs.Search.{firstReadable};
+ghost use Rattle.records.specs.Ask.{evenList, entrySize};
+ghost use Rattle.records.specs.List.{layoutOutcome, least, methodRows, rowsOf, sizeOf, mustBeEven, listAt};
+ghost use Rattle.records.specs.Search.{entryOf, firstReadable, searchBudget};
 ghost use Rattle.records.specs.Tries.{ahead, Tried};
 
 // Bits of a method list's first word that are not its entry size (objc-runtime-new.h, entsize_list_tt<method_t, ..>).
@@ -55,9 +61,24 @@ pub enum LayoutAnswer {
     Missing(Missing),
 }
 
+impl Layout {
+    // entsize_list_tt: its size, entsizeAndFlags, count.
+    pub const HEADER_SIZE: u64 = 8;
+
+    pub const ENTSIZE_AND_FLAGS: u64 = 0;
+
+    pub const COUNT: u64 = 4;
+}
+
+// The index of an entry, or none.
+pub enum Entry {
+    At(u64),
+    Nothing,
+}
+
 // What trying one index gives: the answer of the search, or the index to try next.
 pub(crate) enum Try {
-    Stop(Word),
+    Stop(Entry),
     Go(u64),
 }
 
@@ -101,54 +122,47 @@ pub(crate) fn least(kind: RowKind) -> u64
     ensures { λ r. ⌜ r ≡ least kind ⌝ }
 {
     match kind {
-        RowKind::Legacy => 24,
-        RowKind::SmallIndirect => 12,
-        RowKind::SmallDirect => 12,
-        RowKind::Ivar => 32,
-        RowKind::Property => 16,
+        RowKind::Legacy => Method::SIZE,
+        RowKind::SmallIndirect => Method::SMALL_SIZE,
+        RowKind::SmallDirect => Method::SMALL_SIZE,
+        RowKind::Ivar => Ivar::SIZE,
+        RowKind::Property => Property::SIZE,
     }
 }
 
-// The layout of a header's two words; absent where the entry size is below the least.
-fn layout_of(kind: ListKind, base: u64, w: u32, count: u32) -> LayoutAnswer
-    ensures { λ r. ⌜ layoutOutcome r ≡ layoutOf kind base w count ⌝ }
+// An entry size that is at least the least size.
+fn entry_size(least: u64, size: u32) -> Word
+    ensures { λ r. ⌜ wordOutcome r ≡ entrySize least size ⌝ }
 {
-    let rows = rows_of(kind, w);
-    let size = size_of(kind, w);
-    if (size as u64) < least(rows) {
-        return LayoutAnswer::Missing(Missing::Absent);
+    if (size as u64) < least {
+        return Word::Missing(Missing::Absent);
     }
-    LayoutAnswer::List(Layout {
-        base,
-        size,
-        count,
-        kind: rows,
-    })
+    Word::Value(size as u64)
 }
 
-// An odd address is no list's, except of ivars.
-fn even_for(kind: ListKind, va: u64) -> bool
-    ensures { λ r. ⌜ r ≡ evenFor kind va ⌝ }
+// The address of a list that must not be odd.
+pub fn even_list(va: u64) -> Word
+    ensures { λ r. ⌜ wordOutcome r ≡ evenList va ⌝ }
 {
-    match kind {
-        ListKind::Methods => va % 2 == 0,
-        ListKind::Ivars => true,
-        ListKind::Properties => va % 2 == 0,
-    }
-}
-
-// The address of a list, if it is even as its kind asks.
-fn list_address(kind: ListKind, va: u64) -> Word
-    ensures { λ r. ⌜ wordOutcome r ≡ choose (evenFor kind va) (value va) absent ⌝ }
-{
-    if even_for(kind, va) {
+    if va % 2 == 0 {
         return Word::Value(va);
     }
     Word::Missing(Missing::Absent)
 }
 
+// The address of a list, even as its kind asks.
+fn list_address(kind: ListKind, va: u64) -> Word
+    ensures { λ r. ⌜ wordOutcome r ≡ choose (mustBeEven kind) (evenList va) (value va) ⌝ }
+{
+    match kind {
+        ListKind::Methods => even_list(va),
+        ListKind::Ivars => Word::Value(va),
+        ListKind::Properties => even_list(va),
+    }
+}
+
 // The list at an address: an 8-byte header of entry size and count, then the entries.
-pub(crate) fn list_at(
+pub fn list_at(
     image: &[u8],
     segments: &[u64],
     sections: &[u64],
@@ -159,32 +173,43 @@ pub(crate) fn list_at(
     kind: ListKind,
     va: u64,
 ) -> LayoutAnswer
-    ensures { λ r. ⌜ layoutOutcome r ≡ listAt (lent (now (image .entry)) (now (segments .entry)) (now (sections .entry)) (now (info .entry)) (now (rebases .entry)) (now (binds .entry)) (now (index .entry))) kind va ⌝ }
+    ensures { λ r. let t = lent image segments sections info rebases binds index in
+        ⌜ layoutOutcome r ≡ listAt t kind va ⌝ }
 {
     match nonzero(va) {
-        Word::Value(a) => {}
+        Word::Value(_) => {}
         Word::Missing(m) => return LayoutAnswer::Missing(m),
     }
     match list_address(kind, va) {
-        Word::Value(a) => {}
+        Word::Value(_) => {}
         Word::Missing(m) => return LayoutAnswer::Missing(m),
     }
-    let p = match readable(image, segments, va, 8) {
+    let p = match readable(image, segments, va, Layout::HEADER_SIZE) {
         Placed::At(p) => p,
         Placed::Missing(m) => return LayoutAnswer::Missing(m),
     };
-    let base = match checked_add(va, 8) {
-        Word::Value(a) => a,
+    let w = u32_in(image, p, Layout::ENTSIZE_AND_FLAGS);
+    let rows = rows_of(kind, w);
+    let size = size_of(kind, w);
+    match entry_size(least(rows), size) {
+        Word::Value(_) => {}
+        Word::Missing(m) => return LayoutAnswer::Missing(m),
+    }
+    let base = match checked_add(va, Layout::HEADER_SIZE) {
+        Word::Value(base) => base,
         Word::Missing(m) => return LayoutAnswer::Missing(m),
     };
-    let w = u32_in(image, p, 0);
-    let count = u32_in(image, p, 4);
-    layout_of(kind, base, w, count)
+    LayoutAnswer::List(Layout {
+        base,
+        size,
+        count: u32_in(image, p, Layout::COUNT),
+        kind: rows,
+    })
 }
 
 // Whether k bytes can be read at an address.
 fn can_read(image: &[u8], segments: &[u64], k: u64, va: u64) -> bool
-    ensures { λ r. ⌜ r ≡ canRead (imageOf (now (image .entry)) (now (segments .entry))) k va ⌝ }
+    ensures { λ r. ⌜ r ≡ canRead (lentImage image segments) k va ⌝ }
 {
     match readable(image, segments, va, k) {
         Placed::At(p) => true,
@@ -195,51 +220,51 @@ fn can_read(image: &[u8], segments: &[u64], k: u64, va: u64) -> bool
 // Tries index i: the entry there is the answer, or none from there on is, or the search goes on at the first entry whose
 // address reaches the next breakpoint.
 fn try_at(image: &[u8], segments: &[u64], h: Layout, i: u64) -> Try
-    ensures { λ r. ⌜ Tried (imageOf (now (image .entry)) (now (segments .entry))) h i r ⌝ }
+    ensures { λ r. ⌜ Tried (lentImage image segments) h i r ⌝ }
 {
     let count = h.count as u64;
     if count <= i {
-        return Try::Stop(Word::Missing(Missing::Absent));
+        return Try::Stop(Entry::Nothing);
     }
     let size = h.size as u64;
     // Entries from the first whose address passes 64 bits are not readable.
     let way = i * size;
     if 0xFFFF_FFFF_FFFF_FFFF - h.base < way {
-        return Try::Stop(Word::Missing(Missing::Absent));
+        return Try::Stop(Entry::Nothing);
     }
     let va = h.base + way;
     let rows = h.kind;
     let k = least(rows);
     if can_read(image, segments, k, va) {
-        return Try::Stop(Word::Value(i));
+        return Try::Stop(Entry::At(i));
     }
     let Break::At(b) = next_break(image, segments, k, va) else {
-        return Try::Stop(Word::Missing(Missing::Absent));
+        return Try::Stop(Entry::Nothing);
     };
     // Entries of size 0 all have one address.
     if size == 0 {
-        return Try::Stop(Word::Missing(Missing::Absent));
+        return Try::Stop(Entry::Nothing);
     }
     // As many entries after i start below the breakpoint.
     let gap = (b - va - 1) / size;
     if count - i - 1 <= gap {
-        return Try::Stop(Word::Missing(Missing::Absent));
+        return Try::Stop(Entry::Nothing);
     }
     Try::Go(i + gap + 1)
 }
 
 // Spends one of the budget at each index tried. Each try leaves fewer breakpoints ahead, so the budget does not run out.
-fn search(image: &[u8], segments: &[u64], h: Layout, from: u64, budget: u64) -> Word
+fn search(image: &[u8], segments: &[u64], h: Layout, from: u64, budget: u64) -> Entry
     requires { ⌜ ahead (imageOf (now image) (now segments)) h from < budget ⌝ }
-    ensures { λ r. ⌜ wordOutcome r ≡ firstReadable (imageOf (now (image .entry)) (now (segments .entry))) h from ⌝ }
+    ensures { λ r. ⌜ entryOf r ≡ firstReadable (lentImage image segments) h from ⌝ }
 {
     let mut i = from;
     let mut left = budget;
     loop {
         left -= 1;
         match try_at(image, segments, h, i) {
-            Try::Stop(w) => {
-                return w;
+            Try::Stop(entry) => {
+                return entry;
             }
             Try::Go(j) => {
                 i = j;
@@ -248,10 +273,17 @@ fn search(image: &[u8], segments: &[u64], h: Layout, from: u64, budget: u64) -> 
     }
 }
 
-// The first entry from an index on, below the count, that can be read: at most three tries for each segment, and one.
-pub(crate) fn first_readable(image: &[u8], segments: &[u64], h: Layout, from: u32) -> Word
-    ensures { λ r. ⌜ wordOutcome r ≡ firstReadable (imageOf (now (image .entry)) (now (segments .entry))) h from ⌝ }
+// How many indices a step may try: three for each segment, and one.
+fn search_budget(segments: &[u64]) -> u64
+    ensures { λ r. ⌜ r ≡ searchBudget (before segments) ⌝ }
 {
-    let budget = 3 * (segments.len() / 4) + 1;
-    search(image, segments, h, from as u64, budget as u64)
+    (3 * (segments.len() / Segment::WORDS) + 1) as u64
+}
+
+// The first entry from an index on, below the count, that can be read.
+pub fn first_readable(image: &[u8], segments: &[u64], h: Layout, from: u32) -> Entry
+    ensures { λ r. ⌜ entryOf r ≡ firstReadable (lentImage image segments) h from ⌝ }
+{
+    let budget = search_budget(segments);
+    search(image, segments, h, from as u64, budget)
 }

@@ -2,22 +2,23 @@
 use pointers::slot::pointer;
 use pointers::slot::pointer_or_0;
 use pointers::slot::resolve_pointer;
+use reads::address::Address;
 use reads::answer::Missing;
-use reads::answer::Place;
-use reads::answer::Placed;
-use reads::answer::Text;
-use reads::answer::TextAnswer;
 use reads::answer::Word;
 use reads::answer::checked_add;
+use reads::place::Place;
+use reads::place::Placed;
 use reads::place::readable;
 use reads::place::u32_in;
-use reads::ptrauth::Address;
 use reads::relative::i32_in;
 use reads::relative::relative_pointer;
 use reads::relative::signed;
+use reads::text::Text;
+use reads::text::TextAnswer;
 use reads::text::read_cstr;
 use reads::text::read_cstr_or_empty;
 ghost use mathlib.Core.Path.{_≡_};
+ghost use Rattle.reads.specs.Reference.{before};
 ghost use Rattle.reads.specs.Answer.{wordOutcome, textOutcome};
 ghost use Rattle.reads.specs.Relative.{relative, signedIn};
 ghost use Rattle.pointers.specs.Tables.{lent};
@@ -50,6 +51,22 @@ pub enum MethodAnswer {
 }
 
 impl Method {
+    // method_t::big: its size, types, imp (its name is at 0).
+    pub const SIZE: u64 = 24;
+
+    pub const TYPES: u64 = 8;
+
+    pub const IMP: u64 = 16;
+
+    // method_t::small: its size, and its three relative pointers.
+    pub const SMALL_SIZE: u64 = 12;
+
+    pub const SMALL_NAME: u64 = 0;
+
+    pub const SMALL_TYPES: u64 = 4;
+
+    pub const SMALL_IMP: u64 = 8;
+
     // The row is of the form of relative offsets.
     pub fn is_small(self) -> bool
         ensures { λ r. ⌜ r ≡ isSmall (self .kind) ⌝ }
@@ -73,7 +90,7 @@ fn legacy_imp(va: u64) -> Imp
     Imp::At(va)
 }
 
-// method_t, 24 bytes.
+// method_t::big.
 pub(crate) fn legacy_method_at(
     image: &[u8],
     segments: &[u64],
@@ -84,9 +101,10 @@ pub(crate) fn legacy_method_at(
     index: &[u32],
     va: u64,
 ) -> MethodAnswer
-    ensures { λ r. ⌜ methodOutcome r ≡ legacyMethodAt (lent (now (image .entry)) (now (segments .entry)) (now (sections .entry)) (now (info .entry)) (now (rebases .entry)) (now (binds .entry)) (now (index .entry))) va ⌝ }
+    ensures { λ r. let t = lent image segments sections info rebases binds index in
+        ⌜ methodOutcome r ≡ legacyMethodAt t va ⌝ }
 {
-    let _p = match readable(image, segments, va, 24) {
+    let _p = match readable(image, segments, va, Method::SIZE) {
         Placed::At(p) => p,
         Placed::Missing(m) => return MethodAnswer::Missing(m),
     };
@@ -94,11 +112,11 @@ pub(crate) fn legacy_method_at(
         Word::Value(name_va) => name_va,
         Word::Missing(m) => return MethodAnswer::Missing(m),
     };
-    let types_va = match pointer(image, segments, rebases, index, va, 8) {
+    let types_va = match pointer(image, segments, rebases, index, va, Method::TYPES) {
         Word::Value(types_va) => types_va,
         Word::Missing(m) => return MethodAnswer::Missing(m),
     };
-    let imp_va = match pointer_or_0(image, segments, rebases, index, va, 16) {
+    let imp_va = match pointer_or_0(image, segments, rebases, index, va, Method::IMP) {
         Word::Value(imp_va) => imp_va,
         Word::Missing(m) => return MethodAnswer::Missing(m),
     };
@@ -139,7 +157,7 @@ fn small_kind(direct: bool) -> MethodKind
 
 // The target of the offset at i bytes from a place, counted from the offset's own field.
 fn target_of(image: &[u8], p: Place, i: u64, field: u64) -> u64
-    ensures { λ r. ⌜ r ≡ relative field (signedIn (now (image .entry)) p i) ⌝ }
+    ensures { λ r. ⌜ r ≡ relative field (signedIn (before image) p i) ⌝ }
 {
     relative_pointer(field, i32_in(image, p, i))
 }
@@ -157,9 +175,10 @@ fn selector_at(
     field: u64,
     p: Place,
 ) -> Word
-    ensures { λ r. ⌜ wordOutcome r ≡ selectorAt (lent (now (image .entry)) (now (segments .entry)) (now (sections .entry)) (now (info .entry)) (now (rebases .entry)) (now (binds .entry)) (now (index .entry))) direct field p ⌝ }
+    ensures { λ r. let t = lent image segments sections info rebases binds index in
+        ⌜ wordOutcome r ≡ selectorAt t direct field p ⌝ }
 {
-    let target = target_of(image, p, 0, field);
+    let target = target_of(image, p, Method::SMALL_NAME, field);
     if direct {
         return Word::Value(target);
     }
@@ -178,12 +197,17 @@ fn types_at(
     field: u64,
     p: Place,
 ) -> TextAnswer
-    ensures { λ r. ⌜ textOutcome r ≡ typesAt (lent (now (image .entry)) (now (segments .entry)) (now (sections .entry)) (now (info .entry)) (now (rebases .entry)) (now (binds .entry)) (now (index .entry))) field p ⌝ }
+    ensures { λ r. let t = lent image segments sections info rebases binds index in
+        ⌜ textOutcome r ≡ typesAt t field p ⌝ }
 {
-    read_cstr_or_empty(image, segments, target_of(image, p, 4, field))
+    read_cstr_or_empty(
+        image,
+        segments,
+        target_of(image, p, Method::SMALL_TYPES, field),
+    )
 }
 
-// method_t::small, 12 bytes: both field addresses are tested before the first lookup.
+// method_t::small: both field addresses are tested before the first lookup.
 pub(crate) fn small_method_at(
     image: &[u8],
     segments: &[u64],
@@ -195,17 +219,18 @@ pub(crate) fn small_method_at(
     va: u64,
     direct: bool,
 ) -> MethodAnswer
-    ensures { λ r. ⌜ methodOutcome r ≡ smallMethodAt (lent (now (image .entry)) (now (segments .entry)) (now (sections .entry)) (now (info .entry)) (now (rebases .entry)) (now (binds .entry)) (now (index .entry))) va direct ⌝ }
+    ensures { λ r. let t = lent image segments sections info rebases binds index in
+        ⌜ methodOutcome r ≡ smallMethodAt t va direct ⌝ }
 {
-    let p = match readable(image, segments, va, 12) {
+    let p = match readable(image, segments, va, Method::SMALL_SIZE) {
         Placed::At(p) => p,
         Placed::Missing(m) => return MethodAnswer::Missing(m),
     };
-    let types_field = match checked_add(va, 4) {
+    let types_field = match checked_add(va, Method::SMALL_TYPES) {
         Word::Value(types_field) => types_field,
         Word::Missing(m) => return MethodAnswer::Missing(m),
     };
-    let imp_field = match checked_add(va, 8) {
+    let imp_field = match checked_add(va, Method::SMALL_IMP) {
         Word::Value(imp_field) => imp_field,
         Word::Missing(m) => return MethodAnswer::Missing(m),
     };
@@ -245,7 +270,7 @@ pub(crate) fn small_method_at(
     MethodAnswer::Row(Method {
         selector,
         types,
-        implementation: small_imp(u32_in(image, p, 8), imp_field),
+        implementation: small_imp(u32_in(image, p, Method::SMALL_IMP), imp_field),
         kind: small_kind(direct),
     })
 }

@@ -2,11 +2,11 @@
 use pointers::slot::pointer_or_0;
 use pointers::slot::resolve_pointer;
 use reads::answer::Missing;
-use reads::answer::Placed;
-use reads::answer::Text;
-use reads::answer::TextAnswer;
 use reads::answer::Word;
+use reads::place::Placed;
 use reads::place::readable;
+use reads::text::Text;
+use reads::text::TextAnswer;
 use reads::text::read_cstr;
 use reads::text::read_cstr_or_empty;
 ghost use mathlib.Core.Path.{_≡_};
@@ -17,6 +17,13 @@ ghost use Rattle.records.specs.Row.{propertyOutcome, propertyAt};
 pub struct Property {
     pub name: Text,
     pub attributes: Text,
+}
+
+impl Property {
+    // property_t: its size, attributes (its name is at 0).
+    pub const SIZE: u64 = 16;
+
+    pub const ATTRIBUTES: u64 = 8;
 }
 
 pub enum PropertyAnswer {
@@ -35,9 +42,10 @@ pub(crate) fn property_at(
     index: &[u32],
     va: u64,
 ) -> PropertyAnswer
-    ensures { λ r. ⌜ propertyOutcome r ≡ propertyAt (lent (now (image .entry)) (now (segments .entry)) (now (sections .entry)) (now (info .entry)) (now (rebases .entry)) (now (binds .entry)) (now (index .entry))) va ⌝ }
+    ensures { λ r. let t = lent image segments sections info rebases binds index in
+        ⌜ propertyOutcome r ≡ propertyAt t va ⌝ }
 {
-    let _p = match readable(image, segments, va, 16) {
+    let _p = match readable(image, segments, va, Property::SIZE) {
         Placed::At(p) => p,
         Placed::Missing(m) => return PropertyAnswer::Missing(m),
     };
@@ -45,7 +53,14 @@ pub(crate) fn property_at(
         Word::Value(name_va) => name_va,
         Word::Missing(m) => return PropertyAnswer::Missing(m),
     };
-    let attributes_va = match pointer_or_0(image, segments, rebases, index, va, 8) {
+    let attributes_va = match pointer_or_0(
+        image,
+        segments,
+        rebases,
+        index,
+        va,
+        Property::ATTRIBUTES,
+    ) {
         Word::Value(attributes_va) => attributes_va,
         Word::Missing(m) => return PropertyAnswer::Missing(m),
     };

@@ -11,9 +11,9 @@ use crate::property::Property;
 use crate::property::PropertyAnswer;
 use crate::property::property_at;
 use reads::answer::Missing;
-ghost use mathlib.Core.Bool.{Bool, true, false};
+ghost use mathlib.Core.Bool.{true, false};
 ghost use mathlib.Core.Path.{_≡_};
-ghost use Rattle.reads.specs.Outcome.{Outcome, andThen, value};
+ghost use Rattle.reads.specs.Outcome.{andThen};
 ghost use Rattle.pointers.specs.Tables.{lent};
 ghost use Rattle.records.specs.Row.{rowOutcome, methodOutcome, ivarOutcome, propertyOutcome, methodRow, ivarRow, propertyRow, rowAt};
 
@@ -56,7 +56,7 @@ fn property_row(a: PropertyAnswer) -> RowAnswer
 }
 
 // The row at an entry's address, by what the entries are.
-pub(crate) fn row_at(
+pub fn row_at(
     image: &[u8],
     segments: &[u64],
     sections: &[u64],
@@ -67,7 +67,8 @@ pub(crate) fn row_at(
     kind: RowKind,
     va: u64,
 ) -> RowAnswer
-    ensures { λ r. ⌜ rowOutcome r ≡ rowAt (lent (now (image .entry)) (now (segments .entry)) (now (sections .entry)) (now (info .entry)) (now (rebases .entry)) (now (binds .entry)) (now (index .entry))) kind va ⌝ }
+    ensures { λ r. let t = lent image segments sections info rebases binds index in
+        ⌜ rowOutcome r ≡ rowAt t kind va ⌝ }
 {
     match kind {
         RowKind::Legacy => method_row(legacy_method_at(

@@ -1,19 +1,29 @@
 // The listings of stored bundles. The file `cases` has the number of cases as a word, then for each case its title and its bundle, each with
 // its length in front as a word; words are little-endian. Printed are a line with the title and the bundle's listing. Nothing else is decided
 // here.
-use printing::buffer::bytes;
-use printing::buffer::flush;
-use printing::bundle::list_bundle;
+use libc::STDOUT_FILENO;
+use printing::bundle::decode;
+use printing::bundle::next_piece;
+use printing::bundle::open;
+use printing::pieces::Progress;
 use reads::answer::Word;
 use reads::place::read_u64_le_at;
 ghost use Prim.Native.Nat.{_≤_};
 ghost use lib.ListN.{length};
+ghost use Rattle.reads.specs.Reference.{after};
 ghost use Rattle.replay.specs.Parts.{sizeOf};
 
 // A part of the file, read to the front of a buffer: so many bytes, or cut, since the file ends before or the buffer is too short.
 enum Part {
     Bytes(usize),
     Cut,
+}
+
+// Whether cases were there and written: the file ends before, or a write failed.
+enum Replayed {
+    Whole,
+    Cut,
+    Unwritten,
 }
 
 // The next word of the file, absent where the file ends before.
@@ -25,7 +35,7 @@ fn read_word(fd: i32) -> Word {
 
 // The next n bytes of the file.
 fn fill(fd: i32, n: u64, to: &mut [u8]) -> Part
-    ensures { λ r. ⌜ sizeOf r ≤ length (now (to .exit)) ⌝ }
+    ensures { λ r. ⌜ sizeOf r ≤ length (after to) ⌝ }
 {
     if n > to.len() as u64 {
         return Part::Cut;
@@ -40,7 +50,7 @@ fn fill(fd: i32, n: u64, to: &mut [u8]) -> Part
 
 // The next title or bundle of the file.
 fn read_part(fd: i32, to: &mut [u8]) -> Part
-    ensures { λ r. ⌜ sizeOf r ≤ length (now (to .exit)) ⌝ }
+    ensures { λ r. ⌜ sizeOf r ≤ length (after to) ⌝ }
 {
     match read_word(fd) {
         Word::Value(n) => fill(fd, n, to),
@@ -48,76 +58,114 @@ fn read_part(fd: i32, to: &mut [u8]) -> Part
     }
 }
 
-// A case's first line.
-fn print_title(title: &[u8], out: &mut [u8]) -> usize {
-    let a = bytes(b"# ", out, 0);
-    let b = bytes(title, out, a);
-    bytes(b"\n", out, b)
+// A case's first line: whether it was written.
+fn write_title(title: &[u8]) -> bool {
+    if !io::write_all(STDOUT_FILENO, b"# ") {
+        return false;
+    }
+    if !io::write_all(STDOUT_FILENO, title) {
+        return false;
+    }
+    io::write_all(STDOUT_FILENO, b"\n")
 }
 
-// A case after its title: whether its bundle was there.
+// Writes all pieces that are still to come: whether all were written.
+fn write_pieces(
+    start: Progress,
+    input: &[u8; 32769],
+    n: usize,
+    words: &[u64; 4096],
+    index: &[u32; 10240],
+    ledger: &mut [u64; 8192],
+    out: &mut [u8; 4096],
+) -> bool {
+    let mut progress = start;
+    loop {
+        let piece = next_piece(progress, input, n, words, index, ledger, out);
+        let len = piece.len;
+        progress = piece.progress;
+        if len == 0 {
+            return true;
+        }
+        let text: &[u8] = out;
+        if !io::write_all(STDOUT_FILENO, &text[0..len]) {
+            return false;
+        }
+    }
+}
+
+// The listing of a bundle: whether it was written.
+fn write_listing(
+    input: &[u8; 32769],
+    n: usize,
+    words: &mut [u64; 4096],
+    index: &mut [u32; 10240],
+    ledger: &mut [u64; 8192],
+    out: &mut [u8; 4096],
+) -> Replayed {
+    decode(input, n, words);
+    let progress = Progress::new(open(input, n, words, index));
+    if write_pieces(progress, input, n, words, index, ledger, out) {
+        return Replayed::Whole;
+    }
+    Replayed::Unwritten
+}
+
+// A case after its title.
 fn replay_bundle(
     fd: i32,
-    input: &mut [u8],
+    input: &mut [u8; 32769],
     words: &mut [u64; 4096],
-    index: &mut [u32],
-    ledger: &mut [u64],
-    out: &mut [u8],
-    at: usize,
-) -> bool {
+    index: &mut [u32; 10240],
+    ledger: &mut [u64; 8192],
+    out: &mut [u8; 4096],
+) -> Replayed {
     match read_part(fd, input) {
-        Part::Bytes(n) => {
-            let end = list_bundle(&input[0..n], words, index, ledger, out, at);
-            flush(out, end);
-            true
-        }
-        Part::Cut => {
-            flush(out, at);
-            false
-        }
+        Part::Bytes(n) => write_listing(input, n, words, index, ledger, out),
+        Part::Cut => Replayed::Cut,
     }
 }
 
-// The next case: whether it was there.
-fn replay(
-    fd: i32,
-    input: &mut [u8],
-    words: &mut [u64; 4096],
-    index: &mut [u32],
-    ledger: &mut [u64],
-    out: &mut [u8],
-) -> bool {
-    match read_part(fd, input) {
+// The next title, and its line.
+fn replay_title(fd: i32, title: &mut [u8]) -> Replayed {
+    match read_part(fd, title) {
         Part::Bytes(n) => {
-            let at = print_title(&input[0..n], out);
-            replay_bundle(fd, input, words, index, ledger, out, at)
+            if write_title(&title[0..n]) {
+                return Replayed::Whole;
+            }
+            Replayed::Unwritten
         }
-        Part::Cut => false,
+        Part::Cut => Replayed::Cut,
     }
 }
 
-// So many cases: whether all were there. The lent buffers go from case to case as they are.
+// So many cases. The lent buffers go from case to case as they are.
 fn replay_all(
     fd: i32,
     count: u64,
-    input: &mut [u8],
+    input: &mut [u8; 32769],
     words: &mut [u64; 4096],
-    index: &mut [u32],
-    ledger: &mut [u64],
-    out: &mut [u8],
-) -> bool {
+    index: &mut [u32; 10240],
+    ledger: &mut [u64; 8192],
+    out: &mut [u8; 4096],
+) -> Replayed {
     let mut left = count;
     while left > 0 {
-        if !replay(fd, input, words, index, ledger, out) {
-            return false;
-        }
+        let title = replay_title(fd, input);
+        let Replayed::Whole = title else {
+            return title;
+        };
+        let bundle = replay_bundle(fd, input, words, index, ledger, out);
+        let Replayed::Whole = bundle else {
+            return bundle;
+        };
         left -= 1;
     }
-    true
+    Replayed::Whole
 }
 
-// The whole file: whether all its cases were there. The buffers are as long as those of `objclist`.
-fn replay_file(fd: i32) -> bool {
+// The whole file.
+fn replay_file(fd: i32) -> Replayed {
     let mut input = [0u8; 32769];
     let mut words = [0u64; 4096];
     let mut index = [0u32; 10240];
@@ -133,13 +181,17 @@ fn replay_file(fd: i32) -> bool {
             &mut ledger,
             &mut out,
         ),
-        Word::Missing(_) => false,
+        Word::Missing(_) => Replayed::Cut,
     }
 }
 
 fn main() {
     let fd = os::open_read(b"cases");
-    if !replay_file(fd) {
-        io::write_all(libc::STDOUT_FILENO, b"cases end early\n");
+    match replay_file(fd) {
+        Replayed::Whole => {}
+        Replayed::Cut => {
+            io::write_all(STDOUT_FILENO, b"cases end early\n");
+        }
+        Replayed::Unwritten => os::fail(b"replay: standard output"),
     }
 }

@@ -12,9 +12,4 @@ returns-2 : tie.Need-returns-2
 returns-2 c = sym (choose-false _ _ (ne-eqb _ _ (c .if1 .left)))
 
 pub carried-spec : {M : Type 1} → statement M
-carried-spec =
-    tie.close
-    (tie.spec
-    (λ c κs. search needs)
-    returns
-    returns-2)
+carried-spec = tie.close (tie.spec (λ c κs. search needs) returns returns-2)

@@ -1,8 +1,9 @@
-use Prim.Native.Nat.{ℕ, _≤_, _-_}
+use Prim.Native.Nat.{ℕ, _-_, _*_, _≤_}
 use mathlib.Core.Path.{_≡_, refl, ap, _∙_}
 use native.Mathlib.Omega.{arith}
 use native.Mathlib.Numerals.{add-one}
 use lib.ListN.{length, length-set}
+use Rattle.pointers.specs.Tables.{chains}
 use Rattle.pointers.specs.IndexFold.{cleared}
 use Rattle.pointers.proofs.IndexFolds.{cleared-more}
 use Rattle.pointers.proofs.index.clear_heads.Statement.{statement}
@@ -10,10 +11,10 @@ use Rattle.pointers.proofs.index.clear_heads.Tie as tie
 
 -- The first i words are zero, and the others as they were.
 abbrev Inv-loop : tie.InvT-loop
-Inv-loop index₀ i₀ index i = (i ≤ 8192) × (index ≡ cleared i index₀) × (length index ≡ length index₀)
+Inv-loop index₀ i₀ index i = (i ≤ 2 * chains) × (index ≡ cleared i index₀) × (length index ≡ length index₀)
 
 abbrev μ-loop : tie.MeasureT-loop
-μ-loop index₀ i₀ index i = 8192 - i
+μ-loop index₀ i₀ index i = 2 * chains - i
 
 loop-holds : tie.Need-loop-holds Inv-loop μ-loop
 unfolding cleared
@@ -33,7 +34,7 @@ same-length c = c .before .loop .inv .2
 
 returns : tie.Need-returns Inv-loop μ-loop
 returns c =
-    let past : c .before .loop .i ≡ 8192 = omega arith in
+    let past : c .before .loop .i ≡ 2 * chains = omega arith in
     c .before .loop .inv .1 ∙ ap (λ (k : ℕ). cleared k (c .before .before .args .index .now)) past
 
 pub clear-heads-spec : {M : Type 1} → statement M

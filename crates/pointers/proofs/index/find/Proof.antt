@@ -2,11 +2,11 @@ use Prim.Native.Nat.{_-_, _≤_}
 use mathlib.Core.Path.{_≡_, sym, _∙_}
 use native.Mathlib.Omega.{arith}
 use lib.ListN.{length}
-use Rattle.pointers.specs.Tables.{records}
 use Rattle.pointers.specs.Chain.{followFrom, follow}
 use Rattle.pointers.proofs.RecordWords.{slot-within}
 use Rattle.pointers.proofs.Chains.{follow-end, follow-above, follow-found, follow-on}
 use borrow.Author.Needs.{needs}
+use Rattle.reads.specs.Table.{records}
 use Rattle.pointers.proofs.index.find.Statement.{statement}
 use Rattle.pointers.proofs.index.find.Tie as tie
 

@@ -1,27 +1,30 @@
 use mathlib.Core.Path.{sym, _∙_}
 use borrow.Author.Tests.{not-true, not-false}
-use Rattle.pointers.proofs.Questions as laws
 use Rattle.pointers.specs.Question.{askedIndex}
 use Rattle.pointers.specs.Open.{askedOpening}
+use Rattle.pointers.proofs.Questions as laws
 use borrow.Author.Needs.{needs}
 use Rattle.pointers.proofs.open.ask_opening.Statement.{statement}
 use Rattle.pointers.proofs.open.ask_opening.Tie as tie
 
 returns : tie.Need-returns
 unfolding askedOpening
-returns c = laws.asked-on _ _ _ _ (c .before .before .before .before .ask-tables .ensures ∙ laws.asked-any-index _ _ _ _ _ _ _ _) (c .before .before .enum-told .given .1) (laws.after-no 7 _ _ (sym (c .before .names-fit .ensures) ∙ not-true _ (c .if1 .taken)))
+returns c =
+    laws.asked-on _ _ _ _ (c .before .before .before .before .ask-tables .ensures ∙ laws.asked-any-index _ _ _ _ _ _ _ _)
+    (c .before .before .enum-told .given .1)
+    (laws.after-no 7 _ _ (sym (c .before .names-fit .ensures) ∙ not-true _ (c .if1 .taken)))
 
 returns-2 : tie.Need-returns-2
 unfolding askedOpening askedIndex
-returns-2 c = laws.asked-on _ _ _ _ (c .before .before .before .before .before .before .ask-tables .ensures ∙ laws.asked-any-index _ _ _ _ _ _ _ _) (c .before .before .before .before .enum-told .given .1) (laws.after-yes 7 _ _ (sym (c .before .before .before .names-fit .ensures) ∙ not-false _ (c .before .before .if1 .left)) (sym (laws.question-yes 8 _ (sym (c .before .index-fits .ensures) ∙ c .if2 .taken))))
+returns-2 c =
+    laws.asked-on _ _ _ _ (c .before .before .before .before .before .ask-tables .ensures ∙ laws.asked-any-index _ _ _ _ _ _ _ _)
+    (c .before .before .before .enum-told .given .1)
+    (laws.after-yes 7 _ _ (sym (c .before .before .names-fit .ensures) ∙ not-false _ (c .before .if1 .left)) (c .ask-index .ensures))
 
 returns-3 : tie.Need-returns-3
-unfolding askedOpening askedIndex
-returns-3 c = laws.asked-on _ _ _ _ (c .before .before .before .before .before .before .ask-tables .ensures ∙ laws.asked-any-index _ _ _ _ _ _ _ _) (c .before .before .before .before .enum-told .given .1) (laws.after-yes 7 _ _ (sym (c .before .before .before .names-fit .ensures) ∙ not-false _ (c .before .before .if1 .left)) (sym (laws.question-no 8 _ (sym (c .before .index-fits .ensures) ∙ c .if2 .left))))
-
-returns-4 : tie.Need-returns-4
 unfolding askedOpening
-returns-4 c = laws.asked-ends _ _ _ _ (c .before .before .before .ask-tables .ensures ∙ laws.asked-any-index _ _ _ _ _ _ _ _) (c .before .m .given .1)
+returns-3 c =
+    laws.asked-ends _ _ _ _ (c .before .before .before .ask-tables .ensures ∙ laws.asked-any-index _ _ _ _ _ _ _ _) (c .before .k .given .1)
 
 pub ask-opening-spec : {M : Type 1} → statement M
 ask-opening-spec =
@@ -32,7 +35,6 @@ ask-opening-spec =
     (λ c κs. search needs)
     returns
     (λ c κs. search needs)
-    returns-2
     (λ c. search needs)
-    returns-3
-    returns-4)
+    returns-2
+    returns-3)

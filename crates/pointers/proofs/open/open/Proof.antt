@@ -10,7 +10,7 @@ returns : tie.Need-returns
 returns c = (open-info _ _ (c .before .before .before .before .before .before .before .ask-opening .ensures) (c .before .before .before .before .before .enum-told .given .1) _ (c .parse .ensures), open-index _ _ (c .before .before .before .before .before .before .before .ask-opening .ensures) (c .before .before .before .before .before .enum-told .given .1) _ (c .before .before .before .fill-index .ensures))
 
 returns-2 : tie.Need-returns-2
-returns-2 c = (open-refused _ _ (c .before .before .before .ask-opening .ensures) _ (c .before .m .given .1), open-kept _ _ (c .before .before .before .ask-opening .ensures) _ (c .before .m .given .1))
+returns-2 c = (open-refused _ _ (c .before .before .before .ask-opening .ensures) _ (c .before .k .given .1), open-kept _ _ (c .before .before .before .ask-opening .ensures) _ (c .before .k .given .1))
 
 pub open-spec : {M : Type 1} → statement M
 open-spec =

@@ -1,7 +1,7 @@
 use mathlib.Core.Path.{sym, _∙_}
 use borrow.Author.Tests.{not-true, not-false}
-use Rattle.pointers.proofs.Questions as laws
 use Rattle.pointers.specs.Question.{askedTables}
+use Rattle.pointers.proofs.Questions as laws
 use borrow.Author.Needs.{needs}
 use Rattle.pointers.proofs.question.ask_tables.Statement.{statement}
 use Rattle.pointers.proofs.question.ask_tables.Tie as tie

@@ -1,33 +1,46 @@
-use borrow.Author.Tests.{not-true, not-false}
-use Rattle.pointers.proofs.Questions as laws
-use Rattle.pointers.specs.Question.{nameFits, everyRow, namesFit}
 use Prim.Native.Nat.{_≤_, _-_}
 use mathlib.Core.Path.{_≡_, refl, sym, _∙_}
+use mathlib.Core.Bool.{true}
 use native.Mathlib.Omega.{arith}
-use lib.ListN.{length, drop}
 use borrow.Author.Needs.{needs}
+use borrow.Author.Tests.{not-true, not-false}
+use Rattle.reads.specs.Table.{records}
+use Rattle.pointers.specs.Tables.{bindWords}
+use Rattle.pointers.specs.Question.{every, bindFits, namesFit}
+use Rattle.pointers.proofs.Questions.{every-more, every-fails, bind-by}
 use Rattle.pointers.proofs.question.names_fit.Statement.{statement}
 use Rattle.pointers.proofs.question.names_fit.Tie as tie
 
+-- The names of the first i records fit.
 abbrev Inv-loop : tie.InvT-loop
-Inv-loop image binds i₀ i = (i ≤ length binds) × (everyRow (λ slot offset len. nameFits image offset len) (drop i binds) ≡ everyRow (λ slot offset len. nameFits image offset len) binds)
+Inv-loop image binds i₀ i = (i ≤ records bindWords binds) × (every (bindFits image binds) i ≡ true)
 
 abbrev μ-loop : tie.MeasureT-loop
-μ-loop image binds i₀ i = length binds - i
+μ-loop image binds i₀ i = records bindWords binds - i
 
 loop-holds : tie.Need-loop-holds Inv-loop μ-loop
+unfolding every
 loop-holds c = (omega arith, refl)
 
 returns : tie.Need-returns Inv-loop μ-loop
 unfolding namesFit
-returns c = laws.every-fails _ (c .before .before .before .before .before .before .before .before .args .binds .now) (c .before .before .before .before .before .loop .i) (omega arith) (c .before .before .before .before .before .loop .inv .1) (sym (c .before .name-fits .ensures) ∙ not-true _ (c .if1 .taken))
+returns c =
+    let a = c .before .before .before .before .before .before .before .args in
+    let fits = bind-by (a .image .now) (a .binds .now) _ _ (c .before .before .at .ensures) (c .before .name-fits .ensures) in
+    every-fails _ _ _ (c .before .before .before .loop-test .taken)
+    (sym fits ∙ not-true _ (c .if1 .taken))
 
 loop-again : tie.Need-loop-again Inv-loop μ-loop
-loop-again c = (omega arith, laws.every-passes _ (c .before .before .before .before .before .before .before .before .args .binds .now) (c .before .before .before .before .before .loop .i) (omega arith) (c .before .before .before .before .before .loop .inv .1) (sym (c .before .name-fits .ensures) ∙ not-false _ (c .if1 .left)))
+loop-again c =
+    let a = c .before .before .before .before .before .before .before .args in
+    let fits = bind-by (a .image .now) (a .binds .now) _ _ (c .before .before .at .ensures) (c .before .name-fits .ensures) in
+    (omega arith, every-more _ _ (c .before .before .before .before .loop .inv .1) (sym fits ∙ not-false _ (c .if1 .left)))
 
 returns-2 : tie.Need-returns-2 Inv-loop μ-loop
 unfolding namesFit
-returns-2 c = sym (laws.every-none _ (c .before .before .before .before .args .binds .now) (c .before .loop .i) (omega arith)) ∙ c .before .loop .inv .1
+returns-2 c =
+    let past : c .before .loop .i ≡ records bindWords (c .before .before .before .before .args .binds .now) = omega arith in
+    sym (rw past at (c .before .loop .inv .1))
 
 pub names-fit-spec : {M : Type 1} → statement M
 names-fit-spec =
@@ -36,13 +49,7 @@ names-fit-spec =
     Inv-loop
     μ-loop
     loop-holds
-    (λ c. search needs)
-    (λ c. search needs)
-    (λ c. search needs)
-    (λ c. search needs)
-    (λ c. search needs)
-    (λ c. search needs)
-    (λ c. search needs)
+    (λ c κs. search needs)
     (λ c κs. search needs)
     returns
     (λ c. search needs)

@@ -3,10 +3,6 @@ use Rattle.reads.specs.Outcome.{orZero}
 use borrow.Author.Needs.{needs}
 use Rattle.pointers.proofs.slot.slot_or_0.Statement.{statement}
 use Rattle.pointers.proofs.slot.slot_or_0.Tie as tie
-use Rattle.pointers.proofs.slot.slot_or_0.Reads as reads
-use Rattle.pointers.proofs.slot.slot_or_0.Lts as lts
-use Rattle.pointers.proofs.slot.resolve_pointer.Reads as resolve-pointer-reads
-use Rattle.reads.proofs.answer.or_zero.Reads as or-zero-reads
 
 resolve-pointer-requires : tie.Need-resolve-pointer-requires
 resolve-pointer-requires c κs = search needs

@@ -1,3 +1,4 @@
+use native.Mathlib.Omega.{arith}
 use Rattle.printing.specs.LineText.{ivarText}
 use Rattle.printing.proofs.Puts.{then-put}
 use borrow.Author.Needs.{needs}
@@ -17,6 +18,22 @@ returns c =
     (then-put _ _ _ (at-offset .offset .ensures)
     (then-put _ _ _ (at-number .number .ensures) (at-number2 .number2 .ensures))))
 
+same-length : tie.Need-same-length
+same-length c =
+    let at-number2 = c .before .before in
+    let at-number = at-number2 .before .before .before .before .before in
+    let at-offset = at-number .before .before .before .before .before in
+    let at-texts = at-offset .before .before .before .before in
+    let at-start = at-texts .before .before .before .before in
+    omega (
+      arith,
+      at-start .start .kept .1 .1 .0,
+      at-texts .texts .kept .1 .1 .1 .0,
+      at-offset .offset .kept .1 .0,
+      at-number .number .kept .1 .0,
+      at-number2 .number2 .kept .1 .0,
+    )
+
 pub ivar-spec : {M : Type 1} → statement M
 ivar-spec =
     tie.close
@@ -28,5 +45,5 @@ ivar-spec =
     (λ c κs. search needs)
     (λ c. search needs)
     (λ c κs. search needs)
-    (λ c. search needs)
+    same-length
     returns)

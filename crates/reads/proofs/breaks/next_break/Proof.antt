@@ -1,24 +1,26 @@
--- The invariant: the best so far and the rows from word i on give what all rows give.
+-- The invariant: the best so far and the rows from row i on give what all rows give.
 use Rattle.reads.proofs.BreakSteps.{lowest, lowest-is-next-break, lowest-out, lowest-ends, lowest-more, readable-part-size}
 use Rattle.reads.proofs.Lookups.{ends-not}
 use mathlib.Core.Path.{_≡_}
 use Prim.Native.Nat.{_≤_, _-_}
 use native.Mathlib.Omega.{arith}
-use lib.ListN.{length, drop}
-use Rattle.reads.specs.Segment.{rows}
+use lib.ListN.{length}
+use Rattle.reads.specs.Table.{records}
+use Rattle.reads.specs.Segment.{segmentWords, rows}
+use Rattle.reads.proofs.SegmentRows.{rowsFrom, rows-all}
 use Rattle.reads.specs.Breaks.{nextBreak, breaks}
 use borrow.Author.Needs.{needs}
 use Rattle.reads.proofs.breaks.next_break.Statement.{statement}
 use Rattle.reads.proofs.breaks.next_break.Tie as tie
 
 abbrev Inv-loop : tie.InvT-loop
-Inv-loop image segments least va n best₀ i₀ best i = (i ≤ length segments) × (lowest va best (breaks n least (rows (drop i segments))) ≡ nextBreak (breaks n least (rows segments)) va)
+Inv-loop image segments least va n best₀ i₀ best i = (i ≤ records segmentWords segments) × (lowest va best (breaks n least (rowsFrom segments i)) ≡ nextBreak (breaks n least (rows segments)) va)
 
 abbrev μ-loop : tie.MeasureT-loop
-μ-loop image segments least va n best₀ i₀ best i = length segments - i
+μ-loop image segments least va n best₀ i₀ best i = records segmentWords segments - i
 
 loop-holds : tie.Need-loop-holds Inv-loop μ-loop
-loop-holds c = (omega arith, lowest-is-next-break _ _)
+loop-holds c = (omega arith, rw rows-all (lowest-is-next-break _ _))
 
 returns : tie.Need-returns Inv-loop μ-loop
 returns c = lowest-ends (c .before .before .before .before .before .before .before .args .segments .now) (c .before .before .before .before .loop .i) _ _ _ _ _ (c .before .before .before .before .loop .inv .1) (omega arith) _ (c .before .before .at .ensures) (cc)
@@ -42,7 +44,6 @@ next-break-spec =
     Inv-loop
     μ-loop
     loop-holds
-    (λ c. search needs)
     (λ c κs. search needs)
     (λ c κs. search needs)
     returns

@@ -1,18 +1,22 @@
 use Prim.Native.Nat.{_≤_, _-_}
 use mathlib.Core.Path.{_≡_}
 use native.Mathlib.Omega.{arith}
-use lib.ListN.{length, drop}
-use Rattle.reads.specs.Segment.{rows, addressOf}
+use Rattle.reads.specs.Table.{records}
+use Rattle.reads.specs.Segment.{segmentWords, rows, addressOf}
+use Rattle.reads.proofs.SegmentRows.{rowsFrom, rows-all}
 use Rattle.reads.proofs.Lookups.{carries-is, address-ends, address-carries, address-on, address-out}
 use borrow.Author.Needs.{needs}
 use Rattle.reads.proofs.segment.file_offset_to_vm_in.Statement.{statement}
 use Rattle.reads.proofs.segment.file_offset_to_vm_in.Tie as tie
 
 abbrev Inv-loop : tie.InvT-loop
-Inv-loop segments offset i₀ i = (i ≤ length segments) × (addressOf (rows (drop i segments)) offset ≡ addressOf (rows segments) offset)
+Inv-loop segments offset i₀ i = (i ≤ records segmentWords segments) × (addressOf (rowsFrom segments i) offset ≡ addressOf (rows segments) offset)
 
 abbrev μ-loop : tie.MeasureT-loop
-μ-loop segments offset i₀ i = length segments - i
+μ-loop segments offset i₀ i = records segmentWords segments - i
+
+loop-holds : tie.Need-loop-holds Inv-loop μ-loop
+loop-holds c = (omega arith, rw rows-all)
 
 returns : tie.Need-returns Inv-loop μ-loop
 returns c = cc (address-ends (c .before .before .before .before .before .before .args .segments .now) (c .before .before .before .before .loop .i) (omega arith) (c .before .before .at .result) (c .before .before .at .ensures) (c .before .before .before .before .before .before .args .offset) (cc))
@@ -35,8 +39,7 @@ file-offset-to-vm-in-spec =
     (tie.spec
     Inv-loop
     μ-loop
-    (λ c. search needs)
-    (λ c. search needs)
+    loop-holds
     (λ c κs. search needs)
     (λ c κs. search needs)
     returns

@@ -1,18 +1,22 @@
 use Prim.Native.Nat.{_≤_, _-_}
 use mathlib.Core.Path.{_≡_}
 use native.Mathlib.Omega.{arith}
-use lib.ListN.{length, drop}
-use Rattle.reads.specs.Segment.{rows, lookup}
+use Rattle.reads.specs.Table.{records}
+use Rattle.reads.specs.Segment.{segmentWords, rows, lookup}
+use Rattle.reads.proofs.SegmentRows.{rowsFrom, rows-all}
 use Rattle.reads.proofs.Lookups.{holds-is, lookup-ends, lookup-holds, lookup-on, lookup-out}
 use borrow.Author.Needs.{needs}
 use Rattle.reads.proofs.segment.vm_to_file_offset_in.Statement.{statement}
 use Rattle.reads.proofs.segment.vm_to_file_offset_in.Tie as tie
 
 abbrev Inv-loop : tie.InvT-loop
-Inv-loop segments va i₀ i = (i ≤ length segments) × (lookup (rows (drop i segments)) va ≡ lookup (rows segments) va)
+Inv-loop segments va i₀ i = (i ≤ records segmentWords segments) × (lookup (rowsFrom segments i) va ≡ lookup (rows segments) va)
 
 abbrev μ-loop : tie.MeasureT-loop
-μ-loop segments va i₀ i = length segments - i
+μ-loop segments va i₀ i = records segmentWords segments - i
+
+loop-holds : tie.Need-loop-holds Inv-loop μ-loop
+loop-holds c = (omega arith, rw rows-all)
 
 returns : tie.Need-returns Inv-loop μ-loop
 returns c = cc (lookup-ends (c .before .before .before .before .before .before .args .segments .now) (c .before .before .before .before .loop .i) (omega arith) (c .before .before .at .result) (c .before .before .at .ensures) (c .before .before .before .before .before .before .args .va) (cc))
@@ -35,8 +39,7 @@ vm-to-file-offset-in-spec =
     (tie.spec
     Inv-loop
     μ-loop
-    (λ c. search needs)
-    (λ c. search needs)
+    loop-holds
     (λ c κs. search needs)
     (λ c κs. search needs)
     returns

@@ -3,10 +3,6 @@ use Rattle.reads.specs.Outcome.{orEmpty}
 use borrow.Author.Needs.{needs}
 use Rattle.reads.proofs.text.read_cstr_or_empty.Statement.{statement}
 use Rattle.reads.proofs.text.read_cstr_or_empty.Tie as tie
-use Rattle.reads.proofs.text.read_cstr_or_empty.Reads as reads
-use Rattle.reads.proofs.text.read_cstr_or_empty.Lts as lts
-use Rattle.reads.proofs.answer.or_empty.Reads as or-empty-reads
-use Rattle.reads.proofs.text.read_cstr.Reads as read-cstr-reads
 
 read-cstr-requires : tie.Need-read-cstr-requires
 read-cstr-requires c κs = search needs

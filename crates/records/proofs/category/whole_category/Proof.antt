@@ -3,9 +3,6 @@ use Rattle.reads.proofs.Tests.{choose-true, choose-false}
 use borrow.Author.Needs.{needs}
 use Rattle.records.proofs.category.whole_category.Statement.{statement}
 use Rattle.records.proofs.category.whole_category.Tie as tie
-use Rattle.records.proofs.category.whole_category.Reads as reads
-use Rattle.records.proofs.category.whole_category.Lts as lts
-use Rattle.reads.proofs.place.readable.Reads as readable-reads
 
 readable-requires : tie.Need-readable-requires
 readable-requires c κs = search needs

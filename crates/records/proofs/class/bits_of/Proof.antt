@@ -3,8 +3,6 @@ use Rattle.records.specs.Class.{bitsOf}
 use borrow.Author.Needs.{needs}
 use Rattle.records.proofs.class.bits_of.Statement.{statement}
 use Rattle.records.proofs.class.bits_of.Tie as tie
-use Rattle.records.proofs.class.bits_of.Reads as reads
-use Rattle.records.proofs.class.bits_of.Lts as lts
 
 sub-result : tie.Need-sub-result
 sub-result c = search needs

@@ -1,30 +1,88 @@
-use mathlib.Core.Path.{refl}
-use Rattle.records.specs.Class.{classNameAt}
+use mathlib.Core.Path.{_≡_, sym, ap, _∙_}
 use Rattle.reads.specs.Answer.{placeOutcome, wordOutcome}
-use Rattle.reads.proofs.Outcomes.{on-missing, on-value}
+use Rattle.pointers.specs.Tables.{Tables, tablesOf}
+use Rattle.records.specs.Decode.{Decode, run}
+use Rattle.records.proofs.Stages.{rest, past, stops}
+use Rattle.records.specs.Class.{decodeClassName}
+use Rattle.reads.specs.declared.text.Text.{Text}
 use borrow.Author.Needs.{needs}
 use Rattle.records.proofs.class.class_name_at.Statement.{statement}
 use Rattle.records.proofs.class.class_name_at.Tie as tie
 
+-- All that the function is lent, and its definition.
+abbrev tables : tie.Start → Tables
+tables s = tablesOf (s .args .image .now) (s .args .segments .now) (s .args .sections .now) (s .args .info .now) (s .args .rebases .now) (s .args .binds .now) (s .args .index .now)
+
+abbrev whole : tie.Start → Decode Text
+whole s = decodeClassName (s .args .va)
+
+-- Past readable.
+abbrev start-1 : tie.After-known-told → tie.Start
+start-1 c = c .before .before .before .before .before .before .before .before .before .before .before
+
+abbrev rest-1 : tie.After-known-told → Decode Text
+unfolding decodeClassName
+rest-1 c = rest (whole (c .before .before .before .before .before .before .before .before .before .before .before)) (c .before .p .given .0 .0)
+
+reach-1 : (c : tie.After-known-told) → run (tables (start-1 c)) (whole (start-1 c)) ≡ run (tables (start-1 c)) (rest-1 c)
+unfolding decodeClassName
+reach-1 c = past (tables (start-1 c)) (whole (c .before .before .before .before .before .before .before .before .before .before .before)) (c .before .p .given .0 .0) (sym (c .before .before .before .readable .ensures) ∙ ap placeOutcome (c .before .p .given .1))
+
+-- Past checked-add.
+abbrev start-2 : tie.After-known-told3 → tie.Start
+start-2 c = start-1 (c .before .before .before .before)
+
+abbrev rest-2 : tie.After-known-told3 → Decode Text
+unfolding decodeClassName
+rest-2 c = rest (rest-1 (c .before .before .before .before)) (c .before .bits-slot .given .0 .0)
+
+reach-2 : (c : tie.After-known-told3) → run (tables (start-2 c)) (whole (start-2 c)) ≡ run (tables (start-2 c)) (rest-2 c)
+unfolding decodeClassName
+reach-2 c = reach-1 (c .before .before .before .before) ∙ past (tables (start-2 c)) (rest-1 (c .before .before .before .before)) (c .before .bits-slot .given .0 .0) (sym (c .before .before .before .checked-add .ensures) ∙ ap wordOutcome (c .before .bits-slot .given .1))
+
+-- Past ro-data-at.
+abbrev start-3 : tie.After-known-told5 → tie.Start
+start-3 c = start-2 (c .before .before .before .before)
+
+abbrev rest-3 : tie.After-known-told5 → Decode Text
+unfolding decodeClassName
+rest-3 c = rest (rest-2 (c .before .before .before .before)) (c .before .ro-va .given .0 .0)
+
+reach-3 : (c : tie.After-known-told5) → run (tables (start-3 c)) (whole (start-3 c)) ≡ run (tables (start-3 c)) (rest-3 c)
+unfolding decodeClassName
+reach-3 c = reach-2 (c .before .before .before .before) ∙ past (tables (start-3 c)) (rest-2 (c .before .before .before .before)) (c .before .ro-va .given .0 .0) (sym (c .before .before .before .ro-data-at .ensures) ∙ ap wordOutcome (c .before .ro-va .given .1))
+
+-- Past pointer.
+abbrev start-4 : tie.After-known-told7 → tie.Start
+start-4 c = start-3 (c .before .before .before .before)
+
+abbrev rest-4 : tie.After-known-told7 → Decode Text
+unfolding decodeClassName
+rest-4 c = rest (rest-3 (c .before .before .before .before)) (c .before .name-va .given .0 .0)
+
+reach-4 : (c : tie.After-known-told7) → run (tables (start-4 c)) (whole (start-4 c)) ≡ run (tables (start-4 c)) (rest-4 c)
+unfolding decodeClassName
+reach-4 c = reach-3 (c .before .before .before .before) ∙ past (tables (start-4 c)) (rest-3 (c .before .before .before .before)) (c .before .name-va .given .0 .0) (sym (c .before .before .before .pointer .ensures) ∙ ap wordOutcome (c .before .name-va .given .1))
+
 returns : tie.Need-returns
-unfolding classNameAt
-returns c = on-missing placeOutcome _ (c .before .m .given .0 .0) (c .before .before .before .readable .ensures) (c .before .m .given .1) refl
+unfolding decodeClassName
+returns c = stops (tables (c .before .before .before .before .before .before .before .before .before .before .before)) (whole (c .before .before .before .before .before .before .before .before .before .before .before)) (c .before .m .given .0 .0) (sym (c .before .before .before .readable .ensures) ∙ ap placeOutcome (c .before .m .given .1))
 
 returns-2 : tie.Need-returns-2
-unfolding classNameAt
-returns-2 c = on-value placeOutcome _ (c .before .before .before .before .before .before .before .readable .ensures) (c .before .before .before .before .before .p .given .1) refl (on-missing wordOutcome _ (c .before .m2 .given .0 .0) (c .before .before .before .checked-add .ensures) (c .before .m2 .given .1) refl)
+unfolding decodeClassName
+returns-2 c = stops (tables (start-1 (c .before .before .before .before))) (rest-1 (c .before .before .before .before)) (c .before .m2 .given .0 .0) (sym (c .before .before .before .checked-add .ensures) ∙ ap wordOutcome (c .before .m2 .given .1)) ∙ sym (reach-1 (c .before .before .before .before))
 
 returns-3 : tie.Need-returns-3
-unfolding classNameAt
-returns-3 c = on-value placeOutcome _ (c .before .before .before .before .before .before .before .before .before .before .before .readable .ensures) (c .before .before .before .before .before .before .before .before .before .p .given .1) refl (on-value wordOutcome _ (c .before .before .before .before .before .before .before .checked-add .ensures) (c .before .before .before .before .before .bits-slot .given .1) refl (on-missing wordOutcome _ (c .before .m3 .given .0 .0) (c .before .before .before .ro-data-at .ensures) (c .before .m3 .given .1) refl))
+unfolding decodeClassName
+returns-3 c = stops (tables (start-2 (c .before .before .before .before))) (rest-2 (c .before .before .before .before)) (c .before .m3 .given .0 .0) (sym (c .before .before .before .ro-data-at .ensures) ∙ ap wordOutcome (c .before .m3 .given .1)) ∙ sym (reach-2 (c .before .before .before .before))
 
 returns-4 : tie.Need-returns-4
-unfolding classNameAt
-returns-4 c = on-value placeOutcome _ (c .before .before .before .before .before .before .before .before .before .before .before .before .before .before .before .readable .ensures) (c .before .before .before .before .before .before .before .before .before .before .before .before .before .p .given .1) refl (on-value wordOutcome _ (c .before .before .before .before .before .before .before .before .before .before .before .checked-add .ensures) (c .before .before .before .before .before .before .before .before .before .bits-slot .given .1) refl (on-value wordOutcome _ (c .before .before .before .before .before .before .before .ro-data-at .ensures) (c .before .before .before .before .before .ro-va .given .1) refl (on-missing wordOutcome _ (c .before .m4 .given .0 .0) (c .before .before .before .pointer .ensures) (c .before .m4 .given .1) refl)))
+unfolding decodeClassName
+returns-4 c = stops (tables (start-3 (c .before .before .before .before))) (rest-3 (c .before .before .before .before)) (c .before .m4 .given .0 .0) (sym (c .before .before .before .pointer .ensures) ∙ ap wordOutcome (c .before .m4 .given .1)) ∙ sym (reach-3 (c .before .before .before .before))
 
 returns-5 : tie.Need-returns-5
-unfolding classNameAt
-returns-5 c = on-value placeOutcome _ (c .before .before .before .before .before .before .before .before .before .before .before .before .before .before .before .before .readable .ensures) (c .before .before .before .before .before .before .before .before .before .before .before .before .before .before .p .given .1) refl (on-value wordOutcome _ (c .before .before .before .before .before .before .before .before .before .before .before .before .checked-add .ensures) (c .before .before .before .before .before .before .before .before .before .before .bits-slot .given .1) refl (on-value wordOutcome _ (c .before .before .before .before .before .before .before .before .ro-data-at .ensures) (c .before .before .before .before .before .before .ro-va .given .1) refl (on-value wordOutcome _ (c .before .before .before .before .pointer .ensures) (c .before .before .name-va .given .1) refl (c .read-cstr .ensures))))
+unfolding decodeClassName
+returns-5 c = (c .read-cstr .ensures) ∙ sym (reach-4 (c .before))
 
 pub class-name-at-spec : {M : Type 1} → statement M
 class-name-at-spec =

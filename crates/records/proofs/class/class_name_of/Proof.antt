@@ -1,5 +1,5 @@
 use mathlib.Core.Path.{refl}
-use Rattle.records.specs.Class.{classNameOf}
+use Rattle.records.specs.Class.{decodeClassNameOf}
 use Rattle.reads.specs.Answer.{textOutcome}
 use Rattle.reads.proofs.Outcomes.{else-absent, else-number, else-value}
 use borrow.Author.Needs.{needs}
@@ -7,15 +7,15 @@ use Rattle.records.proofs.class.class_name_of.Statement.{statement}
 use Rattle.records.proofs.class.class_name_of.Tie as tie
 
 returns : tie.Need-returns
-unfolding classNameOf
+unfolding decodeClassNameOf
 returns c = else-value textOutcome _ (c .before .before .before .decoded-name .ensures) (c .before .name .given .1) refl
 
 returns-2 : tie.Need-returns-2
-unfolding classNameOf
+unfolding decodeClassNameOf
 returns-2 c = else-absent textOutcome _ (c .before .before .before .before .before .before .decoded-name .ensures) (c .before .before .before .before .m .given .1) (rw (c .before .enum-told .given .1)) (c .bound-name .ensures)
 
 returns-3 : tie.Need-returns-3
-unfolding classNameOf
+unfolding decodeClassNameOf
 returns-3 c = else-number textOutcome _ (c .before .before .before .before .before .before .decoded-name .ensures) (c .before .before .before .before .m .given .1) (rw (c .before .m2 .given .1))
 
 pub class-name-of-spec : {M : Type 1} → statement M

@@ -3,10 +3,6 @@ use Rattle.reads.specs.Outcome.{orZero}
 use borrow.Author.Needs.{needs}
 use Rattle.records.proofs.class.data_or_0.Statement.{statement}
 use Rattle.records.proofs.class.data_or_0.Tie as tie
-use Rattle.records.proofs.class.data_or_0.Reads as reads
-use Rattle.records.proofs.class.data_or_0.Lts as lts
-use Rattle.reads.proofs.answer.or_zero.Reads as or-zero-reads
-use Rattle.records.proofs.class.data_at.Reads as data-at-reads
 
 data-at-requires : tie.Need-data-at-requires
 data-at-requires c κs = search needs

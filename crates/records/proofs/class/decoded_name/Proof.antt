@@ -1,5 +1,5 @@
 use mathlib.Core.Path.{refl}
-use Rattle.records.specs.Class.{decodedName}
+use Rattle.records.specs.Class.{decodeNonzeroClassName}
 use Rattle.reads.specs.Answer.{wordOutcome}
 use Rattle.reads.proofs.Outcomes.{on-missing, on-value}
 use borrow.Author.Needs.{needs}
@@ -7,11 +7,11 @@ use Rattle.records.proofs.class.decoded_name.Statement.{statement}
 use Rattle.records.proofs.class.decoded_name.Tie as tie
 
 returns : tie.Need-returns
-unfolding decodedName
+unfolding decodeNonzeroClassName
 returns c = on-value wordOutcome _ (c .before .before .before .before .nonzero .ensures) (c .before .before .va .given .1) refl (c .class-name-at .ensures)
 
 returns-2 : tie.Need-returns-2
-unfolding decodedName
+unfolding decodeNonzeroClassName
 returns-2 c = on-missing wordOutcome _ (c .before .m .given .0 .0) (c .before .before .before .nonzero .ensures) (c .before .m .given .1) refl
 
 pub decoded-name-spec : {M : Type 1} → statement M

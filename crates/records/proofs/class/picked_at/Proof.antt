@@ -1,5 +1,5 @@
 use mathlib.Core.Path.{refl}
-use Rattle.records.specs.Class.{pickedAt}
+use Rattle.records.specs.Ask.{pickedIn}
 use Rattle.reads.specs.Answer.{wordOutcome}
 use Rattle.reads.proofs.Outcomes.{on-missing, on-value}
 use borrow.Author.Needs.{needs}
@@ -7,11 +7,11 @@ use Rattle.records.proofs.class.picked_at.Statement.{statement}
 use Rattle.records.proofs.class.picked_at.Tie as tie
 
 returns : tie.Need-returns
-unfolding pickedAt
+unfolding pickedIn
 returns c = on-value wordOutcome _ (c .before .before .before .before .read-u64 .ensures) (c .before .before .raw .given .1) refl (c .pick .ensures)
 
 returns-2 : tie.Need-returns-2
-unfolding pickedAt
+unfolding pickedIn
 returns-2 c = on-missing wordOutcome _ (c .before .m .given .0 .0) (c .before .before .before .read-u64 .ensures) (c .before .m .given .1) refl
 
 pub picked-at-spec : {M : Type 1} → statement M

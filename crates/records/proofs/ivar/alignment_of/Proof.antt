@@ -1,12 +1,10 @@
 use Rattle.reads.proofs.Tests.{choose-true, choose-false}
-use mathlib.Core.Path.{sym, _∙_, ap}
+use mathlib.Core.Path.{sym}
 use borrow.Author.Tests.{eq-eqb, ne-eqb}
 use Rattle.records.specs.Row.{alignmentOf}
 use borrow.Author.Needs.{needs}
 use Rattle.records.proofs.ivar.alignment_of.Statement.{statement}
 use Rattle.records.proofs.ivar.alignment_of.Tie as tie
-use Rattle.records.proofs.ivar.alignment_of.Reads as reads
-use Rattle.records.proofs.ivar.alignment_of.Lts as lts
 
 returns : tie.Need-returns
 unfolding alignmentOf

@@ -1,14 +1,29 @@
-use mathlib.Core.Path.{sym, _∙_}
-use Rattle.reads.proofs.Tests.{choose-true, choose-false}
+use Rattle.reads.specs.Outcome.{choose}
 use borrow.Author.Needs.{needs}
 use Rattle.records.proofs.list.list_address.Statement.{statement}
 use Rattle.records.proofs.list.list_address.Tie as tie
 
 returns : tie.Need-returns
-returns c = sym (choose-true _ _ (sym (c .before .even-for .ensures) ∙ c .if1 .taken))
+unfolding choose
+returns c = rw (c .before .enum-told .given .1) (c .even-list .ensures)
 
 returns-2 : tie.Need-returns-2
-returns-2 c = sym (choose-false _ _ (sym (c .before .even-for .ensures) ∙ c .if1 .left))
+unfolding choose
+returns-2 c = rw (c .enum-told2 .given .1)
+
+returns-3 : tie.Need-returns-3
+unfolding choose
+returns-3 c = rw (c .before .enum-told3 .given .1) (c .even-list2 .ensures)
 
 pub list-address-spec : {M : Type 1} → statement M
-list-address-spec = tie.close (tie.spec (λ c κs. search needs) returns returns-2)
+list-address-spec =
+    tie.close
+    (tie.spec
+    (λ c. search needs)
+    (λ c κs. search needs)
+    (λ c. search needs)
+    (λ c. search needs)
+    (λ c κs. search needs)
+    returns
+    returns-2
+    returns-3)

@@ -16,7 +16,7 @@ abbrev μ-loop : tie.MeasureT-loop
 μ-loop image segments h from budget i₀ left₀ i left = left
 
 returns : tie.Need-returns Inv-loop μ-loop
-returns c = laws.stopped _ _ _ (c .before .before .before .try-at .result) (c .before .before .before .try-at .ensures) _ (c .before .w .given .1) ∙ c .before .before .before .before .loop .inv .1
+returns c = laws.stopped _ _ _ (c .before .before .before .try-at .result) (c .before .before .before .try-at .ensures) _ (c .before .entry .given .1) ∙ c .before .before .before .before .loop .inv .1
 
 loop-again : tie.Need-loop-again Inv-loop μ-loop
 loop-again c = let w = laws.went _ _ _ (c .before .before .before .try-at .result) (c .before .before .before .try-at .ensures) _ (c .before .j .given .1) in

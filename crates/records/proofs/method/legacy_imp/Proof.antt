@@ -1,12 +1,9 @@
 use Rattle.reads.proofs.Tests.{choose-true, choose-false}
-use mathlib.Core.Path.{sym, _∙_, ap}
+use mathlib.Core.Path.{sym}
 use borrow.Author.Tests.{eq-eqb, ne-eqb}
 use Rattle.records.specs.Row.{legacyImp}
-use borrow.Author.Needs.{needs}
 use Rattle.records.proofs.method.legacy_imp.Statement.{statement}
 use Rattle.records.proofs.method.legacy_imp.Tie as tie
-use Rattle.records.proofs.method.legacy_imp.Reads as reads
-use Rattle.records.proofs.method.legacy_imp.Lts as lts
 
 returns : tie.Need-returns
 unfolding legacyImp

@@ -4,17 +4,12 @@ use Rattle.reads.proofs.Tests.{choose-true, choose-false}
 use mathlib.Core.Path.{sym, _∙_, ap}
 use borrow.Author.Tests.{eq-eqb, ne-eqb}
 use Rattle.reads.specs.Relative.{relative}
-use Rattle.reads.specs.Ptrauth.{stripped}
+use Rattle.reads.specs.Address.{stripped}
 use Rattle.records.specs.declared.method.Imp.the-variants as imp
 use Rattle.records.specs.Row.{smallImp}
 use borrow.Author.Needs.{needs}
 use Rattle.records.proofs.method.small_imp.Statement.{statement}
 use Rattle.records.proofs.method.small_imp.Tie as tie
-use Rattle.records.proofs.method.small_imp.Reads as reads
-use Rattle.records.proofs.method.small_imp.Lts as lts
-use Rattle.reads.proofs.ptrauth.Address.strip.Reads as strip-reads
-use Rattle.reads.proofs.relative.relative_pointer.Reads as relative-pointer-reads
-use Rattle.reads.proofs.relative.signed.Reads as signed-reads
 
 returns : tie.Need-returns
 unfolding smallImp

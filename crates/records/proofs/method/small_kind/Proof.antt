@@ -1,12 +1,8 @@
 use Rattle.reads.proofs.Tests.{choose-true, choose-false}
-use mathlib.Core.Path.{sym, _∙_, ap}
-use borrow.Author.Tests.{eq-eqb, ne-eqb}
+use mathlib.Core.Path.{sym}
 use Rattle.records.specs.Row.{smallKind}
-use borrow.Author.Needs.{needs}
 use Rattle.records.proofs.method.small_kind.Statement.{statement}
 use Rattle.records.proofs.method.small_kind.Tie as tie
-use Rattle.records.proofs.method.small_kind.Reads as reads
-use Rattle.records.proofs.method.small_kind.Lts as lts
 
 returns : tie.Need-returns
 unfolding smallKind

@@ -5,10 +5,6 @@ use Rattle.reads.specs.Relative.{relative}
 use borrow.Author.Needs.{needs}
 use Rattle.records.proofs.method.target_of.Statement.{statement}
 use Rattle.records.proofs.method.target_of.Tie as tie
-use Rattle.records.proofs.method.target_of.Reads as reads
-use Rattle.records.proofs.method.target_of.Lts as lts
-use Rattle.reads.proofs.relative.i32_in.Reads as i32-in-reads
-use Rattle.reads.proofs.relative.relative_pointer.Reads as relative-pointer-reads
 
 i32-in-requires : tie.Need-i32-in-requires
 i32-in-requires c κs = search needs

@@ -1,54 +1,106 @@
-use mathlib.Core.Path.{refl}
-use Rattle.records.specs.Protocol.{protocolAt}
+use mathlib.Core.Path.{_≡_, sym, ap, _∙_}
 use Rattle.reads.specs.Answer.{placeOutcome, textOutcome, wordOutcome}
-use Rattle.reads.proofs.Outcomes.{on-missing, on-value}
+use Rattle.pointers.specs.Bytes.{u32In}
+use Rattle.pointers.specs.Tables.{Tables, tablesOf}
+use Rattle.records.specs.Decode.{Decode, run}
+use Rattle.records.proofs.Stages.{rest, past, stops}
+use Rattle.records.specs.Header.{protocol·ownSize, protocol·flags}
+use Rattle.records.specs.Protocol.{protocolListsOutcome, decodeProtocol}
+use Rattle.records.specs.declared.protocol.ObjcProtocol.{ObjcProtocol}
 use borrow.Author.Needs.{needs}
 use Rattle.records.proofs.protocol.protocol_at.Statement.{statement}
 use Rattle.records.proofs.protocol.protocol_at.Tie as tie
 
+-- All that the function is lent, and its definition.
+abbrev tables : tie.Start → Tables
+tables s = tablesOf (s .args .image .now) (s .args .segments .now) (s .args .sections .now) (s .args .info .now) (s .args .rebases .now) (s .args .binds .now) (s .args .index .now)
+
+abbrev whole : tie.Start → Decode ObjcProtocol
+whole s = decodeProtocol (s .args .va)
+
+-- Past readable.
+abbrev start-1 : tie.After-known-told → tie.Start
+start-1 c = c .before .before .before .before .before .before .before .before .before .before .before
+
+abbrev rest-1 : tie.After-known-told → Decode ObjcProtocol
+unfolding decodeProtocol
+rest-1 c = rest (whole (c .before .before .before .before .before .before .before .before .before .before .before)) (c .before .p .given .0 .0)
+
+reach-1 : (c : tie.After-known-told) → run (tables (start-1 c)) (whole (start-1 c)) ≡ run (tables (start-1 c)) (rest-1 c)
+unfolding decodeProtocol
+reach-1 c = past (tables (start-1 c)) (whole (c .before .before .before .before .before .before .before .before .before .before .before)) (c .before .p .given .0 .0) (sym (c .before .before .before .readable .ensures) ∙ ap placeOutcome (c .before .p .given .1))
+
+-- Past pointer.
+abbrev start-2 : tie.After-known-told3 → tie.Start
+start-2 c = start-1 (c .before .before .before .before)
+
+abbrev rest-2 : tie.After-known-told3 → Decode ObjcProtocol
+unfolding decodeProtocol
+rest-2 c = rest (rest-1 (c .before .before .before .before)) (c .before .name-va .given .0 .0)
+
+reach-2 : (c : tie.After-known-told3) → run (tables (start-2 c)) (whole (start-2 c)) ≡ run (tables (start-2 c)) (rest-2 c)
+unfolding decodeProtocol
+reach-2 c = reach-1 (c .before .before .before .before) ∙ past (tables (start-2 c)) (rest-1 (c .before .before .before .before)) (c .before .name-va .given .0 .0) (sym (c .before .before .before .pointer .ensures) ∙ ap wordOutcome (c .before .name-va .given .1))
+
+-- Past protocol-lists-at.
+abbrev start-3 : tie.After-known-told5 → tie.Start
+start-3 c = start-2 (c .before .before .before .before)
+
+abbrev rest-3 : tie.After-known-told5 → Decode ObjcProtocol
+unfolding decodeProtocol
+rest-3 c = rest (rest (rest (rest-2 (c .before .before .before .before)) (c .before .lists .given .0 .0)) (u32In (tables (start-3 c)) (c .before .before .before .before .before .before .before .before .before .p .given .0 .0) protocol·ownSize)) (u32In (tables (start-3 c)) (c .before .before .before .before .before .before .before .before .before .p .given .0 .0) protocol·flags)
+
+reach-3 : (c : tie.After-known-told5) → run (tables (start-3 c)) (whole (start-3 c)) ≡ run (tables (start-3 c)) (rest-3 c)
+unfolding decodeProtocol
+reach-3 c = reach-2 (c .before .before .before .before) ∙ past (tables (start-3 c)) (rest-2 (c .before .before .before .before)) (c .before .lists .given .0 .0) (sym (c .before .before .before .protocol-lists-at .ensures) ∙ ap protocolListsOutcome (c .before .lists .given .1))
+
+-- Past read-cstr.
+abbrev start-4 : tie.After-known-told7 → tie.Start
+start-4 c = start-3 (c .before .before .before .before)
+
+abbrev rest-4 : tie.After-known-told7 → Decode ObjcProtocol
+unfolding decodeProtocol
+rest-4 c = rest (rest-3 (c .before .before .before .before)) (c .before .name .given .0 .0)
+
+reach-4 : (c : tie.After-known-told7) → run (tables (start-4 c)) (whole (start-4 c)) ≡ run (tables (start-4 c)) (rest-4 c)
+unfolding decodeProtocol
+reach-4 c = reach-3 (c .before .before .before .before) ∙ past (tables (start-4 c)) (rest-3 (c .before .before .before .before)) (c .before .name .given .0 .0) (sym (c .before .before .before .read-cstr .ensures) ∙ ap textOutcome (c .before .name .given .1))
+
+-- Past class-properties-at.
+abbrev start-5 : tie.After-known-told9 → tie.Start
+start-5 c = start-4 (c .before .before .before .before)
+
+abbrev rest-5 : tie.After-known-told9 → Decode ObjcProtocol
+unfolding decodeProtocol
+rest-5 c = rest (rest-4 (c .before .before .before .before)) (c .before .class-properties .given .0 .0)
+
+reach-5 : (c : tie.After-known-told9) → run (tables (start-5 c)) (whole (start-5 c)) ≡ run (tables (start-5 c)) (rest-5 c)
+unfolding decodeProtocol
+reach-5 c = reach-4 (c .before .before .before .before) ∙ past (tables (start-5 c)) (rest-4 (c .before .before .before .before)) (c .before .class-properties .given .0 .0) (sym (c .before .before .before .class-properties-at .ensures) ∙ ap wordOutcome (c .before .class-properties .given .1))
+
 returns : tie.Need-returns
-unfolding protocolAt
-returns c = on-missing placeOutcome _ (c .before .m .given .0 .0) (c .before .before .before .readable .ensures) (c .before .m .given .1) refl
+unfolding decodeProtocol
+returns c = stops (tables (c .before .before .before .before .before .before .before .before .before .before .before)) (whole (c .before .before .before .before .before .before .before .before .before .before .before)) (c .before .m .given .0 .0) (sym (c .before .before .before .readable .ensures) ∙ ap placeOutcome (c .before .m .given .1))
 
 returns-2 : tie.Need-returns-2
-unfolding protocolAt
-returns-2 c = on-value placeOutcome _ (c .before .before .before .before .before .before .before .readable .ensures) (c .before .before .before .before .before .p .given .1) refl (on-missing wordOutcome _ (c .before .m2 .given .0 .0) (c .before .before .before .pointer .ensures) (c .before .m2 .given .1) refl)
+unfolding decodeProtocol
+returns-2 c = stops (tables (start-1 (c .before .before .before .before))) (rest-1 (c .before .before .before .before)) (c .before .m2 .given .0 .0) (sym (c .before .before .before .pointer .ensures) ∙ ap wordOutcome (c .before .m2 .given .1)) ∙ sym (reach-1 (c .before .before .before .before))
 
 returns-3 : tie.Need-returns-3
-unfolding protocolAt
-returns-3 c = on-value placeOutcome _ (c .before .before .before .before .before .before .before .before .before .before .before .readable .ensures) (c .before .before .before .before .before .before .before .before .before .p .given .1) refl (on-value wordOutcome _ (c .before .before .before .before .before .before .before .pointer .ensures) (c .before .before .before .before .before .name-va .given .1) refl (on-missing wordOutcome _ (c .before .m3 .given .0 .0) (c .before .before .before .pointer-or-0 .ensures) (c .before .m3 .given .1) refl))
+unfolding decodeProtocol
+returns-3 c = stops (tables (start-2 (c .before .before .before .before))) (rest-2 (c .before .before .before .before)) (c .before .m3 .given .0 .0) (sym (c .before .before .before .protocol-lists-at .ensures) ∙ ap protocolListsOutcome (c .before .m3 .given .1)) ∙ sym (reach-2 (c .before .before .before .before))
 
 returns-4 : tie.Need-returns-4
-unfolding protocolAt
-returns-4 c = on-value placeOutcome _ (c .before .before .before .before .before .before .before .before .before .before .before .before .before .before .before .readable .ensures) (c .before .before .before .before .before .before .before .before .before .before .before .before .before .p .given .1) refl (on-value wordOutcome _ (c .before .before .before .before .before .before .before .before .before .before .before .pointer .ensures) (c .before .before .before .before .before .before .before .before .before .name-va .given .1) refl (on-value wordOutcome _ (c .before .before .before .before .before .before .before .pointer-or-0 .ensures) (c .before .before .before .before .before .protocols .given .1) refl (on-missing wordOutcome _ (c .before .m4 .given .0 .0) (c .before .before .before .pointer-or-02 .ensures) (c .before .m4 .given .1) refl)))
+unfolding decodeProtocol
+returns-4 c = stops (tables (start-3 (c .before .before .before .before))) (rest-3 (c .before .before .before .before)) (c .before .m4 .given .0 .0) (sym (c .before .before .before .read-cstr .ensures) ∙ ap textOutcome (c .before .m4 .given .1)) ∙ sym (reach-3 (c .before .before .before .before))
 
 returns-5 : tie.Need-returns-5
-unfolding protocolAt
-returns-5 c = on-value placeOutcome _ (c .before .before .before .before .before .before .before .before .before .before .before .before .before .before .before .before .before .before .before .readable .ensures) (c .before .before .before .before .before .before .before .before .before .before .before .before .before .before .before .before .before .p .given .1) refl (on-value wordOutcome _ (c .before .before .before .before .before .before .before .before .before .before .before .before .before .before .before .pointer .ensures) (c .before .before .before .before .before .before .before .before .before .before .before .before .before .name-va .given .1) refl (on-value wordOutcome _ (c .before .before .before .before .before .before .before .before .before .before .before .pointer-or-0 .ensures) (c .before .before .before .before .before .before .before .before .before .protocols .given .1) refl (on-value wordOutcome _ (c .before .before .before .before .before .before .before .pointer-or-02 .ensures) (c .before .before .before .before .before .instance-methods .given .1) refl (on-missing wordOutcome _ (c .before .m5 .given .0 .0) (c .before .before .before .pointer-or-03 .ensures) (c .before .m5 .given .1) refl))))
+unfolding decodeProtocol
+returns-5 c = stops (tables (start-4 (c .before .before .before .before))) (rest-4 (c .before .before .before .before)) (c .before .m5 .given .0 .0) (sym (c .before .before .before .class-properties-at .ensures) ∙ ap wordOutcome (c .before .m5 .given .1)) ∙ sym (reach-4 (c .before .before .before .before))
 
 returns-6 : tie.Need-returns-6
-unfolding protocolAt
-returns-6 c = on-value placeOutcome _ (c .before .before .before .before .before .before .before .before .before .before .before .before .before .before .before .before .before .before .before .before .before .before .before .readable .ensures) (c .before .before .before .before .before .before .before .before .before .before .before .before .before .before .before .before .before .before .before .before .before .p .given .1) refl (on-value wordOutcome _ (c .before .before .before .before .before .before .before .before .before .before .before .before .before .before .before .before .before .before .before .pointer .ensures) (c .before .before .before .before .before .before .before .before .before .before .before .before .before .before .before .before .before .name-va .given .1) refl (on-value wordOutcome _ (c .before .before .before .before .before .before .before .before .before .before .before .before .before .before .before .pointer-or-0 .ensures) (c .before .before .before .before .before .before .before .before .before .before .before .before .before .protocols .given .1) refl (on-value wordOutcome _ (c .before .before .before .before .before .before .before .before .before .before .before .pointer-or-02 .ensures) (c .before .before .before .before .before .before .before .before .before .instance-methods .given .1) refl (on-value wordOutcome _ (c .before .before .before .before .before .before .before .pointer-or-03 .ensures) (c .before .before .before .before .before .class-methods .given .1) refl (on-missing wordOutcome _ (c .before .m6 .given .0 .0) (c .before .before .before .pointer-or-04 .ensures) (c .before .m6 .given .1) refl)))))
-
-returns-7 : tie.Need-returns-7
-unfolding protocolAt
-returns-7 c = on-value placeOutcome _ (c .before .before .before .before .before .before .before .before .before .before .before .before .before .before .before .before .before .before .before .before .before .before .before .before .before .before .before .readable .ensures) (c .before .before .before .before .before .before .before .before .before .before .before .before .before .before .before .before .before .before .before .before .before .before .before .before .before .p .given .1) refl (on-value wordOutcome _ (c .before .before .before .before .before .before .before .before .before .before .before .before .before .before .before .before .before .before .before .before .before .before .before .pointer .ensures) (c .before .before .before .before .before .before .before .before .before .before .before .before .before .before .before .before .before .before .before .before .before .name-va .given .1) refl (on-value wordOutcome _ (c .before .before .before .before .before .before .before .before .before .before .before .before .before .before .before .before .before .before .before .pointer-or-0 .ensures) (c .before .before .before .before .before .before .before .before .before .before .before .before .before .before .before .before .before .protocols .given .1) refl (on-value wordOutcome _ (c .before .before .before .before .before .before .before .before .before .before .before .before .before .before .before .pointer-or-02 .ensures) (c .before .before .before .before .before .before .before .before .before .before .before .before .before .instance-methods .given .1) refl (on-value wordOutcome _ (c .before .before .before .before .before .before .before .before .before .before .before .pointer-or-03 .ensures) (c .before .before .before .before .before .before .before .before .before .class-methods .given .1) refl (on-value wordOutcome _ (c .before .before .before .before .before .before .before .pointer-or-04 .ensures) (c .before .before .before .before .before .optional-instance-methods .given .1) refl (on-missing wordOutcome _ (c .before .m7 .given .0 .0) (c .before .before .before .pointer-or-05 .ensures) (c .before .m7 .given .1) refl))))))
-
-returns-8 : tie.Need-returns-8
-unfolding protocolAt
-returns-8 c = on-value placeOutcome _ (c .before .before .before .before .before .before .before .before .before .before .before .before .before .before .before .before .before .before .before .before .before .before .before .before .before .before .before .before .before .before .before .readable .ensures) (c .before .before .before .before .before .before .before .before .before .before .before .before .before .before .before .before .before .before .before .before .before .before .before .before .before .before .before .before .before .p .given .1) refl (on-value wordOutcome _ (c .before .before .before .before .before .before .before .before .before .before .before .before .before .before .before .before .before .before .before .before .before .before .before .before .before .before .before .pointer .ensures) (c .before .before .before .before .before .before .before .before .before .before .before .before .before .before .before .before .before .before .before .before .before .before .before .before .before .name-va .given .1) refl (on-value wordOutcome _ (c .before .before .before .before .before .before .before .before .before .before .before .before .before .before .before .before .before .before .before .before .before .before .before .pointer-or-0 .ensures) (c .before .before .before .before .before .before .before .before .before .before .before .before .before .before .before .before .before .before .before .before .before .protocols .given .1) refl (on-value wordOutcome _ (c .before .before .before .before .before .before .before .before .before .before .before .before .before .before .before .before .before .before .before .pointer-or-02 .ensures) (c .before .before .before .before .before .before .before .before .before .before .before .before .before .before .before .before .before .instance-methods .given .1) refl (on-value wordOutcome _ (c .before .before .before .before .before .before .before .before .before .before .before .before .before .before .before .pointer-or-03 .ensures) (c .before .before .before .before .before .before .before .before .before .before .before .before .before .class-methods .given .1) refl (on-value wordOutcome _ (c .before .before .before .before .before .before .before .before .before .before .before .pointer-or-04 .ensures) (c .before .before .before .before .before .before .before .before .before .optional-instance-methods .given .1) refl (on-value wordOutcome _ (c .before .before .before .before .before .before .before .pointer-or-05 .ensures) (c .before .before .before .before .before .optional-class-methods .given .1) refl (on-missing wordOutcome _ (c .before .m8 .given .0 .0) (c .before .before .before .pointer-or-06 .ensures) (c .before .m8 .given .1) refl)))))))
-
-returns-9 : tie.Need-returns-9
-unfolding protocolAt
-returns-9 c = on-value placeOutcome _ (c .before .before .before .before .before .before .before .before .before .before .before .before .before .before .before .before .before .before .before .before .before .before .before .before .before .before .before .before .before .before .before .before .before .before .before .readable .ensures) (c .before .before .before .before .before .before .before .before .before .before .before .before .before .before .before .before .before .before .before .before .before .before .before .before .before .before .before .before .before .before .before .before .before .p .given .1) refl (on-value wordOutcome _ (c .before .before .before .before .before .before .before .before .before .before .before .before .before .before .before .before .before .before .before .before .before .before .before .before .before .before .before .before .before .before .before .pointer .ensures) (c .before .before .before .before .before .before .before .before .before .before .before .before .before .before .before .before .before .before .before .before .before .before .before .before .before .before .before .before .before .name-va .given .1) refl (on-value wordOutcome _ (c .before .before .before .before .before .before .before .before .before .before .before .before .before .before .before .before .before .before .before .before .before .before .before .before .before .before .before .pointer-or-0 .ensures) (c .before .before .before .before .before .before .before .before .before .before .before .before .before .before .before .before .before .before .before .before .before .before .before .before .before .protocols .given .1) refl (on-value wordOutcome _ (c .before .before .before .before .before .before .before .before .before .before .before .before .before .before .before .before .before .before .before .before .before .before .before .pointer-or-02 .ensures) (c .before .before .before .before .before .before .before .before .before .before .before .before .before .before .before .before .before .before .before .before .before .instance-methods .given .1) refl (on-value wordOutcome _ (c .before .before .before .before .before .before .before .before .before .before .before .before .before .before .before .before .before .before .before .pointer-or-03 .ensures) (c .before .before .before .before .before .before .before .before .before .before .before .before .before .before .before .before .before .class-methods .given .1) refl (on-value wordOutcome _ (c .before .before .before .before .before .before .before .before .before .before .before .before .before .before .before .pointer-or-04 .ensures) (c .before .before .before .before .before .before .before .before .before .before .before .before .before .optional-instance-methods .given .1) refl (on-value wordOutcome _ (c .before .before .before .before .before .before .before .before .before .before .before .pointer-or-05 .ensures) (c .before .before .before .before .before .before .before .before .before .optional-class-methods .given .1) refl (on-value wordOutcome _ (c .before .before .before .before .before .before .before .pointer-or-06 .ensures) (c .before .before .before .before .before .instance-properties .given .1) refl (on-missing textOutcome _ (c .before .m9 .given .0 .0) (c .before .before .before .read-cstr .ensures) (c .before .m9 .given .1) refl))))))))
-
-returns-10 : tie.Need-returns-10
-unfolding protocolAt
-returns-10 c = on-value placeOutcome _ (c .before .before .before .before .before .before .before .before .before .before .before .before .before .before .before .before .before .before .before .before .before .before .before .before .before .before .before .before .before .before .before .before .before .before .before .before .before .before .before .readable .ensures) (c .before .before .before .before .before .before .before .before .before .before .before .before .before .before .before .before .before .before .before .before .before .before .before .before .before .before .before .before .before .before .before .before .before .before .before .before .before .p .given .1) refl (on-value wordOutcome _ (c .before .before .before .before .before .before .before .before .before .before .before .before .before .before .before .before .before .before .before .before .before .before .before .before .before .before .before .before .before .before .before .before .before .before .before .pointer .ensures) (c .before .before .before .before .before .before .before .before .before .before .before .before .before .before .before .before .before .before .before .before .before .before .before .before .before .before .before .before .before .before .before .before .before .name-va .given .1) refl (on-value wordOutcome _ (c .before .before .before .before .before .before .before .before .before .before .before .before .before .before .before .before .before .before .before .before .before .before .before .before .before .before .before .before .before .before .before .pointer-or-0 .ensures) (c .before .before .before .before .before .before .before .before .before .before .before .before .before .before .before .before .before .before .before .before .before .before .before .before .before .before .before .before .before .protocols .given .1) refl (on-value wordOutcome _ (c .before .before .before .before .before .before .before .before .before .before .before .before .before .before .before .before .before .before .before .before .before .before .before .before .before .before .before .pointer-or-02 .ensures) (c .before .before .before .before .before .before .before .before .before .before .before .before .before .before .before .before .before .before .before .before .before .before .before .before .before .instance-methods .given .1) refl (on-value wordOutcome _ (c .before .before .before .before .before .before .before .before .before .before .before .before .before .before .before .before .before .before .before .before .before .before .before .pointer-or-03 .ensures) (c .before .before .before .before .before .before .before .before .before .before .before .before .before .before .before .before .before .before .before .before .before .class-methods .given .1) refl (on-value wordOutcome _ (c .before .before .before .before .before .before .before .before .before .before .before .before .before .before .before .before .before .before .before .pointer-or-04 .ensures) (c .before .before .before .before .before .before .before .before .before .before .before .before .before .before .before .before .before .optional-instance-methods .given .1) refl (on-value wordOutcome _ (c .before .before .before .before .before .before .before .before .before .before .before .before .before .before .before .pointer-or-05 .ensures) (c .before .before .before .before .before .before .before .before .before .before .before .before .before .optional-class-methods .given .1) refl (on-value wordOutcome _ (c .before .before .before .before .before .before .before .before .before .before .before .pointer-or-06 .ensures) (c .before .before .before .before .before .before .before .before .before .instance-properties .given .1) refl (on-value textOutcome _ (c .before .before .before .before .before .before .before .read-cstr .ensures) (c .before .before .before .before .before .name .given .1) refl (on-missing wordOutcome _ (c .before .m10 .given .0 .0) (c .before .before .before .class-properties-at .ensures) (c .before .m10 .given .1) refl)))))))))
-
-returns-11 : tie.Need-returns-11
-unfolding protocolAt
-returns-11 c = on-value placeOutcome _ (c .before .before .before .before .before .before .before .before .before .before .before .before .before .before .before .before .before .before .before .before .before .before .before .before .before .before .before .before .before .before .before .before .before .before .before .before .before .before .before .before .before .readable .ensures) (c .before .before .before .before .before .before .before .before .before .before .before .before .before .before .before .before .before .before .before .before .before .before .before .before .before .before .before .before .before .before .before .before .before .before .before .before .before .before .before .p .given .1) refl (on-value wordOutcome _ (c .before .before .before .before .before .before .before .before .before .before .before .before .before .before .before .before .before .before .before .before .before .before .before .before .before .before .before .before .before .before .before .before .before .before .before .before .before .pointer .ensures) (c .before .before .before .before .before .before .before .before .before .before .before .before .before .before .before .before .before .before .before .before .before .before .before .before .before .before .before .before .before .before .before .before .before .before .before .name-va .given .1) refl (on-value wordOutcome _ (c .before .before .before .before .before .before .before .before .before .before .before .before .before .before .before .before .before .before .before .before .before .before .before .before .before .before .before .before .before .before .before .before .before .pointer-or-0 .ensures) (c .before .before .before .before .before .before .before .before .before .before .before .before .before .before .before .before .before .before .before .before .before .before .before .before .before .before .before .before .before .before .before .protocols .given .1) refl (on-value wordOutcome _ (c .before .before .before .before .before .before .before .before .before .before .before .before .before .before .before .before .before .before .before .before .before .before .before .before .before .before .before .before .before .pointer-or-02 .ensures) (c .before .before .before .before .before .before .before .before .before .before .before .before .before .before .before .before .before .before .before .before .before .before .before .before .before .before .before .instance-methods .given .1) refl (on-value wordOutcome _ (c .before .before .before .before .before .before .before .before .before .before .before .before .before .before .before .before .before .before .before .before .before .before .before .before .before .pointer-or-03 .ensures) (c .before .before .before .before .before .before .before .before .before .before .before .before .before .before .before .before .before .before .before .before .before .before .before .class-methods .given .1) refl (on-value wordOutcome _ (c .before .before .before .before .before .before .before .before .before .before .before .before .before .before .before .before .before .before .before .before .before .pointer-or-04 .ensures) (c .before .before .before .before .before .before .before .before .before .before .before .before .before .before .before .before .before .before .before .optional-instance-methods .given .1) refl (on-value wordOutcome _ (c .before .before .before .before .before .before .before .before .before .before .before .before .before .before .before .before .before .pointer-or-05 .ensures) (c .before .before .before .before .before .before .before .before .before .before .before .before .before .before .before .optional-class-methods .given .1) refl (on-value wordOutcome _ (c .before .before .before .before .before .before .before .before .before .before .before .before .before .pointer-or-06 .ensures) (c .before .before .before .before .before .before .before .before .before .before .before .instance-properties .given .1) refl (on-value textOutcome _ (c .before .before .before .before .before .before .before .before .before .read-cstr .ensures) (c .before .before .before .before .before .before .before .name .given .1) refl (on-value wordOutcome _ (c .before .before .before .before .before .class-properties-at .ensures) (c .before .before .before .class-properties .given .1) refl (rw (c .before .u32-in .ensures, c .u32-in2 .ensures)))))))))))
+unfolding decodeProtocol
+returns-6 c = (rw (c .before .u32-in .ensures, c .u32-in2 .ensures)) ∙ sym (reach-5 (c .before .before))
 
 pub protocol-at-spec : {M : Type 1} → statement M
 protocol-at-spec =
@@ -75,25 +127,5 @@ protocol-at-spec =
     (λ c. search needs)
     returns-5
     (λ c κs. search needs)
-    (λ c. search needs)
-    (λ c. search needs)
-    returns-6
     (λ c κs. search needs)
-    (λ c. search needs)
-    (λ c. search needs)
-    returns-7
-    (λ c κs. search needs)
-    (λ c. search needs)
-    (λ c. search needs)
-    returns-8
-    (λ c κs. search needs)
-    (λ c. search needs)
-    (λ c. search needs)
-    returns-9
-    (λ c κs. search needs)
-    (λ c. search needs)
-    (λ c. search needs)
-    returns-10
-    (λ c κs. search needs)
-    (λ c κs. search needs)
-    returns-11)
+    returns-6)

@@ -4,8 +4,6 @@ use Rattle.records.specs.Row.{methodOutcome, methodRow}
 use borrow.Author.Needs.{needs}
 use Rattle.records.proofs.row.method_row.Statement.{statement}
 use Rattle.records.proofs.row.method_row.Tie as tie
-use Rattle.records.proofs.row.method_row.Reads as reads
-use Rattle.records.proofs.row.method_row.Lts as lts
 
 enum-known-a : tie.Need-enum-known-a
 enum-known-a c = search needs

@@ -1,18 +1,9 @@
-use Rattle.records.specs.Row.{rowAt, methodRow, ivarRow, propertyRow}
+use Rattle.records.specs.Row.{decodeRow, methodRow, ivarRow, propertyRow}
 use mathlib.Core.Path.{_∙_, ap}
 use Rattle.reads.specs.Outcome.{andThen}
 use borrow.Author.Needs.{needs}
 use Rattle.records.proofs.row.row_at.Statement.{statement}
 use Rattle.records.proofs.row.row_at.Tie as tie
-use Rattle.records.proofs.row.row_at.Reads as reads
-use Rattle.records.proofs.row.row_at.Lts as lts
-use Rattle.records.proofs.ivar.ivar_at.Reads as ivar-at-reads
-use Rattle.records.proofs.method.legacy_method_at.Reads as legacy-method-at-reads
-use Rattle.records.proofs.method.small_method_at.Reads as small-method-at-reads
-use Rattle.records.proofs.property.property_at.Reads as property-at-reads
-use Rattle.records.proofs.row.ivar_row.Reads as ivar-row-reads
-use Rattle.records.proofs.row.method_row.Reads as method-row-reads
-use Rattle.records.proofs.row.property_row.Reads as property-row-reads
 
 enum-told : tie.Need-enum-told
 enum-told c = search needs
@@ -60,23 +51,23 @@ property-row-requires : tie.Need-property-row-requires
 property-row-requires c κs = search needs
 
 returns : tie.Need-returns
-unfolding rowAt
+unfolding decodeRow
 returns c = rw (c .before .before .enum-told .given .1) (c .method-row .ensures ∙ ap (λ o. andThen o methodRow) (c .before .legacy-method-at .ensures))
 
 returns-2 : tie.Need-returns-2
-unfolding rowAt
+unfolding decodeRow
 returns-2 c = rw (c .before .before .enum-told2 .given .1) (c .method-row2 .ensures ∙ ap (λ o. andThen o methodRow) (c .before .small-method-at .ensures))
 
 returns-3 : tie.Need-returns-3
-unfolding rowAt
+unfolding decodeRow
 returns-3 c = rw (c .before .before .enum-told3 .given .1) (c .method-row3 .ensures ∙ ap (λ o. andThen o methodRow) (c .before .small-method-at2 .ensures))
 
 returns-4 : tie.Need-returns-4
-unfolding rowAt
+unfolding decodeRow
 returns-4 c = rw (c .before .before .enum-told4 .given .1) (c .ivar-row .ensures ∙ ap (λ o. andThen o ivarRow) (c .before .ivar-at .ensures))
 
 returns-5 : tie.Need-returns-5
-unfolding rowAt
+unfolding decodeRow
 returns-5 c = rw (c .before .before .enum-told5 .given .1) (c .property-row .ensures ∙ ap (λ o. andThen o propertyRow) (c .before .property-at .ensures))
 
 pub row-at-spec : {M : Type 1} → statement M

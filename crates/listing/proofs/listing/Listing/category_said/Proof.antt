@@ -3,26 +3,10 @@ use Rattle.listing.proofs.listing.Listing.category_said.Statement.{stat
 use Rattle.listing.proofs.listing.Listing.category_said.Tie as tie
 
 returns : tie.Need-returns
-returns c =
-    λ l. rw (
-      c .before .before .before .name .given .1,
-      c .says .ensures l,
-      c .before .counted .ensures,
-      c .before .before .before .before .before .enter .ensures,
-    )
+returns c = λ l. rw (← c .before .before .before .before .before .name-or-none .ensures, c .before .before .before .class-name .given .1, ← c .before .enter .ensures) (c .record-said .ensures l)
 
 returns-2 : tie.Need-returns-2
-returns-2 c =
-    λ l. rw (
-      c .before .before .before .before .before .name2 .given .1,
-      c .before .before .enum-told .given .1,
-      c .says2 .ensures l,
-      c .before .counted2 .ensures,
-      c .before .before .before .before .before .before .before .enter .ensures,
-    )
-
-returns-3 : tie.Need-returns-3
-returns-3 c = λ l. rw (c .before .before .before .before .before .name2 .given .1, c .before .before .m .given .1) (c .refused .ensures l)
+returns-2 c = λ l. rw (← c .before .before .before .before .name-or-none .ensures, c .before .before .k .given .1) (c .refused .ensures l)
 
 pub category-said-spec : {M : Type 1} → statement M
 category-said-spec =
@@ -33,11 +17,6 @@ category-said-spec =
     (λ c κs. search needs)
     (λ c κs. search needs)
     (λ c. search needs)
-    (λ c. search needs)
-    (λ c κs. search needs)
-    (λ c κs. search needs)
-    (λ c. search needs)
     (λ c κs. search needs)
     returns
-    returns-2
-    returns-3)
+    returns-2)

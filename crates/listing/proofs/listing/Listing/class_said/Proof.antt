@@ -3,33 +3,19 @@ use Rattle.listing.proofs.listing.Listing.class_said.Statement.{stateme
 use Rattle.listing.proofs.listing.Listing.class_said.Tie as tie
 
 returns : tie.Need-returns
-returns c = λ l. rw (c .before .before .before .name .given .1, c .says .ensures l, c .before .counted .ensures)
+returns c = λ l. rw (← c .before .before .before .before .name-or-none .ensures, c .before .before .superclass-name .given .1) (c .record-said .ensures l)
 
 returns-2 : tie.Need-returns-2
-returns-2 c =
-    λ l. rw (
-      c .before .before .before .before .before .name2 .given .1,
-      c .before .before .enum-told .given .1,
-      c .says2 .ensures l,
-      c .before .counted2 .ensures,
-    )
-
-returns-3 : tie.Need-returns-3
-returns-3 c = λ l. rw (c .before .before .before .before .before .name2 .given .1, c .before .before .m .given .1) (c .refused .ensures l)
+returns-2 c = λ l. rw (← c .before .before .before .before .name-or-none .ensures, c .before .before .k .given .1) (c .refused .ensures l)
 
 pub class-said-spec : {M : Type 1} → statement M
 class-said-spec =
     tie.close
     (tie.spec
-    (λ c. search needs)
-    (λ c κs. search needs)
     (λ c κs. search needs)
     (λ c. search needs)
-    (λ c. search needs)
-    (λ c κs. search needs)
     (λ c κs. search needs)
     (λ c. search needs)
     (λ c κs. search needs)
     returns
-    returns-2
-    returns-3)
+    returns-2)

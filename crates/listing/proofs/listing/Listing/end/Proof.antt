@@ -7,7 +7,4 @@ returns : tie.Need-returns
 returns c = end-words _ _ _ (omega arith)
 
 pub end-spec : {M : Type 1} → statement M
-end-spec =
-    tie.close
-    (tie.spec
-    returns)
+end-spec = tie.close (tie.spec returns)

@@ -1,39 +1,28 @@
-use mathlib.Core.Path.{ap}
-use Rattle.listing.specs.ListingAnswer.{atOf}
-use Rattle.listing.proofs.ListingSteps.{step-at, step-class, step-ro, step-category}
+use Rattle.listing.specs.Listing.{stepAt}
+use Rattle.listing.proofs.ListingSteps.{step-at, step-ro}
 use borrow.Author.Needs.{needs}
 use Rattle.listing.proofs.listing.Listing.next.Statement.{statement}
 use Rattle.listing.proofs.listing.Listing.next.Tie as tie
 
 returns : tie.Need-returns
-returns c = step-at _ _ _ (ap atOf (c .before .enum-told .given .1)) (c .info-line .ensures _)
+returns c = step-at _ _ _ (c .before .enum-told .given .1) (c .info-step .ensures _)
 
 returns-2 : tie.Need-returns-2
-returns-2 c = step-at _ _ _ (ap atOf (c .before .before .before .before .enum-told2 .given .1)) (c .before .before .section-step .ensures)
+returns-2 c = step-at _ _ _ (c .before .before .before .before .enum-told2 .given .1) (c .before .before .section-step .ensures)
 
 returns-3 : tie.Need-returns-3
-returns-3 c =
-    step-at _ _ _ (ap atOf (c .before .before .before .at .given .1))
-    (step-class _ _ _ _ (c .before .superclass-name .ensures) (c .class-said .ensures _))
+unfolding stepAt
+returns-3 c = step-at _ _ _ (c .before .before .at .given .1) (c .record-step .ensures _)
 
 returns-4 : tie.Need-returns-4
-returns-4 c =
-    step-at _ _ _ (ap atOf (c .before .before .before .at2 .given .1))
-    (step-ro _ _ _ _ (c .before .ro .ensures) (c .ro-said .ensures _))
+returns-4 c = step-at _ _ _ (c .before .before .before .at2 .given .1) (step-ro _ _ _ _ (c .before .ro .ensures) (c .ro-said .ensures _))
 
 returns-5 : tie.Need-returns-5
-returns-5 c =
-    step-at _ _ _ (ap atOf (c .before .before .before .at3 .given .1))
-    (step-category _ _ _ _ (c .before .class-name .ensures) (c .category-said .ensures _))
+unfolding stepAt
+returns-5 c = step-at _ _ _ (c .before .before .at3 .given .1) (c .list-step .ensures _)
 
 returns-6 : tie.Need-returns-6
-returns-6 c = step-at _ _ _ (ap atOf (c .before .before .at4 .given .1)) (c .row-step .ensures _)
-
-returns-7 : tie.Need-returns-7
-returns-7 c = step-at _ _ _ (ap atOf (c .before .before .at5 .given .1)) (c .name-step .ensures _)
-
-returns-8 : tie.Need-returns-8
-returns-8 c = step-at _ _ _ (ap atOf (c .before .enum-told3 .given .1)) (c .ended .ensures _)
+returns-6 c = step-at _ _ _ (c .before .enum-told3 .given .1) (c .ended .ensures _)
 
 pub next-spec : {M : Type 1} → statement M
 next-spec =
@@ -45,14 +34,8 @@ next-spec =
     (λ c κs. search needs)
     (λ c. search needs)
     (λ c κs. search needs)
-    (λ c κs. search needs)
     (λ c. search needs)
     (λ c κs. search needs)
-    (λ c κs. search needs)
-    (λ c. search needs)
-    (λ c κs. search needs)
-    (λ c κs. search needs)
-    (λ c. search needs)
     (λ c κs. search needs)
     (λ c. search needs)
     (λ c κs. search needs)
@@ -64,6 +47,4 @@ next-spec =
     returns-3
     returns-4
     returns-5
-    returns-6
-    returns-7
-    returns-8)
+    returns-6)

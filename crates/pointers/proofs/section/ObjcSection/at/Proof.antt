@@ -5,7 +5,7 @@ use Rattle.pointers.proofs.section.ObjcSection.at.Statement.{statement}
 use Rattle.pointers.proofs.section.ObjcSection.at.Tie as tie
 
 returns : tie.Need-returns
-returns c = section-present _ _ (omega arith) (c .before .before .if2 .taken)
+returns c = section-present _ _ (c .before .before .before .before .if1 .taken) (c .before .before .if2 .taken)
 
 returns-2 : tie.Need-returns-2
 returns-2 c = section-absent _ _ (c .if2 .left)
@@ -17,8 +17,6 @@ pub at-spec : {M : Type 1} → statement M
 at-spec =
     tie.close
     (tie.spec
-    (λ c. search needs)
-    (λ c. search needs)
     (λ c. search needs)
     (λ c. search needs)
     (λ c. search needs)

@@ -7,7 +7,7 @@ returns : tie.Need-returns
 returns c = laws.carries-before _ _ (search needs)
 
 returns-2 : tie.Need-returns-2
-returns-2 c = laws.carries-by _ _ _ (c .mapped .ensures) (search needs)
+returns-2 c = laws.carries-by _ _ _ (c .mapped-size .ensures) (search needs)
 
 pub carries-spec : {M : Type 1} → statement M
 carries-spec = tie.close (tie.spec returns (λ c κs. search needs) returns-2)

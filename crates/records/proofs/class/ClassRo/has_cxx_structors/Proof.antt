@@ -1,9 +1,6 @@
 use Rattle.pointers.proofs.Flags.{bit-by}
-use borrow.Author.Needs.{needs}
 use Rattle.records.proofs.class.ClassRo.has_cxx_structors.Statement.{statement}
 use Rattle.records.proofs.class.ClassRo.has_cxx_structors.Tie as tie
-use Rattle.records.proofs.class.ClassRo.has_cxx_structors.Reads as reads
-use Rattle.records.proofs.class.ClassRo.has_cxx_structors.Lts as lts
 
 returns : tie.Need-returns
 returns c = bit-by 2 _

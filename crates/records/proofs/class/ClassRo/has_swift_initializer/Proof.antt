@@ -1,9 +1,6 @@
 use Rattle.pointers.proofs.Flags.{bit-by}
-use borrow.Author.Needs.{needs}
 use Rattle.records.proofs.class.ClassRo.has_swift_initializer.Statement.{statement}
 use Rattle.records.proofs.class.ClassRo.has_swift_initializer.Tie as tie
-use Rattle.records.proofs.class.ClassRo.has_swift_initializer.Reads as reads
-use Rattle.records.proofs.class.ClassRo.has_swift_initializer.Lts as lts
 
 returns : tie.Need-returns
 returns c = bit-by 6 _

@@ -1,9 +1,6 @@
 use Rattle.pointers.proofs.Flags.{bit-by}
-use borrow.Author.Needs.{needs}
 use Rattle.records.proofs.class.ClassRo.is_exception.Statement.{statement}
 use Rattle.records.proofs.class.ClassRo.is_exception.Tie as tie
-use Rattle.records.proofs.class.ClassRo.is_exception.Reads as reads
-use Rattle.records.proofs.class.ClassRo.is_exception.Lts as lts
 
 returns : tie.Need-returns
 returns c = bit-by 5 _

@@ -1,9 +1,6 @@
 use Rattle.pointers.proofs.Flags.{bit-by}
-use borrow.Author.Needs.{needs}
 use Rattle.records.proofs.class.ClassRo.is_meta.Statement.{statement}
 use Rattle.records.proofs.class.ClassRo.is_meta.Tie as tie
-use Rattle.records.proofs.class.ClassRo.is_meta.Reads as reads
-use Rattle.records.proofs.class.ClassRo.is_meta.Lts as lts
 
 returns : tie.Need-returns
 returns c = bit-by 0 _

@@ -1,9 +1,6 @@
 use Rattle.pointers.proofs.Flags.{bit-by}
-use borrow.Author.Needs.{needs}
 use Rattle.records.proofs.class.ClassRo.is_root.Statement.{statement}
 use Rattle.records.proofs.class.ClassRo.is_root.Tie as tie
-use Rattle.records.proofs.class.ClassRo.is_root.Reads as reads
-use Rattle.records.proofs.class.ClassRo.is_root.Lts as lts
 
 returns : tie.Need-returns
 returns c = bit-by 1 _

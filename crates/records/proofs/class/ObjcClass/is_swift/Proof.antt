@@ -5,11 +5,8 @@ use Rattle.pointers.specs.ImageInfo.{bit}
 use Rattle.pointers.proofs.Flags.{bit-by}
 use mathlib.Core.Path.{sym, _∙_}
 use Rattle.records.specs.Class.{isSwift}
-use borrow.Author.Needs.{needs}
 use Rattle.records.proofs.class.ObjcClass.is_swift.Statement.{statement}
 use Rattle.records.proofs.class.ObjcClass.is_swift.Tie as tie
-use Rattle.records.proofs.class.ObjcClass.is_swift.Reads as reads
-use Rattle.records.proofs.class.ObjcClass.is_swift.Lts as lts
 
 returns : tie.Need-returns
 unfolding isSwift

@@ -1,6 +1,6 @@
 use mathlib.Core.Path.{refl}
 use Rattle.pointers.specs.Question.{askedOutcome}
-use Rattle.reads.proofs.Outcomes.{on-missing, on-value}
+use Rattle.reads.proofs.Outcomes.{on-number, on-value}
 use borrow.Author.Needs.{needs}
 use Rattle.records.proofs.class.ObjcClass.superclass_name.Statement.{statement}
 use Rattle.records.proofs.class.ObjcClass.superclass_name.Tie as tie
@@ -9,7 +9,7 @@ returns : tie.Need-returns
 returns c = on-value askedOutcome _ (c .before .before .before .ask .ensures) (c .before .enum-told .given .1) refl (c .class-name-of .ensures)
 
 returns-2 : tie.Need-returns-2
-returns-2 c = on-missing askedOutcome _ (c .before .m .given .0 .0) (c .before .before .before .ask .ensures) (c .before .m .given .1) refl
+returns-2 c = on-number askedOutcome _ (c .before .before .before .ask .ensures) (c .before .k .given .1) refl
 
 pub superclass-name-spec : {M : Type 1} → statement M
 superclass-name-spec =

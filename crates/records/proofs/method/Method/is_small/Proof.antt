@@ -2,8 +2,6 @@ use Rattle.records.specs.Row.{isSmall}
 use borrow.Author.Needs.{needs}
 use Rattle.records.proofs.method.Method.is_small.Statement.{statement}
 use Rattle.records.proofs.method.Method.is_small.Tie as tie
-use Rattle.records.proofs.method.Method.is_small.Reads as reads
-use Rattle.records.proofs.method.Method.is_small.Lts as lts
 
 enum-told : tie.Need-enum-told
 enum-told c = search needs

@@ -1,0 +1,2 @@
+-- The definitions that the contracts of attributes cite.
+pub mod Attributes

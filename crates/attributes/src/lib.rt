@@ -1,0 +1,2 @@
+// Property attribute text (property.rs, parse_attributes).
+pub mod items;

@@ -1,0 +1,104 @@
+-- Demand 3 of the listing, over tables that opening accepted, with the index as opening left it. Where no step gives a number the ledger has
+-- a word for each slot of the two sections of classes and of those of categories: one too short is refused by 11 in the first step of that
+-- walk (no-number-room). So under that alone the listing is whole (whole-listing, D3e; demand-3-listing, all of it in one statement).
+use Prim.Native.Nat.{ℕ, _≤_, _<_}
+use mathlib.Core.Path.{_≡_, refl, sym, _∙_}
+use mathlib.Core.Bool.{Bool, true, false}
+use mathlib.Core.List.{List, [], _∷_, _++_}
+use native.Mathlib.Omega.{arith}
+use lib.Dec.{leb}
+use lib.ListN.{length}
+use borrow.Author.Tests.{leb-true, leb-false, lt-leb}
+use Rattle.reads.specs.Outcome.{value, number}
+use Rattle.reads.proofs.Outcomes.{then-came}
+use Rattle.pointers.specs.Open.{Opened}
+use Rattle.pointers.specs.Tables.{Tables}
+use Rattle.pointers.proofs.OpenedTables.{opened-asked}
+use Rattle.walks.specs.Sections as sections
+use Rattle.walks.specs.Sections.{walk, Kind, stepOf}
+use Rattle.walks.specs.Slots.{slotsOf, slotCount, ledgerFits}
+use Rattle.walks.proofs.SlotLaws.{classes-count, categories-count, slot-fits, ask-11}
+use Rattle.listing.specs.Gather.{gather}
+use Rattle.listing.specs.PlainListing.{versionAndFlags, endLine, plainRecords, linesOf, Event, plainEvents, plainListing, recordLineCount}
+use Rattle.listing.specs.Listing.{classes, categories, State, state, start, leaves, says, stepAt, listingStep}
+use Rattle.listing.specs.ListingRun.{eventsAt, answerAt, GivesNoNumber, Lists, ListsWhole}
+use Rattle.listing.specs.declared.at.At.the-variants as place
+use Rattle.listing.specs.declared.line.Line.{Line}
+use Rattle.listing.specs.declared.line.Line.the-variants as line
+use Rattle.listing.proofs.Bounds.{settled-few}
+use Rattle.listing.proofs.Gathers.{there-known}
+use Rattle.listing.proofs.PlainThere.{listing-there}
+use Rattle.listing.proofs.RecordLines.{records-are-record-lines}
+use Rattle.listing.proofs.Rest.{Steps, over, saying, comes-to}
+use Rattle.listing.proofs.WholeListing.{to-categories, lists-with-room}
+
+module _ (t : Tables) (o : Opened t) (l : List ℕ) where
+  -- A step that is refused by 11.
+  abbrev Short : State → List ℕ → Type 0
+  Short s m = listingStep t s m ≡ leaves (number 11) s m
+
+  short-walk : {A : Type 0} (k : Kind A) (m : List ℕ) → length m < length (slotsOf (k .lists) (t .sections))
+      → stepOf k t (walk 0 0 0) m ≡ sections.leaves (number 11) (walk 0 0 0) m
+  unfolding stepOf ledgerFits
+  short-walk k m h =
+      rw (← ask-11 t (slotsOf (k .lists) (t .sections)) 0 0 (length m) (opened-asked t o) (slot-fits (slotsOf (k .lists) (t .sections)) 0 0 (omega arith) (omega arith))
+      (lt-leb (length (slotsOf (k .lists) (t .sections))) (length m) h))
+
+  -- The first step is the line of the image info, the second the first of the class walk.
+  classes-short : length l < slotCount (t .sections) 0 1 → (n : ℕ) × (answerAt t n start l ≡ number 11)
+  unfolding stepAt eventsAt
+  classes-short h =
+      let info = line.Info (versionAndFlags (t .info)) in
+      let first : listingStep t start l ≡ leaves (value (says info)) (state place.Section (classes (walk 0 0 0)) 0 0) l = rw (opened-asked t o) in
+      let refused : Short (state place.Section (classes (walk 0 0 0)) 0 0) l = rw (short-walk sections.classes l (rw (classes-count (t .sections)) h)) in
+      let run : Steps t Short start l (info ∷ []) [] = saying first refl (over refused refl) in
+      comes-to t (λ s m e. e) run
+
+  -- With room for the classes the steps come to the first of the category walk, with a ledger as long.
+  categories-short : slotCount (t .sections) 0 1 ≤ length l → length l < slotCount (t .sections) 2 3 → (n : ℕ) × (answerAt t n start l ≡ number 11)
+  unfolding stepAt eventsAt
+  categories-short room h =
+      comes-to t (λ s m e. e)
+      (to-categories t o l room Short [] [] (λ m g. over (rw (short-walk sections.categories m (rw (g, categories-count (t .sections)) h))) refl))
+
+  module _ (none : GivesNoNumber t l) where
+    class-room : slotCount (t .sections) 0 1 ≤ length l
+    class-room = go (leb (slotCount (t .sections) 0 1) (length l)) refl
+      where
+        go : (b : Bool) → leb (slotCount (t .sections) 0 1) (length l) ≡ b → slotCount (t .sections) 0 1 ≤ length l
+        go true e = leb-true (slotCount (t .sections) 0 1) (length l) e
+        go false e = let refused = classes-short (leb-false (slotCount (t .sections) 0 1) (length l) e) in absurd (none (refused .0) 11 (refused .1))
+
+    category-room : slotCount (t .sections) 2 3 ≤ length l
+    category-room = go (leb (slotCount (t .sections) 2 3) (length l)) refl
+      where
+        go : (b : Bool) → leb (slotCount (t .sections) 2 3) (length l) ≡ b → slotCount (t .sections) 2 3 ≤ length l
+        go true e = leb-true (slotCount (t .sections) 2 3) (length l) e
+        go false e =
+            let refused = categories-short class-room (leb-false (slotCount (t .sections) 2 3) (length l) e) in absurd (none (refused .0) 11 (refused .1))
+
+    pub no-number-room : (slotCount (t .sections) 0 1 ≤ length l) × (slotCount (t .sections) 2 3 ≤ length l)
+    no-number-room = (class-room, category-room)
+
+    -- D3e.
+    pub whole-listing : (zs : List Line) (gs : List Event) → plainListing t ≡ value zs → plainEvents t ≡ value gs → Lists t l zs gs
+    whole-listing zs gs a b = lists-with-room t o l class-room category-room zs gs a b
+
+    -- Demand 3, whole.
+    pub demand-3-listing : ListsWhole t l
+    unfolding plainListing
+    demand-3-listing =
+        let all = there-known (listing-there t o) in
+        let lines = then-came (gather (linesOf t) (plainRecords t)) _ (all .known) (all .is) in
+        let events = then-came (plainEvents t) _ (all .known) (lines .2) in
+        let whole : plainListing t
+        ≡ value ((line.Info (versionAndFlags (t .info)) ∷ lines .0) ++ (endLine (length (plainRecords t)) (length (events .0)) ∷ [])) = all .is ∙ sym (events .2) in
+        record {
+          linesBefore = line.Info (versionAndFlags (t .info)) ∷ lines .0;
+          events = events .0;
+          plainLines = whole;
+          plainSettling = events .1;
+          steps = whole-listing _ (events .0) whole (events .1);
+          recordLines = unfold recordLineCount in records-are-record-lines t (plainRecords t) (lines .0) (lines .1);
+          bound = settled-few t o (events .0) (events .1);
+        }

@@ -1,0 +1,67 @@
+-- A listing of the code is determined by its state in the words of the definitions: what a step hands back is one listing.
+use Prim.Native.Nat.{ℕ, _+_, _*_, _/_, _%_, _^_, _<_}
+use mathlib.Core.Path.{_≡_, sym, ap, _∙_}
+use lib.Arith.{digits-div, digits-mod}
+use Rattle.walks.specs.Sections.{Walk, classWalk, categoryWalk, protocolWalk}
+use Rattle.walks.specs.Slots.{slotWalk}
+use Rattle.walks.specs.declared.sections.CategoryWalk.{CategoryWalk}
+use Rattle.walks.specs.declared.sections.ClassWalk.{ClassWalk}
+use Rattle.walks.specs.declared.sections.ProtocolWalk.{ProtocolWalk}
+use Rattle.listing.specs.Listing.{State}
+use Rattle.listing.specs.ListingAnswer.{sectionWalkOf, stateOf}
+use Rattle.listing.specs.declared.at.At.{At}
+use Rattle.listing.specs.declared.listing.Listing.{Listing}
+use Rattle.listing.specs.declared.section.Section.{Section}
+use Rattle.listing.specs.declared.section.Section.the-variants as aSection
+
+-- Each walk, back from its state.
+abbrev classBack : Walk → ClassWalk
+classBack w = record { slots = slotWalk (w .slot) (w .used); meta = w .waiting }
+
+abbrev protocolBack : Walk → ProtocolWalk
+protocolBack w = record { slot = w .slot }
+
+abbrev categoryBack : Walk → CategoryWalk
+categoryBack w = record { slots = slotWalk (w .slot) (w .used) }
+
+class-walk-same : (v w : ClassWalk) → classWalk v ≡ classWalk w → v ≡ w
+class-walk-same v w e = ap classBack e
+
+protocol-walk-same : (v w : ProtocolWalk) → protocolWalk v ≡ protocolWalk w → v ≡ w
+protocol-walk-same v w e = ap protocolBack e
+
+category-walk-same : (v w : CategoryWalk) → categoryWalk v ≡ categoryWalk w → v ≡ w
+category-walk-same v w e = ap categoryBack e
+
+section-same : (x y : Section) → sectionWalkOf x ≡ sectionWalkOf y → x ≡ y
+section-same (aSection.Classes v) (aSection.Classes w) e = ap aSection.Classes (class-walk-same v w (cc))
+section-same (aSection.Classes v) (aSection.Protocols w) e = cc
+section-same (aSection.Classes v) (aSection.Categories w) e = cc
+section-same (aSection.Protocols v) (aSection.Classes w) e = cc
+section-same (aSection.Protocols v) (aSection.Protocols w) e = ap aSection.Protocols (protocol-walk-same v w (cc))
+section-same (aSection.Protocols v) (aSection.Categories w) e = cc
+section-same (aSection.Categories v) (aSection.Classes w) e = cc
+section-same (aSection.Categories v) (aSection.Protocols w) e = cc
+section-same (aSection.Categories v) (aSection.Categories w) e = ap aSection.Categories (category-walk-same v w (cc))
+
+abbrev listingOf : At → Section → ℕ → ℕ → ℕ → Listing
+listingOf place section records high low = record { at = place; section = section; records = records; «settled_high» = high; «settled_low» = low }
+
+listing-same : {a b : At} {x y : Section} {i j h k m n : ℕ} → a ≡ b → x ≡ y → i ≡ j → h ≡ k → m ≡ n → listingOf a x i h m ≡ listingOf b y j k n
+listing-same p q r s u = cc
+
+pub state-determines : (r s : Listing) → r .«settled_low» < 2 ^ 64 → s .«settled_low» < 2 ^ 64 → stateOf r ≡ stateOf s → r ≡ s
+state-determines r s p q e =
+    let place : r .at ≡ s .at = ap (λ (x : State). x .at) e in
+    let walk = section-same (r .section) (s .section) (ap (λ (x : State). x .section) e) in
+    let records : r .records ≡ s .records = ap (λ (x : State). x .records) e in
+    let settled : r .«settled_high» * 2 ^ 64 + r .«settled_low» ≡ s .«settled_high» * 2 ^ 64 + s .«settled_low» = ap (λ (x : State). x .settled) e in
+    let high : r .«settled_high» ≡ s .«settled_high» =
+    sym (digits-div (r .«settled_high») {m = 2 ^ 64} {r = r .«settled_low»} p)
+    ∙ ap (λ (n : ℕ). n / 2 ^ 64) settled
+    ∙ digits-div (s .«settled_high») {m = 2 ^ 64} {r = s .«settled_low»} q in
+    let low : r .«settled_low» ≡ s .«settled_low» =
+    sym (digits-mod (r .«settled_high») {m = 2 ^ 64} {r = r .«settled_low»} p)
+    ∙ ap (λ (n : ℕ). n % 2 ^ 64) settled
+    ∙ digits-mod (s .«settled_high») {m = 2 ^ 64} {r = s .«settled_low»} q in
+    listing-same place walk records high low

@@ -1,0 +1,54 @@
+-- The settling steps of a plain listing, taken apart: those of a field and of the fields after it, those of records and of the records after
+-- them.
+use Prim.Native.Nat.{ℕ, suc, _+_}
+use mathlib.Core.Path.{_≡_, sym, ap, _∙_}
+use mathlib.Core.List.{List, [], _∷_, _++_, map}
+use native.Mathlib.Omega.{arith}
+use lib.ListN.{length, length-append, length-map}
+use Rattle.reads.specs.Outcome.{Outcome, value, andThen}
+use Rattle.reads.proofs.Outcomes.{then-came}
+use Rattle.pointers.specs.Tables.{Tables}
+use Rattle.listing.specs.Gather.{joined}
+use Rattle.listing.specs.PlainListing.{Field, nameList, entriesIn, Event, event, fieldEvents, recordEvents, eventsFrom}
+use Rattle.listing.specs.declared.at.Record.{Record}
+use Rattle.listing.proofs.Gathers.{Parts, joined-parts, joined-none, joined-joined}
+
+pub parts-length : {A : Type 0} {o p : Outcome (List A)} {zs : List A} (parts : Parts o p zs) → length zs ≡ length (parts .first) + length (parts .second)
+parts-length parts = ap length (parts .whole) ∙ length-append (parts .first) (parts .second)
+
+pub record FieldParts (t : Tables) (r n : ℕ) (f : Field) (fs : List Field) (gs : List Event) : Type 0 where
+  pub entries : List ℕ
+  pub later : List Event
+  pub ofEntries : entriesIn t f ≡ value entries
+  pub ofLater : fieldEvents t r (suc n) fs ≡ value later
+  pub whole : gs ≡ map (event r n) entries ++ later
+  pub total : length gs ≡ length entries + length later
+
+pub field-parts : (t : Tables) (r n : ℕ) (f : Field) (fs : List Field) (gs : List Event) → fieldEvents t r n (f ∷ fs) ≡ value gs → FieldParts t r n f fs gs
+unfolding fieldEvents
+field-parts t r n f fs gs e =
+    let parts = joined-parts (andThen (entriesIn t f) (λ js. value (map (event r n) js))) (fieldEvents t r (suc n) fs) e in
+    let mine = then-came (entriesIn t f) (λ js. value (map (event r n) js)) (parts .first) (parts .ofFirst) in
+    let own : parts .first ≡ map (event r n) (mine .0) = let g = mine .2 in cc in
+    let many : length (parts .first) ≡ length (mine .0) = ap length own ∙ length-map (mine .0) (event r n) in
+    record {
+      entries = mine .0;
+      later = parts .second;
+      ofEntries = mine .1;
+      ofLater = parts .ofSecond;
+      whole = parts .whole ∙ ap (λ (es : List Event). es ++ parts .second) own;
+      total = omega (arith, parts-length parts);
+    }
+
+-- A list of protocol names settles none.
+pub names-settle-none : (t : Tables) (va : ℕ) (js : List ℕ) → entriesIn t (nameList va) ≡ value js → js ≡ []
+unfolding entriesIn
+names-settle-none t va js e = cc
+
+pub events-append : (t : Tables) (r : ℕ) (xs ys : List Record) → eventsFrom t r (xs ++ ys) ≡ joined (eventsFrom t r xs) (eventsFrom t (r + length xs) ys)
+unfolding eventsFrom
+events-append t r [] ys = let z : r + 0 ≡ r = omega arith in rw z (sym (joined-none (eventsFrom t r ys)))
+events-append t r (x ∷ xs) ys =
+    let z : suc r + length xs ≡ r + suc (length xs) = omega arith in
+    ap (joined (recordEvents t r x)) (events-append t (suc r) xs ys ∙ ap (λ (i : ℕ). joined (eventsFrom t (suc r) xs) (eventsFrom t i ys)) z)
+    ∙ sym (joined-joined (recordEvents t r x) (eventsFrom t (suc r) xs) (eventsFrom t (r + suc (length xs)) ys))

@@ -1,0 +1,106 @@
+-- Over what opening accepted the plain listing is there: no lookup that it asks for gives a number.
+use Prim.Native.Nat.{ℕ, zero, suc, _+_, _≤_}
+use mathlib.Core.Path.{_≡_, _∙_}
+use mathlib.Core.List.{List, [], _∷_, map}
+use native.Mathlib.Omega.{arith}
+use lib.ListN.{length}
+use borrow.Author.Tests.{le-leb}
+use Rattle.reads.specs.Outcome.{Outcome, value, Unrefused, is-value, is-absent}
+use Rattle.reads.specs.declared.text.Text.{Text}
+use Rattle.reads.specs.Segment.{placeAt}
+use Rattle.reads.proofs.Numbers.{word-in}
+use Rattle.reads.proofs.Tests.{by-choose, choose-true}
+use Rattle.pointers.specs.ImageInfo.{imageInfo}
+use Rattle.pointers.specs.Open.{Opened}
+use Rattle.pointers.specs.Tables.{Tables, imageIn}
+use Rattle.pointers.proofs.OpenedTables.{opened-room, opened-info}
+use Rattle.records.specs.List.{entryAddress}
+use Rattle.records.specs.Search.{readables}
+use Rattle.records.proofs.Decodes.{class-name-of-unrefused, ro-unrefused, row-unrefused}
+use Rattle.records.proofs.Headers.{list-unrefused}
+use Rattle.walks.specs.ProtocolNames.{slotIn, slotNames}
+use Rattle.walks.specs.declared.protocol_names.ProtocolList.{ProtocolList}
+use Rattle.walks.proofs.ProtocolNameWalks.{protocol-list-unrefused, name-in-unrefused}
+use Rattle.listing.specs.Gather.{gather}
+use Rattle.listing.specs.PlainListing.{versionAndFlags, Field, rowList, nameList, nameOrNone, classLine, ownLines, recordFields, entryLines, slotLines, fieldLines, fieldsLines, linesOf, entriesIn, event, fieldEvents, recordEvents, eventsFrom, plainRecords, plainListing}
+use Rattle.listing.specs.declared.at.Record.{Record}
+use Rattle.listing.specs.declared.at.Record.the-variants as aRecord
+use Rattle.listing.specs.declared.line.Line.the-variants as line
+use Rattle.listing.specs.declared.line.Named.the-variants as named
+use Rattle.listing.proofs.Gathers.{There, is-there, there-then, there-joined, there-of, there-gather}
+
+name-there : {v : Outcome Text} → Unrefused v → There (nameOrNone v)
+name-there (is-value name) = is-there (named.Text name)
+name-there is-absent = is-there named.Nothing
+
+module _ (t : Tables) (o : Opened t) where
+  own-there : (x : Record) → There (ownLines t x)
+  unfolding ownLines
+  own-there (aRecord.Class c) =
+      there-then _ (name-there (class-name-of-unrefused t o _ _)) (λ name.
+      there-joined (is-there (classLine c name ∷ [])) (there-of (λ r. value (line.Ro r ∷ [])) (ro-unrefused t o c) (λ r. is-there (line.Ro r ∷ []))))
+  own-there (aRecord.Protocol p) = is-there _
+  own-there (aRecord.Category c) = there-then _ (name-there (class-name-of-unrefused t o _ _)) (λ name. is-there _)
+
+  fields-there : (x : Record) → There (recordFields t x)
+  unfolding recordFields
+  fields-there (aRecord.Class c) = there-of _ (ro-unrefused t o c) (λ r. is-there _)
+  fields-there (aRecord.Protocol p) = is-there _
+  fields-there (aRecord.Category c) = is-there _
+
+  slots-there : (n : ℕ) (p : ProtocolList) (q i : ℕ) → There (gather (slotLines n) (slotNames t p i q))
+  unfolding slotNames gather
+  slots-there n p zero i = is-there []
+  slots-there n p (suc q) i =
+      by-choose (λ (os : List (Outcome Text)). There (gather (slotLines n) os))
+      (λ e. there-joined (there-of _ (name-in-unrefused t o (slotIn p i)) (λ name. is-there _)) (slots-there n p q (i + 1)))
+      (λ e. is-there [])
+
+  field-lines-there : (n : ℕ) (f : Field) → There (fieldLines t n f)
+  unfolding fieldLines
+  field-lines-there n (rowList k va) =
+      there-of _ (list-unrefused t k va) (λ h.
+      there-gather (entryLines t n h) (λ j. there-of _ (row-unrefused t o (h .kind) (entryAddress h j)) (λ r. is-there _)) (readables (imageIn t) h))
+  field-lines-there n (nameList va) = there-of _ (protocol-list-unrefused t va) (λ p. slots-there n p (p .count) 0)
+
+  fields-lines-there : (n : ℕ) (fs : List Field) → There (fieldsLines t n fs)
+  unfolding fieldsLines
+  fields-lines-there n [] = is-there []
+  fields-lines-there n (f ∷ fs) = there-joined (field-lines-there n f) (fields-lines-there (suc n) fs)
+
+  record-lines-there : (x : Record) → There (linesOf t x)
+  unfolding linesOf
+  record-lines-there x = there-joined (own-there x) (there-then _ (fields-there x) (fields-lines-there 0))
+
+  pub lines-there : (xs : List Record) → There (gather (linesOf t) xs)
+  lines-there xs = there-gather (linesOf t) record-lines-there xs
+
+  entries-there : (f : Field) → There (entriesIn t f)
+  unfolding entriesIn
+  entries-there (rowList k va) = there-of _ (list-unrefused t k va) (λ h. is-there _)
+  entries-there (nameList va) = is-there _
+
+  field-events-there : (r n : ℕ) (fs : List Field) → There (fieldEvents t r n fs)
+  unfolding fieldEvents
+  field-events-there r n [] = is-there []
+  field-events-there r n (f ∷ fs) = there-joined (there-then _ (entries-there f) (λ js. is-there (map (event r n) js))) (field-events-there r (suc n) fs)
+
+  pub events-there : (r : ℕ) (xs : List Record) → There (eventsFrom t r xs)
+  unfolding eventsFrom recordEvents
+  events-there r [] = is-there []
+  events-there r (x ∷ xs) = there-joined (there-then _ (fields-there x) (field-events-there r 0)) (events-there (suc r) xs)
+
+  pub listing-there : There (plainListing t)
+  unfolding plainListing
+  listing-there = there-then _ (lines-there (plainRecords t)) (λ lines. there-then _ (events-there 0 (plainRecords t)) (λ events. is-there _))
+
+  -- Line I is what opening gave.
+  pub opened-version : versionAndFlags (t .info) ≡ o .info
+  unfolding imageInfo
+  opened-version =
+      let room = opened-room t o .infoBytes in
+      let bytes : 8 ≤ length (t .info) = room in
+      let parsed : imageInfo (t .info) ≡ value (versionAndFlags (t .info)) =
+      choose-true _ _ (le-leb 8 (length (t .info)) bytes) ∙ rw (word-in (t .info) 4 (placeAt 0) 0 (omega arith), word-in (t .info) 4 (placeAt 0) 4 bytes) in
+      let given = opened-info t o in
+      cc

@@ -1,0 +1,22 @@
+use borrow.Author.Needs.{needs}
+use Rattle.listing.proofs.section.protocol_taken.Statement.{statement}
+use Rattle.listing.proofs.section.protocol_taken.Tie as tie
+
+returns : tie.Need-returns
+returns c = rw (c .before .step .given .1)
+
+returns-4 : tie.Need-returns-4
+returns-4 c = rw (c .before .step2 .given .1)
+
+pub protocol-taken-spec : {M : Type 1} → statement M
+protocol-taken-spec =
+    tie.close
+    (tie.spec
+    (λ c. search needs)
+    (λ c. search needs)
+    (λ c. search needs)
+    (λ c. search needs)
+    returns
+    (λ c. search needs)
+    (λ c. search needs)
+    returns-4)

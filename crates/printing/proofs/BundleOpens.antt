@@ -1,0 +1,129 @@
+-- Opening a bundle: whatever its index held before, opening answers and leaves the same; and the questions that a bundle can meet.
+use Prim.Native.Nat.{ℕ, _+_, _*_, _/_, _≤_}
+use mathlib.Core.Path.{_≡_, sym, ap, _∙_}
+use mathlib.Core.Bool.{Bool, true, false}
+use mathlib.Core.List.{List, []}
+use native.Mathlib.Omega.{arith}
+use lib.ListN.{length, drop, replicate, length-take, length-drop, length-replicate, drop-of-length-le}
+use lib.Seq.{drop-nil}
+use borrow.Author.Tests.{le-leb}
+use Rattle.reads.specs.Outcome.{Outcome, value, number, andThen, choose}
+use Rattle.reads.specs.Place.{part}
+use Rattle.reads.proofs.Outcomes.{then-came}
+use Rattle.reads.proofs.Tests.{by-choose, choose-true}
+use Rattle.pointers.specs.ImageInfo.{imageInfo}
+use Rattle.pointers.specs.Index.{indexed}
+use Rattle.pointers.specs.Open.{askedOpening, opening, openedIndex}
+use Rattle.pointers.specs.Question.{question, imageFits, wholeRows, sectionTable, infoWhole, namesFit, indexFits, askedTables, askedIndex}
+use Rattle.reads.specs.Table.{records}
+use Rattle.pointers.specs.Tables.{Tables, withIndex}
+use Rattle.pointers.specs.declared.imageinfo.ImageInfo.{ImageInfo}
+use Rattle.pointers.proofs.IndexWords.{length-indexed}
+use Rattle.pointers.proofs.Questions.{question-yes, rows-whole}
+use Rattle.listing.specs.Bundle.{wordsFrom, rebaseTableWords, bindTableWords, infoAt, rebasesAt, bindsAt, imageAt, countsOf, bundleCounts, bundled, Accepted}
+use Rattle.listing.specs.declared.bundle.Counts.{Counts}
+use Rattle.listing.proofs.BundleWords.{length-words}
+use Rattle.listing.proofs.Measured.{accepted}
+use Rattle.printing.specs.BundleText.{indexWords, bundleTables, bundleOpening, Met, opens, refused-13, refused-2, refused-3, refused-7}
+
+-- Of the index opening asks the length alone, and it leaves nothing of what an index of just enough words held.
+module _ (t : Tables) (i j : List ℕ) (same : length i ≡ length j) where
+  asked-same : askedOpening (withIndex t i) ≡ askedOpening (withIndex t j)
+  unfolding askedOpening askedTables askedIndex
+  asked-same = rw same
+
+  pub opening-same : opening (withIndex t i) ≡ opening (withIndex t j)
+  unfolding opening
+  opening-same = ap (λ (o : Outcome (Unit {0})). andThen o (λ u. imageInfo (t .info))) asked-same
+
+module _ (t : Tables) (i : List ℕ) (long : length i ≡ 8192 + records 2 (t .rebases) + records 3 (t .binds)) (info : ImageInfo)
+    (e : opening (withIndex t i) ≡ value info) where
+  index-left : openedIndex (withIndex t i) ≡ indexed (t .rebases) (t .binds) i
+  unfolding opening openedIndex
+  index-left = rw (then-came (askedOpening (withIndex t i)) _ info e .1)
+
+  pub index-whole : openedIndex (withIndex t i) ≡ indexed (t .rebases) (t .binds) []
+  unfolding indexed
+  index-whole =
+      let none : drop (8192 + records 2 (t .rebases) + records 3 (t .binds)) i ≡ [] =
+      drop-of-length-le i {i = 8192 + records 2 (t .rebases) + records 3 (t .binds)} (omega arith) in
+      index-left ∙ rw (none, drop-nil (8192 + records 2 (t .rebases) + records 3 (t .binds)))
+
+  pub index-long : length (openedIndex (withIndex t i)) ≡ length i
+  index-long = ap length index-left ∙ length-indexed (t .rebases) (t .binds) i (omega arith)
+
+-- The questions 2, 3 and 7, and then the image info.
+met-by : (two three seven : Bool) (o : Outcome ImageInfo) → Met o
+    → Met (andThen (andThen (andThen (question 2 two) (λ x. andThen (question 3 three) (λ y. value (tt {0})))) (λ x. andThen (question 7 seven) (λ y. value (tt {0})))) (λ x. o))
+unfolding question choose
+met-by false three seven o m = refused-2
+met-by true false seven o m = refused-3
+met-by true true false o m = refused-7
+met-by true true true o m = m
+
+-- The lengths of an accepted bundle's parts.
+module _ (bytes : List ℕ) (c : Counts) (a : Accepted bytes c) where
+  pub image-length : length (part bytes (imageAt c) (c .image)) ≤ 32768
+  image-length = simp (length-take, length-drop) (omega (arith, a .short))
+
+  info-length : length (part bytes infoAt 8) ≡ 8
+  info-length = simp (length-take, length-drop) (omega (arith, a .exact))
+
+  pub index-most : indexWords c ≤ 10240
+  index-most = omega (arith, a .short, a .exact)
+
+  pub index-asks : 8192 + records 2 (wordsFrom bytes (rebasesAt c) (rebaseTableWords c)) + records 3 (wordsFrom bytes (bindsAt c) (bindTableWords c)) ≡ indexWords c
+  index-asks = rw (length-words bytes (rebasesAt c) (rebaseTableWords c), length-words bytes (bindsAt c) (bindTableWords c)) (omega arith)
+
+  -- Of opening's questions only 2, 3 and 7 can say no.
+  module _ (i : List ℕ) (long : length i ≡ indexWords c) where
+    abbrev t : Tables
+    t = bundled bytes c i
+
+    fits-1 : imageFits (length (t .image)) ≡ true
+    unfolding imageFits
+    fits-1 = le-leb (length (t .image)) 4294967295 (omega (arith, image-length))
+
+    fits-4 : infoWhole (length (t .info)) ≡ true
+    unfolding infoWhole
+    fits-4 = le-leb 8 (length (t .info)) (omega (arith, info-length))
+
+    fits-5 : wholeRows 2 16777215 (length (t .rebases)) ≡ true
+    fits-5 =
+        rw (length-words bytes (rebasesAt c) (rebaseTableWords c))
+        (sym (rows-whole 2 16777215 (2 * c .rebases) (omega arith)) ∙ le-leb (2 * c .rebases / 2) 16777215 (omega (arith, a .short, a .exact)))
+
+    fits-6 : wholeRows 3 16777215 (length (t .binds)) ≡ true
+    fits-6 =
+        rw (length-words bytes (bindsAt c) (bindTableWords c))
+        (sym (rows-whole 3 16777215 (3 * c .binds) (omega arith)) ∙ le-leb (3 * c .binds / 3) 16777215 (omega (arith, a .short, a .exact)))
+
+    fits-8 : indexFits (records 2 (t .rebases)) (records 3 (t .binds)) (length (t .index)) ≡ true
+    unfolding indexFits
+    fits-8 = le-leb (8192 + records 2 (t .rebases) + records 3 (t .binds)) (length i) (omega (arith, index-asks, long))
+
+    info-there : Met (imageInfo (t .info))
+    unfolding imageInfo
+    info-there = rw (choose-true _ _ (le-leb 8 (length (part bytes infoAt 8)) (omega (arith, info-length)))) (opens _)
+
+    pub opening-met : Met (opening (bundled bytes c i))
+    unfolding opening askedOpening askedTables askedIndex
+    opening-met =
+        simp (question-yes 1 _ fits-1, question-yes 4 _ fits-4, question-yes 5 _ fits-5, question-yes 6 _ fits-6, question-yes 8 _ fits-8)
+        (met-by (wholeRows 4 64 (length (t .segments))) (sectionTable (length (t .image)) (t .sections)) (namesFit (t .image) (t .binds))
+        (imageInfo (t .info)) info-there)
+
+-- Question 13 gives the bundle's first four words or 13.
+pub counted-by : (bytes : List ℕ) (P : Outcome Counts → Type 0) → (Accepted bytes (countsOf bytes) → P (value (countsOf bytes))) → P (number 13)
+    → P (bundleCounts bytes)
+unfolding bundleCounts
+counted-by bytes P counts thirteen =
+    by-choose P (λ fits. counts (accepted bytes (countsOf bytes) (choose-true _ _ fits))) (λ fits. thirteen)
+
+-- Every bundle is opened, or 13, 2, 3 or 7 refuses it.
+pub bundle-met : (bytes : List ℕ) → Met (bundleOpening bytes)
+unfolding bundleOpening
+bundle-met bytes =
+    counted-by bytes (λ (o : Outcome Counts). Met (andThen o (λ c. opening (bundleTables bytes))))
+    (λ a. opening-met bytes (countsOf bytes) a (replicate (indexWords (countsOf bytes)) 0) (length-replicate (indexWords (countsOf bytes)) 0))
+    refused-13

@@ -1,0 +1,138 @@
+-- How long a line can be: some numbers of at most 32 digits, and at most two texts, each a part of the image.
+use Prim.Native.Nat.{ℕ, zero, suc, _+_, _-_, _*_, _/_, _%_, _≤_, _^_, min}
+use mathlib.Core.Path.{_≡_, refl, _∙_}
+use mathlib.Core.List.{List, [], _∷_}
+use native.Mathlib.Omega.{arith}
+use lib.ListN.{length, length-append, length-take, length-drop}
+use Rattle.io.specs.Digits.{digits, glyph}
+use Rattle.reads.specs.Outcome.{Outcome, value, absent, number}
+use Rattle.reads.specs.declared.text.Text.{Text}
+use Rattle.reads.proofs.Tests.{by-choose}
+use Rattle.records.specs.declared.ivar.IvarOffset.{IvarOffset}
+use Rattle.records.specs.declared.ivar.IvarOffset.the-variants as offset
+use Rattle.records.specs.declared.method.Imp.{Imp}
+use Rattle.records.specs.declared.method.Imp.the-variants as imp
+use Rattle.records.specs.declared.row.Row.{Row}
+use Rattle.records.specs.declared.row.Row.the-variants as row
+use Rattle.listing.specs.Listing.{Answer, says, nothing, ended}
+use Rattle.listing.specs.declared.line.Line.{Line}
+use Rattle.listing.specs.declared.line.Line.the-variants as line
+use Rattle.listing.specs.declared.line.Named.{Named}
+use Rattle.listing.specs.declared.line.Named.the-variants as named
+use Rattle.printing.specs.Buffer.{places, hexText, decimalText}
+use Rattle.printing.specs.LineText.{noneField, numberField, stringField, textField, textFields, namedField, impField, offsetField, kindNumber, infoText, classText, roText, protocolText, categoryText, methodText, ivarText, propertyText, rowText, nameText, endText, fieldsText, lineText, refusedText}
+use Rattle.printing.specs.Pieces.{saidText}
+
+places-few : (b k n : ℕ) → places b k n ≤ suc k
+unfolding places
+places-few b zero n = omega arith
+places-few b (suc k) n = by-choose (λ (m : ℕ). m ≤ suc (suc k)) (λ e. omega arith) (λ e. omega (arith, places-few b k (n / b)))
+
+length-digits : (b k n : ℕ) → length (digits b k n) ≡ k
+length-digits b zero n = refl
+length-digits b (suc k) n = length-append (digits b k (n / b)) (glyph (n % b) ∷ []) ∙ rw (length-digits b k (n / b)) (omega arith)
+
+number-short : (n : ℕ) → length (numberField n) ≤ 33
+unfolding numberField hexText
+number-short n = rw (length-digits 16 (places 16 31 n) n) (omega (arith, places-few 16 31 n))
+
+none-short : length noneField ≤ 33
+unfolding noneField
+none-short = omega arith
+
+refused-short : (k : ℕ) → length (refusedText k) ≤ 32
+unfolding refusedText decimalText
+refused-short k = simp (length-append, length-digits) (omega (arith, places-few 10 19 k))
+
+module _ (image : List ℕ) where
+  text-short : (t : Text) → length (textField image t) ≤ 34 + length image
+  unfolding textField stringField
+  text-short t =
+      by-choose (λ (s : List ℕ). length s ≤ 34 + length image)
+      (λ e. simp (length-append, length-take, length-drop) (omega (arith, number-short (min (t .len) (length image - t .offset)))))
+      (λ e. omega (arith, none-short))
+
+  texts-short : (a b : Text) → length (textFields image a b) ≤ 68 + 2 * length image
+  unfolding textFields
+  texts-short a b = simp length-append (omega (arith, text-short a, text-short b))
+
+  named-short : (n : Named) → length (namedField image n) ≤ 34 + length image
+  named-short (named.Text t) = text-short t
+  named-short named.Nothing = omega (arith, none-short)
+
+  imp-short : (i : Imp) → length (impField i) ≤ 33
+  imp-short (imp.At va) = number-short va
+  imp-short imp.Nothing = none-short
+
+  offset-short : (o : IvarOffset) → length (offsetField o) ≤ 33
+  offset-short (offset.At n) = number-short n
+  offset-short offset.Nothing = none-short
+
+  abbrev Short : List ℕ → Type 0
+  Short text = length text ≤ 300 + 2 * length image
+
+  row-short : (n : ℕ) (r : Row) → Short (rowText image n r)
+  unfolding methodText ivarText propertyText
+  row-short n (row.Method m) =
+      simp length-append
+      (omega (arith, number-short n, texts-short (m .selector) (m .types), imp-short (m .implementation), number-short (kindNumber (m .kind))))
+  row-short n (row.Ivar v) =
+      simp length-append
+      (omega (
+        arith,
+        number-short n,
+        texts-short (v .name) (v .«type_encoding»),
+        offset-short (v .offset),
+        number-short (v .size),
+        number-short (v .«log2_alignment»),
+      ))
+  row-short n (row.Property p) = simp length-append (omega (arith, number-short n, texts-short (p .name) (p .attributes)))
+
+  fields-short : (x : Line) → Short (fieldsText image x)
+  unfolding infoText classText roText protocolText categoryText nameText endText
+  fields-short (line.Info i) = simp length-append (omega (arith, number-short (i .version), number-short (i .flags)))
+  fields-short (line.Class l) =
+      simp length-append
+      (omega (
+        arith,
+        number-short (l .class .address),
+        number-short (l .class .isa),
+        number-short (l .class .«superclass_address»),
+        number-short (l .class .bits),
+        named-short (l .«superclass_name»),
+      ))
+  fields-short (line.Ro r) =
+      simp length-append
+      (omega (
+        arith,
+        number-short (r .address),
+        number-short (r .flags),
+        number-short (r .«instance_start»),
+        number-short (r .«instance_size»),
+        text-short (r .name),
+      ))
+  fields-short (line.Protocol p) =
+      simp length-append
+      (omega (arith, number-short (p .address), number-short (p .size), number-short (p .flags), text-short (p .name)))
+  fields-short (line.Category l) =
+      simp length-append
+      (omega (
+        arith,
+        number-short (l .category .address),
+        number-short (l .category .«class_address»),
+        text-short (l .category .name),
+        named-short (l .«class_name»),
+      ))
+  fields-short (line.Row l) = row-short (l .list) (l .row)
+  fields-short (line.Name l) = simp length-append (omega (arith, number-short (l .list), text-short (l .name)))
+  fields-short (line.End l) =
+      simp length-append (omega (arith, number-short (l .records), number-short (l .«settled_high» * 2 ^ 64 + l .«settled_low»)))
+
+  -- What a step says has at most 301 bytes beside the texts.
+  pub said-length : (o : Outcome Answer) → length (saidText image o) ≤ 301 + 2 * length image
+  unfolding lineText
+  said-length (value (says x)) = simp length-append (omega (arith, fields-short x))
+  said-length (value nothing) = omega arith
+  said-length (value ended) = omega arith
+  said-length absent = omega arith
+  said-length (number k) = omega (arith, refused-short k)

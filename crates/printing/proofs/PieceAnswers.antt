@@ -1,0 +1,63 @@
+-- What the code's progress means: at the start, after a step, and by what was said.
+use Prim.Native.Nat.{ℕ, _+_, _-_}
+use mathlib.Core.Path.{_≡_, sym, ap}
+use mathlib.Core.List.{List}
+use native.Mathlib.Omega.{arith}
+use Rattle.reads.specs.Outcome.{value, number}
+use Rattle.reads.specs.declared.answer.Missing.{Missing}
+use Rattle.reads.specs.declared.answer.Missing.the-variants.{Absent, Refused}
+use Rattle.pointers.specs.ImageInfo.{infoOutcome}
+use Rattle.pointers.specs.Tables.{Tables}
+use Rattle.pointers.specs.declared.imageinfo.ImageInfo.{ImageInfo}
+use Rattle.pointers.specs.declared.imageinfo.ImageInfoAnswer.{ImageInfoAnswer}
+use Rattle.pointers.specs.declared.imageinfo.ImageInfoAnswer.the-variants as info
+use Rattle.listing.specs.Listing.{Left, start, nothing, ended, listingStep}
+use Rattle.listing.specs.ListingAnswer.{stateOf, saidOf, leftOf}
+use Rattle.listing.specs.declared.line.Line.{Line}
+use Rattle.listing.specs.declared.listing.Listed.{Listed}
+use Rattle.listing.specs.declared.listing.Listing.{Listing}
+use Rattle.listing.specs.declared.listing.Said.{Said}
+use Rattle.listing.specs.declared.listing.Said.the-variants as said
+use Rattle.printing.specs.Buffer.{Buffer, putAll}
+use Rattle.printing.specs.LineText.{lineText, refusedText}
+use Rattle.printing.specs.Pieces.{saidText, standing, stepped, begun, further}
+use Rattle.printing.specs.declared.pieces.Piece.{Piece}
+use Rattle.printing.specs.declared.pieces.Progress.{Progress}
+use Rattle.printing.proofs.Puts.{put-empty}
+
+-- The start, by opening's answer.
+module _ (s : Listing) (e : stateOf s ≡ start) (a : ImageInfoAnswer) where
+  pub begun-listing : (i : ImageInfo) → a ≡ info.Info i → (λ (l : List ℕ). standing (value nothing) 0 (stateOf s) l) ≡ begun (infoOutcome a)
+  begun-listing i g = rw (g, e)
+
+  module _ (m : Missing) (g : a ≡ info.Missing m) where
+    pub begun-absent : m ≡ Absent → (λ (l : List ℕ). standing (value ended) 0 (stateOf s) l) ≡ begun (infoOutcome a)
+    begun-absent h = rw (g, h, e)
+
+    pub begun-refused : (k : ℕ) → m ≡ Refused k → (λ (l : List ℕ). standing (number k) 0 (stateOf s) l) ≡ begun (infoOutcome a)
+    begun-refused k h = rw (g, h, e)
+
+-- A step of the code's listing.
+pub stepped-by : (t : Tables) (s : Listing) (l m : List ℕ) (r : Listed) (o : Said) (n : ℕ) → leftOf r m ≡ listingStep t (stateOf s) l
+    → standing (saidOf (r .said)) 0 (stateOf (r .listing)) m ≡ stepped t (standing (saidOf o) n (stateOf s) l)
+stepped-by t s l m r o n e = ap (λ (x : Left). standing (x .answer) 0 (x .state) (x .ledger)) e
+
+-- The text of what was said.
+module _ (image : List ℕ) (x : Said) (s u : Buffer) where
+  pub said-line : (y : Line) → x ≡ said.Line y → u ≡ putAll s (lineText image y) → u ≡ putAll s (saidText image (saidOf x))
+  said-line y g e = rw g e
+
+  pub said-refused : (k : ℕ) → x ≡ said.Refused k → u ≡ putAll s (refusedText k) → u ≡ putAll s (saidText image (saidOf x))
+  said-refused k g e = rw g e
+
+module _ (image : List ℕ) (x : Said) (s : Buffer) where
+  pub said-nothing : x ≡ said.Nothing → s ≡ putAll s (saidText image (saidOf x))
+  said-nothing g = rw g (sym (put-empty s))
+
+  pub said-ended : x ≡ said.Ended → s ≡ putAll s (saidText image (saidOf x))
+  said-ended g = rw g (sym (put-empty s))
+
+-- As many bytes more are out as the buffer took.
+pub further-by : (p : Progress) (at len k : ℕ) → len ≡ at + k
+    → _≡_ {A = Piece} (record { len = len; progress = record { said = p .said; out = p .out + (len - at); listing = p .listing } }) (further p at k)
+further-by p at len k e = let z : at + k - at ≡ k = omega arith in rw (e, z)

@@ -1,0 +1,48 @@
+-- A call over a bundle that a number refuses leaves what it was lent as it was.
+use Prim.Native.Nat.{ℕ}
+use mathlib.Core.Path.{_≡_, refl}
+use mathlib.Core.List.{List}
+use native.Mathlib.Omega.{arith}
+use lib.ListN.{take-append-drop}
+use Rattle.reads.specs.Outcome.{Outcome, value, absent, number, andThen}
+use Rattle.reads.proofs.Tests.{by-choose}
+use Rattle.pointers.specs.ImageInfo.{imageInfo}
+use Rattle.pointers.specs.Index.{indexed}
+use Rattle.pointers.specs.Open.{askedOpening, opening, leftBy, openedIndex}
+use Rattle.pointers.specs.Tables.{Tables}
+use Rattle.pointers.specs.declared.imageinfo.ImageInfo.{ImageInfo}
+use Rattle.listing.specs.Bundle.{bundleCounts}
+use Rattle.listing.specs.declared.bundle.Counts.{Counts}
+use Rattle.printing.specs.BundleText.{indexWords}
+use Rattle.printing.specs.BundleLent.{wordsAfter, openingBy, openingIn, indexBy, indexAfter}
+
+-- 13, and the words.
+pub words-unwritten : (bytes words : List ℕ) (k : ℕ) → bundleCounts bytes ≡ number k → wordsAfter bytes words ≡ words
+words-unwritten bytes words k e = rw e
+
+-- Opening's index, with a number.
+info-unrefused : (body : List ℕ) (k : ℕ) → imageInfo body ≡ number k → ⊥
+unfolding imageInfo
+info-unrefused body k =
+    by-choose (λ (o : Outcome ImageInfo). o ≡ number k → ⊥)
+    (λ t e. let z : _≡_ {A = ℕ} 0 1 = cc in omega arith)
+    (λ t e. let z : _≡_ {A = ℕ} 0 1 = cc in omega arith)
+
+opened-unwritten : (t : Tables) (k : ℕ) → opening t ≡ number k → openedIndex t ≡ t .index
+unfolding opening openedIndex
+opened-unwritten t k = go (askedOpening t)
+  where
+    go : (o : Outcome (Unit {0})) → andThen o (λ u. imageInfo (t .info)) ≡ number k
+        → leftBy o (indexed (t .rebases) (t .binds) (t .index)) (t .index) ≡ t .index
+    go (value u) e = absurd (info-unrefused (t .info) k e)
+    go absent e = refl
+    go (number n) e = refl
+
+-- A number of 13 or of opening, and the index.
+pub index-unwritten : (bytes words index : List ℕ) (k : ℕ) → openingIn bytes words index ≡ number k → indexAfter bytes words index ≡ index
+index-unwritten bytes words index k = go (bundleCounts bytes)
+  where
+    go : (o : Outcome Counts) → openingBy bytes o words index ≡ number k → indexBy bytes o words index ≡ index
+    go (value c) e = rw (opened-unwritten _ k e) (take-append-drop (indexWords c) index)
+    go absent e = refl
+    go (number n) e = refl

@@ -1,0 +1,63 @@
+-- What the calls over a bundle are lent and leave: words that its tables are decoded into, and an index.
+use Prim.Native.Nat.{ℕ, _+_}
+use mathlib.Core.List.{List, [], _++_}
+use lib.ListN.{take, drop}
+use Rattle.reads.specs.Outcome.{Outcome, value, absent, number, andThen}
+use Rattle.reads.specs.Place.{part}
+use Rattle.pointers.specs.Open.{opening, openedIndex}
+use Rattle.pointers.specs.Tables.{Tables, tablesOf}
+use Rattle.pointers.specs.declared.imageinfo.ImageInfo.{ImageInfo}
+use Rattle.listing.specs.Bundle.{wordsFrom, segmentTableWords, rebaseTableWords, bindTableWords, infoAt, segmentsAt, imageAt, bundleCounts}
+use Rattle.pointers.specs.Tables.{sectionTableWords}
+use Rattle.listing.specs.declared.bundle.Counts.{Counts}
+use Rattle.printing.specs.BundleText.{indexWords}
+
+-- The words of a bundle's four tables.
+abbrev pub tableWords : Counts → ℕ
+tableWords c = segmentTableWords c + sectionTableWords + rebaseTableWords c + bindTableWords c
+
+-- The words lent, after the tables were decoded into them; with 13 they are as they were.
+abbrev pub wordsBy : List ℕ → Outcome Counts → List ℕ → List ℕ
+wordsBy bytes (value c) words = wordsFrom bytes segmentsAt (tableWords c) ++ drop (tableWords c) words
+wordsBy bytes absent words = words
+wordsBy bytes (number k) words = words
+
+abbrev pub wordsAfter : List ℕ → List ℕ → List ℕ
+wordsAfter bytes words = wordsBy bytes (bundleCounts bytes) words
+
+-- The tables of a bundle of these counts: each is its part of the words, and the index has as many words as question 8 asks.
+abbrev pub tablesIn : List ℕ → Counts → List ℕ → List ℕ → Tables
+tablesIn bytes c words index =
+    tablesOf
+    (part bytes (imageAt c) (c .image))
+    (part words 0 (segmentTableWords c))
+    (part words (segmentTableWords c) sectionTableWords)
+    (part bytes infoAt 8)
+    (part words (segmentTableWords c + sectionTableWords) (rebaseTableWords c))
+    (part words (segmentTableWords c + sectionTableWords + rebaseTableWords c) (bindTableWords c))
+    (take (indexWords c) index)
+
+-- Question 13, then opening.
+abbrev pub openingBy : List ℕ → Outcome Counts → List ℕ → List ℕ → Outcome ImageInfo
+openingBy bytes o words index = andThen o (λ c. opening (tablesIn bytes c words index))
+
+abbrev pub openingIn : List ℕ → List ℕ → List ℕ → Outcome ImageInfo
+openingIn bytes words index = openingBy bytes (bundleCounts bytes) words index
+
+-- The index lent, after opening; with a number it is as it was (proofs/Unwritten.antt).
+abbrev pub indexBy : List ℕ → Outcome Counts → List ℕ → List ℕ → List ℕ
+indexBy bytes (value c) words index = openedIndex (tablesIn bytes c words index) ++ drop (indexWords c) index
+indexBy bytes absent words index = index
+indexBy bytes (number k) words index = index
+
+abbrev pub indexAfter : List ℕ → List ℕ → List ℕ → List ℕ
+indexAfter bytes words index = indexBy bytes (bundleCounts bytes) words index
+
+-- The tables that a listing reads; a bundle that is not accepted has none.
+abbrev pub tablesBy : List ℕ → Outcome Counts → List ℕ → List ℕ → Tables
+tablesBy bytes (value c) words index = tablesIn bytes c words index
+tablesBy bytes absent words index = tablesOf [] [] [] [] [] [] []
+tablesBy bytes (number k) words index = tablesOf [] [] [] [] [] [] []
+
+abbrev pub tablesLent : List ℕ → List ℕ → List ℕ → Tables
+tablesLent bytes words index = tablesBy bytes (bundleCounts bytes) words index

@@ -1,0 +1,197 @@
+// The text of a listing, handed out piece by piece into a buffer that the caller lends; a line may be cut between pieces.
+use crate::buffer::Window;
+use crate::print;
+use listing::listing::Listing;
+use listing::listing::Said;
+use pointers::imageinfo::ImageInfoAnswer;
+use reads::answer::Missing;
+ghost use Prim.Native.Nat.{_<_, _^_};
+ghost use mathlib.Core.Path.{_≡_};
+ghost use lib.ListN.{length, drop};
+ghost use lib.Seq.{paste};
+ghost use Rattle.reads.specs.Reference.{before, after};
+ghost use Rattle.pointers.specs.ImageInfo.{infoOutcome};
+ghost use Rattle.pointers.specs.Tables.{lent};
+ghost use Rattle.listing.specs.ListingAnswer.{saidOf};
+ghost use Rattle.listing.proofs.Remaining.{goesOn};
+ghost use Rattle.printing.specs.Buffer.{buffer, putAll};
+ghost use Rattle.printing.specs.Pieces.{saidText, standingOf, stepped, begun, refusing, toCome, handedOf, pieceOf, fits, further};
+
+// Where the printing of a listing stands: what the last step said, how many bytes of its text are out, and the listing after it.
+pub struct Progress {
+    pub said: Said,
+    pub out: usize,
+    pub listing: Listing,
+}
+
+// The length of a piece, and where the printing stands after it.
+pub struct Piece {
+    pub len: usize,
+    pub progress: Progress,
+}
+
+// The text of what a step said.
+fn said_text(image: &[u8], said: Said, out: &mut [u8], w: Window) -> Window
+    ensures { λ r. ⌜ buffer (after out) r ≡ putAll (buffer (before out) w) (saidText (before image) (saidOf said)) ⌝ }
+{
+    match said {
+        Said::Line(line) => print::line(image, line, out, w),
+        Said::Nothing => w,
+        Said::Ended => w,
+        Said::Refused(k) => print::refused(k, out, w),
+    }
+}
+
+// Whether the listing goes on after what was said.
+fn goes_on(said: Said) -> bool
+    ensures { λ r. ⌜ r ≡ goesOn (saidOf said) ⌝ }
+{
+    match said {
+        Said::Line(_) => true,
+        Said::Nothing => true,
+        Said::Ended => false,
+        Said::Refused(_) => false,
+    }
+}
+
+impl Progress {
+    // The start, by what opening answered.
+    pub fn new(answer: ImageInfoAnswer) -> Progress
+        ensures { λ r. ⌜ standingOf r ≡ begun (infoOutcome answer) ⌝ }
+    {
+        let listing = Listing::new();
+        match answer {
+            ImageInfoAnswer::Info(_) => Progress {
+                said: Said::Nothing,
+                out: 0,
+                listing,
+            },
+            ImageInfoAnswer::Missing(m) => match m {
+                Missing::Absent => Progress {
+                    said: Said::Ended,
+                    out: 0,
+                    listing,
+                },
+                Missing::Refused(k) => Progress {
+                    said: Said::Refused(k),
+                    out: 0,
+                    listing,
+                },
+            },
+        }
+    }
+
+    // Whether the last step, or opening, was refused by a question.
+    pub fn refused(self) -> bool
+        ensures { λ r. ⌜ r ≡ refusing (saidOf (self .said)) ⌝ }
+    {
+        let said = self.said;
+        match said {
+            Said::Line(_) => false,
+            Said::Nothing => false,
+            Said::Ended => false,
+            Said::Refused(_) => true,
+        }
+    }
+
+    // The next step of the listing.
+    fn step(
+        self,
+        image: &[u8],
+        segments: &[u64],
+        sections: &[u64],
+        info: &[u8],
+        rebases: &[u64],
+        binds: &[u64],
+        index: &[u32],
+        ledger: &mut [u64],
+    ) -> Progress
+        ensures { λ r. let t = lent image segments sections info rebases binds index in
+            ⌜ standingOf r (after ledger) ≡ stepped t (standingOf self (before ledger)) ⌝ }
+    {
+        let listing = self.listing;
+        let listed = listing.next(
+            image,
+            segments,
+            sections,
+            info,
+            rebases,
+            binds,
+            index,
+            ledger,
+        );
+        let said = listed.said;
+        let next = listed.listing;
+        Progress {
+            said,
+            out: 0,
+            listing: next,
+        }
+    }
+
+    // What waits, as far as the buffer has room after its first `at` bytes.
+    fn hand_out(self, image: &[u8], out: &mut [u8], at: usize) -> Piece
+        requires { ⌜ length (now image) < 2 ^ 32 ⌝ }
+        ensures piece { λ r. ⌜ r ≡ further self at (fits (before image) self (before out) at) ⌝ }
+        ensures bytes { λ _. ⌜ after out ≡ paste (before out) at (drop (self .out) (saidText (before image) (saidOf (self .said)))) (fits (before image) self (before out) at) ⌝ }
+    {
+        let said = self.said;
+        let skip = self.out;
+        let listing = self.listing;
+        let w = said_text(image, said, out, Window { skip, at });
+        let len = w.at;
+        Piece {
+            len,
+            progress: Progress {
+                said,
+                out: skip + (len - at),
+                listing,
+            },
+        }
+    }
+
+    // What waits and then what the next steps say, until the buffer is full or the listing is over.
+    pub(crate) fn fill(
+        self,
+        image: &[u8],
+        segments: &[u64],
+        sections: &[u64],
+        info: &[u8],
+        rebases: &[u64],
+        binds: &[u64],
+        index: &[u32],
+        ledger: &mut [u64],
+        out: &mut [u8],
+    ) -> Piece
+        requires { ⌜ length (now image) < 2 ^ 32 ⌝ }
+        ensures piece { λ r. let t = lent image segments sections info rebases binds index in
+            ⌜ handedOf r (after ledger) (after out) ≡ pieceOf t (standingOf self (before ledger)) (length (before out)) (before out) ⌝ }
+        ensures rest { λ r. let t = lent image segments sections info rebases binds index in
+            ⌜ toCome t (standingOf (r .progress) (after ledger)) ≡ drop (length (before out)) (toCome t (standingOf self (before ledger))) ⌝ }
+    {
+        let mut progress = self;
+        let mut at = 0;
+        loop {
+            let piece = progress.hand_out(image, out, at);
+            let next = piece.progress;
+            at = piece.len;
+            if out.len() <= at {
+                return piece;
+            }
+            let said = next.said;
+            if !goes_on(said) {
+                return piece;
+            }
+            progress = next.step(
+                image,
+                segments,
+                sections,
+                info,
+                rebases,
+                binds,
+                index,
+                ledger,
+            );
+        }
+    }
+}

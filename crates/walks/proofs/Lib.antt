@@ -1,0 +1,13 @@
+-- Laws that the proofs of walks share, and that the crates above cite.
+pub mod Steps
+pub mod Walk
+pub mod SlotLaws
+pub mod SectionLaws
+pub mod Moves
+pub mod PlainWalks
+pub mod OpenedSections
+pub mod SectionCases
+pub mod ProtocolLists
+pub mod ProtocolNameWalks
+pub mod ProtocolNameCases
+pub mod HubRun

@@ -1,0 +1,191 @@
+-- What every step leaves, by its answer: how far the walk goes on, and of a section step the ledger. With a number or absent the walk comes back
+-- as given.
+use Prim.Native.Nat.{ℕ, _+_, _≤_, _<_}
+use mathlib.Core.Path.{_≡_, refl, sym}
+use mathlib.Core.List.{List}
+use mathlib.Core.Option.{Option, none, some}
+use native.Mathlib.Omega.{arith}
+use lib.Dec.{leb}
+use lib.ListN.{length, take, set, length-set}
+use borrow.Author.Tests.{eqb-false}
+use Rattle.reads.specs.Outcome.{Outcome, value, absent, number}
+use Rattle.reads.specs.declared.text.Text.{Text}
+use Rattle.reads.proofs.Tests.{by-choose}
+use Rattle.pointers.specs.Question.{question, asked}
+use Rattle.pointers.specs.Tables.{Tables, imageIn}
+use Rattle.records.specs.List.{listAt, entryAddress}
+use Rattle.records.specs.Protocol.{protocolAt}
+use Rattle.records.specs.Row.{rowAt}
+use Rattle.records.specs.Search.{firstReadable}
+use Rattle.records.specs.declared.list.Layout.{Layout}
+use Rattle.records.specs.declared.protocol.ObjcProtocol.{ObjcProtocol}
+use Rattle.records.specs.declared.row.Row.{Row}
+use Rattle.records.proofs.Readables as readables
+use Rattle.walks.specs.Handed.{unlessRefused, Handed, hands, handsBack, overList, countBy, fromCursor}
+use Rattle.walks.specs.Walk.{ReachedRow, rowReached, rowSkipped, rowsFinished, RowLeft, settles, searched, overRows, nextOf}
+use Rattle.walks.specs.ProtocolNames.{protocolListAt, slotIn, nameIn, ReachedName, nameReached, namePassed, namesFinished, NameLeft, named, stepIn, overNames, nextName}
+use Rattle.walks.specs.Slots.{slotsOf, askedSlot, askedLedger, TakenSlot, address, dropped, noSlot, slotRefused, slotTaken, firstMet}
+use Rattle.walks.specs.Sections.{Walk, walk, Step, found, passed, finished, Left, leaves, stays, Kind, slotsIn, byRecord, bySlot, takeWaiting, takeNew, takeSlot, stepOf, takeProtocol, protocolStepOf}
+use Rattle.walks.specs.declared.list_walk.ListWalk.{ListWalk}
+use Rattle.walks.specs.declared.protocol_names.ProtocolList.{ProtocolList}
+use Rattle.walks.specs.declared.protocol_names.ProtocolNameWalk.{ProtocolNameWalk}
+use Rattle.walks.specs.declared.slots.Lists.the-variants.{Protocols}
+
+-- What holds of each way that a step over a list can go holds of the step.
+module _ {A W : Type 0} (P : Handed A W → Type 0) (w : W) (refused : (k : ℕ) → P (handsBack w k)) where
+  pub by-asked : (o : Outcome (Unit {0})) {x : Handed A W} → P x → P (unlessRefused o (handsBack w) x)
+  by-asked (value u) h = h
+  by-asked absent h = h
+  by-asked (number k) h = refused k
+
+  pub by-list : {L : Type 0} (step : L → Handed A W) → ((l : L) → P (step l)) → P (hands absent w) → (list : Outcome L) → P (overList w step list)
+  by-list step h missing (value l) = h l
+  by-list step h missing absent = missing
+  by-list step h missing (number k) = refused k
+
+  pub by-cursor : {L : Type 0} (cursor : ℕ) (count : L → ℕ) (step : L → Handed A W) → ((l : L) → P (step l)) → P (hands absent w) → (list : Outcome L)
+      → P (fromCursor w cursor count step list)
+  unfolding fromCursor
+  by-cursor cursor count step h missing list = by-asked (question 10 (leb cursor (countBy count list))) (by-list step h missing list)
+
+-- A row step that settles an entry stands past the cursor that it was given.
+abbrev pub RowMoves : ListWalk → ListWalk → Outcome ReachedRow → Type 0
+RowMoves w v (value (rowReached r)) = w .cursor < v .cursor
+RowMoves w v (value (rowSkipped j)) = w .cursor < v .cursor
+RowMoves w v (value rowsFinished) = Unit
+RowMoves w v absent = v ≡ w
+RowMoves w v (number k) = v ≡ w
+
+pub record RowMoved (w : ListWalk) (x : RowLeft) : Type 0 where
+  pub moves : RowMoves w (x .walk) (x .answer)
+
+module _ (t : Tables) (w : ListWalk) where
+  settled-moved : (j : ℕ) → w .cursor ≤ j → (o : Outcome Row) → RowMoved w (settles w j o)
+  settled-moved j h (value r) = record { moves = omega arith }
+  settled-moved j h absent = record { moves = omega arith }
+  settled-moved j h (number k) = record { moves = refl }
+
+  searched-moved : (h : Layout) (o : Option ℕ) → o ≡ firstReadable (imageIn t) h (w .cursor) → RowMoved w (searched t w h o)
+  searched-moved h (some j) e = settled-moved j (readables.found (imageIn t) h (w .cursor) j (sym e) .from) (rowAt t (h .kind) (entryAddress h j))
+  searched-moved h none e = record { moves = tt }
+
+  pub row-step-moved : RowMoved w (nextOf t w)
+  unfolding nextOf overRows
+  row-step-moved =
+      by-asked (RowMoved w) w (λ k. record { moves = refl }) (asked t)
+      (by-cursor (RowMoved w) w (λ k. record { moves = refl }) (w .cursor) (λ h. h .count) _
+      (λ h. searched-moved h (firstReadable (imageIn t) h (w .cursor)) refl) (record { moves = refl }) (listAt t (w .kind) (w .list)))
+
+-- A name step that takes a slot stands past it.
+abbrev pub NameMoves : ProtocolNameWalk → ProtocolNameWalk → Outcome ReachedName → Type 0
+NameMoves w v (value (nameReached name)) = w .cursor < v .cursor
+NameMoves w v (value namePassed) = w .cursor < v .cursor
+NameMoves w v (value namesFinished) = Unit
+NameMoves w v absent = v ≡ w
+NameMoves w v (number k) = v ≡ w
+
+pub record NameMoved (w : ProtocolNameWalk) (x : NameLeft) : Type 0 where
+  pub moves : NameMoves w (x .walk) (x .answer)
+
+module _ (t : Tables) (w : ProtocolNameWalk) where
+  named-moved : (o : Outcome Text) → NameMoved w (named w o)
+  named-moved (value name) = record { moves = omega arith }
+  named-moved absent = record { moves = omega arith }
+  named-moved (number k) = record { moves = refl }
+
+  slot-moved : (l : ProtocolList) → NameMoved w (stepIn t w l)
+  unfolding stepIn
+  slot-moved l = by-choose (NameMoved w) (λ e. named-moved (nameIn t (slotIn l (w .cursor)))) (λ e. record { moves = tt })
+
+  pub name-step-moved : NameMoved w (nextName t w)
+  unfolding nextName overNames
+  name-step-moved =
+      by-asked (NameMoved w) w (λ k. record { moves = refl }) (asked t)
+      (by-cursor (NameMoved w) w (λ k. record { moves = refl }) (w .cursor) (λ l. l .count) (stepIn t w) slot-moved (record { moves = refl })
+      (protocolListAt t (w .list)))
+
+-- A section step goes a slot further or takes what waits; it leaves the walk as given where that has finished. No section step is absent.
+pub data Further (w : Walk) : Walk → Type 0 where
+  past-slot : {v : Walk} → v .slot ≡ w .slot + 1 → Further w v
+  past-waiting : (w .waiting ≡ 0 → ⊥) → Further w (walk (w .slot) (w .used) 0)
+
+abbrev pub SectionMoves : {A : Type 0} → Walk → Walk → Outcome (Step A) → Type 0
+SectionMoves w v (value (found a)) = Further w v
+SectionMoves w v (value passed) = Further w v
+SectionMoves w v (value finished) = v ≡ w
+SectionMoves w v absent = ⊥
+SectionMoves w v (number k) = v ≡ w
+
+pub record SectionMoved {A : Type 0} (w : Walk) (x : Left A) : Type 0 where
+  pub moves : SectionMoves w (x .walk) (x .answer)
+
+-- What holds of each way that a section step can go holds of the step.
+module _ {A : Type 0} (P : Left A → Type 0) (w : Walk) (l : List ℕ) (refused : (k : ℕ) → P (stays w l k)) where
+  by-question : (o : Outcome (Unit {0})) (x : Left A) → P x → P (unlessRefused o (stays w l) x)
+  by-question (value u) x h = h
+  by-question absent x h = h
+  by-question (number k) x h = refused k
+
+  by-record : (after : A → ℕ) (on : ℕ → Walk) (new : List ℕ) → ((a : A) → P (leaves (value (found a)) (on (after a)) new)) → P (leaves (value passed) (on 0) new)
+      → (o : Outcome A) → P (byRecord w l after on new o)
+  by-record after on new f p (value a) = f a
+  by-record after on new f p absent = p
+  by-record after on new f p (number k) = refused k
+
+  by-slot : (decode : ℕ → Left A) → ((a : ℕ) → P (decode a)) → P (leaves (value passed) (walk (w .slot + 1) (w .used) 0) l) → P (leaves (value finished) w l)
+      → (x : TakenSlot) → P (bySlot w l decode x)
+  by-slot decode h p f (address a) = h a
+  by-slot decode h p f dropped = p
+  by-slot decode h p f noSlot = f
+  by-slot decode h p f (slotRefused k) = refused k
+
+module _ {A : Type 0} (k : Kind A) (t : Tables) (w : Walk) (l : List ℕ) where
+  by-step : (P : Left A → Type 0) → ((n : ℕ) → P (stays w l n)) → P (leaves (value finished) w l)
+      → ((a : ℕ) → P (takeNew k t w l a)) → P (leaves (value passed) (walk (w .slot + 1) (w .used) 0) l)
+      → ((w .waiting ≡ 0 → ⊥) → P (takeWaiting k t w l)) → P (stepOf k t w l)
+  unfolding stepOf takeSlot
+  by-step P refused end new drop waited =
+      by-question P w l refused (askedLedger t (slotsIn k t) (w .slot) (w .used) (length l)) _
+      (by-choose P
+      (λ e. by-slot P w l refused (takeNew k t w l) new drop end (firstMet (take (w .used) l) (slotTaken t (slotsIn k t) (w .slot))))
+      (λ e. waited (eqb-false (w .waiting) 0 e)))
+
+  pub section-step-moved : SectionMoved w (stepOf k t w l)
+  unfolding takeNew takeWaiting
+  section-step-moved =
+      by-step (SectionMoved w) (λ n. record { moves = refl }) (record { moves = refl })
+      (λ a. by-record (SectionMoved w) w l (λ n. record { moves = refl }) (k .after) (walk (w .slot + 1) (w .used + 1)) (set l (w .used) a)
+      (λ c. record { moves = past-slot refl }) (record { moves = past-slot refl }) (k .decoded t a))
+      (record { moves = past-slot refl })
+      (λ h. by-record (SectionMoved w) w l (λ n. record { moves = refl }) (λ c. 0) (walk (w .slot) (w .used)) l
+      (λ c. record { moves = past-waiting h }) (record { moves = past-waiting h }) (k .waited t (w .waiting)))
+
+  -- As many words are left in the ledger as there were.
+  pub step-keeps-length : length (stepOf k t w l .ledger) ≡ length l
+  unfolding takeNew takeWaiting
+  step-keeps-length =
+      by-step (λ x. length (x .ledger) ≡ length l) (λ n. refl) refl
+      (λ a. by-record (λ x. length (x .ledger) ≡ length l) w l (λ n. refl) (k .after) (walk (w .slot + 1) (w .used + 1)) (set l (w .used) a)
+      (λ c. length-set l (w .used) a) (length-set l (w .used) a) (k .decoded t a))
+      refl
+      (λ h. by-record (λ x. length (x .ledger) ≡ length l) w l (λ n. refl) (λ c. 0) (walk (w .slot) (w .used)) l (λ c. refl) refl (k .waited t (w .waiting)))
+
+module _ (t : Tables) (w : Walk) (l : List ℕ) where
+  abbrev one-on : Walk
+  one-on = walk (w .slot + 1) (w .used) 0
+
+  by-protocol-step : (P : Left ObjcProtocol → Type 0) → ((n : ℕ) → P (stays w l n)) → P (leaves (value finished) w l)
+      → ((p : ObjcProtocol) → P (leaves (value (found p)) one-on l)) → P (leaves (value passed) one-on l) → P (protocolStepOf t w l)
+  unfolding protocolStepOf takeProtocol
+  by-protocol-step P refused end gives pass =
+      by-question P w l refused (askedSlot t (slotsOf Protocols (t .sections)) (w .slot) (w .used)) _
+      (by-slot P w l refused (takeProtocol t w l) (λ a. by-record P w l refused (λ p. 0) (walk (w .slot + 1) (w .used)) l gives pass (protocolAt t a)) pass end
+      (slotTaken t (slotsOf Protocols (t .sections)) (w .slot)))
+
+  pub protocol-step-moved : SectionMoved w (protocolStepOf t w l)
+  protocol-step-moved =
+      by-protocol-step (SectionMoved w) (λ n. record { moves = refl }) (record { moves = refl }) (λ p. record { moves = past-slot refl }) (record { moves = past-slot refl })
+
+  -- The ledger is left as it was.
+  pub protocol-step-keeps : protocolStepOf t w l .ledger ≡ l
+  protocol-step-keeps = by-protocol-step (λ x. x .ledger ≡ l) (λ n. refl) refl (λ p. refl) refl

@@ -1,0 +1,90 @@
+-- A worked list of three slots: the first bound, the second empty, the third bound too but with a protocol that decodes.
+use Prim.Native.Nat.{ℕ, _≤_}
+use mathlib.Core.Path.{_≡_, refl}
+use mathlib.Core.List.{List, [], _∷_, _++_}
+use lib.ListN.{length, replicate}
+use borrow.Author.Tests.{le-leb}
+use Rattle.reads.specs.Outcome.{value, absent, choose, sum64, nonzero, textOf}
+use Rattle.reads.specs.Segment.{rows, ends, holds, placed, lookup}
+use Rattle.reads.specs.Place.{le, readableAt, readable, word, wordIn}
+use Rattle.reads.specs.Address.{stripped}
+use Rattle.reads.specs.Text.{text, textLength, textAt, textIn}
+use Rattle.reads.specs.Utf8.{judge, utf8}
+use Rattle.pointers.specs.Tables.{Tables, tablesOf, withIndex}
+use Rattle.pointers.specs.Question.{question, imageFits, wholeRows, every, sectionFits, sectionTable, infoWhole, nameFits, indexFits, askedTables, askedIndex, namesFit}
+use Rattle.pointers.specs.ImageInfo.{imageInfo, infoOf}
+use Rattle.pointers.specs.Index.{indexed}
+use Rattle.pointers.specs.Chain.{lastAmong}
+use Rattle.pointers.specs.Open.{askedOpening, opening, openedIndex, Opened}
+use Rattle.pointers.specs.Slot.{rebaseAt, bindName, bindAt, symbolOf, stored, resolve, pointerAt, pointerOr0At}
+use Rattle.pointers.specs.Symbol.{ascii, starts, fitting, strippedName}
+use Rattle.pointers.proofs.Chains.{rebase-last-wins, bind-last-wins}
+use Rattle.records.specs.Protocol.{decodeProtocolLists, decodeClassProperties, decodeProtocol}
+use Rattle.records.specs.Ask.{evenList}
+use Rattle.walks.specs.Handed.{answersOf}
+use Rattle.walks.specs.ProtocolNames.{protocolListAt, decodeProtocolList, hasSlot, decodeProtocolName, decodeOrBound, nameIn, decodeNameIn, walkAt, nameReached, namePassed, namesFinished, nextName, slotNames, namesAmong, protocolNames}
+use Rattle.walks.proofs.ProtocolNameWalks.{slots-said-then-finished}
+
+-- The list at 0x1000 with slots at 0x1008, 0x1010 and 0x1018; a protocol_t of 72 bytes at 0x1020; its name at 0x1068; a symbol's name.
+abbrev namesImage : List ℕ
+namesImage =
+    (3 ∷ replicate 7 0)
+    ++ replicate 16 0
+    ++ (0x20 ∷ 0x10 ∷ replicate 6 0)
+    ++ replicate 8 0
+    ++ (0x68 ∷ 0x10 ∷ replicate 6 0)
+    ++ replicate 48 0
+    ++ (72 ∷ replicate 7 0)
+    ++ ascii "P"
+    ++ (0 ∷ [])
+    ++ ascii "_OBJC_PROTOCOL_$_NSCopying"
+
+abbrev namesBinds : List ℕ
+namesBinds = 0x1008 ∷ 106 ∷ 26 ∷ 0x1018 ∷ 106 ∷ 26 ∷ []
+
+-- One segment, no section, no rebase; the index as opening leaves it.
+abbrev namesTables : List ℕ → Tables
+namesTables before = tablesOf namesImage (0x1000 ∷ 132 ∷ 0 ∷ 132 ∷ []) (replicate 15 0) (replicate 8 0) [] namesBinds (indexed [] namesBinds before)
+
+module _ (before : List ℕ) where
+  names-unrebased : (a : ℕ) → rebaseAt [] (indexed [] namesBinds before) a ≡ absent
+  unfolding rebaseAt lastAmong
+  names-unrebased a = rw (rebase-last-wins [] namesBinds before a)
+
+  name-bound : nameIn (namesTables before) 0x1008 ≡ value (textOf 123 9)
+  unfolding decodeNameIn decodeOrBound decodeProtocolName resolve stored word readable lookup rows ends holds placed sum64 readableAt le stripped nonzero choose symbolOf bindAt bindName question nameFits utf8 judge strippedName fitting starts lastAmong
+  name-bound = simp (names-unrebased, bind-last-wins [] namesBinds before)
+
+  name-empty : nameIn (namesTables before) 0x1010 ≡ absent
+  unfolding decodeNameIn decodeOrBound decodeProtocolName resolve stored word readable lookup rows ends holds placed sum64 readableAt le stripped nonzero choose symbolOf bindAt lastAmong
+  name-empty = simp (names-unrebased, bind-last-wins [] namesBinds before)
+
+  name-decoded : nameIn (namesTables before) 0x1018 ≡ value (textOf 104 1)
+  unfolding decodeNameIn decodeOrBound decodeProtocolName decodeProtocol decodeProtocolLists decodeClassProperties pointerAt pointerOr0At resolve stored word wordIn readable lookup rows ends holds placed sum64 readableAt le stripped nonzero choose textIn textAt textLength text utf8 judge
+  name-decoded = simp names-unrebased
+
+  list-there : protocolListAt (namesTables before) 0x1000 ≡ value (record { base = 0x1008; count = 3 })
+  unfolding decodeProtocolList evenList wordIn readable lookup rows ends holds placed sum64 readableAt le nonzero choose
+  list-there = refl
+
+  names-in-slots : slotNames (namesTables before) (record { base = 0x1008; count = 3 }) 0 3 ≡ value (textOf 123 9) ∷ absent ∷ value (textOf 104 1) ∷ []
+  unfolding slotNames hasSlot choose
+  names-in-slots = simp (name-bound, name-empty, name-decoded)
+
+  pub names : protocolNames (namesTables before) 0x1000 ≡ textOf 123 9 ∷ textOf 104 1 ∷ []
+  unfolding protocolNames namesAmong
+  names = rw (list-there, names-in-slots)
+
+  -- Opening accepts the namesTables with an index of 8,194 words.
+  module _ (enough : 8194 ≤ length before) where
+    accepts : askedOpening (withIndex (namesTables before) before) ≡ value tt
+    unfolding askedOpening askedTables askedIndex question imageFits wholeRows every sectionFits sectionTable infoWhole namesFit nameFits indexFits utf8 judge choose
+    accepts = rw (le-leb 8194 (length before) enough)
+
+    opened : Opened (namesTables before)
+    unfolding opening openedIndex imageInfo le choose
+    opened = record { indexBefore = before; info = infoOf 0 0; accepted = rw accepts; left = rw accepts }
+
+    pub name-answers : answersOf (nextName (namesTables before)) 4 (walkAt 0x1000 0)
+        ≡ value (nameReached (textOf 123 9)) ∷ value namePassed ∷ value (nameReached (textOf 104 1)) ∷ value namesFinished ∷ []
+    name-answers = simp names-in-slots at (slots-said-then-finished (namesTables before) opened 0x1000 (record { base = 0x1008; count = 3 }) list-there 1)

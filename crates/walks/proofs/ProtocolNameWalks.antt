@@ -1,0 +1,153 @@
+-- Over tables that opening accepted, with the index as opening left it, no step over protocol names is refused, and the steps from the first
+-- slot on say the names of the list in order and then that they are finished.
+use Prim.Native.Nat.{ℕ, zero, suc, _+_, _-_, _≤_, min}
+use mathlib.Core.Path.{_≡_, refl, ap, _∙_}
+use mathlib.Core.Bool.{true, false}
+use mathlib.Core.List.{List, [], _∷_, _++_, map}
+use native.Mathlib.Omega.{arith}
+use lib.ListN.{length, replicate}
+use borrow.Author.Tests.{le-leb}
+use Rattle.reads.specs.Outcome.{Outcome, value, absent, number, Unrefused, is-value, is-absent, sum64, nonzero}
+use Rattle.reads.specs.Place.{readable, wordIn}
+use Rattle.reads.specs.declared.text.Text.{Text}
+use Rattle.reads.proofs.Outcomes.{then-came}
+use Rattle.reads.proofs.Tests.{by-choose, choose-true, choose-false}
+use Rattle.reads.proofs.Unrefused.{unrefused-then, sum-unrefused, nonzero-unrefused, readable-unrefused}
+use Rattle.pointers.specs.Tables.{Tables, imageIn}
+use Rattle.pointers.specs.Open.{Opened}
+use Rattle.pointers.proofs.Questions.{question-yes}
+use Rattle.pointers.proofs.OpenedTables.{opened-asked}
+use Rattle.walks.specs.declared.protocol_names.ProtocolList.{ProtocolList}
+use Rattle.walks.specs.declared.protocol_names.ProtocolNameWalk.{ProtocolNameWalk}
+use Rattle.walks.specs.Handed.{hands, countBy, fromCursor, answersOf}
+use Rattle.walks.specs.ProtocolNames.{protocolListAt, decodeProtocolList, hasSlot, slotIn, nameIn, decodeNameIn, walkAt, nameReached, namePassed, namesFinished, NameLeft, slotAnswer, named, stepIn, overNames, nextName, slotNames, namesAmong, protocolNames, namesSaid}
+use Rattle.records.specs.Ask.{evenList}
+use Rattle.records.proofs.Headers.{even-unrefused}
+use Rattle.records.proofs.Decodes.{unrefused}
+use Rattle.walks.proofs.ProtocolLists.{no-slot-from-count}
+
+pub protocol-list-unrefused : (t : Tables) (va : ℕ) → Unrefused (protocolListAt t va)
+unfolding decodeProtocolList
+protocol-list-unrefused t va =
+    unrefused-then _ (nonzero-unrefused va) (λ _.
+    unrefused-then _ (even-unrefused va) (λ _.
+    unrefused-then _ (readable-unrefused (imageIn t) va 8) (λ p.
+    unrefused-then _ (sum-unrefused va 8) (λ base. is-value _))))
+
+-- A list has at most 1,048,576 slots.
+pub list-at-most : (t : Tables) (va : ℕ) (l : ProtocolList) → protocolListAt t va ≡ value l → l .count ≤ 1048576
+unfolding decodeProtocolList
+list-at-most t va l e =
+    let a = then-came (nonzero va) _ l e in
+    let b = then-came (evenList va) _ l (a .2) in
+    let p = then-came (readable (imageIn t) va 8) _ l (b .2) in
+    let s = then-came (sum64 va 8) _ l (p .2) in
+    let h : min (wordIn (t .image) 8 (p .0) 0) 1048576 ≡ l .count = cc in
+    omega arith
+
+-- At most k of k slots are there.
+pub slots-at-most : (t : Tables) (l : ProtocolList) (k i : ℕ) → length (slotNames t l i k) ≤ k
+unfolding slotNames
+slots-at-most t l zero i = omega arith
+slots-at-most t l (suc k) i =
+    let h = slots-at-most t l k (i + 1) in
+    by-choose (λ (os : List (Outcome Text)). length os ≤ suc k) (λ e. omega arith) (λ e. omega arith)
+
+-- Without a number the walk goes one slot on.
+named-on : (w : ProtocolNameWalk) {x : Outcome Text} → Unrefused x → named w x ≡ hands (slotAnswer x) (walkAt (w .list) (w .cursor + 1))
+named-on w (is-value name) = refl
+named-on w is-absent = refl
+
+answer-unrefused : {x : Outcome Text} → Unrefused x → Unrefused (slotAnswer x)
+answer-unrefused (is-value name) = is-value (nameReached name)
+answer-unrefused is-absent = is-value namePassed
+
+-- The names among the answers for slots are the names among the slots.
+none-finished : (n : ℕ) → namesSaid (replicate n (value namesFinished)) ≡ []
+unfolding namesSaid
+none-finished zero = refl
+none-finished (suc n) = none-finished n
+
+names-of-slots : (os : List (Outcome Text)) (n : ℕ)
+    → namesSaid (map slotAnswer os ++ replicate n (value namesFinished)) ≡ namesAmong os
+unfolding namesSaid namesAmong
+names-of-slots [] n = none-finished n
+names-of-slots (value name ∷ os) n = ap (λ names. name ∷ names) (names-of-slots os n)
+names-of-slots (absent ∷ os) n = names-of-slots os n
+names-of-slots (number k ∷ os) n = names-of-slots os n
+
+module _ (t : Tables) (o : Opened t) where
+  pub name-in-unrefused : (a : ℕ) → Unrefused (nameIn t a)
+  name-in-unrefused a = unrefused t o (decodeNameIn a)
+
+  -- Every question passes.
+  pub next-in : (w : ProtocolNameWalk) (l : ProtocolList) → protocolListAt t (w .list) ≡ value l → w .cursor ≤ l .count → nextName t w ≡ stepIn t w l
+  unfolding nextName overNames fromCursor
+  next-in w l e h = rw (opened-asked t o, e, question-yes 10 _ (le-leb (w .cursor) (l .count) h))
+
+  pub next-absent : (w : ProtocolNameWalk) → protocolListAt t (w .list) ≡ absent → w .cursor ≤ 0 → nextName t w ≡ hands absent w
+  unfolding nextName overNames fromCursor
+  next-absent w e h = rw (opened-asked t o, e, question-yes 10 _ (le-leb (w .cursor) 0 h))
+
+  pub next-unrefused : (w : ProtocolNameWalk) → w .cursor ≤ countBy (λ l. l .count) (protocolListAt t (w .list)) → Unrefused (nextName t w .answer)
+  unfolding stepIn
+  next-unrefused w h = go (protocolListAt t (w .list)) refl (protocol-list-unrefused t (w .list))
+    where
+      go : (x : Outcome ProtocolList) → protocolListAt t (w .list) ≡ x → Unrefused x → Unrefused (nextName t w .answer)
+      go (value l) e u =
+          rw (next-in w l e (rw e at h))
+          (by-choose (λ (s : NameLeft). Unrefused (s .answer))
+          (λ f. rw (named-on w (name-in-unrefused (slotIn l (w .cursor)))) (answer-unrefused (name-in-unrefused (slotIn l (w .cursor)))))
+          (λ f. is-value namesFinished))
+      go absent e u = rw (next-absent w e (rw e at h)) is-absent
+
+  -- The steps over a list that is there.
+  module _ (list : ℕ) (l : ProtocolList) (there : protocolListAt t list ≡ value l) where
+    -- With no slot left each step says finished.
+    no-slot-finished : (n i : ℕ) → i ≤ l .count → hasSlot l i ≡ false → answersOf (nextName t) n (walkAt list i) ≡ replicate n (value namesFinished)
+    unfolding answersOf stepIn
+    no-slot-finished zero i h e = refl
+    no-slot-finished (suc n) i h e =
+        let next : nextName t (walkAt list i) ≡ hands (value namesFinished) (walkAt list (l .count)) = next-in (walkAt list i) l there h ∙ choose-false _ _ e in
+        let same : l .count ≤ l .count = omega arith in
+        rw next (ap (λ rest. value namesFinished ∷ rest) (no-slot-finished n (l .count) same (no-slot-from-count l (l .count) same)))
+
+    -- A slot that is there is said, and the walk goes one on.
+    slot-said : (n i : ℕ) → i ≤ l .count → hasSlot l i ≡ true
+        → answersOf (nextName t) (suc n) (walkAt list i) ≡ slotAnswer (nameIn t (slotIn l i)) ∷ answersOf (nextName t) n (walkAt list (i + 1))
+    unfolding answersOf stepIn
+    slot-said n i h e =
+        let next : nextName t (walkAt list i) ≡ named (walkAt list i) (nameIn t (slotIn l i)) = next-in (walkAt list i) l there h ∙ choose-true _ _ e in
+        rw (next, named-on (walkAt list i) (name-in-unrefused (slotIn l i)))
+
+    -- Each slot is said, in order, and then finished, n times in n more steps than there are slots.
+    abbrev Said : ℕ → ℕ → List (Outcome Text) → Type 0
+    Said i n os =
+        (m : ℕ) → m ≡ length os + n → answersOf (nextName t) m (walkAt list i) ≡ map slotAnswer os ++ replicate n (value namesFinished)
+
+    said-from : (k i n : ℕ) → i + k ≡ l .count → Said i n (slotNames t l i k)
+    unfolding slotNames
+    said-from zero i n h =
+        λ m g. let f : m ≡ n = omega arith in rw f (no-slot-finished n i (omega arith) (no-slot-from-count l i (omega arith)))
+    said-from (suc k) i n h =
+        by-choose (Said i n)
+        (λ e m g.
+        let later = length (slotNames t l (i + 1) k) + n in
+        let f : m ≡ suc later = omega arith in
+        rw f (slot-said later i (omega arith) e
+        ∙ ap (λ rest. slotAnswer (nameIn t (slotIn l i)) ∷ rest) (said-from k (i + 1) n (omega arith) later refl)))
+        (λ e m g. let f : m ≡ n = omega arith in rw f (no-slot-finished n i (omega arith) e))
+
+    pub slots-said-then-finished : (n : ℕ)
+        → answersOf (nextName t) (length (slotNames t l 0 (l .count)) + n) (walkAt list 0)
+        ≡ map slotAnswer (slotNames t l 0 (l .count)) ++ replicate n (value namesFinished)
+    slots-said-then-finished n = said-from (l .count) 0 n (omega arith) (length (slotNames t l 0 (l .count)) + n) refl
+
+    -- Count + 1 steps are enough for every name.
+    pub names-said : namesSaid (answersOf (nextName t) (l .count + 1) (walkAt list 0)) ≡ protocolNames t list
+    unfolding protocolNames
+    names-said =
+        let os = slotNames t l 0 (l .count) in
+        let few = slots-at-most t l (l .count) 0 in
+        let more = l .count + 1 - length os in
+        ap namesSaid (said-from (l .count) 0 more (omega arith) (l .count + 1) (omega arith)) ∙ names-of-slots os more ∙ rw there

@@ -1,0 +1,91 @@
+-- A worked example: five slots in class_list and nlclslist, of which two repeat an address, one is 0 and one does not decode.
+use Prim.Native.Nat.{ℕ}
+use mathlib.Core.Path.{_≡_, refl}
+use mathlib.Core.Bool.{true, false}
+use mathlib.Core.List.{List, [], _∷_, _++_, map, flatMap}
+use lib.ListN.{replicate}
+use Rattle.reads.specs.Outcome.{value, number, choose, sum64, nonzero}
+use Rattle.reads.specs.Place.{le, readableAt, readable, word}
+use Rattle.reads.specs.Segment.{rows, ends, holds, placed, lookup}
+use Rattle.reads.specs.Address.{stripped, dataArm64e, data64, mapped, pickedWide, picked}
+use Rattle.reads.specs.Relative.{slotAddress}
+use Rattle.pointers.specs.Tables.{Tables, tablesOf}
+use Rattle.pointers.specs.Question.{question, imageFits, wholeRows, sectionFits, every, sectionTable, infoWhole, indexFits, askedTables, askedIndex, asked}
+use Rattle.pointers.specs.Section.{sectionAt}
+use Rattle.pointers.specs.Chain.{followFrom, follow}
+use Rattle.pointers.specs.Slot.{rebaseAt, stored, resolve}
+use Rattle.records.specs.Class.{bitsOf, decodeData, decodeClass}
+use Rattle.walks.specs.Slots.{slotsFrom, sectionSlots, decodeAddress, among, slotFits, ledgerFits, askedSlot, askedLedger, slotTaken}
+use Rattle.walks.specs.Sections.{Walk, walk, found, passed, finished, Left, leaves, classes, metaOf, takeWaiting, takeNew, takeSlot, stepOf}
+use Rattle.walks.specs.PlainSections.{addressesIn, without, once, listed, withMeta, plainClasses}
+use Rattle.records.specs.declared.class.ObjcClass.{ObjcClass}
+
+-- 72 bytes at 0x1000: a class whose isa is 0x1008, where 40 bytes can be read too; from 0x1028 on the slots 0x1000, 0, 0x1000, 0x3000.
+abbrev bytes : List ℕ
+bytes =
+    8 ∷ 16 ∷ 0 ∷ 0 ∷ 0 ∷ 0 ∷ 0 ∷ 0
+    ∷ 0 ∷ 0 ∷ 0 ∷ 0 ∷ 0 ∷ 0 ∷ 0 ∷ 0
+    ∷ 0 ∷ 0 ∷ 0 ∷ 0 ∷ 0 ∷ 0 ∷ 0 ∷ 0
+    ∷ 0 ∷ 0 ∷ 0 ∷ 0 ∷ 0 ∷ 0 ∷ 0 ∷ 0
+    ∷ 0 ∷ 0 ∷ 0 ∷ 0 ∷ 0 ∷ 0 ∷ 0 ∷ 0
+    ∷ 0 ∷ 16 ∷ 0 ∷ 0 ∷ 0 ∷ 0 ∷ 0 ∷ 0
+    ∷ 0 ∷ 0 ∷ 0 ∷ 0 ∷ 0 ∷ 0 ∷ 0 ∷ 0
+    ∷ 0 ∷ 16 ∷ 0 ∷ 0 ∷ 0 ∷ 0 ∷ 0 ∷ 0
+    ∷ 0 ∷ 48 ∷ 0 ∷ 0 ∷ 0 ∷ 0 ∷ 0 ∷ 0
+    ∷ []
+
+-- class_list has the first three, nlclslist the last two.
+abbrev pub example : Tables
+example =
+    tablesOf bytes (4096 ∷ 72 ∷ 0 ∷ 72 ∷ []) (1 ∷ 4136 ∷ 24 ∷ 1 ∷ 4152 ∷ 16 ∷ 0 ∷ 0 ∷ 0 ∷ 0 ∷ 0 ∷ 0 ∷ 0 ∷ 0 ∷ 0 ∷ []) (replicate 8 0) [] [] (replicate 8192 0)
+
+abbrev pub listedClass : ObjcClass
+listedClass = record { address = 4096; isa = 4104; «superclass_address» = 0; bits = 0; «is_meta» = false }
+
+abbrev pub listedMeta : ObjcClass
+listedMeta = record { address = 4104; isa = 0; «superclass_address» = 0; bits = 4096; «is_meta» = true }
+
+-- A step: the walk and the ledger that it is given, and what it leaves.
+pub record Case : Type 0 where
+  pub walk : Walk
+  pub ledger : List ℕ
+  pub expected : Left ObjcClass
+
+abbrev case : Walk → List ℕ → Left ObjcClass → Case
+case w ledger expected = record { walk = w; ledger = ledger; expected = expected }
+
+-- The ledger once the class is met, and once 0x3000 is too.
+abbrev one : List ℕ
+one = 4096 ∷ 9 ∷ 9 ∷ 9 ∷ 9 ∷ []
+
+abbrev two : List ℕ
+two = 4096 ∷ 12288 ∷ 9 ∷ 9 ∷ 9 ∷ []
+
+-- The seven steps of a walk: the class; its metaclass; 0 is dropped; the class was met before, in the second section too; 0x3000 does not
+-- decode and counts as met; finished.
+abbrev taken : List Case
+taken =
+    case (walk 0 0 0) (replicate 5 9) (leaves (value (found listedClass)) (walk 1 1 4104) one)
+    ∷ case (walk 1 1 4104) one (leaves (value (found listedMeta)) (walk 1 1 0) one)
+    ∷ case (walk 1 1 0) one (leaves (value passed) (walk 2 1 0) one)
+    ∷ case (walk 2 1 0) one (leaves (value passed) (walk 3 1 0) one)
+    ∷ case (walk 3 1 0) one (leaves (value passed) (walk 4 1 0) one)
+    ∷ case (walk 4 1 0) one (leaves (value passed) (walk 5 2 0) two)
+    ∷ case (walk 5 2 0) two (leaves (value finished) (walk 5 2 0) two)
+    ∷ []
+
+-- Refused, with nothing written: a slot past the last, more words in use than slots taken, a ledger of four words.
+abbrev refusals : List Case
+refusals =
+    case (walk 6 0 0) (replicate 5 9) (leaves (number 10) (walk 6 0 0) (replicate 5 9))
+    ∷ case (walk 1 2 0) (replicate 5 9) (leaves (number 10) (walk 1 2 0) (replicate 5 9))
+    ∷ case (walk 0 0 0) (replicate 4 9) (leaves (number 11) (walk 0 0 0) (replicate 4 9))
+    ∷ []
+
+pub step-cases : map (λ (c : Case). stepOf classes example (c .walk) (c .ledger)) (taken ++ refusals) ≡ map (λ (c : Case). c .expected) (taken ++ refusals)
+unfolding stepOf askedLedger askedSlot slotFits ledgerFits sectionSlots slotsFrom asked askedTables askedIndex question imageFits wholeRows sectionTable every sectionFits infoWhole indexFits takeSlot takeNew takeWaiting slotTaken among decodeAddress sectionAt slotAddress resolve rebaseAt follow followFrom stored stripped word readable readableAt lookup rows ends holds placed le nonzero choose sum64 decodeClass decodeData bitsOf picked pickedWide mapped dataArm64e data64 metaOf
+step-cases = refl
+
+pub plain-case : plainClasses example ≡ listedClass ∷ listedMeta ∷ []
+unfolding plainClasses listed withMeta addressesIn sectionSlots slotsFrom without once flatMap decodeAddress sectionAt slotAddress resolve rebaseAt follow followFrom stored stripped word readable readableAt lookup rows ends holds placed le nonzero choose sum64 decodeClass decodeData bitsOf picked pickedWide mapped dataArm64e data64 metaOf
+plain-case = refl

@@ -1,0 +1,165 @@
+-- The walks over the section lists (document 01, Section walk and Steps; class.rs, category.rs, protocol.rs).
+use Prim.Native.Nat.{ℕ, _+_}
+use mathlib.Core.Bool.{true, false}
+use mathlib.Core.List.{List, []}
+use lib.Dec.{eqb}
+use lib.ListN.{length, take, set}
+use Rattle.reads.specs.Outcome.{Outcome, value, absent, number, choose}
+use Rattle.pointers.specs.Tables.{Tables}
+use Rattle.records.specs.Class.{classAt}
+use Rattle.records.specs.Category.{categoryAt}
+use Rattle.records.specs.Protocol.{protocolAt}
+use Rattle.walks.specs.Handed.{unlessRefused}
+use Rattle.walks.specs.Slots.{slotsOf, askedSlot, askedLedger, TakenSlot, address, dropped, noSlot, slotRefused, slotTaken, firstMet}
+use Rattle.records.specs.declared.class.ObjcClass.{ObjcClass}
+use Rattle.records.specs.declared.category.ObjcCategory.{ObjcCategory}
+use Rattle.records.specs.declared.protocol.ObjcProtocol.{ObjcProtocol}
+use Rattle.walks.specs.declared.slots.Lists.{Lists}
+use Rattle.walks.specs.declared.slots.Lists.the-variants.{Classes, Categories, Protocols}
+use Rattle.walks.specs.declared.sections.ClassWalk.{ClassWalk}
+use Rattle.walks.specs.declared.sections.ClassStep.{ClassStep}
+use Rattle.walks.specs.declared.sections.ClassStep.the-variants as class
+use Rattle.walks.specs.declared.sections.ClassStepped.{ClassStepped}
+use Rattle.walks.specs.declared.sections.CategoryWalk.{CategoryWalk}
+use Rattle.walks.specs.declared.sections.CategoryStep.{CategoryStep}
+use Rattle.walks.specs.declared.sections.CategoryStep.the-variants as category
+use Rattle.walks.specs.declared.sections.CategoryStepped.{CategoryStepped}
+use Rattle.walks.specs.declared.sections.ProtocolWalk.{ProtocolWalk}
+use Rattle.walks.specs.declared.sections.ProtocolStep.{ProtocolStep}
+use Rattle.walks.specs.declared.sections.ProtocolStep.the-variants as protocol
+use Rattle.walks.specs.declared.sections.ProtocolStepped.{ProtocolStepped}
+
+-- A walk's state: the next slot, how many words of the ledger are in use, and the address that waits, 0 for none.
+pub record Walk : Type 0 where
+  pub slot : ℕ
+  pub used : ℕ
+  pub waiting : ℕ
+
+abbrev pub walk : ℕ → ℕ → ℕ → Walk
+walk slot used waiting = record { slot = slot; used = used; waiting = waiting }
+
+-- What a step gives where no question refuses it: a record, or nothing from what it took, or there was nothing left.
+pub data Step (A : Type 0) : Type 0 where
+  found : A → Step A
+  passed : Step A
+  finished : Step A
+
+-- A call's answer, with the walk that it hands back and the ledger as it leaves it.
+pub record Left (A : Type 0) : Type 0 where
+  pub answer : Outcome (Step A)
+  pub walk : Walk
+  pub ledger : List ℕ
+
+abbrev pub leaves : {A : Type 0} → Outcome (Step A) → Walk → List ℕ → Left A
+leaves o w ledger = record { answer = o; walk = w; ledger = ledger }
+
+-- With a number both are as given.
+abbrev pub stays : {A : Type 0} → Walk → List ℕ → ℕ → Left A
+stays w ledger k = leaves (number k) w ledger
+
+-- What is walked: the lists, the record at an address, the address that waits after it (0 for none), and the record there.
+pub record Kind (A : Type 0) : Type 0 where
+  pub lists : Lists
+  pub decoded : Tables → ℕ → Outcome A
+  pub after : A → ℕ
+  pub waited : Tables → ℕ → Outcome A
+
+abbrev pub slotsIn : {A : Type 0} → Kind A → Tables → List ℕ
+slotsIn k t = slotsOf (k .lists) (t .sections)
+
+-- The metaclass comes after its class, if isa is neither 0 nor the class.
+unfoldable pub metaOf : ObjcClass → ℕ
+metaOf c = choose (eqb (c .isa) (c .address)) 0 (c .isa)
+
+abbrev pub classes : Kind ObjcClass
+classes = record { lists = Classes; decoded = λ t a. classAt t a false; after = metaOf; waited = λ t a. classAt t a true }
+
+-- Nothing waits.
+abbrev pub categories : Kind ObjcCategory
+categories = record { lists = Categories; decoded = categoryAt; after = λ c. 0; waited = categoryAt }
+
+-- A record is found, and the address after it waits; one that does not decode is passed. The walk goes on, and the ledger is the new one.
+-- With a number both are as given.
+abbrev pub byRecord : {A : Type 0} → Walk → List ℕ → (A → ℕ) → (ℕ → Walk) → List ℕ → Outcome A → Left A
+byRecord w ledger after on new (value a) = leaves (value (found a)) (on (after a)) new
+byRecord w ledger after on new absent = leaves (value passed) (on 0) new
+byRecord w ledger after on new (number k) = stays w ledger k
+
+-- The address in a slot is decoded; a slot that is dropped is passed; with none left the walk has finished.
+abbrev pub bySlot : {A : Type 0} → Walk → List ℕ → (ℕ → Left A) → TakenSlot → Left A
+bySlot w ledger decode (address a) = decode a
+bySlot w ledger decode dropped = leaves (value passed) (walk (w .slot + 1) (w .used) 0) ledger
+bySlot w ledger decode noSlot = leaves (value finished) w ledger
+bySlot w ledger decode (slotRefused k) = stays w ledger k
+
+-- What waits is taken.
+unfoldable pub takeWaiting : {A : Type 0} → Kind A → Tables → Walk → List ℕ → Left A
+takeWaiting k t w ledger = byRecord w ledger (λ c. 0) (walk (w .slot) (w .used)) ledger (k .waited t (w .waiting))
+
+-- The same, where no question refuses the step.
+unfoldable pub nextWaiting : {A : Type 0} → Kind A → Tables → Walk → List ℕ → Left A
+nextWaiting k t w ledger =
+    unlessRefused (askedLedger t (slotsIn k t) (w .slot) (w .used) (length ledger)) (stays w ledger) (takeWaiting k t w ledger)
+
+-- An address first met: decodable or not, the next word of the ledger becomes it.
+unfoldable pub takeNew : {A : Type 0} → Kind A → Tables → Walk → List ℕ → ℕ → Left A
+takeNew k t w ledger a =
+    byRecord w ledger (k .after) (walk (w .slot + 1) (w .used + 1)) (set ledger (w .used) a) (k .decoded t a)
+
+-- The next slot is taken; 0 and the addresses met before, which are the words in use, are dropped.
+unfoldable pub takeSlot : {A : Type 0} → Kind A → Tables → Walk → List ℕ → Left A
+takeSlot k t w ledger =
+    bySlot w ledger (takeNew k t w ledger) (firstMet (take (w .used) ledger) (slotTaken t (slotsIn k t) (w .slot)))
+
+-- A step of a walk that meets each address once: the questions 1 to 6, 8, 10 and 11; then what waits, else the next slot.
+unfoldable pub stepOf : {A : Type 0} → Kind A → Tables → Walk → List ℕ → Left A
+stepOf k t w ledger =
+    unlessRefused (askedLedger t (slotsIn k t) (w .slot) (w .used) (length ledger)) (stays w ledger)
+    (choose (eqb (w .waiting) 0) (takeSlot k t w ledger) (takeWaiting k t w ledger))
+
+-- A protocol listed twice comes twice.
+unfoldable pub takeProtocol : Tables → Walk → List ℕ → ℕ → Left ObjcProtocol
+takeProtocol t w ledger a = byRecord w ledger (λ p. 0) (walk (w .slot + 1) (w .used)) ledger (protocolAt t a)
+
+-- A step of the protocol walk: the questions 1 to 6, 8 and 10, then the next slot; the ledger is not looked at.
+unfoldable pub protocolStepOf : Tables → Walk → List ℕ → Left ObjcProtocol
+protocolStepOf t w ledger =
+    unlessRefused (askedSlot t (slotsOf Protocols (t .sections)) (w .slot) (w .used)) (stays w ledger)
+    (bySlot w ledger (takeProtocol t w ledger) (slotTaken t (slotsOf Protocols (t .sections)) (w .slot)))
+
+-- Document 01's meaning of the code's walks and of each case of its answers.
+abbrev pub classWalk : ClassWalk → Walk
+classWalk w = walk (w .slots .slot) (w .slots .used) (w .meta)
+
+abbrev pub classStep : ClassStep → Outcome (Step ObjcClass)
+classStep (class.Record c) = value (found c)
+classStep class.Passed = value passed
+classStep class.Finished = value finished
+classStep (class.Refused k) = number k
+
+abbrev pub classLeft : ClassStepped → List ℕ → Left ObjcClass
+classLeft r ledger = leaves (classStep (r .step)) (classWalk (r .walk)) ledger
+
+abbrev pub categoryWalk : CategoryWalk → Walk
+categoryWalk w = walk (w .slots .slot) (w .slots .used) 0
+
+abbrev pub categoryStep : CategoryStep → Outcome (Step ObjcCategory)
+categoryStep (category.Record c) = value (found c)
+categoryStep category.Passed = value passed
+categoryStep category.Finished = value finished
+categoryStep (category.Refused k) = number k
+
+abbrev pub categoryLeft : CategoryStepped → List ℕ → Left ObjcCategory
+categoryLeft r ledger = leaves (categoryStep (r .step)) (categoryWalk (r .walk)) ledger
+
+abbrev pub protocolWalk : ProtocolWalk → Walk
+protocolWalk w = walk (w .slot) 0 0
+
+abbrev pub protocolStep : ProtocolStep → Outcome (Step ObjcProtocol)
+protocolStep (protocol.Record p) = value (found p)
+protocolStep protocol.Passed = value passed
+protocolStep protocol.Finished = value finished
+protocolStep (protocol.Refused k) = number k
+
+abbrev pub protocolLeft : ProtocolStepped → Left ObjcProtocol
+protocolLeft r = leaves (protocolStep (r .step)) (protocolWalk (r .walk)) []

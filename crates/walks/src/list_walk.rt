@@ -1,0 +1,240 @@
+// Walks over method, ivar and property lists: each step settles the next entry that can be read.
+use pointers::question::Asked;
+use pointers::question::ask;
+use reads::answer::Missing;
+use records::list::Entry;
+use records::list::Layout;
+use records::list::LayoutAnswer;
+use records::list::ListKind;
+use records::list::first_readable;
+use records::list::list_at;
+use records::row::Row;
+use records::row::RowAnswer;
+use records::row::row_at;
+ghost use mathlib.Core.Path.{_≡_};
+ghost use Prim.Native.Nat.{_<_, _^_};
+ghost use Rattle.pointers.specs.Tables.{lent};
+ghost use Rattle.reads.specs.Answer.{missed};
+ghost use Rattle.reads.specs.Outcome.{value};
+ghost use Rattle.walks.specs.Handed.{hands, handsBack};
+ghost use Rattle.walks.specs.Walk.{walkOf, moved, settles, overRows, nextOf, stepAnswer, rowLeft};
+ghost use Rattle.records.specs.List.{listAt, entryAddress};
+ghost use Rattle.records.specs.Row.{rowAt};
+
+// A walk: list address, kind and cursor.
+pub struct ListWalk {
+    list: u64,
+    kind: ListKind,
+    cursor: u32,
+}
+
+// A step's answer: the row reached, or the index of an entry whose row is skipped, or finished, or the number of the question
+// that refuses.
+pub enum ListStep {
+    Row(Row),
+    Skipped(u32),
+    Finished,
+    Refused(u8),
+}
+
+// A list that is absent has no steps.
+pub enum ListWalked {
+    Step(ListStep),
+    Absent,
+}
+
+// The answer, with the walk to go on with.
+pub struct ListStepped {
+    pub walked: ListWalked,
+    pub walk: ListWalk,
+}
+
+impl ListWalk {
+    // The walk over a list from its first entry on.
+    pub fn new(list: u64, kind: ListKind) -> ListWalk
+        ensures { λ r. ⌜ r ≡ walkOf list kind 0 ⌝ }
+    {
+        ListWalk {
+            list,
+            kind,
+            cursor: 0,
+        }
+    }
+
+    // A step, with the walk at another cursor.
+    fn at(self, step: ListStep, cursor: u32) -> ListStepped
+        ensures { λ r. ⌜ rowLeft r ≡ hands (stepAnswer step) (moved self cursor) ⌝ }
+    {
+        let kind = self.kind;
+        ListStepped {
+            walked: ListWalked::Step(step),
+            walk: ListWalk {
+                list: self.list,
+                kind,
+                cursor,
+            },
+        }
+    }
+
+    // The walk as given, with a number.
+    fn refused(self, k: u8) -> ListStepped
+        ensures { λ r. ⌜ rowLeft r ≡ handsBack self k ⌝ }
+    {
+        ListStepped {
+            walked: ListWalked::Step(ListStep::Refused(k)),
+            walk: self,
+        }
+    }
+
+    // The walk as given, where the list is missing.
+    fn missing(self, m: Missing) -> ListStepped
+        ensures { λ r. ⌜ rowLeft r ≡ hands (missed m) self ⌝ }
+    {
+        match m {
+            Missing::Absent => ListStepped {
+                walked: ListWalked::Absent,
+                walk: self,
+            },
+            Missing::Refused(k) => self.refused(k),
+        }
+    }
+
+    // Settles entry j, which can be read.
+    fn settle(
+        self,
+        image: &[u8],
+        segments: &[u64],
+        sections: &[u64],
+        info: &[u8],
+        rebases: &[u64],
+        binds: &[u64],
+        index: &[u32],
+        h: Layout,
+        j: u64,
+    ) -> ListStepped
+        requires { ⌜ (j < h .count) × (entryAddress h j < 2 ^ 64) ⌝ }
+        ensures { λ r. let t = lent image segments sections info rebases binds index in
+            ⌜ rowLeft r ≡ settles self j (rowAt t (h .kind) (entryAddress h j)) ⌝ }
+    {
+        let kind = h.kind;
+        let va = h.base + j * (h.size as u64);
+        match row_at(
+            image,
+            segments,
+            sections,
+            info,
+            rebases,
+            binds,
+            index,
+            kind,
+            va,
+        ) {
+            RowAnswer::Row(row) => self.at(ListStep::Row(row), j as u32 + 1),
+            RowAnswer::Missing(m) => match m {
+                Missing::Absent => self.at(ListStep::Skipped(j as u32), j as u32 + 1),
+                Missing::Refused(k) => self.refused(k),
+            },
+        }
+    }
+
+    // A step over a list: 10, then the next entry that can be read.
+    fn over_list(
+        self,
+        image: &[u8],
+        segments: &[u64],
+        sections: &[u64],
+        info: &[u8],
+        rebases: &[u64],
+        binds: &[u64],
+        index: &[u32],
+        h: Layout,
+    ) -> ListStepped
+        ensures { λ r. let t = lent image segments sections info rebases binds index in
+            ⌜ rowLeft r ≡ overRows t self (value h) ⌝ }
+    {
+        if h.count < self.cursor {
+            return self.refused(10);
+        }
+        let cursor = self.cursor;
+        match first_readable(image, segments, h, cursor) {
+            Entry::At(j) => self.settle(
+                image,
+                segments,
+                sections,
+                info,
+                rebases,
+                binds,
+                index,
+                h,
+                j,
+            ),
+            Entry::Nothing => self.at(ListStep::Finished, h.count),
+        }
+    }
+
+    // A step over tables that no question refuses: 10 past the first entry of a list that is missing.
+    fn walked_list(
+        self,
+        image: &[u8],
+        segments: &[u64],
+        sections: &[u64],
+        info: &[u8],
+        rebases: &[u64],
+        binds: &[u64],
+        index: &[u32],
+    ) -> ListStepped
+        ensures { λ r. let t = lent image segments sections info rebases binds index in
+            ⌜ rowLeft r ≡ overRows t self (listAt t (self .kind) (self .list)) ⌝ }
+    {
+        let kind = self.kind;
+        let list = self.list;
+        match list_at(
+            image,
+            segments,
+            sections,
+            info,
+            rebases,
+            binds,
+            index,
+            kind,
+            list,
+        ) {
+            LayoutAnswer::List(h) => self.over_list(
+                image,
+                segments,
+                sections,
+                info,
+                rebases,
+                binds,
+                index,
+                h,
+            ),
+            LayoutAnswer::Missing(m) => {
+                if 0 < self.cursor {
+                    return self.refused(10);
+                }
+                self.missing(m)
+            }
+        }
+    }
+
+    // The next step: 1 to 6 and 8 are asked, then 10; then the next entry that can be read is settled.
+    pub fn next(
+        self,
+        image: &[u8],
+        segments: &[u64],
+        sections: &[u64],
+        info: &[u8],
+        rebases: &[u64],
+        binds: &[u64],
+        index: &[u32],
+    ) -> ListStepped
+        ensures { λ r. let t = lent image segments sections info rebases binds index in
+            ⌜ rowLeft r ≡ nextOf t self ⌝ }
+    {
+        match ask(image, segments, sections, info, rebases, binds, index) {
+            Asked::Yes => self.walked_list(image, segments, sections, info, rebases, binds, index),
+            Asked::Refused(k) => self.refused(k),
+        }
+    }
+}

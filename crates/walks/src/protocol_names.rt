@@ -1,0 +1,349 @@
+// Protocol names: the walk over a protocol_list_t (objc-runtime-new.h; protocol.rs, protocol_name_iter).
+use pointers::question::Asked;
+use pointers::question::ask;
+use pointers::slot::slot_or_0;
+use pointers::slot::symbol_at;
+use reads::answer::Missing;
+use reads::answer::Word;
+use reads::answer::checked_add;
+use reads::answer::nonzero;
+use reads::place::Placed;
+use reads::place::readable;
+use reads::place::u64_in;
+use reads::text::Text;
+use reads::text::TextAnswer;
+use records::list::even_list;
+use records::protocol::ProtocolAnswer;
+use records::protocol::protocol_at;
+ghost use mathlib.Core.Path.{_≡_};
+ghost use Prim.Native.Nat.{_+_, _^_, _<_, min};
+ghost use Rattle.reads.specs.Answer.{missed, textOutcome};
+ghost use Rattle.pointers.specs.Tables.{lent};
+ghost use Rattle.walks.specs.Handed.{hands, handsBack};
+ghost use Rattle.walks.specs.ProtocolNames.{protocolListOutcome, protocolListAt, hasSlot, protocolNameAt, decodedOrBound, nameIn, walkAt, named, stepIn, overNames, nextName, nameAnswer, nameLeft};
+
+// A list of protocols: the address of its first slot, and the capped number of slots.
+pub struct ProtocolList {
+    pub base: u64,
+    pub count: u64,
+}
+
+impl ProtocolList {
+    // protocol_list_t: the size of its header, count.
+    pub const HEADER_SIZE: u64 = 8;
+
+    pub const COUNT: u64 = 0;
+}
+
+pub enum ProtocolListAnswer {
+    List(ProtocolList),
+    Missing(Missing),
+}
+
+// A walk over the names of a list: its address, and the number of slots taken.
+pub struct ProtocolNameWalk {
+    list: u64,
+    cursor: u64,
+}
+
+// What a step reached: a name, a slot that gives none, the end, or the number of the question that refuses.
+pub enum NameStep {
+    Name(Text),
+    Passed,
+    Finished,
+    Refused(u8),
+}
+
+// A step, or the list is absent.
+pub enum ProtocolNamesWalked {
+    Step(NameStep),
+    Absent,
+}
+
+// What a step says, and the walk to give to the next.
+pub struct ProtocolNameStepped {
+    pub walked: ProtocolNamesWalked,
+    pub walk: ProtocolNameWalk,
+}
+
+// The most slots of a list (protocol.rs, protocol_name_iter).
+const MOST_SLOTS: u64 = 1_048_576;
+
+// The count of a list, capped.
+fn capped(count: u64) -> u64
+    ensures { λ r. ⌜ r ≡ min count 1048576 ⌝ }
+{
+    if count < MOST_SLOTS {
+        return count;
+    }
+    MOST_SLOTS
+}
+
+// protocol_list_t: a u64 count, then the slots.
+fn protocol_list_at(
+    image: &[u8],
+    segments: &[u64],
+    sections: &[u64],
+    info: &[u8],
+    rebases: &[u64],
+    binds: &[u64],
+    index: &[u32],
+    va: u64,
+) -> ProtocolListAnswer
+    ensures { λ r. let t = lent image segments sections info rebases binds index in
+        ⌜ protocolListOutcome r ≡ protocolListAt t va ⌝ }
+{
+    match nonzero(va) {
+        Word::Value(_) => {}
+        Word::Missing(m) => return ProtocolListAnswer::Missing(m),
+    }
+    match even_list(va) {
+        Word::Value(_) => {}
+        Word::Missing(m) => return ProtocolListAnswer::Missing(m),
+    }
+    let p = match readable(image, segments, va, ProtocolList::HEADER_SIZE) {
+        Placed::At(p) => p,
+        Placed::Missing(m) => return ProtocolListAnswer::Missing(m),
+    };
+    let base = match checked_add(va, ProtocolList::HEADER_SIZE) {
+        Word::Value(base) => base,
+        Word::Missing(m) => return ProtocolListAnswer::Missing(m),
+    };
+    ProtocolListAnswer::List(ProtocolList {
+        base,
+        count: capped(u64_in(image, p, ProtocolList::COUNT)),
+    })
+}
+
+// Whether slot i is below the count, and its address within 64 bits.
+fn has_slot(list: ProtocolList, i: u64) -> bool
+    ensures { λ r. ⌜ r ≡ hasSlot list i ⌝ }
+{
+    if list.count <= i {
+        return false;
+    }
+    i <= (0xFFFF_FFFF_FFFF_FFFF - list.base) / 8
+}
+
+// The name of the protocol at an address that is not 0.
+fn protocol_name_at(
+    image: &[u8],
+    segments: &[u64],
+    sections: &[u64],
+    info: &[u8],
+    rebases: &[u64],
+    binds: &[u64],
+    index: &[u32],
+    va: u64,
+) -> TextAnswer
+    ensures { λ r. let t = lent image segments sections info rebases binds index in
+        ⌜ textOutcome r ≡ protocolNameAt t va ⌝ }
+{
+    let proto_va = match nonzero(va) {
+        Word::Value(proto_va) => proto_va,
+        Word::Missing(m) => return TextAnswer::Missing(m),
+    };
+    match protocol_at(
+        image,
+        segments,
+        sections,
+        info,
+        rebases,
+        binds,
+        index,
+        proto_va,
+    ) {
+        ProtocolAnswer::Protocol(p) => {
+            let name = p.name;
+            TextAnswer::Found(name)
+        }
+        ProtocolAnswer::Missing(m) => TextAnswer::Missing(m),
+    }
+}
+
+// The name of a slot that holds va: the protocol's there, else the bind of the slot less its prefix.
+fn decoded_or_bound(
+    image: &[u8],
+    segments: &[u64],
+    sections: &[u64],
+    info: &[u8],
+    rebases: &[u64],
+    binds: &[u64],
+    index: &[u32],
+    slot: u64,
+    va: u64,
+) -> TextAnswer
+    ensures { λ r. let t = lent image segments sections info rebases binds index in
+        ⌜ textOutcome r ≡ decodedOrBound t slot va ⌝ }
+{
+    match protocol_name_at(image, segments, sections, info, rebases, binds, index, va) {
+        TextAnswer::Found(name) => TextAnswer::Found(name),
+        TextAnswer::Missing(m) => match m {
+            Missing::Absent => symbol_at(image, rebases, binds, index, slot),
+            Missing::Refused(k) => TextAnswer::Missing(Missing::Refused(k)),
+        },
+    }
+}
+
+// The name of a slot.
+fn name_in(
+    image: &[u8],
+    segments: &[u64],
+    sections: &[u64],
+    info: &[u8],
+    rebases: &[u64],
+    binds: &[u64],
+    index: &[u32],
+    slot: u64,
+) -> TextAnswer
+    ensures { λ r. let t = lent image segments sections info rebases binds index in
+        ⌜ textOutcome r ≡ nameIn t slot ⌝ }
+{
+    match slot_or_0(image, segments, rebases, index, slot) {
+        Word::Value(va) => decoded_or_bound(
+            image,
+            segments,
+            sections,
+            info,
+            rebases,
+            binds,
+            index,
+            slot,
+            va,
+        ),
+        Word::Missing(m) => TextAnswer::Missing(m),
+    }
+}
+
+impl ProtocolNameWalk {
+    // The walk over the list at an address, before its first slot.
+    pub fn new(list: u64) -> ProtocolNameWalk
+        ensures { λ r. ⌜ r ≡ walkAt list 0 ⌝ }
+    {
+        ProtocolNameWalk { list, cursor: 0 }
+    }
+
+    // The walk as given, with a number.
+    fn refused(self, k: u8) -> ProtocolNameStepped
+        ensures { λ r. ⌜ nameLeft r ≡ handsBack self k ⌝ }
+    {
+        ProtocolNameStepped {
+            walked: ProtocolNamesWalked::Step(NameStep::Refused(k)),
+            walk: self,
+        }
+    }
+
+    // The walk as given, where the list is missing.
+    fn missing(self, m: Missing) -> ProtocolNameStepped
+        ensures { λ r. ⌜ nameLeft r ≡ hands (missed m) self ⌝ }
+    {
+        match m {
+            Missing::Absent => ProtocolNameStepped {
+                walked: ProtocolNamesWalked::Absent,
+                walk: self,
+            },
+            Missing::Refused(k) => self.refused(k),
+        }
+    }
+
+    // A step, with the walk at another cursor.
+    fn at(self, step: NameStep, cursor: u64) -> ProtocolNameStepped
+        ensures { λ r. ⌜ nameLeft r ≡ hands (nameAnswer step) (walkAt (self .list) cursor) ⌝ }
+    {
+        ProtocolNameStepped {
+            walked: ProtocolNamesWalked::Step(step),
+            walk: ProtocolNameWalk {
+                list: self.list,
+                cursor,
+            },
+        }
+    }
+
+    // The step of a slot by its name: a slot that gives none is passed.
+    fn named(self, name: TextAnswer) -> ProtocolNameStepped
+        requires { ⌜ self .cursor + 1 < 2 ^ 64 ⌝ }
+        ensures { λ r. ⌜ nameLeft r ≡ named self (textOutcome name) ⌝ }
+    {
+        match name {
+            TextAnswer::Found(text) => self.at(NameStep::Name(text), self.cursor + 1),
+            TextAnswer::Missing(m) => match m {
+                Missing::Absent => self.at(NameStep::Passed, self.cursor + 1),
+                Missing::Refused(k) => self.refused(k),
+            },
+        }
+    }
+
+    // The next slot; with none left the cursor becomes the count.
+    fn step_in(
+        self,
+        image: &[u8],
+        segments: &[u64],
+        sections: &[u64],
+        info: &[u8],
+        rebases: &[u64],
+        binds: &[u64],
+        index: &[u32],
+        list: ProtocolList,
+    ) -> ProtocolNameStepped
+        ensures { λ r. let t = lent image segments sections info rebases binds index in
+            ⌜ nameLeft r ≡ stepIn t self list ⌝ }
+    {
+        if has_slot(list, self.cursor) {
+            let slot = list.base + 8 * self.cursor;
+            let name = name_in(image, segments, sections, info, rebases, binds, index, slot);
+            return self.named(name);
+        }
+        self.at(NameStep::Finished, list.count)
+    }
+
+    // A step over tables that no question refuses: 10, by the count of the list, 0 for one that is missing.
+    fn walked_list(
+        self,
+        image: &[u8],
+        segments: &[u64],
+        sections: &[u64],
+        info: &[u8],
+        rebases: &[u64],
+        binds: &[u64],
+        index: &[u32],
+    ) -> ProtocolNameStepped
+        ensures { λ r. let t = lent image segments sections info rebases binds index in
+            ⌜ nameLeft r ≡ overNames t self (protocolListAt t (self .list)) ⌝ }
+    {
+        let list = self.list;
+        match protocol_list_at(image, segments, sections, info, rebases, binds, index, list) {
+            ProtocolListAnswer::List(list) => {
+                if list.count < self.cursor {
+                    return self.refused(10);
+                }
+                self.step_in(image, segments, sections, info, rebases, binds, index, list)
+            }
+            ProtocolListAnswer::Missing(m) => {
+                if 0 < self.cursor {
+                    return self.refused(10);
+                }
+                self.missing(m)
+            }
+        }
+    }
+
+    // The name in the next slot.
+    pub fn next(
+        self,
+        image: &[u8],
+        segments: &[u64],
+        sections: &[u64],
+        info: &[u8],
+        rebases: &[u64],
+        binds: &[u64],
+        index: &[u32],
+    ) -> ProtocolNameStepped
+        ensures { λ r. let t = lent image segments sections info rebases binds index in
+            ⌜ nameLeft r ≡ nextName t self ⌝ }
+    {
+        match ask(image, segments, sections, info, rebases, binds, index) {
+            Asked::Yes => self.walked_list(image, segments, sections, info, rebases, binds, index),
+            Asked::Refused(k) => self.refused(k),
+        }
+    }
+}
