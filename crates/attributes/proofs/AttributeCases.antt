@@ -38,6 +38,11 @@ comma-in-quotes : told (ascii "T@\"A,B\",N") ≡ 0x54 ∷ 1 ∷ 6 ∷ 0x4E ∷ 9
 unfolding words items itemsFrom itemOf valueLength first splits quotes choose
 comma-in-quotes = refl
 
+-- A comma in a C++ type that is not quoted ends the value.
+comma-in-template : told (ascii "T{pair<int,int>=ii},R") ≡ 0x54 ∷ 1 ∷ 9 ∷ 0x69 ∷ 12 ∷ 7 ∷ 0x52 ∷ 21 ∷ 0 ∷ []
+unfolding words items itemsFrom itemOf valueLength first splits quotes choose
+comma-in-template = refl
+
 -- Quotes that do not close run to the end; a double quote that is the key is none of the value's.
 quote-open : told (ascii "T\"A,N") ≡ 0x54 ∷ 1 ∷ 4 ∷ []
 unfolding words items itemsFrom itemOf valueLength first splits quotes choose
