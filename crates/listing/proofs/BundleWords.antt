@@ -8,12 +8,12 @@ use lib.ListN.{length, take, set}
 use lib.Seq.{take-suc-set}
 use Rattle.reads.specs.Segment.{placeAt}
 use Rattle.reads.specs.Place.{wordIn}
+use Rattle.reads.proofs.Numbers.{word-in-on}
 use Rattle.listing.specs.Bundle.{wordFrom, wordsFrom}
 
 -- The word at i bytes from an offset.
 pub word-past : (bytes : List ℕ) (offset i : ℕ) → wordIn bytes 8 (placeAt offset) i ≡ wordFrom bytes (offset + i)
-unfolding wordIn
-word-past bytes offset i = let e : offset + i + 0 ≡ offset + i = omega arith in rw e
+word-past bytes offset i = word-in-on bytes 8 offset i
 
 pub words-snoc : (bytes : List ℕ) (offset k : ℕ) → wordsFrom bytes offset (suc k) ≡ wordsFrom bytes offset k ++ (wordFrom bytes (offset + 8 * k) ∷ [])
 unfolding wordsFrom

@@ -11,6 +11,7 @@ pub mod BreakSteps
 pub mod Breakpoints
 pub mod Unrefused
 pub mod CanRead
+pub mod SegmentRooms
 pub mod Rows
 pub mod Grammar
 pub mod Characters

@@ -106,3 +106,8 @@ pub word-at : (bs : List ℕ) (k : ℕ) (p : Place) → p .offset + k ≤ length
 word-at bs k p h =
     let z : p .offset + 0 ≡ p .offset = omega arith in
     sym (word-in bs k p 0 (omega arith)) ∙ ap (λ (n : ℕ). le (part bs n k)) z
+
+-- The number at i bytes from a place is the one at the place i bytes on.
+pub word-in-on : (bytes : List ℕ) (k offset i : ℕ) → wordIn bytes k (placeAt offset) i ≡ wordIn bytes k (placeAt (offset + i)) 0
+unfolding wordIn
+word-in-on bytes k offset i = let e : offset + i + 0 ≡ offset + i = omega arith in rw e

@@ -1,18 +1,14 @@
 -- Why the search may go from one breakpoint to the next, and why its budget suffices. Nothing is assumed of the segments' order.
 use Prim.Native.Nat.{ℕ, _+_, _-_, _*_, _/_, _^_, _≤_, _<_}
-use mathlib.Core.Path.{_≡_, refl, sym, _∙_}
+use mathlib.Core.Path.{_≡_, sym, _∙_}
 use mathlib.Core.Bool.{true, false, and-false}
 use mathlib.Core.Option.{none, some}
 use native.Mathlib.Nat.{mul-zero, mul-le-mul, le-dest, mul-le-mul-right, div-mul-le-self, lt-div-mul-add}
 use native.Mathlib.Omega.{arith}
 use borrow.Author.Tests.{lt-ltb, le-ltb}
 use lib.ListN.{length}
-use Rattle.reads.specs.Answer.{missed}
-use Rattle.reads.specs.Breaks.{isValue, canRead, breaksOf, nextBreak, above}
-use Rattle.reads.specs.Place.{Image, readable}
-use Rattle.reads.specs.declared.answer.Missing.{Missing}
-use Rattle.reads.specs.declared.answer.Missing.the-variants.{Absent, Refused}
-use Rattle.reads.specs.declared.place.Place.{Place}
+use Rattle.reads.specs.Breaks.{canRead, breaksOf, nextBreak, above}
+use Rattle.reads.specs.Place.{Image}
 use Rattle.reads.specs.declared.breaks.Break.the-variants.{At, Nothing}
 use Rattle.reads.proofs.Breakpoints.{can-read-until-break, unreadable-past-breaks, above-few}
 use Rattle.reads.proofs.LeastAbove.{next-break-above, above-falls}
@@ -28,15 +24,6 @@ use Rattle.records.proofs.Firsts.{first-skip, first-past, first-here, f
 -- An index times an entry size fits 64 bits.
 pub product-fits : (a b : ℕ) → a < 2 ^ 32 → b < 2 ^ 32 → a * b < 2 ^ 64
 product-fits a b p q = omega (arith, mul-le-mul {n₁ = a} {m₁ = b} {n₂ = 2 ^ 32 - 1} {m₂ = 2 ^ 32 - 1} (omega arith) (omega arith))
-
--- What cannot be looked up cannot be read, whatever stands in its place.
-missed-no-value : (x : Missing) → isValue (missed {A = Place} x) ≡ false
-missed-no-value Absent = refl
-missed-no-value (Refused n) = refl
-
-pub can-read-missing : (m : Image) (k va : ℕ) (x : Missing) → missed x ≡ readable m va k → canRead m k va ≡ false
-unfolding canRead
-can-read-missing m k va x e = rw (← e) (missed-no-value x)
 
 -- How many entries after i start below b.
 abbrev pub gap : Layout → ℕ → ℕ → ℕ

@@ -1,10 +1,9 @@
 -- The readable entries of a list: how many there can be, and how those of a list of any count are computed.
 use Prim.Native.Nat.{ℕ, suc, _-_, _*_, _/_, _^_, _≤_, _<_}
-use mathlib.Core.Path.{_≡_, refl, _∙_}
+use mathlib.Core.Path.{_≡_, _∙_}
 use mathlib.Core.Bool.{true, false}
 use mathlib.Core.List.{List, [], _∷_}
 use mathlib.Core.Option.{none, some}
-use mathlib.Core.Logic.{inl}
 use native.Mathlib.Nat.{sub-zero, sub-self}
 use native.Mathlib.Omega.{arith}
 use lib.Dec.{ltb}
@@ -16,10 +15,10 @@ use Rattle.reads.proofs.Tests.{both-true}
 use Rattle.records.specs.List.{least, entryAddress, entry}
 use Rattle.records.specs.Search.{allFrom, firstReadable, readables}
 use Rattle.records.specs.declared.list.Layout.{Layout}
-use Rattle.records.proofs.Firsts.{FirstOf, first-some, first-is-none, all-of-some, all-of-first-none, all-of-none, all-of-less}
+use Rattle.records.proofs.Firsts.{FirstOf, first-some, first-is-none, all-of-some, all-of-first-none, all-of-less}
 use Rattle.records.proofs.Headers.{least-12}
 use Rattle.records.proofs.Jumps.{entries-past-breaks}
-use Rattle.records.proofs.Windows.{passing-either, reads-few}
+use Rattle.records.proofs.Windows.{passing-within, reads-few}
 
 -- The readable entries from index i on.
 abbrev pub restFrom : Image → Layout → ℕ → List ℕ
@@ -68,8 +67,7 @@ module _ (m : Image) (h : Layout) where
   pub readables-few : least (h .kind) ≤ h .size → length (readables m h) ≤ length (m .words) / 4 * (length (m .bytes) / 12)
   unfolding readables
   readables-few sized =
-      let a = passing-either (entry m h) (λ j. canRead m (least (h .kind)) (entryAddress h j)) (λ j. false) (λ j e. inl (entry-can-read j e)) (h .count) 0 in
-      let z : length (allFrom (λ j. false) (h .count) 0) ≡ 0 = rw (all-of-none (λ j. false) (h .count) 0 (λ x l u. refl)) in
+      let a = passing-within (entry m h) (λ j. canRead m (least (h .kind)) (entryAddress h j)) (λ j e. entry-can-read j e) (h .count) 0 in
       let b = reads-few m (least (h .kind)) (h .base) (h .size) (omega (arith, least-12 (h .kind))) (least-12 (h .kind)) (h .count) 0 in
       omega arith
 

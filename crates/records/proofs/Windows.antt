@@ -1,21 +1,21 @@
 -- How many addresses, size bytes apart, can be read: at most floor(n / 12) for each segment, since those in one segment's
--- part of the image lie in n bytes. Nothing is assumed of the segments' order, and they may overlap.
+-- room lie in n bytes (reads/proofs/SegmentRooms.antt). Nothing is assumed of the segments' order, and they may overlap.
 use Prim.Native.Nat.{ℕ, zero, suc, _+_, _-_, _*_, _/_, _≤_}
 use mathlib.Core.Path.{_≡_, refl, sym, _∙_}
-use mathlib.Core.Bool.{Bool, true, false, _&&_, true≢false}
+use mathlib.Core.Bool.{Bool, true, false, true≢false}
 use mathlib.Core.List.{List, [], _∷_}
 use mathlib.Core.Logic.{_⊎_, inl, inr, ⊎-elim}
 use native.Mathlib.Nat.{le-trans}
 use native.Mathlib.Omega.{arith}
+use lib.Dec.{leb}
 use lib.ListN.{length}
 use borrow.Author.Tests.{leb-true}
-use Rattle.reads.specs.Breaks.{isValue, canRead}
-use Rattle.reads.specs.Outcome.{Outcome, value, andThen, choose, sum64}
-use Rattle.reads.specs.Place.{Image, readableAt, readable}
-use Rattle.reads.specs.Segment.{rows, holds, placeAt, placed, lookup}
-use Rattle.reads.specs.declared.place.Place.{Place}
+use Rattle.reads.specs.Breaks.{canRead}
+use Rattle.reads.specs.Outcome.{choose}
+use Rattle.reads.specs.Place.{Image}
+use Rattle.reads.specs.Segment.{rows}
 use Rattle.reads.specs.declared.segment.Segment.{Segment}
-use Rattle.reads.proofs.Lookups.{holds-is}
+use Rattle.reads.proofs.SegmentRooms.{inRoom, inSomeRoom, can-read-room}
 use Rattle.reads.proofs.SegmentRows.{rows-length}
 use Rattle.reads.proofs.Tests.{by-choose, both-true}
 use Rattle.records.specs.Search.{allFrom}
@@ -48,6 +48,13 @@ passing-either t u v f (suc k) i = go (t i) (u i) (v i) refl refl refl (passing-
     go false false true p q r ih = omega arith
     go false false false p q r ih = ih
 
+-- One that passes only where another does passes no oftener.
+pub passing-within : (t u : ℕ → Bool) → ((j : ℕ) → t j ≡ true → u j ≡ true) → (k i : ℕ) → passing t k i ≤ passing u k i
+passing-within t u f k i =
+    let a = passing-either t u (λ j. false) (λ j e. inl (f j e)) k i in
+    let z : passing (λ j. false) k i ≡ 0 = rw (all-of-none (λ j. false) k i (λ x l u. refl)) in
+    omega arith
+
 -- A test that passes only where `least` bytes at base + j x size lie in the n bytes from a on.
 module _ (test : ℕ → Bool) (base size least a n : ℕ) (apart : 12 ≤ size) (wide : 12 ≤ least)
     (window : (j : ℕ) → test j ≡ true → (a ≤ base + j * size) × (base + j * size + least ≤ a + n)) where
@@ -72,62 +79,36 @@ module _ (test : ℕ → Bool) (base size least a n : ℕ) (apart : 12 ≤ size)
   unfolding Fits
   passing-window k i = ⊎-elim (λ z. omega arith) (λ r. omega arith) (passing-fits k i)
 
-module _ (bytes : List ℕ) (k : ℕ) where
-  -- k bytes from a place that was looked up lie in the image.
-  abbrev inImage : Outcome Place → Bool
-  inImage o = isValue (andThen o (λ p. readableAt bytes (p .offset) k))
+-- Addresses, size bytes apart, whose k bytes lie in the room of a segment.
+module _ (n k base size : ℕ) (apart : 12 ≤ size) (wide : 12 ≤ k) where
+  room-window : (s : Segment) (va : ℕ) → inRoom n k s va ≡ true → (s .vmaddr ≤ va) × (va + k ≤ s .vmaddr + n)
+  room-window s va e =
+      let p = both-true (leb (s .vmaddr) va) (leb (va + k) (s .vmaddr + n)) e in
+      (leb-true _ _ (p .0), leb-true _ _ (p .1))
 
-  -- The segment holds the address, and k bytes from its place lie in the image.
-  holds-bytes : Segment → ℕ → Bool
-  holds-bytes s va = holds s va && inImage (placed s va)
+  in-either : (s : Segment) (ss : List Segment) (va : ℕ) → inSomeRoom n k (s ∷ ss) va ≡ true → (inRoom n k s va ≡ true) ⊎ (inSomeRoom n k ss va ≡ true)
+  unfolding inSomeRoom
+  in-either s ss va = by-choose (λ (b : Bool). b ≡ true → (inRoom n k s va ≡ true) ⊎ (inSomeRoom n k ss va ≡ true)) (λ e z. inl e) (λ e z. inr z)
 
-  placed-room : (s : Segment) (va : ℕ) → inImage (placed s va) ≡ true → s .fileoff + (va - s .vmaddr) + k ≤ length bytes
-  unfolding placed sum64 readableAt
-  placed-room s va =
-      by-choose (λ o. inImage o ≡ true → Room) (λ e z. never z)
-      (λ e. by-choose (λ o. inImage (andThen o (λ offset. value (placeAt offset))) ≡ true → Room)
-      (λ f. by-choose (λ (o : Outcome Place). isValue o ≡ true → Room) (λ g z. leb-true _ _ g) (λ g z. never z))
-      (λ f z. never z))
+  rooms-few : (ss : List Segment) (count i : ℕ) → passing (λ j. inSomeRoom n k ss (base + j * size)) count i ≤ length ss * (n / 12)
+  unfolding inSomeRoom
+  rooms-few [] count i = let z = all-of-none (λ j. false) count i (λ x l u. refl) in rw z (omega arith)
+  rooms-few (s ∷ ss) count i =
+      le-trans
+      (passing-either (λ j. inSomeRoom n k (s ∷ ss) (base + j * size)) (λ j. inRoom n k s (base + j * size)) (λ j. inSomeRoom n k ss (base + j * size))
+      (λ j e. in-either s ss (base + j * size) e) count i)
+      (both (passing-window (λ j. inRoom n k s (base + j * size)) base size k (s .vmaddr) n apart wide (λ j e. room-window s (base + j * size) e) count i)
+      (rooms-few ss count i))
     where
-      Room : Type 0
-      Room = s .fileoff + (va - s .vmaddr) + k ≤ length bytes
-
-      never : false ≡ true → Room
-      never z = absurd (true≢false (sym z))
-
-  segment-window : (s : Segment) (va : ℕ) → holds-bytes s va ≡ true → (s .vmaddr ≤ va) × (va + k ≤ s .vmaddr + length bytes)
-  unfolding holds-bytes
-  segment-window s va e =
-      let p = both-true (holds s va) (inImage (placed s va)) e in
-      let h = holds-is s va (p .0) in
-      let r = placed-room s va (p .1) in
-      (h .1, omega (arith, h .1))
-
-  -- What can be read over s ∷ ss is read in s or over ss.
-  lookup-either : (s : Segment) (ss : List Segment) (va : ℕ) → inImage (lookup (s ∷ ss) va) ≡ true → (holds-bytes s va ≡ true) ⊎ (inImage (lookup ss va) ≡ true)
-  unfolding lookup holds-bytes
-  lookup-either s ss va =
-      by-choose (λ o. inImage o ≡ true → (holds-bytes s va ≡ true) ⊎ (inImage (lookup ss va) ≡ true))
-      (λ e z. absurd (true≢false (sym z)))
-      (λ e. by-choose (λ o. inImage o ≡ true → (holds-bytes s va ≡ true) ⊎ (inImage (lookup ss va) ≡ true)) (λ h z. inl (rw (h, z))) (λ h z. inr z))
-
-  module _ (base size : ℕ) (apart : 12 ≤ size) (wide : 12 ≤ k) where
-    lookups-few : (ss : List Segment) (count i : ℕ) → passing (λ j. inImage (lookup ss (base + j * size))) count i ≤ length ss * (length bytes / 12)
-    unfolding lookup
-    lookups-few [] count i = let z = all-of-none (λ j. false) count i (λ x l u. refl) in rw z (omega arith)
-    lookups-few (s ∷ ss) count i =
-        le-trans
-        (passing-either (λ j. inImage (lookup (s ∷ ss) (base + j * size))) (λ j. holds-bytes s (base + j * size)) (λ j. inImage (lookup ss (base + j * size)))
-        (λ j e. lookup-either s ss (base + j * size) e) count i)
-        (both (passing-window (λ j. holds-bytes s (base + j * size)) base size k (s .vmaddr) (length bytes) apart wide (λ j e. segment-window s (base + j * size) e) count i)
-        (lookups-few ss count i))
-      where
-        both : {x y : ℕ} → x ≤ length bytes / 12 → y ≤ length ss * (length bytes / 12) → x + y ≤ suc (length ss) * (length bytes / 12)
-        both p q = omega arith
+      both : {x y : ℕ} → x ≤ n / 12 → y ≤ length ss * (n / 12) → x + y ≤ suc (length ss) * (n / 12)
+      both p q = omega arith
 
 -- Addresses 12 bytes apart or more at which 12 bytes or more can be read.
 pub reads-few : (m : Image) (k base size : ℕ) → 12 ≤ size → 12 ≤ k → (count i : ℕ)
     → length (allFrom (λ j. canRead m k (base + j * size)) count i) ≤ length (m .words) / 4 * (length (m .bytes) / 12)
-unfolding canRead readable
 reads-few m k base size apart wide count i =
-    rw (← rows-length (m .words)) (lookups-few (m .bytes) k base size apart wide (rows (m .words)) count i)
+    rw (← rows-length (m .words))
+    (le-trans
+    (passing-within (λ j. canRead m k (base + j * size)) (λ j. inSomeRoom (length (m .bytes)) k (rows (m .words)) (base + j * size))
+    (λ j e. can-read-room m k (base + j * size) e) count i)
+    (rooms-few (length (m .bytes)) k base size apart wide (rows (m .words)) count i))

@@ -1,6 +1,5 @@
 use mathlib.Core.Path.{sym}
-use Rattle.reads.proofs.CanRead.{can-read-value}
-use Rattle.records.proofs.Jumps.{can-read-missing}
+use Rattle.reads.proofs.CanRead.{can-read-value, can-read-missing}
 use borrow.Author.Needs.{needs}
 use Rattle.records.proofs.list.can_read.Statement.{statement}
 use Rattle.records.proofs.list.can_read.Tie as tie
