@@ -34,9 +34,9 @@ module _ (width : ℕ) (table : List ℕ) (nexts slot : ℕ) (index : List ℕ) 
   unfolding descends
   asked-above limit n ns h = sym (after-no 9 _ _ (ap (λ (b : Bool). b && descends (n - 1) ns) (lt-leb n limit h)))
 
-  asked-on : (limit n : ℕ) (ns : List ℕ) → n ≤ limit → (slotOf width table (n - 1) ≡ slot → ⊥) → asks limit (n ∷ ns) ≡ asks (n - 1) ns
+  asks-further : (limit n : ℕ) (ns : List ℕ) → n ≤ limit → (slotOf width table (n - 1) ≡ slot → ⊥) → asks limit (n ∷ ns) ≡ asks (n - 1) ns
   unfolding descends slotsRecord
-  asked-on limit n ns h ne =
+  asks-further limit n ns h ne =
       let below : (leb n limit && descends (n - 1) ns) ≡ descends (n - 1) ns = ap (λ (b : Bool). b && descends (n - 1) ns) (le-leb n limit h) in
       rw (below, choose-false (value n) (slotsRecord width table slot ns) (ne-eqb _ _ ne)) refl
 
@@ -75,7 +75,7 @@ module _ (width : ℕ) (table : List ℕ) (nexts slot : ℕ) (index : List ℕ) 
         → (b : Bool) → leb n limit ≡ b → followFrom width table nexts slot index limit n ≡ asks limit (n ∷ ns)
     on-asked ne ns f true t =
         let low = leb-true n limit t in
-        follow-on width table nexts slot index limit n some low ne ∙ f low ∙ sym (asked-on limit n ns low ne)
+        follow-on width table nexts slot index limit n some low ne ∙ f low ∙ sym (asks-further limit n ns low ne)
     on-asked ne ns f false t = above-asked ns (leb-false n limit t)
 
   from-asked : (most limit n : ℕ) → limit < most → followFrom width table nexts slot index limit n ≡ asks limit (chain most n)

@@ -91,14 +91,14 @@ pub one-word : lineText image (endLine 0 (2 ^ 64 - 1)) ≡ ended (ascii "E a fff
 unfolding lineText endText numberField hexText places choose
 one-word = refl
 
-pub two-words : lineText image (endLine 2 31) ≡ ended (ascii "E a 2000000000000001f")
+pub end-line-two-words : lineText image (endLine 2 31) ≡ ended (ascii "E a 2000000000000001f")
 unfolding lineText endText numberField hexText places choose
-two-words = refl
+end-line-two-words = refl
 
 -- Only the number after `refused` is decimal.
-pub refused-13 : refusedText 13 ≡ ended (ascii "refused 13")
+pub refused-13-text : refusedText 13 ≡ ended (ascii "refused 13")
 unfolding refusedText decimalText places choose
-refused-13 = refl
+refused-13-text = refl
 
 -- ◆ the listing's lines.
 abbrev hubLines : List Line

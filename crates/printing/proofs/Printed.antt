@@ -141,14 +141,14 @@ module _ (bytes : List ℕ) (c : Counts) (a : Accepted bytes c) (more index l : 
 
 -- What comes of a bundle that was decoded and then opened.
 module _ (bytes words index l : List ℕ) where
-  abbrev decoded : List ℕ
-  decoded = wordsAfter bytes words
+  abbrev wordsDecoded : List ℕ
+  wordsDecoded = wordsAfter bytes words
 
   abbrev opened : List ℕ
-  opened = indexAfter bytes decoded index
+  opened = indexAfter bytes wordsDecoded index
 
   module _ (room : 10240 ≤ length index) (long : length l ≡ 8192) where
-    pub printed : toCome (tablesLent bytes decoded opened) (begun (openingIn bytes decoded index) l) ≡ bundleText bytes
+    pub printed : toCome (tablesLent bytes wordsDecoded opened) (begun (openingIn bytes wordsDecoded index) l) ≡ bundleText bytes
     unfolding bundleText bundleOpening
     printed =
         counted-by bytes
@@ -159,7 +159,7 @@ module _ (bytes words index l : List ℕ) where
         (over-comes _ (number 13) l refl)
 
     -- The pieces that are handed out, one after the other, are the bundle's text.
-    pub printed-pieces : (k : ℕ) → pieces (tablesLent bytes decoded opened) 4096 k (begun (openingIn bytes decoded index) l) ≡ take (k * 4096) (bundleText bytes)
+    pub printed-pieces : (k : ℕ) → pieces (tablesLent bytes wordsDecoded opened) 4096 k (begun (openingIn bytes wordsDecoded index) l) ≡ take (k * 4096) (bundleText bytes)
     printed-pieces k =
-        pieces-text (tablesLent bytes decoded opened) 4096 k (begun (openingIn bytes decoded index) l) (begun-sound (openingIn bytes decoded index) l)
+        pieces-text (tablesLent bytes wordsDecoded opened) 4096 k (begun (openingIn bytes wordsDecoded index) l) (begun-sound (openingIn bytes wordsDecoded index) l)
         ∙ ap (take (k * 4096)) printed

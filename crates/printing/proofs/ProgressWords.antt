@@ -42,5 +42,5 @@ in-words p vs h =
     let l = h .1 .1 .1 .1 .0 in
     record { slot = section-in-words (p .listing .section) _ (l .1 .1 .1 .0); cursor = at-in-words (p .listing .at) _ (l .1 .1 .0) }
 
-pub sound : (p : Progress) (l : List ℕ) (vs : List Val) → Is progress-type.the-row p vs → Sound (standingOf p l)
-sound p l vs h = record { words = λ e. in-words p vs h }
+pub progress-sound : (p : Progress) (l : List ℕ) (vs : List Val) → Is progress-type.the-row p vs → Sound (standingOf p l)
+progress-sound p l vs h = record { words = λ e. in-words p vs h }

@@ -42,7 +42,7 @@ module _ (n k : ℕ) (s : Segment) (ss : List Segment) (e : ends s ≡ false) wh
   later-in m = rw breaks-more (List·Memᴰ·tail (List·Memᴰ·tail (List·Memᴰ·tail m)))
 
 -- k bytes from a place that was looked up lie in the image.
-abbrev inImage : List ℕ → ℕ → Outcome Place → Bool
+abbrev pub inImage : List ℕ → ℕ → Outcome Place → Bool
 inImage bytes k o = isValue (andThen o (λ p. readableAt bytes (p .offset) k))
 
 -- No breakpoint lies in (va, x].

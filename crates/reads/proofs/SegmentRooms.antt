@@ -14,6 +14,7 @@ use Rattle.reads.specs.Place.{Image, readableAt, readable}
 use Rattle.reads.specs.Segment.{rows, holds, placeAt, placed, lookup}
 use Rattle.reads.specs.declared.place.Place.{Place}
 use Rattle.reads.specs.declared.segment.Segment.{Segment}
+use Rattle.reads.proofs.Breakpoints.{inImage}
 use Rattle.reads.proofs.Lookups.{holds-is}
 use Rattle.reads.proofs.Tests.{by-choose, choose-true}
 
@@ -26,15 +27,11 @@ inSomeRoom n k [] va = false
 inSomeRoom n k (s ∷ ss) va = choose (inRoom n k s va) true (inSomeRoom n k ss va)
 
 module _ (bytes : List ℕ) (k : ℕ) where
-  -- k bytes from a place that was looked up lie in the image.
-  abbrev inImage : Outcome Place → Bool
-  inImage o = isValue (andThen o (λ p. readableAt bytes (p .offset) k))
-
-  placed-room : (s : Segment) (va : ℕ) → inImage (placed s va) ≡ true → s .fileoff + (va - s .vmaddr) + k ≤ length bytes
+  placed-room : (s : Segment) (va : ℕ) → inImage bytes k (placed s va) ≡ true → s .fileoff + (va - s .vmaddr) + k ≤ length bytes
   unfolding placed sum64 readableAt
   placed-room s va =
-      by-choose (λ o. inImage o ≡ true → Room) (λ e z. never z)
-      (λ e. by-choose (λ o. inImage (andThen o (λ offset. value (placeAt offset))) ≡ true → Room)
+      by-choose (λ o. inImage bytes k o ≡ true → Room) (λ e z. never z)
+      (λ e. by-choose (λ o. inImage bytes k (andThen o (λ offset. value (placeAt offset))) ≡ true → Room)
       (λ f. by-choose (λ (o : Outcome Place). isValue o ≡ true → Room) (λ g z. leb-true _ _ g) (λ g z. never z))
       (λ f z. never z))
     where
@@ -44,19 +41,19 @@ module _ (bytes : List ℕ) (k : ℕ) where
       never : false ≡ true → Room
       never z = absurd (true≢false (sym z))
 
-  holds-room : (s : Segment) (va : ℕ) → holds s va ≡ true → inImage (placed s va) ≡ true → inRoom (length bytes) k s va ≡ true
+  holds-room : (s : Segment) (va : ℕ) → holds s va ≡ true → inImage bytes k (placed s va) ≡ true → inRoom (length bytes) k s va ≡ true
   holds-room s va e z =
       let h = holds-is s va e in
       let r = placed-room s va z in
       let within : va + k ≤ s .vmaddr + length bytes = omega (arith, h .1) in
       rw (le-leb (s .vmaddr) va (h .1), le-leb (va + k) (s .vmaddr + length bytes) within) refl
 
-  lookup-room : (ss : List Segment) (va : ℕ) → inImage (lookup ss va) ≡ true → inSomeRoom (length bytes) k ss va ≡ true
+  lookup-room : (ss : List Segment) (va : ℕ) → inImage bytes k (lookup ss va) ≡ true → inSomeRoom (length bytes) k ss va ≡ true
   unfolding lookup inSomeRoom
   lookup-room [] va = λ z. z
   lookup-room (s ∷ ss) va =
-      by-choose (λ o. inImage o ≡ true → inSomeRoom (length bytes) k (s ∷ ss) va ≡ true) (λ e z. absurd (true≢false (sym z)))
-      (λ e. by-choose (λ o. inImage o ≡ true → inSomeRoom (length bytes) k (s ∷ ss) va ≡ true)
+      by-choose (λ o. inImage bytes k o ≡ true → inSomeRoom (length bytes) k (s ∷ ss) va ≡ true) (λ e z. absurd (true≢false (sym z)))
+      (λ e. by-choose (λ o. inImage bytes k o ≡ true → inSomeRoom (length bytes) k (s ∷ ss) va ≡ true)
       (λ h z. choose-true _ _ (holds-room s va h z))
       (λ h z. by-choose (λ (b : Bool). b ≡ true) (λ t. refl) (λ t. lookup-room ss va z)))
 

@@ -30,8 +30,8 @@ small-imps = refl
 abbrev narrow : List ℕ
 narrow = (67 ∷ replicate 7 0) ++ ((0 ∷ 16 ∷ replicate 6 0) ++ replicate 40 0)
 
-abbrev over : ℕ → Tables
-over flags =
+abbrev flagged : ℕ → Tables
+flagged flags =
     tablesOf narrow (0x1000 ∷ length narrow ∷ 0 ∷ length narrow ∷ []) (replicate 15 0) (replicate 4 0 ++ (flags ∷ 0 ∷ 0 ∷ 0 ∷ [])) [] [] []
 
 abbrev category : ObjcCategory
@@ -48,6 +48,6 @@ category =
     }
 
 -- Without bit 6 it is whole; with it 56 bytes are asked for.
-pub narrow-category : map (λ flags. categoryAt (over flags) 0x1008) (0 ∷ 64 ∷ []) ≡ value category ∷ absent ∷ []
+pub narrow-category : map (λ flags. categoryAt (flagged flags) 0x1008) (0 ∷ 64 ∷ []) ≡ value category ∷ absent ∷ []
 unfolding decodeCategory decodeCategoryOf decodeCategoryLists decodeCategoryProperties imageInfo bit readable readableAt lookup rows tabulate ends holds placed sum64 resolve rebaseAt follow followFrom stored stripped word le pointerOr0At textIn nonzero textAt textLength text utf8 judge choose
 narrow-category = refl

@@ -4,7 +4,7 @@ use Rattle.pointers.specs.Tables.{tablesOf}
 use Rattle.printing.specs.Pieces.{standingOf}
 use Rattle.printing.proofs.Comes.{leftIn}
 use Rattle.printing.proofs.Fills.{Filling, filling-start, piece-full, piece-over, piece-on, piece-less, piece-rest}
-use Rattle.printing.proofs.ProgressWords.{sound}
+use Rattle.printing.proofs.ProgressWords.{progress-sound}
 use borrow.Author.Needs.{needs}
 use borrow.Author.Tests.{not-true, not-false}
 use Rattle.printing.proofs.pieces.Progress.fill.Statement.{statement}
@@ -22,7 +22,7 @@ abbrev μ-loop : tie.MeasureT-loop
 loop-holds : tie.Need-loop-holds Inv-loop μ-loop
 loop-holds c =
     let entry = c .before .before .before .before .before .before .before .before .before in
-    (search needs, filling-start _ _ _ (sound (entry .args .self) (entry .args .ledger .now) _ (entry .good .0)))
+    (search needs, filling-start _ _ _ (progress-sound (entry .args .self) (entry .args .ledger .now) _ (entry .good .0)))
 
 returns : tie.Need-returns Inv-loop μ-loop
 returns c =
@@ -31,7 +31,7 @@ returns c =
     let entry = at-loop .before .before .before .before .before .before .before .before .before .before in
     let e = piece-full _ _ _ (at-loop .loop .progress) _ _ _ (at-loop .loop .inv .1) (at-hand-out .hand-out .result)
     (at-hand-out .hand-out .ensures .0) _ (at-hand-out .hand-out .ensures .1) (search needs) in
-    (e, piece-rest _ _ _ _ (at-hand-out .hand-out .result) _ _ (sound (entry .args .self) _ _ (entry .good .0)) e)
+    (e, piece-rest _ _ _ _ (at-hand-out .hand-out .result) _ _ (progress-sound (entry .args .self) _ _ (entry .good .0)) e)
 
 returns-2 : tie.Need-returns-2 Inv-loop μ-loop
 returns-2 c =
@@ -41,7 +41,7 @@ returns-2 c =
     let entry = at-loop .before .before .before .before .before .before .before .before .before .before in
     let e = piece-over _ _ _ (at-loop .loop .progress) _ _ _ (at-loop .loop .inv .1) (at-hand-out .hand-out .result)
     (at-hand-out .hand-out .ensures .0) _ (at-hand-out .hand-out .ensures .1) (search needs) (sym (at-goes-on .goes-on .ensures) ∙ not-true _ (c .if2 .taken)) in
-    (e, piece-rest _ _ _ _ (at-hand-out .hand-out .result) _ _ (sound (entry .args .self) _ _ (entry .good .0)) e)
+    (e, piece-rest _ _ _ _ (at-hand-out .hand-out .result) _ _ (progress-sound (entry .args .self) _ _ (entry .good .0)) e)
 
 loop-less : tie.Need-loop-less Inv-loop μ-loop
 loop-less c =
