@@ -15,7 +15,7 @@ use Rattle.pointers.specs.Open.{Opened}
 use Rattle.pointers.specs.Tables.{Tables}
 use Rattle.pointers.proofs.OpenedTables.{opened-asked}
 use Rattle.walks.specs.Sections as sections
-use Rattle.walks.specs.Sections.{walk, Kind, stepOf}
+use Rattle.walks.specs.Sections.{atStart, Kind, stepBy, stepOf}
 use Rattle.walks.specs.Slots.{slotsOf, slotCount, ledgerFits}
 use Rattle.walks.proofs.SlotLaws.{classes-count, categories-count, slot-fits, ask-11}
 use Rattle.listing.specs.Gather.{gather}
@@ -38,8 +38,8 @@ module _ (t : Tables) (o : Opened t) (l : List ℕ) where
   Short s m = listingStep t s m ≡ leaves (number 11) s m
 
   short-walk : {A : Type 0} (k : Kind A) (m : List ℕ) → length m < length (slotsOf (k .lists) (t .sections))
-      → stepOf k t (walk 0 0 0) m ≡ sections.leaves (number 11) (walk 0 0 0) m
-  unfolding stepOf ledgerFits
+      → stepOf k t atStart m ≡ sections.leaves (number 11) atStart m
+  unfolding stepOf stepBy ledgerFits
   short-walk k m h =
       rw (← ask-11 t (slotsOf (k .lists) (t .sections)) 0 0 (length m) (opened-asked t o) (slot-fits (slotsOf (k .lists) (t .sections)) 0 0 (omega arith) (omega arith))
       (lt-leb (length (slotsOf (k .lists) (t .sections))) (length m) h))
@@ -49,8 +49,8 @@ module _ (t : Tables) (o : Opened t) (l : List ℕ) where
   unfolding stepAt eventsAt
   classes-short h =
       let info = line.Info (versionAndFlags (t .info)) in
-      let first : listingStep t start l ≡ leaves (value (says info)) (state place.Section (classes (walk 0 0 0)) 0 0) l = rw (opened-asked t o) in
-      let refused : Short (state place.Section (classes (walk 0 0 0)) 0 0) l = rw (short-walk sections.classes l (rw (classes-count (t .sections)) h)) in
+      let first : listingStep t start l ≡ leaves (value (says info)) (state place.Section (classes atStart) 0 0) l = rw (opened-asked t o) in
+      let refused : Short (state place.Section (classes atStart) 0 0) l = rw (short-walk sections.classes l (rw (classes-count (t .sections)) h)) in
       let run : Steps t Short start l (info ∷ []) [] = saying first refl (over refused refl) in
       comes-to t (λ s m e. e) run
 

@@ -16,13 +16,13 @@ use Rattle.listing.specs.declared.section.Section.the-variants as aSecti
 
 -- Each walk, back from its state.
 abbrev classBack : Walk → ClassWalk
-classBack w = record { slots = slotWalk (w .slot) (w .used); meta = w .waiting }
+classBack w = record { slots = slotWalk (w .slot) (w .used) (w .highest); meta = w .waiting }
 
 abbrev protocolBack : Walk → ProtocolWalk
 protocolBack w = record { slot = w .slot }
 
 abbrev categoryBack : Walk → CategoryWalk
-categoryBack w = record { slots = slotWalk (w .slot) (w .used) }
+categoryBack w = record { slots = slotWalk (w .slot) (w .used) (w .highest) }
 
 class-walk-same : (v w : ClassWalk) → classWalk v ≡ classWalk w → v ≡ w
 class-walk-same v w e = ap classBack e

@@ -16,7 +16,7 @@ use Rattle.records.specs.Class.{roOf, superclassName}
 use Rattle.records.specs.declared.class.ClassRo.{ClassRo}
 use Rattle.walks.specs.ProtocolNames.{ReachedName, nameReached, namePassed, namesFinished, nextName}
 use Rattle.walks.specs.Sections as sections
-use Rattle.walks.specs.Sections.{Walk, walk, Step, found, passed, finished, stepOf, protocolStepOf}
+use Rattle.walks.specs.Sections.{Walk, atStart, Step, found, passed, finished, stepOf, protocolStepOf}
 use Rattle.walks.specs.Walk.{ReachedRow, rowReached, rowSkipped, rowsFinished, nextOf}
 use Rattle.walks.specs.declared.list_walk.ListWalk.{ListWalk}
 use Rattle.walks.specs.declared.protocol_names.ProtocolNameWalk.{ProtocolNameWalk}
@@ -138,12 +138,12 @@ module _ (s : State) (l : List ℕ) where
   section-falls t (classes w) h e =
       let x = stepOf sections.classes t w l in
       walk-falls s h aRecord.Class classes (2 * 2 ^ 70) (λ v. refl) (λ v. refl) w (x .walk) e (x .ledger)
-      (λ b. record { falls = λ g i. lighter _ s (rw e (omega (arith, walk-few (walk 0 0 0)))) (omega arith) })
+      (λ b. record { falls = λ g i. lighter _ s (rw e (omega (arith, walk-few atStart))) (omega arith) })
       (x .answer) (section-step-moved sections.classes t w l .moves)
   section-falls t (protocols w) h e =
       let x = protocolStepOf t w [] in
       walk-falls s h aRecord.Protocol protocols (2 ^ 70) (λ v. refl) (λ v. refl) w (x .walk) e l
-      (λ b. record { falls = λ g i. lighter _ s (rw e (omega (arith, walk-few (walk 0 0 0)))) (omega arith) })
+      (λ b. record { falls = λ g i. lighter _ s (rw e (omega (arith, walk-few atStart))) (omega arith) })
       (x .answer) (protocol-step-moved t w [] .moves)
   section-falls t (categories w) h e =
       let x = stepOf sections.categories t w l in

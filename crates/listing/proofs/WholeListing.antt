@@ -13,7 +13,7 @@ use Rattle.pointers.proofs.OpenedTables.{opened-asked}
 use Rattle.records.proofs.Decodes.{protocol-unrefused, category-unrefused, class-unrefused}
 use Rattle.walks.specs.PlainSections.{plainClasses, plainProtocols, plainCategories}
 use Rattle.walks.specs.Sections as sections
-use Rattle.walks.specs.Sections.{Walk, walk, finished, stepOf, protocolStepOf}
+use Rattle.walks.specs.Sections.{Walk, atStart, finished, stepOf, protocolStepOf}
 use Rattle.walks.specs.Slots.{slotCount}
 use Rattle.walks.proofs.PlainWalks.{class-run, protocol-run, category-run}
 use Rattle.listing.specs.Gather.{gather}
@@ -123,7 +123,7 @@ module _ (t : Tables) (o : Opened t) where
 
   -- With room for the classes: the listing comes to the first step of the category walk, with a ledger as long.
   module _ (l : List ℕ) (classRoom : slotCount (t .sections) 0 1 ≤ length l) (Over : State → List ℕ → Type 0) (xs : List Line) (es : List Event)
-      (later : (m : List ℕ) → length m ≡ length l → Steps t Over (state place.Section (categories (walk 0 0 0)) r₂ c₂) m xs es) where
+      (later : (m : List ℕ) → length m ≡ length l → Steps t Over (state place.Section (categories atStart) r₂ c₂) m xs es) where
     abbrev Kept : List ℕ → Type 0
     Kept m = length m ≡ length l
 
@@ -139,7 +139,7 @@ module _ (t : Tables) (o : Opened t) where
       protocols-end w n h e =
           silent (step-of t (protocolStepOf t) aRecord.Protocol protocols (λ _. m) (λ k. k ≡ []) is-protocols w w n n (value finished) h e r₂ c₂) refl (later m g)
 
-      protocols-come : Steps t Over (state place.Section (protocols (walk 0 0 0)) r₁ c₁) m (ofProtocols .lines ++ xs) (ofProtocols .events ++ es)
+      protocols-come : Steps t Over (state place.Section (protocols atStart) r₁ c₁) m (ofProtocols .lines ++ xs) (ofProtocols .events ++ es)
       protocols-come =
           section-comes t (protocolStepOf t) aRecord.Protocol protocols (λ _. m) (λ k. k ≡ []) is-protocols o Over (λ w n h. protocol-step-keeps t w n ∙ h)
           xs es r₂ c₂ (omega (arith, few)) (less (2 ^ 128) c₂ c₃ (omega arith) below) protocols-end
@@ -155,7 +155,7 @@ module _ (t : Tables) (o : Opened t) where
     unfolding stepAt eventsAt
     to-categories =
         let h : c₁ ≤ c₃ = omega arith in
-        let first : listingStep t start l ≡ leaves (value (says info)) (state place.Section (classes (walk 0 0 0)) 0 0) l = rw (opened-asked t o) in
+        let first : listingStep t start l ≡ leaves (value (says info)) (state place.Section (classes atStart) 0 0) l = rw (opened-asked t o) in
         saying first refl
         (section-comes t (stepOf sections.classes t) aRecord.Class classes (λ n. n) Kept (λ v n g. refl) o Over (λ w n g. step-keeps-length sections.classes t w n ∙ g)
         (ofProtocols .lines ++ xs) (ofProtocols .events ++ es) r₁ c₁ (omega (arith, few)) (less (2 ^ 128) c₁ c₃ h below) classes-end
@@ -175,7 +175,7 @@ module _ (t : Tables) (o : Opened t) where
         (over stays refl)
 
     categories-come : (m : List ℕ) → length m ≡ length l
-        → Rest t (state place.Section (categories (walk 0 0 0)) r₂ c₂) m (ofCategories .lines ++ (end ∷ [])) (ofCategories .events ++ [])
+        → Rest t (state place.Section (categories atStart) r₂ c₂) m (ofCategories .lines ++ (end ∷ [])) (ofCategories .events ++ [])
     categories-come m g =
         section-comes t (stepOf sections.categories t) aRecord.Category categories (λ n. n) (λ n. length n ≡ length l) (λ v n h. refl) o _
         (λ w n h. step-keeps-length sections.categories t w n ∙ h) (end ∷ []) [] r₃ c₃ few below categories-end

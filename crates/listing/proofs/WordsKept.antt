@@ -29,7 +29,7 @@ use Rattle.records.proofs.Headers.{list-least, least-12}
 use Rattle.walks.specs.Handed.{overList, countBy, fromCursor}
 use Rattle.walks.specs.ProtocolNames.{protocolListAt, slotIn, nameIn, ReachedName, nameReached, namePassed, namesFinished, NameLeft, named, stepIn, overNames, nextName}
 use Rattle.walks.specs.Sections as sections
-use Rattle.walks.specs.Sections.{Walk, Step, found, passed, finished, Kind, stepOf, protocolStepOf}
+use Rattle.walks.specs.Sections.{Walk, Step, found, passed, finished, Kind, stepBy, stepOf, protocolStepOf}
 use Rattle.walks.specs.Slots.{slotsOf, askedSlot, askedLedger}
 use Rattle.walks.specs.Walk.{ReachedRow, rowReached, rowSkipped, rowsFinished, RowLeft, settles, searched, overRows, nextOf}
 use Rattle.walks.specs.declared.list_walk.ListWalk.{ListWalk}
@@ -100,7 +100,7 @@ module _ {A : Type 0} (k : Kind A) (t : Tables) (w : Walk) (l : List ℕ) (h : w
       go (answered-value u) e =
           let room = ledger-slot t (slotsOf (k .lists) (t .sections)) (w .slot) (w .used) (length l) e in
           moved-low w _ (stepOf k t w l .answer) (section-step-moved k t w l .moves) (slot-low t (k .lists) (w .slot) (w .used) room)
-      go (answered-number n) e = unfold stepOf in rw e h
+      go (answered-number n) e = unfold stepOf in unfold stepBy in rw e h
 
 protocol-low : (t : Tables) (w : Walk) (l : List ℕ) → w .slot < 2 ^ 64 → protocolStepOf t w l .walk .slot < 2 ^ 64
 protocol-low t w l h = go (slot-answered t (slotsOf Protocols (t .sections)) (w .slot) (w .used)) refl

@@ -15,7 +15,7 @@ use Rattle.records.specs.declared.class.ObjcClass.{ObjcClass}
 use Rattle.records.specs.declared.protocol.ObjcProtocol.{ObjcProtocol}
 use Rattle.walks.specs.ProtocolNames.{walkAt, ReachedName, nameReached, namePassed, namesFinished, NameLeft, nextName}
 use Rattle.walks.specs.Sections as sections
-use Rattle.walks.specs.Sections.{Walk, walk, Step, found, passed, finished, stepOf, protocolStepOf}
+use Rattle.walks.specs.Sections.{Walk, atStart, Step, found, passed, finished, stepOf, protocolStepOf}
 use Rattle.walks.specs.Walk.{walkOf, ReachedRow, rowReached, rowSkipped, rowsFinished, RowLeft, nextOf}
 use Rattle.walks.specs.declared.list_walk.ListWalk.{ListWalk}
 use Rattle.walks.specs.declared.protocol_names.ProtocolNameWalk.{ProtocolNameWalk}
@@ -73,7 +73,7 @@ abbrev pub state : At → SectionWalk → ℕ → ℕ → State
 state at section records settled = record { at = at; section = section; records = records; settled = settled }
 
 abbrev pub start : State
-start = state place.Info (classes (walk 0 0 0)) 0 0
+start = state place.Info (classes atStart) 0 0
 
 -- The state at another place; in another section; with one record more; with one entry settled more, a number of two words.
 abbrev pub goTo : State → At → State
@@ -150,8 +150,8 @@ sectionStep t l (categories w) = stepLeft aRecord.Category categories (stepOf se
 
 -- After the last record of a section the next section comes; after the last of all, E with the records and the entries settled.
 abbrev pub afterSection : State → List ℕ → SectionWalk → Left
-afterSection s l (classes w) = leaves (value nothing) (inSection s place.Section (protocols (walk 0 0 0))) l
-afterSection s l (protocols w) = leaves (value nothing) (inSection s place.Section (categories (walk 0 0 0))) l
+afterSection s l (classes w) = leaves (value nothing) (inSection s place.Section (protocols atStart)) l
+afterSection s l (protocols w) = leaves (value nothing) (inSection s place.Section (categories atStart)) l
 afterSection s l (categories w) = leaves (value (says (endLine (s .records) (s .settled)))) (inSection s place.End (categories w)) l
 
 -- The line of a record that the section gave comes in the next step: with the number of a lookup that the line needs, the ledger is then as

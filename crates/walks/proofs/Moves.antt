@@ -1,14 +1,17 @@
 -- What every step leaves, by its answer: how far the walk goes on, and of a section step the ledger. With a number or absent the walk comes back
 -- as given.
-use Prim.Native.Nat.{ℕ, _+_, _≤_, _<_}
-use mathlib.Core.Path.{_≡_, refl, sym}
+use Prim.Native.Nat.{ℕ, _+_, _≤_, _<_, max}
+use mathlib.Core.Path.{_≡_, refl, sym, subst}
+use mathlib.Core.Bool.{Bool}
 use mathlib.Core.List.{List}
 use mathlib.Core.Option.{Option, none, some}
 use native.Mathlib.Omega.{arith}
-use lib.Dec.{leb}
-use lib.ListN.{length, take, set, length-set}
+use native.Mathlib.Numerals.{add-one}
+use lib.Dec.{leb, eqb}
+use lib.ListN.{length, getD, take, set, length-set}
+use lib.Seq.{take-suc-set}
 use borrow.Author.Tests.{eqb-false}
-use Rattle.reads.specs.Outcome.{Outcome, value, absent, number}
+use Rattle.reads.specs.Outcome.{Outcome, value, absent, number, choose}
 use Rattle.reads.specs.declared.text.Text.{Text}
 use Rattle.reads.proofs.Tests.{by-choose}
 use Rattle.pointers.specs.Question.{question, asked}
@@ -24,12 +27,13 @@ use Rattle.records.proofs.Readables as readables
 use Rattle.walks.specs.Handed.{unlessRefused, Handed, hands, handsBack, overList, countBy, fromCursor}
 use Rattle.walks.specs.Walk.{ReachedRow, rowReached, rowSkipped, rowsFinished, RowLeft, settles, searched, overRows, nextOf}
 use Rattle.walks.specs.ProtocolNames.{protocolListAt, slotIn, nameIn, ReachedName, nameReached, namePassed, namesFinished, NameLeft, named, stepIn, overNames, nextName}
-use Rattle.walks.specs.Slots.{slotsOf, askedSlot, askedLedger, TakenSlot, address, dropped, noSlot, slotRefused, slotTaken, firstMet}
-use Rattle.walks.specs.Sections.{Walk, walk, Step, found, passed, finished, Left, leaves, stays, Kind, slotsIn, byRecord, bySlot, takeWaiting, takeNew, takeSlot, stepOf, takeProtocol, protocolStepOf}
+use Rattle.walks.specs.Slots.{slotsOf, askedSlot, askedLedger, TakenSlot, address, dropped, noSlot, slotRefused, addressIn, takenBy, slotTaken, metBelow, greatest, firstMet}
+use Rattle.walks.specs.Sections.{Walk, walk, metIn, Highest, Step, found, passed, finished, Left, leaves, stays, Kind, slotsIn, byRecord, bySlot, takeWaiting, takeNew, takeSlot, stepBy, stepOf, takeProtocol, protocolStepOf}
 use Rattle.walks.specs.declared.list_walk.ListWalk.{ListWalk}
 use Rattle.walks.specs.declared.protocol_names.ProtocolList.{ProtocolList}
 use Rattle.walks.specs.declared.protocol_names.ProtocolNameWalk.{ProtocolNameWalk}
 use Rattle.walks.specs.declared.slots.Lists.the-variants.{Protocols}
+use Rattle.walks.proofs.SlotLaws.{greatest-end, ledger-room, Answered, answered-value, answered-number, ledger-answered}
 
 -- What holds of each way that a step over a list can go holds of the step.
 module _ {A W : Type 0} (P : Handed A W → Type 0) (w : W) (refused : (k : ℕ) → P (handsBack w k)) where
@@ -107,7 +111,7 @@ module _ (t : Tables) (w : ProtocolNameWalk) where
 -- A section step goes a slot further or takes what waits; it leaves the walk as given where that has finished. No section step is absent.
 pub data Further (w : Walk) : Walk → Type 0 where
   past-slot : {v : Walk} → v .slot ≡ w .slot + 1 → Further w v
-  past-waiting : (w .waiting ≡ 0 → ⊥) → Further w (walk (w .slot) (w .used) 0)
+  past-waiting : (w .waiting ≡ 0 → ⊥) → Further w (walk (w .slot) (w .used) (w .highest) 0)
 
 abbrev pub SectionMoves : {A : Type 0} → Walk → Walk → Outcome (Step A) → Type 0
 SectionMoves w v (value (found a)) = Further w v
@@ -132,7 +136,7 @@ module _ {A : Type 0} (P : Left A → Type 0) (w : Walk) (l : List ℕ) (refused
   by-record after on new f p absent = p
   by-record after on new f p (number k) = refused k
 
-  by-slot : (decode : ℕ → Left A) → ((a : ℕ) → P (decode a)) → P (leaves (value passed) (walk (w .slot + 1) (w .used) 0) l) → P (leaves (value finished) w l)
+  by-slot : (decode : ℕ → Left A) → ((a : ℕ) → P (decode a)) → P (leaves (value passed) (walk (w .slot + 1) (w .used) (w .highest) 0) l) → P (leaves (value finished) w l)
       → (x : TakenSlot) → P (bySlot w l decode x)
   by-slot decode h p f (address a) = h a
   by-slot decode h p f dropped = p
@@ -140,24 +144,37 @@ module _ {A : Type 0} (P : Left A → Type 0) (w : Walk) (l : List ℕ) (refused
   by-slot decode h p f (slotRefused k) = refused k
 
 module _ {A : Type 0} (k : Kind A) (t : Tables) (w : Walk) (l : List ℕ) where
+  -- An address is first met where the ledger has a word for it.
   by-step : (P : Left A → Type 0) → ((n : ℕ) → P (stays w l n)) → P (leaves (value finished) w l)
-      → ((a : ℕ) → P (takeNew k t w l a)) → P (leaves (value passed) (walk (w .slot + 1) (w .used) 0) l)
+      → ((a : ℕ) → w .used < length l → P (takeNew k t w l a)) → P (leaves (value passed) (walk (w .slot + 1) (w .used) (w .highest) 0) l)
       → ((w .waiting ≡ 0 → ⊥) → P (takeWaiting k t w l)) → P (stepOf k t w l)
-  unfolding stepOf takeSlot
-  by-step P refused end new drop waited =
-      by-question P w l refused (askedLedger t (slotsIn k t) (w .slot) (w .used) (length l)) _
-      (by-choose P
-      (λ e. by-slot P w l refused (takeNew k t w l) new drop end (firstMet (take (w .used) l) (slotTaken t (slotsIn k t) (w .slot))))
-      (λ e. waited (eqb-false (w .waiting) 0 e)))
+  unfolding stepOf stepBy takeSlot slotTaken
+  by-step P refused end new drop waited = go refl (ledger-answered t (slotsIn k t) (w .slot) (w .used) (length l))
+    where
+      before : ℕ → Bool
+      before = metBelow (w .highest) (metIn w l)
+
+      taken : (w .slot ≤ length (slotsIn k t)) × (w .used ≤ w .slot) × (length (slotsIn k t) ≤ length l)
+          → P (bySlot w l (takeNew k t w l) (firstMet before (slotTaken t (slotsIn k t) (w .slot))))
+      taken r =
+          by-choose (λ (x : TakenSlot). P (bySlot w l (takeNew k t w l) (firstMet before x))) (λ e. end)
+          (λ e. by-slot P w l refused (takeNew k t w l)
+          (λ a. new a (omega (arith, eqb-false (w .slot) (length (slotsIn k t)) e, r .0, r .1, r .2))) drop end (firstMet before (takenBy (addressIn t (getD (slotsIn k t) (w .slot) 0)))))
+
+      go : {o : Outcome (Unit {0})} → askedLedger t (slotsIn k t) (w .slot) (w .used) (length l) ≡ o → Answered o
+          → P (unlessRefused o (stays w l) (choose (eqb (w .waiting) 0) (takeSlot before k t w l) (takeWaiting k t w l)))
+      go e (answered-value u) =
+          by-choose P (λ z. taken (ledger-room (slotsIn k t) t (w .slot) (w .used) (length l) e)) (λ z. waited (eqb-false (w .waiting) 0 z))
+      go e (answered-number n) = refused n
 
   pub section-step-moved : SectionMoved w (stepOf k t w l)
   unfolding takeNew takeWaiting
   section-step-moved =
       by-step (SectionMoved w) (λ n. record { moves = refl }) (record { moves = refl })
-      (λ a. by-record (SectionMoved w) w l (λ n. record { moves = refl }) (k .after) (walk (w .slot + 1) (w .used + 1)) (set l (w .used) a)
+      (λ a r. by-record (SectionMoved w) w l (λ n. record { moves = refl }) (k .after) (walk (w .slot + 1) (w .used + 1) (max (w .highest) a)) (set l (w .used) a)
       (λ c. record { moves = past-slot refl }) (record { moves = past-slot refl }) (k .decoded t a))
       (record { moves = past-slot refl })
-      (λ h. by-record (SectionMoved w) w l (λ n. record { moves = refl }) (λ c. 0) (walk (w .slot) (w .used)) l
+      (λ h. by-record (SectionMoved w) w l (λ n. record { moves = refl }) (λ c. 0) (walk (w .slot) (w .used) (w .highest)) l
       (λ c. record { moves = past-waiting h }) (record { moves = past-waiting h }) (k .waited t (w .waiting)))
 
   -- As many words are left in the ledger as there were.
@@ -165,21 +182,40 @@ module _ {A : Type 0} (k : Kind A) (t : Tables) (w : Walk) (l : List ℕ) where
   unfolding takeNew takeWaiting
   step-keeps-length =
       by-step (λ x. length (x .ledger) ≡ length l) (λ n. refl) refl
-      (λ a. by-record (λ x. length (x .ledger) ≡ length l) w l (λ n. refl) (k .after) (walk (w .slot + 1) (w .used + 1)) (set l (w .used) a)
+      (λ a r. by-record (λ x. length (x .ledger) ≡ length l) w l (λ n. refl) (k .after) (walk (w .slot + 1) (w .used + 1) (max (w .highest) a)) (set l (w .used) a)
       (λ c. length-set l (w .used) a) (length-set l (w .used) a) (k .decoded t a))
       refl
-      (λ h. by-record (λ x. length (x .ledger) ≡ length l) w l (λ n. refl) (λ c. 0) (walk (w .slot) (w .used)) l (λ c. refl) refl (k .waited t (w .waiting)))
+      (λ h. by-record (λ x. length (x .ledger) ≡ length l) w l (λ n. refl) (λ c. 0) (walk (w .slot) (w .used) (w .highest)) l (λ c. refl) refl (k .waited t (w .waiting)))
+
+  -- Where the highest address met is the greatest word in use it stays so.
+  pub highest-kept : Highest w l → Highest (stepOf k t w l .walk) (stepOf k t w l .ledger)
+  unfolding takeNew takeWaiting
+  highest-kept h =
+      by-step Kept (λ n. h) h
+      (λ a r. by-record Kept w l (λ n. h) (k .after) (walk (w .slot + 1) (w .used + 1) (max (w .highest) a)) (set l (w .used) a)
+      (λ c. noted a r) (noted a r) (k .decoded t a))
+      h
+      (λ z. by-record Kept w l (λ n. h) (λ c. 0) (walk (w .slot) (w .used) (w .highest)) l (λ c. h) h (k .waited t (w .waiting)))
+    where
+      Kept : Left A → Type 0
+      Kept x = Highest (x .walk) (x .ledger)
+
+      noted : (a : ℕ) → w .used < length l → max (w .highest) a ≡ greatest (take (w .used + 1) (set l (w .used) a))
+      noted a r = rw (add-one, take-suc-set l (w .used) a r, greatest-end (metIn w l) a, h)
+
+  pub highest-after : {v : Walk} {m : List ℕ} {o : Outcome (Step A)} → Highest w l → stepOf k t w l ≡ leaves o v m → Highest v m
+  highest-after h e = subst (λ (x : Left A). Highest (x .walk) (x .ledger)) e (highest-kept h)
 
 module _ (t : Tables) (w : Walk) (l : List ℕ) where
   abbrev one-on : Walk
-  one-on = walk (w .slot + 1) (w .used) 0
+  one-on = walk (w .slot + 1) (w .used) (w .highest) 0
 
   by-protocol-step : (P : Left ObjcProtocol → Type 0) → ((n : ℕ) → P (stays w l n)) → P (leaves (value finished) w l)
       → ((p : ObjcProtocol) → P (leaves (value (found p)) one-on l)) → P (leaves (value passed) one-on l) → P (protocolStepOf t w l)
   unfolding protocolStepOf takeProtocol
   by-protocol-step P refused end gives pass =
       by-question P w l refused (askedSlot t (slotsOf Protocols (t .sections)) (w .slot) (w .used)) _
-      (by-slot P w l refused (takeProtocol t w l) (λ a. by-record P w l refused (λ p. 0) (walk (w .slot + 1) (w .used)) l gives pass (protocolAt t a)) pass end
+      (by-slot P w l refused (takeProtocol t w l) (λ a. by-record P w l refused (λ p. 0) (walk (w .slot + 1) (w .used) (w .highest)) l gives pass (protocolAt t a)) pass end
       (slotTaken t (slotsOf Protocols (t .sections)) (w .slot)))
 
   pub protocol-step-moved : SectionMoved w (protocolStepOf t w l)

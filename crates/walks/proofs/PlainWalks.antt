@@ -1,5 +1,5 @@
 -- Over tables that opening accepted, a section walk gives exactly the records of the plain definition, whatever the ledger held.
-use Prim.Native.Nat.{ℕ, zero, suc, _+_, _*_, _≤_, _<_}
+use Prim.Native.Nat.{ℕ, zero, suc, _+_, _*_, _≤_, _<_, max}
 use mathlib.Core.Path.{_≡_, refl, sym, ap, _∙_}
 use mathlib.Core.Bool.{Bool, true, false, or-true, or-false}
 use mathlib.Core.List.{List, [], _∷_, _++_, append-nil, append-assoc, flatMap}
@@ -21,12 +21,13 @@ use Rattle.records.specs.Category.{categoryAt}
 use Rattle.records.specs.Protocol.{protocolAt}
 use Rattle.records.proofs.Decodes.{unrefused}
 use Rattle.walks.specs.Slots.{slotsOf, slotCount, protocolCount, addressIn, decodeAddress, among, askedLedger, TakenSlot, address, dropped, takenBy, slotTaken, firstMet}
-use Rattle.walks.specs.Sections.{Walk, walk, Step, found, passed, finished, Left, leaves, Kind, slotsIn, classes, categories, bySlot, takeWaiting, takeNew, stepOf, takeProtocol, protocolStepOf}
+use Rattle.walks.specs.Sections.{Walk, walk, Step, found, passed, finished, Left, leaves, Kind, slotsIn, classes, categories, Highest, bySlot, takeWaiting, takeNew, takeSlot, stepBy, ledgerStepOf, stepOf, takeProtocol, protocolStepOf}
 use Rattle.walks.specs.PlainSections.{present, addressesIn, unless, without, once, listed, withMeta, plainClasses, plainCategories, plainProtocols, answerAt, recordIn, recordsOf, Walked, Gives, ended, passing, giving, Run}
 use Rattle.records.specs.declared.protocol.ObjcProtocol.{ObjcProtocol}
 use Rattle.walks.specs.declared.slots.Lists.the-variants.{Categories, Protocols}
-use Rattle.walks.proofs.SlotLaws.{classes-count, categories-count, protocols-count, among-end, slot-fits, ledger-asked, taken-none, taken-by, next-on, new-on}
-use Rattle.walks.proofs.SectionLaws.{waiting-on, step-waiting, step-slot, protocol-step}
+use Rattle.walks.proofs.SlotLaws.{classes-count, categories-count, protocols-count, among-end, slot-fits, ledger-asked, taken-none, taken-by, next-on}
+use Rattle.walks.proofs.SectionLaws.{step-by-ledger, highest-at-start, protocol-step}
+use Rattle.walks.proofs.Moves.{highest-after}
 
 -- What a run says of each step.
 module _ {A : Type 0} (step : Walk → List ℕ → Left A) where
@@ -130,7 +131,7 @@ module _ {A : Type 0} (k : Kind A) (t : Tables) (yes : asked t ≡ value tt) (ad
     (decodes : (a : ℕ) → Unrefused (k .decoded t a)) (waits : (a : ℕ) → Unrefused (k .waited t a)) where
   -- What slot `at` comes to, with so many words of a ledger in use.
   abbrev takenNew : ℕ → ℕ → List ℕ → TakenSlot
-  takenNew at used l = firstMet (take used l) (takenBy (addressIn t (getD (slotsIn k t) at 0)))
+  takenNew at used l = firstMet (λ a. among a (take used l)) (takenBy (addressIn t (getD (slotsIn k t) at 0)))
 
   -- What waits after a record, and the records of an address and of slots.
   following : A → List A
@@ -143,43 +144,45 @@ module _ {A : Type 0} (k : Kind A) (t : Tables) (yes : asked t ≡ value tt) (ad
   plainFrom seen ss = flatMap recordsAt (unseen seen (once (addressesIn t ss)))
 
   -- One step, by what it finds.
-  module _ (at used waiting : ℕ) (l : List ℕ) (g : at ≤ length (slotsIn k t)) (h : used ≤ at) (r : length (slotsIn k t) ≤ length l) where
+  module _ (at used highest waiting : ℕ) (l : List ℕ) (g : at ≤ length (slotsIn k t)) (h : used ≤ at) (r : length (slotsIn k t) ≤ length l) where
     abbrev here : Walk
-    here = walk at used waiting
+    here = walk at used highest waiting
 
     asked-yes : askedLedger t (slotsIn k t) at used (length l) ≡ value tt
     asked-yes = ledger-asked (slotsIn k t) t at used yes (length l) g h r
 
-    step-takes-waiting : (waiting ≡ 0 → ⊥) → stepOf k t here l ≡ takeWaiting k t here l
-    step-takes-waiting n = sym (step-waiting k t here l n (waiting-on k t here l asked-yes refl))
+    step-takes-waiting : (waiting ≡ 0 → ⊥) → ledgerStepOf k t here l ≡ takeWaiting k t here l
+    unfolding ledgerStepOf stepBy
+    step-takes-waiting n = rw (asked-yes, choose-false (takeSlot (λ a. among a (take used l)) k t here l) (takeWaiting k t here l) (ne-eqb waiting 0 n))
 
-    step-takes-slot : waiting ≡ 0 → stepOf k t here l ≡ bySlot here l (takeNew k t here l) (firstMet (take used l) (slotTaken t (slotsIn k t) at))
-    step-takes-slot z = sym (step-slot k t here l z (ap (bySlot here l (takeNew k t here l)) (new-on t (slotsIn k t) at used l asked-yes refl)))
+    step-takes-slot : waiting ≡ 0 → ledgerStepOf k t here l ≡ bySlot here l (takeNew k t here l) (firstMet (λ a. among a (take used l)) (slotTaken t (slotsIn k t) at))
+    unfolding ledgerStepOf stepBy takeSlot
+    step-takes-slot z = rw (asked-yes, choose-true (takeSlot (λ a. among a (take used l)) k t here l) (takeWaiting k t here l) (eq-eqb waiting 0 z))
 
-    step-end : waiting ≡ 0 → at ≡ length (slotsIn k t) → stepOf k t here l ≡ leaves (value finished) here l
+    step-end : waiting ≡ 0 → at ≡ length (slotsIn k t) → ledgerStepOf k t here l ≡ leaves (value finished) here l
     step-end z e = step-takes-slot z ∙ rw (← taken-none t (slotsIn k t) at e)
 
     module _ (z : waiting ≡ 0) (u : at < length (slotsIn k t)) where
-      step-taken : stepOf k t here l ≡ bySlot here l (takeNew k t here l) (takenNew at used l)
+      step-taken : ledgerStepOf k t here l ≡ bySlot here l (takeNew k t here l) (takenNew at used l)
       step-taken = step-takes-slot z ∙ rw (← taken-by t (slotsIn k t) at {x = takenBy (addressIn t (getD (slotsIn k t) at 0))} (λ e. absurd (omega arith)) refl refl refl)
 
-      step-met : takenNew at used l ≡ dropped → stepOf k t here l ≡ leaves (value passed) (walk (at + 1) used 0) l
+      step-met : takenNew at used l ≡ dropped → ledgerStepOf k t here l ≡ leaves (value passed) (walk (at + 1) used highest 0) l
       step-met e = step-taken ∙ rw e
 
-      step-undecoded : (a : ℕ) → takenNew at used l ≡ address a → k .decoded t a ≡ absent → stepOf k t here l ≡ leaves (value passed) (walk (at + 1) (used + 1) 0) (set l used a)
+      step-undecoded : (a : ℕ) → takenNew at used l ≡ address a → k .decoded t a ≡ absent → ledgerStepOf k t here l ≡ leaves (value passed) (walk (at + 1) (used + 1) (max highest a) 0) (set l used a)
       unfolding takeNew
       step-undecoded a e d = step-taken ∙ rw (e, d)
 
       step-found : (a : ℕ) (c : A) → takenNew at used l ≡ address a → k .decoded t a ≡ value c
-          → stepOf k t here l ≡ leaves (value (found c)) (walk (at + 1) (used + 1) (k .after c)) (set l used a)
+          → ledgerStepOf k t here l ≡ leaves (value (found c)) (walk (at + 1) (used + 1) (max highest a) (k .after c)) (set l used a)
       unfolding takeNew
       step-found a c e d = step-taken ∙ rw (e, d)
 
-    step-waited : (waiting ≡ 0 → ⊥) → (c : A) → k .waited t waiting ≡ value c → stepOf k t here l ≡ leaves (value (found c)) (walk at used 0) l
+    step-waited : (waiting ≡ 0 → ⊥) → (c : A) → k .waited t waiting ≡ value c → ledgerStepOf k t here l ≡ leaves (value (found c)) (walk at used highest 0) l
     unfolding takeWaiting
     step-waited n c e = step-takes-waiting n ∙ rw e
 
-    step-unwaited : (waiting ≡ 0 → ⊥) → k .waited t waiting ≡ absent → stepOf k t here l ≡ leaves (value passed) (walk at used 0) l
+    step-unwaited : (waiting ≡ 0 → ⊥) → k .waited t waiting ≡ absent → ledgerStepOf k t here l ≡ leaves (value passed) (walk at used highest 0) l
     unfolding takeWaiting
     step-unwaited n e = step-takes-waiting n ∙ rw e
 
@@ -211,29 +214,29 @@ module _ {A : Type 0} (k : Kind A) (t : Tables) (yes : asked t ≡ value tt) (ad
 
   -- A run of at most so many steps.
   abbrev Runs : ℕ → Walk → List ℕ → List A → Type 0
-  Runs most w l rs = (n : ℕ) × (n ≤ most) × Gives (stepOf k t) n w l rs
+  Runs most w l rs = (n : ℕ) × (n ≤ most) × Gives (ledgerStepOf k t) n w l rs
 
-  pass : {n : ℕ} {w v : Walk} {l m : List ℕ} {rs : List A} → stepOf k t w l ≡ leaves (value passed) v m → Runs n v m rs → Runs (suc n) w l rs
+  pass : {n : ℕ} {w v : Walk} {l m : List ℕ} {rs : List A} → ledgerStepOf k t w l ≡ leaves (value passed) v m → Runs n v m rs → Runs (suc n) w l rs
   pass e r = (suc (r .0), omega arith, passing e (r .2))
 
   give : {n : ℕ} {w v : Walk} {l m : List ℕ} {c : A} {rs : List A}
-      → stepOf k t w l ≡ leaves (value (found c)) v m → Runs n v m rs → Runs (suc n) w l (c ∷ rs)
+      → ledgerStepOf k t w l ≡ leaves (value (found c)) v m → Runs n v m rs → Runs (suc n) w l (c ∷ rs)
   give e r = (suc (r .0), omega arith, giving e (r .2))
 
   more : {n m : ℕ} {w : Walk} {l : List ℕ} {rs : List A} → n ≤ m → Runs n w l rs → Runs m w l rs
   more h r = (r .0, omega arith, r .2)
 
   -- What waits is taken, then the walk goes on.
-  module _ (n at used : ℕ) (l : List ℕ) (rs : List A) (g : at ≤ length (slotsIn k t)) (h : used ≤ at) (r : length (slotsIn k t) ≤ length l) (later : Runs n (walk at used 0) l rs) where
+  module _ (n at used highest : ℕ) (l : List ℕ) (rs : List A) (g : at ≤ length (slotsIn k t)) (h : used ≤ at) (r : length (slotsIn k t) ≤ length l) (later : Runs n (walk at used highest 0) l rs) where
     waited-run : (waiting : ℕ) → (waiting ≡ 0 → ⊥) → {o : Outcome A} → k .waited t waiting ≡ o → Unrefused o
-        → Runs (suc n) (walk at used waiting) l (present o ++ rs)
-    waited-run waiting z e (is-value c) = give (step-waited at used waiting l g h r z c e) later
-    waited-run waiting z e is-absent = pass (step-unwaited at used waiting l g h r z e) later
+        → Runs (suc n) (walk at used highest waiting) l (present o ++ rs)
+    waited-run waiting z e (is-value c) = give (step-waited at used highest waiting l g h r z c e) later
+    waited-run waiting z e is-absent = pass (step-unwaited at used highest waiting l g h r z e) later
 
-    after-run : (c : A) → Runs (suc n) (walk at used (k .after c)) l (following c ++ rs)
+    after-run : (c : A) → Runs (suc n) (walk at used highest (k .after c)) l (following c ++ rs)
     after-run c = go (eqb (k .after c) 0) refl
       where
-        go : (b : Bool) → eqb (k .after c) 0 ≡ b → Runs (suc n) (walk at used (k .after c)) l (following c ++ rs)
+        go : (b : Bool) → eqb (k .after c) 0 ≡ b → Runs (suc n) (walk at used highest (k .after c)) l (following c ++ rs)
         go true e =
             let z : k .after c ≡ 0 = eqb-true (k .after c) 0 e in
             rw (following-none c z, z) (more (omega arith) later)
@@ -242,8 +245,8 @@ module _ {A : Type 0} (k : Kind A) (t : Tables) (yes : asked t ≡ value tt) (ad
             rw (following-one c z) (waited-run (k .after c) z refl (waits (k .after c)))
 
   -- One slot is taken, then the walk goes on.
-  module _ (n at used : ℕ) (l : List ℕ) (u : at < length (slotsIn k t)) (h : used ≤ at) (r : length (slotsIn k t) ≤ length l) (ss : List ℕ)
-      (later : (used′ : ℕ) (l′ : List ℕ) → used′ ≤ at + 1 → length (slotsIn k t) ≤ length l′ → Runs (2 * n) (walk (at + 1) used′ 0) l′ (plainFrom (take used′ l′) ss)) where
+  module _ (n at used highest : ℕ) (l : List ℕ) (u : at < length (slotsIn k t)) (h : used ≤ at) (r : length (slotsIn k t) ≤ length l) (ss : List ℕ)
+      (later : (used′ highest′ : ℕ) (l′ : List ℕ) → used′ ≤ at + 1 → length (slotsIn k t) ≤ length l′ → Runs (2 * n) (walk (at + 1) used′ highest′ 0) l′ (plainFrom (take used′ l′) ss)) where
     abbrev here-slot : ℕ
     here-slot = getD (slotsIn k t) at 0
 
@@ -251,29 +254,29 @@ module _ {A : Type 0} (k : Kind A) (t : Tables) (yes : asked t ≡ value tt) (ad
     seen = take used l
 
     abbrev Slot : List ℕ → Type 0
-    Slot bs = Runs (2 * suc n) (walk at used 0) l (flatMap recordsAt bs)
+    Slot bs = Runs (2 * suc n) (walk at used highest 0) l (flatMap recordsAt bs)
 
     dropped-slot : takenNew at used l ≡ dropped → Slot (unseen seen (once (addressesIn t ss)))
     unfolding plainFrom
-    dropped-slot e = more (omega arith) (pass (step-met at used 0 l (omega arith) h r refl u e) (later used l (omega arith) r))
+    dropped-slot e = more (omega arith) (pass (step-met at used highest 0 l (omega arith) h r refl u e) (later used highest l (omega arith) r))
 
     -- The ledger has the address at the end of its words in use.
-    later-new : (a : ℕ) → Runs (2 * n) (walk (at + 1) (used + 1) 0) (set l used a) (flatMap recordsAt (unseen (seen ++ (a ∷ [])) (once (addressesIn t ss))))
+    later-new : (a : ℕ) → Runs (2 * n) (walk (at + 1) (used + 1) (max highest a) 0) (set l used a) (flatMap recordsAt (unseen (seen ++ (a ∷ [])) (once (addressesIn t ss))))
     unfolding plainFrom
     later-new a =
         let e : take (used + 1) (set l used a) ≡ seen ++ (a ∷ []) = rw add-one (take-suc-set l used a (omega arith)) in
-        rw e at (later (used + 1) (set l used a) (omega arith) (rw (length-set l used a) r))
+        rw e at (later (used + 1) (max highest a) (set l used a) (omega arith) (rw (length-set l used a) r))
 
     decoded-slot : (a : ℕ) → takenNew at used l ≡ address a → {o : Outcome A} → k .decoded t a ≡ o → Unrefused o
         → Slot (a ∷ unseen (seen ++ (a ∷ [])) (once (addressesIn t ss)))
     decoded-slot a e d (is-value c) =
         rw (records-one a _ c d)
         (more (omega arith)
-        (give (step-found at used 0 l (omega arith) h r refl u a c e d)
-        (after-run (2 * n) (at + 1) (used + 1) (set l used a) _ (omega arith) (omega arith) (rw (length-set l used a) r) (later-new a) c)))
+        (give (step-found at used highest 0 l (omega arith) h r refl u a c e d)
+        (after-run (2 * n) (at + 1) (used + 1) (max highest a) (set l used a) _ (omega arith) (omega arith) (rw (length-set l used a) r) (later-new a) c)))
     decoded-slot a e d is-absent =
         rw (records-none a _ d)
-        (more (omega arith) (pass (step-undecoded at used 0 l (omega arith) h r refl u a e d) (later-new a)))
+        (more (omega arith) (pass (step-undecoded at used highest 0 l (omega arith) h r refl u a e d) (later-new a)))
 
     address-slot : (a : ℕ) → addressIn t here-slot ≡ value a → (b : Bool) → among a seen ≡ b → Slot (unseen seen (once (a ∷ addressesIn t ss)))
     address-slot a e true m = rw (once-met seen a (addressesIn t ss) m) (dropped-slot (rw e (choose-true _ _ m)))
@@ -283,27 +286,35 @@ module _ {A : Type 0} (k : Kind A) (t : Tables) (yes : asked t ≡ value tt) (ad
     any-slot e (is-value a) = address-slot a e (among a seen) refl
     any-slot e is-absent = dropped-slot (rw e)
 
-    one-slot : Runs (2 * suc n) (walk at used 0) l (plainFrom seen (here-slot ∷ ss))
+    one-slot : Runs (2 * suc n) (walk at used highest 0) l (plainFrom seen (here-slot ∷ ss))
     unfolding plainFrom addressesIn flatMap
     one-slot = any-slot refl (addressed here-slot)
 
   -- All slots from one on.
-  walk-runs : (n at used : ℕ) (l : List ℕ) → at + n ≡ length (slotsIn k t) → used ≤ at → length (slotsIn k t) ≤ length l
-      → Runs (2 * n) (walk at used 0) l (plainFrom (take used l) (drop at (slotsIn k t)))
-  walk-runs zero at used l e h r =
+  walk-runs : (n at used highest : ℕ) (l : List ℕ) → at + n ≡ length (slotsIn k t) → used ≤ at → length (slotsIn k t) ≤ length l
+      → Runs (2 * n) (walk at used highest 0) l (plainFrom (take used l) (drop at (slotsIn k t)))
+  walk-runs zero at used highest l e h r =
       let z : at ≡ length (slotsIn k t) = omega arith in
       rw (drop-of-length-le (slotsIn k t) {i = at} (omega arith)) (nothing z)
     where
-      nothing : at ≡ length (slotsIn k t) → Runs 0 (walk at used 0) l (plainFrom (take used l) [])
-      nothing z = unfold plainFrom in unfold addressesIn in unfold flatMap in unfold once in unfold unseen in (0, omega arith, ended (step-end at used 0 l (omega arith) h r refl z))
-  walk-runs (suc n) at used l e h r =
+      nothing : at ≡ length (slotsIn k t) → Runs 0 (walk at used highest 0) l (plainFrom (take used l) [])
+      nothing z = unfold plainFrom in unfold addressesIn in unfold flatMap in unfold once in unfold unseen in (0, omega arith, ended (step-end at used highest 0 l (omega arith) h r refl z))
+  walk-runs (suc n) at used highest l e h r =
       rw (slots-from (slotsIn k t) at (omega arith))
-      (one-slot n at used l (omega arith) h r (drop (at + 1) (slotsIn k t)) (λ used′ l′ h′ r′. walk-runs n (at + 1) used′ l′ (omega arith) h′ r′))
+      (one-slot n at used highest l (omega arith) h r (drop (at + 1) (slotsIn k t)) (λ used′ highest′ l′ h′ r′. walk-runs n (at + 1) used′ highest′ l′ (omega arith) h′ r′))
+
+  -- A run by the ledger alone is one with the highest address met, where that is the greatest word in use.
+  ledger-run : {n : ℕ} {w : Walk} {l : List ℕ} {rs : List A} → Highest w l → Gives (ledgerStepOf k t) n w l rs → Gives (stepOf k t) n w l rs
+  ledger-run h (ended e) = ended (step-by-ledger k t _ _ h ∙ e)
+  ledger-run h (passing e g) = let s = step-by-ledger k t _ _ h ∙ e in passing s (ledger-run (highest-after k t _ _ h s) g)
+  ledger-run h (giving e g) = let s = step-by-ledger k t _ _ h ∙ e in giving s (ledger-run (highest-after k t _ _ h s) g)
 
   -- The whole walk, from the first slot on.
   once-run : (l : List ℕ) → length (slotsIn k t) ≤ length l → Run (stepOf k t) (2 * length (slotsIn k t)) l (flatMap recordsAt (listed t (k .lists)))
   unfolding plainFrom listed
-  once-run l r = rw (unseen-none (listed t (k .lists))) at (walk-runs (length (slotsIn k t)) 0 0 l (omega arith) (omega arith) r)
+  once-run l r =
+      let run = rw (unseen-none (listed t (k .lists))) at (walk-runs (length (slotsIn k t)) 0 0 0 l (omega arith) (omega arith) r) in
+      (run .0, run .1, ledger-run (highest-at-start l) (run .2))
 
 -- The protocol walk: a step for each slot.
 module _ (t : Tables) (yes : asked t ≡ value tt) (addressed : (a : ℕ) → Unrefused (addressIn t a)) (decodes : (a : ℕ) → Unrefused (protocolAt t a)) where
@@ -315,7 +326,7 @@ module _ (t : Tables) (yes : asked t ≡ value tt) (addressed : (a : ℕ) → Un
 
   module _ (at : ℕ) (l : List ℕ) (g : at ≤ length lists) where
     abbrev there : Walk
-    there = walk at 0 0
+    there = walk at 0 0 0
 
     protocol-slot : protocolStepOf t there l ≡ bySlot there l (takeProtocol t there l) (slotTaken t lists at)
     protocol-slot =
@@ -328,22 +339,22 @@ module _ (t : Tables) (yes : asked t ≡ value tt) (addressed : (a : ℕ) → Un
       protocol-taken : protocolStepOf t there l ≡ bySlot there l (takeProtocol t there l) (takenBy (addressIn t (getD lists at 0)))
       protocol-taken = protocol-slot ∙ rw (← taken-by t lists at {x = takenBy (addressIn t (getD lists at 0))} (λ e. absurd (omega arith)) refl refl refl)
 
-      protocol-dropped : addressIn t (getD lists at 0) ≡ absent → protocolStepOf t there l ≡ leaves (value passed) (walk (at + 1) 0 0) l
+      protocol-dropped : addressIn t (getD lists at 0) ≡ absent → protocolStepOf t there l ≡ leaves (value passed) (walk (at + 1) 0 0 0) l
       protocol-dropped e = protocol-taken ∙ rw e
 
       protocol-found : (a : ℕ) (p : ObjcProtocol) → addressIn t (getD lists at 0) ≡ value a → protocolAt t a ≡ value p
-          → protocolStepOf t there l ≡ leaves (value (found p)) (walk (at + 1) 0 0) l
+          → protocolStepOf t there l ≡ leaves (value (found p)) (walk (at + 1) 0 0 0) l
       unfolding takeProtocol
       protocol-found a p e d = protocol-taken ∙ rw (e, d)
 
       protocol-passed : (a : ℕ) → addressIn t (getD lists at 0) ≡ value a → protocolAt t a ≡ absent
-          → protocolStepOf t there l ≡ leaves (value passed) (walk (at + 1) 0 0) l
+          → protocolStepOf t there l ≡ leaves (value passed) (walk (at + 1) 0 0 0) l
       unfolding takeProtocol
       protocol-passed a e d = protocol-taken ∙ rw (e, d)
 
-  module _ (n at : ℕ) (l : List ℕ) (u : at < length lists) (ss : List ℕ) (later : Gives (protocolStepOf t) n (walk (at + 1) 0 0) l (protocolsIn ss)) where
+  module _ (n at : ℕ) (l : List ℕ) (u : at < length lists) (ss : List ℕ) (later : Gives (protocolStepOf t) n (walk (at + 1) 0 0 0) l (protocolsIn ss)) where
     abbrev Next : List ObjcProtocol → Type 0
-    Next ps = Gives (protocolStepOf t) (suc n) (walk at 0 0) l (ps ++ protocolsIn ss)
+    Next ps = Gives (protocolStepOf t) (suc n) (walk at 0 0 0) l (ps ++ protocolsIn ss)
 
     by-protocol : (a : ℕ) → addressIn t (getD lists at 0) ≡ value a → {o : Outcome ObjcProtocol} → protocolAt t a ≡ o → Unrefused o → Next (present o)
     by-protocol a e d (is-value p) = giving (protocol-found at l (omega arith) u a p e d) later
@@ -354,7 +365,7 @@ module _ (t : Tables) (yes : asked t ≡ value tt) (addressed : (a : ℕ) → Un
     next-protocol e (is-value a) = rw (append-nil (present (protocolAt t a))) (by-protocol a e refl (decodes a))
     next-protocol e is-absent = passing (protocol-dropped at l (omega arith) u e) later
 
-  protocol-runs : (n at : ℕ) (l : List ℕ) → at + n ≡ length lists → Gives (protocolStepOf t) n (walk at 0 0) l (protocolsIn (drop at lists))
+  protocol-runs : (n at : ℕ) (l : List ℕ) → at + n ≡ length lists → Gives (protocolStepOf t) n (walk at 0 0 0) l (protocolsIn (drop at lists))
   unfolding protocolsIn addressesIn flatMap
   protocol-runs zero at l e = rw (drop-of-length-le lists {i = at} (omega arith)) (ended (protocol-end at l (omega arith) (omega arith)))
   protocol-runs (suc n) at l e =

@@ -16,7 +16,7 @@ use Rattle.pointers.specs.Chain.{followFrom, follow}
 use Rattle.pointers.specs.Slot.{rebaseAt, stored, resolve}
 use Rattle.records.specs.Class.{bitsOf, decodeData, decodeClass}
 use Rattle.walks.specs.Slots.{slotsFrom, sectionSlots, decodeAddress, among, slotFits, ledgerFits, askedSlot, askedLedger, slotTaken}
-use Rattle.walks.specs.Sections.{Walk, walk, found, passed, finished, Left, leaves, classes, metaOf, takeWaiting, takeNew, takeSlot, stepOf}
+use Rattle.walks.specs.Sections.{Walk, walk, atStart, found, passed, finished, Left, leaves, classes, metaOf, takeWaiting, takeNew, takeSlot, stepBy, stepOf}
 use Rattle.walks.specs.PlainSections.{addressesIn, without, once, listed, withMeta, plainClasses}
 use Rattle.records.specs.declared.class.ObjcClass.{ObjcClass}
 
@@ -65,25 +65,30 @@ two = 4096 ∷ 12288 ∷ 9 ∷ 9 ∷ 9 ∷ []
 -- decode and counts as met; finished.
 abbrev taken : List Case
 taken =
-    case (walk 0 0 0) (replicate 5 9) (leaves (value (found listedClass)) (walk 1 1 4104) one)
-    ∷ case (walk 1 1 4104) one (leaves (value (found listedMeta)) (walk 1 1 0) one)
-    ∷ case (walk 1 1 0) one (leaves (value passed) (walk 2 1 0) one)
-    ∷ case (walk 2 1 0) one (leaves (value passed) (walk 3 1 0) one)
-    ∷ case (walk 3 1 0) one (leaves (value passed) (walk 4 1 0) one)
-    ∷ case (walk 4 1 0) one (leaves (value passed) (walk 5 2 0) two)
-    ∷ case (walk 5 2 0) two (leaves (value finished) (walk 5 2 0) two)
+    case atStart (replicate 5 9) (leaves (value (found listedClass)) (walk 1 1 4096 4104) one)
+    ∷ case (walk 1 1 4096 4104) one (leaves (value (found listedMeta)) (walk 1 1 4096 0) one)
+    ∷ case (walk 1 1 4096 0) one (leaves (value passed) (walk 2 1 4096 0) one)
+    ∷ case (walk 2 1 4096 0) one (leaves (value passed) (walk 3 1 4096 0) one)
+    ∷ case (walk 3 1 4096 0) one (leaves (value passed) (walk 4 1 4096 0) one)
+    ∷ case (walk 4 1 4096 0) one (leaves (value passed) (walk 5 2 12288 0) two)
+    ∷ case (walk 5 2 12288 0) two (leaves (value finished) (walk 5 2 12288 0) two)
     ∷ []
+
+-- A state that no step handed back, with a highest address below one that was met: the class is given again.
+abbrev by-hand : List Case
+by-hand =
+    case (walk 2 1 0 0) one (leaves (value (found listedClass)) (walk 3 2 4096 4104) (4096 ∷ 4096 ∷ 9 ∷ 9 ∷ 9 ∷ [])) ∷ []
 
 -- Refused, with nothing written: a slot past the last, more words in use than slots taken, a ledger of four words.
 abbrev refusals : List Case
 refusals =
-    case (walk 6 0 0) (replicate 5 9) (leaves (number 10) (walk 6 0 0) (replicate 5 9))
-    ∷ case (walk 1 2 0) (replicate 5 9) (leaves (number 10) (walk 1 2 0) (replicate 5 9))
-    ∷ case (walk 0 0 0) (replicate 4 9) (leaves (number 11) (walk 0 0 0) (replicate 4 9))
+    case (walk 6 0 0 0) (replicate 5 9) (leaves (number 10) (walk 6 0 0 0) (replicate 5 9))
+    ∷ case (walk 1 2 0 0) (replicate 5 9) (leaves (number 10) (walk 1 2 0 0) (replicate 5 9))
+    ∷ case atStart (replicate 4 9) (leaves (number 11) atStart (replicate 4 9))
     ∷ []
 
-pub step-cases : map (λ (c : Case). stepOf classes example (c .walk) (c .ledger)) (taken ++ refusals) ≡ map (λ (c : Case). c .expected) (taken ++ refusals)
-unfolding stepOf askedLedger askedSlot slotFits ledgerFits sectionSlots slotsFrom asked askedTables askedIndex question imageFits wholeRows sectionTable every sectionFits infoWhole indexFits takeSlot takeNew takeWaiting slotTaken among decodeAddress sectionAt slotAddress resolve rebaseAt follow followFrom stored stripped word readable readableAt lookup rows ends holds placed le nonzero choose sum64 decodeClass decodeData bitsOf picked pickedWide mapped dataArm64e data64 metaOf
+pub step-cases : map (λ (c : Case). stepOf classes example (c .walk) (c .ledger)) (taken ++ (by-hand ++ refusals)) ≡ map (λ (c : Case). c .expected) (taken ++ (by-hand ++ refusals))
+unfolding stepOf stepBy askedLedger askedSlot slotFits ledgerFits sectionSlots slotsFrom asked askedTables askedIndex question imageFits wholeRows sectionTable every sectionFits infoWhole indexFits takeSlot takeNew takeWaiting slotTaken among decodeAddress sectionAt slotAddress resolve rebaseAt follow followFrom stored stripped word readable readableAt lookup rows ends holds placed le nonzero choose sum64 decodeClass decodeData bitsOf picked pickedWide mapped dataArm64e data64 metaOf
 step-cases = refl
 
 pub plain-case : plainClasses example ≡ listedClass ∷ listedMeta ∷ []

@@ -1,13 +1,13 @@
 -- Laws of the slots of the section lists, by the tests and the answers that the code goes by.
-use Prim.Native.Nat.{ℕ, zero, suc, _+_, _-_, _*_, _^_, _≤_, _<_}
+use Prim.Native.Nat.{ℕ, zero, suc, _+_, _-_, _*_, _^_, _≤_, _<_, max}
 use mathlib.Core.Path.{_≡_, refl, sym, ap, _∙_}
-use mathlib.Core.Bool.{Bool, true, false, _||_, or-true, true≢false}
+use mathlib.Core.Bool.{Bool, true, false, _&&_, _||_, or-true, true≢false}
 use mathlib.Core.List.{List, [], _∷_, _++_}
 use native.Mathlib.Omega.{arith}
 use lib.Dec.{leb, eqb}
 use lib.ListN.{length, getD, take, length-append, List·getD-append}
 use lib.Seq.{take-suc, getD-append-add}
-use borrow.Author.Tests.{leb-true, le-leb, lt-leb, eq-eqb, ne-eqb, eqb-false}
+use borrow.Author.Tests.{leb-true, leb-false, le-leb, lt-leb, eq-eqb, ne-eqb, eqb-false}
 use Rattle.reads.specs.Outcome.{Outcome, value, absent, number, andThen}
 use Rattle.reads.specs.Relative.{slotAddress}
 use Rattle.reads.proofs.Tests.{by-choose, choose-true, choose-false, both-true}
@@ -18,7 +18,7 @@ use Rattle.pointers.specs.Section.{sectionAt}
 use Rattle.pointers.specs.declared.section.ObjcSection.{ObjcSection}
 use Rattle.pointers.proofs.Questions.{question-yes, question-no, question-came}
 use Rattle.walks.specs.Handed.{unlessRefused}
-use Rattle.walks.specs.Slots.{slotsFrom, sectionSlots, slotsOf, slotCount, protocolCount, addressIn, among, slotFits, ledgerFits, askedSlot, askedLedger, TakenSlot, address, dropped, noSlot, slotRefused, takenBy, slotTaken, firstMet, nextSlot, nextNew, slotOutcome, Room}
+use Rattle.walks.specs.Slots.{slotsFrom, sectionSlots, slotsOf, slotCount, protocolCount, addressIn, among, slotFits, ledgerFits, askedSlot, askedLedger, TakenSlot, address, dropped, noSlot, slotRefused, takenBy, slotTaken, metBelow, greatest, firstMet, nextSlot, nextNew, slotOutcome, Room}
 use Rattle.walks.specs.declared.slots.Lists.{Lists}
 use Rattle.walks.specs.declared.slots.Lists.the-variants.{Classes, Categories, Protocols}
 use Rattle.walks.specs.declared.slots.SlotStep.{SlotStep}
@@ -127,6 +127,31 @@ among-here a (b ∷ l) i zero p q e = absurd (omega arith)
 among-here a (b ∷ l) zero (suc n) p q e = rw (eq-eqb b a e)
 among-here a (b ∷ l) (suc i) (suc n) p q e = rw (among-here a l i n (omega arith) (omega arith) e) (or-true (eqb b a))
 
+-- The greatest of some addresses, one by one, and what lies above it.
+pub greatest-end : (bs : List ℕ) (b : ℕ) → greatest (bs ++ (b ∷ [])) ≡ max (greatest bs) b
+unfolding greatest
+greatest-end [] b = omega arith
+greatest-end (x ∷ bs) b = let e = greatest-end bs b in omega (arith, e)
+
+above-greatest : (a : ℕ) (bs : List ℕ) → greatest bs < a → among a bs ≡ false
+unfolding greatest among
+above-greatest a [] h = refl
+above-greatest a (b ∷ bs) h = rw (ne-eqb b a (λ (e : b ≡ a). absurd (omega arith)), above-greatest a bs (omega arith))
+
+-- Above the highest address met none was met: then the words in use need not be looked at.
+pub met-by-greatest : (bs : List ℕ) (a : ℕ) → metBelow (greatest bs) bs a ≡ among a bs
+met-by-greatest bs a = go (leb a (greatest bs)) refl
+  where
+    go : (x : Bool) → leb a (greatest bs) ≡ x → (x && among a bs) ≡ among a bs
+    go true e = refl
+    go false e = sym (above-greatest a bs (leb-false a (greatest bs) e))
+
+pub met-above : (highest : ℕ) (bs : List ℕ) (a : ℕ) → highest < a → false ≡ metBelow highest bs a
+met-above highest bs a h = simp (lt-leb a highest h)
+
+pub met-look : (highest : ℕ) (bs : List ℕ) (a : ℕ) → a ≤ highest → among a bs ≡ metBelow highest bs a
+met-look highest bs a h = simp (le-leb a highest h)
+
 -- The questions 10 and 11.
 module _ (slots : List ℕ) where
   pub slot-past : (slot used : ℕ) → length slots < slot → false ≡ slotFits slots slot used
@@ -217,13 +242,13 @@ module _ (t : Tables) (slots : List ℕ) (slot : ℕ) where
   unfolding nextSlot askedSlot
   next-no e = rw e
 
-  module _ (used : ℕ) (l : List ℕ) where
-    pub new-on : {x : TakenSlot} → askedLedger t slots slot used (length l) ≡ value tt → x ≡ firstMet (take used l) (slotTaken t slots slot)
-        → x ≡ nextNew t slots slot used l
+  module _ (used highest : ℕ) (l : List ℕ) where
+    pub new-on : {x : TakenSlot} → askedLedger t slots slot used (length l) ≡ value tt
+        → x ≡ firstMet (metBelow highest (take used l)) (slotTaken t slots slot) → x ≡ nextNew t slots slot used highest l
     unfolding nextNew
     new-on e g = rw e g
 
-    pub new-no : {k : ℕ} → askedLedger t slots slot used (length l) ≡ number k → slotRefused k ≡ nextNew t slots slot used l
+    pub new-no : {k : ℕ} → askedLedger t slots slot used (length l) ≡ number k → slotRefused k ≡ nextNew t slots slot used highest l
     unfolding nextNew
     new-no e = rw e
 
@@ -271,7 +296,7 @@ takes dropped = true
 takes noSlot = false
 takes (slotRefused k) = false
 
-first-met-takes : (met : List ℕ) (x : TakenSlot) → takes (firstMet met x) ≡ takes x
+first-met-takes : (met : ℕ → Bool) (x : TakenSlot) → takes (firstMet met x) ≡ takes x
 first-met-takes met (address a) = by-choose (λ (y : TakenSlot). takes y ≡ true) (λ e. refl) (λ e. refl)
 first-met-takes met dropped = refl
 first-met-takes met noSlot = refl
@@ -291,26 +316,26 @@ module _ (t : Tables) (slots : List ℕ) (slot : ℕ) where
       go e (answered-value u) h = let r = slot-room slots t slot 0 e in let n = taken-there h in omega (arith, r .0, n)
       go e (answered-number k) h = absurd (true≢false (sym h))
 
-  new-there : (used : ℕ) (l : List ℕ) {r v : SlotStep} → slotOutcome r ≡ nextNew t slots slot used l → r ≡ v → takes (slotOutcome v) ≡ true
+  new-there : (used highest : ℕ) (l : List ℕ) {r v : SlotStep} → slotOutcome r ≡ nextNew t slots slot used highest l → r ≡ v → takes (slotOutcome v) ≡ true
       → (slot < length slots) × (used ≤ slot) × (length slots ≤ length l)
   unfolding nextNew
-  new-there used l e f g = go refl (ledger-answered t slots slot used (length l)) (rw (← e, f) g)
+  new-there used highest l e f g = go refl (ledger-answered t slots slot used (length l)) (rw (← e, f) g)
     where
       go : {o : Outcome (Unit {0})} → askedLedger t slots slot used (length l) ≡ o → Answered o
-          → takes (unlessRefused o slotRefused (firstMet (take used l) (slotTaken t slots slot))) ≡ true
+          → takes (unlessRefused o slotRefused (firstMet (metBelow highest (take used l)) (slotTaken t slots slot))) ≡ true
           → (slot < length slots) × (used ≤ slot) × (length slots ≤ length l)
       go e (answered-value u) h =
           let r = ledger-room slots t slot used (length l) e in
-          let n = taken-there (sym (first-met-takes (take used l) (slotTaken t slots slot)) ∙ h) in
+          let n = taken-there (sym (first-met-takes (metBelow highest (take used l)) (slotTaken t slots slot)) ∙ h) in
           (omega (arith, r .0, n), r .1, r .2)
       go e (answered-number k) h = absurd (true≢false (sym h))
 
 -- So there is room to go on, where the section table has words of 64 bits.
 pub new-room : (t : Tables) (lists : Lists) (w : SlotWalk) (l : List ℕ) {r v : SlotStep}
-    → slotOutcome r ≡ nextNew t (slotsOf lists (t .sections)) (w .slot) (w .used) l → r ≡ v → takes (slotOutcome v) ≡ true
+    → slotOutcome r ≡ nextNew t (slotsOf lists (t .sections)) (w .slot) (w .used) (w .highest) l → r ≡ v → takes (slotOutcome v) ≡ true
     → ((j : ℕ) → getD (t .sections) j 0 < 2 ^ 64) → Room w (length l)
 new-room t lists w l e f g h =
-    let there = new-there t (slotsOf lists (t .sections)) (w .slot) (w .used) l e f g in
+    let there = new-there t (slotsOf lists (t .sections)) (w .slot) (w .used) (w .highest) l e f g in
     let few = slots-few lists (t .sections) h in
     record { further = omega (arith, there .0, few); inUse = there .1; free = omega (arith, there .0, there .1, there .2) }
 

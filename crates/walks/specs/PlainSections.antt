@@ -10,7 +10,7 @@ use Rattle.records.specs.Class.{classAt}
 use Rattle.records.specs.Category.{categoryAt}
 use Rattle.records.specs.Protocol.{protocolAt}
 use Rattle.walks.specs.Slots.{slotsOf, addressIn}
-use Rattle.walks.specs.Sections.{Walk, walk, Step, found, passed, finished, Left, leaves, metaOf}
+use Rattle.walks.specs.Sections.{Walk, atStart, Step, found, passed, finished, Left, leaves, metaOf}
 use Rattle.walks.specs.declared.slots.Lists.{Lists}
 use Rattle.walks.specs.declared.slots.Lists.the-variants.{Classes, Categories, Protocols}
 use Rattle.records.specs.declared.class.ObjcClass.{ObjcClass}
@@ -79,9 +79,9 @@ recordsOf step (suc n) w l = recordIn (step w l .answer) ++ recordsOf step n (st
 -- A walk from its first slot with a ledger: no step is refused, after so many at the latest each says finished, none does before, and the
 -- records given by then are these.
 pub record Walked {A : Type 0} (step : Walk → List ℕ → Left A) (most : ℕ) (l : List ℕ) (records : List A) : Type 0 where
-  pub unrefused : (n : ℕ) → Unrefused (answerAt step n (walk 0 0 0) l)
-  pub ends : (n : ℕ) → most ≤ n → answerAt step n (walk 0 0 0) l ≡ value finished
-  pub given : (n : ℕ) → answerAt step n (walk 0 0 0) l ≡ value finished → recordsOf step n (walk 0 0 0) l ≡ records
+  pub unrefused : (n : ℕ) → Unrefused (answerAt step n atStart l)
+  pub ends : (n : ℕ) → most ≤ n → answerAt step n atStart l ≡ value finished
+  pub given : (n : ℕ) → answerAt step n atStart l ≡ value finished → recordsOf step n atStart l ≡ records
 
 -- The same as a run: n steps, then finished, which leaves walk and ledger as they are.
 pub data Gives {A : Type 0} (step : Walk → List ℕ → Left A) : ℕ → Walk → List ℕ → List A → Type 0 where
@@ -92,4 +92,4 @@ pub data Gives {A : Type 0} (step : Walk → List ℕ → Left A) : ℕ → Walk
 
 -- A run from the first slot, of at most so many steps.
 abbrev pub Run : {A : Type 0} → (Walk → List ℕ → Left A) → ℕ → List ℕ → List A → Type 0
-Run step most l rs = (n : ℕ) × (n ≤ most) × Gives step n (walk 0 0 0) l rs
+Run step most l rs = (n : ℕ) × (n ≤ most) × Gives step n atStart l rs

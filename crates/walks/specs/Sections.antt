@@ -1,6 +1,7 @@
 -- The walks over the section lists (document 01, Section walk and Steps; class.rs, category.rs, protocol.rs).
-use Prim.Native.Nat.{ℕ, _+_}
-use mathlib.Core.Bool.{true, false}
+use Prim.Native.Nat.{ℕ, _+_, max}
+use mathlib.Core.Bool.{Bool, true, false}
+use mathlib.Core.Path.{_≡_}
 use mathlib.Core.List.{List, []}
 use lib.Dec.{eqb}
 use lib.ListN.{length, take, set}
@@ -10,7 +11,7 @@ use Rattle.records.specs.Class.{classAt}
 use Rattle.records.specs.Category.{categoryAt}
 use Rattle.records.specs.Protocol.{protocolAt}
 use Rattle.walks.specs.Handed.{unlessRefused}
-use Rattle.walks.specs.Slots.{slotsOf, askedSlot, askedLedger, TakenSlot, address, dropped, noSlot, slotRefused, slotTaken, firstMet}
+use Rattle.walks.specs.Slots.{slotsOf, askedSlot, askedLedger, TakenSlot, address, dropped, noSlot, slotRefused, slotTaken, among, metBelow, greatest, firstMet}
 use Rattle.records.specs.declared.class.ObjcClass.{ObjcClass}
 use Rattle.records.specs.declared.category.ObjcCategory.{ObjcCategory}
 use Rattle.records.specs.declared.protocol.ObjcProtocol.{ObjcProtocol}
@@ -29,14 +30,27 @@ use Rattle.walks.specs.declared.sections.ProtocolStep.{ProtocolStep}
 use Rattle.walks.specs.declared.sections.ProtocolStep.the-variants as protocol
 use Rattle.walks.specs.declared.sections.ProtocolStepped.{ProtocolStepped}
 
--- A walk's state: the next slot, how many words of the ledger are in use, and the address that waits, 0 for none.
+-- A walk's state: the next slot, how many words of the ledger are in use, the highest address met, and the address that waits, 0 for none.
 pub record Walk : Type 0 where
   pub slot : ℕ
   pub used : ℕ
+  pub highest : ℕ
   pub waiting : ℕ
 
-abbrev pub walk : ℕ → ℕ → ℕ → Walk
-walk slot used waiting = record { slot = slot; used = used; waiting = waiting }
+abbrev pub walk : ℕ → ℕ → ℕ → ℕ → Walk
+walk slot used highest waiting = record { slot = slot; used = used; highest = highest; waiting = waiting }
+
+-- Before the first slot.
+abbrev pub atStart : Walk
+atStart = walk 0 0 0 0
+
+-- The addresses met before: the words of the ledger in use.
+abbrev pub metIn : Walk → List ℕ → List ℕ
+metIn w ledger = take (w .used) ledger
+
+-- What holds of every state that `new` and steps hand back, with the ledger as they left it: the highest is the greatest word in use.
+abbrev pub Highest : Walk → List ℕ → Type 0
+Highest w ledger = w .highest ≡ greatest (metIn w ledger)
 
 -- What a step gives where no question refuses it: a record, or nothing from what it took, or there was nothing left.
 pub data Step (A : Type 0) : Type 0 where
@@ -88,13 +102,13 @@ byRecord w ledger after on new (number k) = stays w ledger k
 -- The address in a slot is decoded; a slot that is dropped is passed; with none left the walk has finished.
 abbrev pub bySlot : {A : Type 0} → Walk → List ℕ → (ℕ → Left A) → TakenSlot → Left A
 bySlot w ledger decode (address a) = decode a
-bySlot w ledger decode dropped = leaves (value passed) (walk (w .slot + 1) (w .used) 0) ledger
+bySlot w ledger decode dropped = leaves (value passed) (walk (w .slot + 1) (w .used) (w .highest) 0) ledger
 bySlot w ledger decode noSlot = leaves (value finished) w ledger
 bySlot w ledger decode (slotRefused k) = stays w ledger k
 
 -- What waits is taken.
 unfoldable pub takeWaiting : {A : Type 0} → Kind A → Tables → Walk → List ℕ → Left A
-takeWaiting k t w ledger = byRecord w ledger (λ c. 0) (walk (w .slot) (w .used)) ledger (k .waited t (w .waiting))
+takeWaiting k t w ledger = byRecord w ledger (λ c. 0) (walk (w .slot) (w .used) (w .highest)) ledger (k .waited t (w .waiting))
 
 -- The same, where no question refuses the step.
 unfoldable pub nextWaiting : {A : Type 0} → Kind A → Tables → Walk → List ℕ → Left A
@@ -104,22 +118,28 @@ nextWaiting k t w ledger =
 -- An address first met: decodable or not, the next word of the ledger becomes it.
 unfoldable pub takeNew : {A : Type 0} → Kind A → Tables → Walk → List ℕ → ℕ → Left A
 takeNew k t w ledger a =
-    byRecord w ledger (k .after) (walk (w .slot + 1) (w .used + 1)) (set ledger (w .used) a) (k .decoded t a)
+    byRecord w ledger (k .after) (walk (w .slot + 1) (w .used + 1) (max (w .highest) a)) (set ledger (w .used) a) (k .decoded t a)
 
--- The next slot is taken; 0 and the addresses met before, which are the words in use, are dropped.
-unfoldable pub takeSlot : {A : Type 0} → Kind A → Tables → Walk → List ℕ → Left A
-takeSlot k t w ledger =
-    bySlot w ledger (takeNew k t w ledger) (firstMet (take (w .used) ledger) (slotTaken t (slotsIn k t) (w .slot)))
+-- The next slot is taken; 0 and the addresses met before are dropped.
+unfoldable pub takeSlot : {A : Type 0} → (ℕ → Bool) → Kind A → Tables → Walk → List ℕ → Left A
+takeSlot before k t w ledger = bySlot w ledger (takeNew k t w ledger) (firstMet before (slotTaken t (slotsIn k t) (w .slot)))
 
 -- A step of a walk that meets each address once: the questions 1 to 6, 8, 10 and 11; then what waits, else the next slot.
-unfoldable pub stepOf : {A : Type 0} → Kind A → Tables → Walk → List ℕ → Left A
-stepOf k t w ledger =
+unfoldable pub stepBy : {A : Type 0} → (ℕ → Bool) → Kind A → Tables → Walk → List ℕ → Left A
+stepBy before k t w ledger =
     unlessRefused (askedLedger t (slotsIn k t) (w .slot) (w .used) (length ledger)) (stays w ledger)
-    (choose (eqb (w .waiting) 0) (takeSlot k t w ledger) (takeWaiting k t w ledger))
+    (choose (eqb (w .waiting) 0) (takeSlot before k t w ledger) (takeWaiting k t w ledger))
+
+-- The step by the ledger alone; and the step with the highest address met, which is that one where `Highest` holds.
+unfoldable pub ledgerStepOf : {A : Type 0} → Kind A → Tables → Walk → List ℕ → Left A
+ledgerStepOf k t w ledger = stepBy (λ a. among a (metIn w ledger)) k t w ledger
+
+unfoldable pub stepOf : {A : Type 0} → Kind A → Tables → Walk → List ℕ → Left A
+stepOf k t w ledger = stepBy (metBelow (w .highest) (metIn w ledger)) k t w ledger
 
 -- A protocol listed twice comes twice.
 unfoldable pub takeProtocol : Tables → Walk → List ℕ → ℕ → Left ObjcProtocol
-takeProtocol t w ledger a = byRecord w ledger (λ p. 0) (walk (w .slot + 1) (w .used)) ledger (protocolAt t a)
+takeProtocol t w ledger a = byRecord w ledger (λ p. 0) (walk (w .slot + 1) (w .used) (w .highest)) ledger (protocolAt t a)
 
 -- A step of the protocol walk: the questions 1 to 6, 8 and 10, then the next slot; the ledger is not looked at.
 unfoldable pub protocolStepOf : Tables → Walk → List ℕ → Left ObjcProtocol
@@ -129,7 +149,7 @@ protocolStepOf t w ledger =
 
 -- Document 01's meaning of the code's walks and of each case of its answers.
 abbrev pub classWalk : ClassWalk → Walk
-classWalk w = walk (w .slots .slot) (w .slots .used) (w .meta)
+classWalk w = walk (w .slots .slot) (w .slots .used) (w .slots .highest) (w .meta)
 
 abbrev pub classStep : ClassStep → Outcome (Step ObjcClass)
 classStep (class.Record c) = value (found c)
@@ -141,7 +161,7 @@ abbrev pub classLeft : ClassStepped → List ℕ → Left ObjcClass
 classLeft r ledger = leaves (classStep (r .step)) (classWalk (r .walk)) ledger
 
 abbrev pub categoryWalk : CategoryWalk → Walk
-categoryWalk w = walk (w .slots .slot) (w .slots .used) 0
+categoryWalk w = walk (w .slots .slot) (w .slots .used) (w .slots .highest) 0
 
 abbrev pub categoryStep : CategoryStep → Outcome (Step ObjcCategory)
 categoryStep (category.Record c) = value (found c)
@@ -153,7 +173,7 @@ abbrev pub categoryLeft : CategoryStepped → List ℕ → Left ObjcCategory
 categoryLeft r ledger = leaves (categoryStep (r .step)) (categoryWalk (r .walk)) ledger
 
 abbrev pub protocolWalk : ProtocolWalk → Walk
-protocolWalk w = walk (w .slot) 0 0
+protocolWalk w = walk (w .slot) 0 0 0
 
 abbrev pub protocolStep : ProtocolStep → Outcome (Step ObjcProtocol)
 protocolStep (protocol.Record p) = value (found p)

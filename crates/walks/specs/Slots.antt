@@ -1,5 +1,5 @@
 -- The slots of the section lists, taken one by one (document 01, Section walk, questions 10 and 11): what the section walks share.
-use Prim.Native.Nat.{ℕ, zero, suc, _+_, _^_, _≤_, _<_}
+use Prim.Native.Nat.{ℕ, zero, suc, _+_, _^_, _≤_, _<_, max}
 use mathlib.Core.Bool.{Bool, false, _&&_, _||_}
 use mathlib.Core.List.{List, [], _∷_, _++_}
 use lib.Dec.{leb, eqb}
@@ -81,20 +81,30 @@ takenBy (number k) = slotRefused k
 unfoldable pub slotTaken : Tables → List ℕ → ℕ → TakenSlot
 slotTaken t slots k = choose (eqb k (length slots)) noSlot (takenBy (addressIn t (getD slots k 0)))
 
+-- Met before, by the words of the ledger in use and the highest address met so far: one above it is new without a look.
+abbrev pub metBelow : ℕ → List ℕ → ℕ → Bool
+metBelow highest met a = leb a highest && among a met
+
+-- The greatest of some addresses, 0 for none.
+unfoldable pub greatest : List ℕ → ℕ
+greatest [] = 0
+greatest (b ∷ bs) = max b (greatest bs)
+
 -- An address met before is dropped.
-abbrev pub firstMet : List ℕ → TakenSlot → TakenSlot
-firstMet met (address a) = choose (among a met) dropped (address a)
+abbrev pub firstMet : (ℕ → Bool) → TakenSlot → TakenSlot
+firstMet met (address a) = choose (met a) dropped (address a)
 firstMet met dropped = dropped
 firstMet met noSlot = noSlot
 firstMet met (slotRefused k) = slotRefused k
 
--- The next slot of a walk that takes an address as often as it is listed, and of one that takes each once: met are the words in use.
+-- The next slot of a walk that takes an address as often as it is listed, and of one that takes each once.
 unfoldable pub nextSlot : Tables → List ℕ → ℕ → TakenSlot
 nextSlot t slots slot = unlessRefused (askedSlot t slots slot 0) slotRefused (slotTaken t slots slot)
 
-unfoldable pub nextNew : Tables → List ℕ → ℕ → ℕ → List ℕ → TakenSlot
-nextNew t slots slot used ledger =
-    unlessRefused (askedLedger t slots slot used (length ledger)) slotRefused (firstMet (take used ledger) (slotTaken t slots slot))
+unfoldable pub nextNew : Tables → List ℕ → ℕ → ℕ → ℕ → List ℕ → TakenSlot
+nextNew t slots slot used highest ledger =
+    unlessRefused (askedLedger t slots slot used (length ledger)) slotRefused
+    (firstMet (metBelow highest (take used ledger)) (slotTaken t slots slot))
 
 -- Document 01's meaning of each case of the code's answer.
 abbrev pub slotOutcome : SlotStep → TakenSlot
@@ -103,8 +113,8 @@ slotOutcome step.Dropped = dropped
 slotOutcome step.Finished = noSlot
 slotOutcome (step.Refused k) = slotRefused k
 
-abbrev pub slotWalk : ℕ → ℕ → SlotWalk
-slotWalk slot used = record { slot = slot; used = used }
+abbrev pub slotWalk : ℕ → ℕ → ℕ → SlotWalk
+slotWalk slot used highest = record { slot = slot; used = used; highest = highest }
 
 -- A slot is left, and a word of a ledger of so many for its address.
 pub record Room (w : SlotWalk) (words : ℕ) : Type 0 where

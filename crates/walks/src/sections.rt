@@ -22,7 +22,7 @@ ghost use Rattle.reads.specs.Reference.{before, after};
 ghost use Rattle.pointers.specs.Tables.{lent};
 ghost use Rattle.walks.specs.Slots.{Room};
 ghost use Rattle.reads.specs.Outcome.{value};
-ghost use Rattle.walks.specs.Sections.{walk, passed, leaves, stays, metaOf, classes, categories, takeWaiting, nextWaiting, takeNew, stepOf, takeProtocol, protocolStepOf, classWalk, classLeft, categoryWalk, categoryLeft, protocolWalk, protocolLeft};
+ghost use Rattle.walks.specs.Sections.{walk, atStart, passed, leaves, stays, metaOf, classes, categories, takeWaiting, nextWaiting, takeNew, stepOf, takeProtocol, protocolStepOf, classWalk, classLeft, categoryWalk, categoryLeft, protocolWalk, protocolLeft};
 
 // The slots, and the address of the metaclass that waits (0: none).
 pub struct ClassWalk {
@@ -95,7 +95,7 @@ fn meta_of(class: ObjcClass) -> u64
 impl ClassWalk {
     // The walk before its first slot.
     pub fn new() -> ClassWalk
-        ensures { λ r. ⌜ classWalk r ≡ walk 0 0 0 ⌝ }
+        ensures { λ r. ⌜ classWalk r ≡ atStart ⌝ }
     {
         ClassWalk {
             slots: SlotWalk::new(),
@@ -115,7 +115,7 @@ impl ClassWalk {
 
     // Nothing from what was taken, and no metaclass waits.
     fn passed(slots: SlotWalk) -> ClassStepped
-        ensures { λ r. ⌜ ((l : List ℕ) → classLeft r l ≡ leaves (value passed) (walk (slots .slot) (slots .used) 0) l) ⌝ }
+        ensures { λ r. ⌜ ((l : List ℕ) → classLeft r l ≡ leaves (value passed) (walk (slots .slot) (slots .used) (slots .highest) 0) l) ⌝ }
     {
         ClassStepped {
             step: ClassStep::Passed,
@@ -293,7 +293,7 @@ impl ClassWalk {
 impl CategoryWalk {
     // The walk before its first slot.
     pub fn new() -> CategoryWalk
-        ensures { λ r. ⌜ categoryWalk r ≡ walk 0 0 0 ⌝ }
+        ensures { λ r. ⌜ categoryWalk r ≡ atStart ⌝ }
     {
         CategoryWalk {
             slots: SlotWalk::new(),
@@ -312,7 +312,7 @@ impl CategoryWalk {
 
     // Nothing from what was taken.
     fn passed(slots: SlotWalk) -> CategoryStepped
-        ensures { λ r. ⌜ ((l : List ℕ) → categoryLeft r l ≡ leaves (value passed) (walk (slots .slot) (slots .used) 0) l) ⌝ }
+        ensures { λ r. ⌜ ((l : List ℕ) → categoryLeft r l ≡ leaves (value passed) (walk (slots .slot) (slots .used) (slots .highest) 0) l) ⌝ }
     {
         CategoryStepped {
             step: CategoryStep::Passed,
@@ -403,7 +403,7 @@ impl CategoryWalk {
 impl ProtocolWalk {
     // The walk before its first slot.
     pub fn new() -> ProtocolWalk
-        ensures { λ r. ⌜ protocolWalk r ≡ walk 0 0 0 ⌝ }
+        ensures { λ r. ⌜ protocolWalk r ≡ atStart ⌝ }
     {
         ProtocolWalk { slot: 0 }
     }
@@ -421,7 +421,7 @@ impl ProtocolWalk {
     // The walk one slot on.
     fn past(self) -> ProtocolWalk
         requires { ⌜ self .slot + 1 < 2 ^ 64 ⌝ }
-        ensures { λ r. ⌜ protocolWalk r ≡ walk (self .slot + 1) 0 0 ⌝ }
+        ensures { λ r. ⌜ protocolWalk r ≡ walk (self .slot + 1) 0 0 0 ⌝ }
     {
         let slot = self.slot + 1;
         ProtocolWalk { slot }

@@ -9,13 +9,13 @@ use reads::answer::nonzero;
 use reads::relative::slot_address;
 ghost use mathlib.Core.Path.{_≡_};
 ghost use mathlib.Core.List.{_++_};
-ghost use Prim.Native.Nat.{_+_, _^_, _≤_, _<_};
+ghost use Prim.Native.Nat.{_+_, _^_, _≤_, _<_, max};
 ghost use lib.ListN.{length, getD, take, set};
 ghost use Rattle.reads.specs.Reference.{before, after};
 ghost use Rattle.reads.specs.Answer.{wordOutcome};
 ghost use Rattle.pointers.specs.Tables.{lent};
 ghost use Rattle.pointers.specs.Question.{askedOutcome};
-ghost use Rattle.walks.specs.Slots.{sectionSlots, slotsOf, addressIn, among, slotFits, ledgerFits, askedLedger, slotTaken, firstMet, nextSlot, nextNew, slotOutcome, slotWalk, Room};
+ghost use Rattle.walks.specs.Slots.{sectionSlots, slotsOf, addressIn, among, slotFits, ledgerFits, askedLedger, slotTaken, metBelow, firstMet, nextSlot, nextNew, slotOutcome, slotWalk, Room};
 
 // The lists that are walked: class_list, then nlclslist; cat_list, then nlcat_list; proto_list.
 pub enum Lists {
@@ -32,10 +32,11 @@ pub(crate) enum SlotStep {
     Refused(u8),
 }
 
-// Where a walk that meets each address once stands: the next slot, and the words of the ledger in use.
+// Where a walk that meets each address once stands: the next slot, the words of the ledger in use, and the highest of them.
 pub struct SlotWalk {
     slot: u64,
     used: u64,
+    highest: u64,
 }
 
 // The slots of two sections: each has fewer than 2^61.
@@ -124,14 +125,25 @@ fn met(ledger: &[u64], used: usize, va: u64) -> bool
     false
 }
 
-// An address met before is dropped.
-fn first_met(step: SlotStep, ledger: &[u64], used: usize) -> SlotStep
+// The same, by the highest address met so far: one above it is new without a look.
+fn met_below(ledger: &[u64], used: usize, highest: u64, va: u64) -> bool
     requires { ⌜ used ≤ length (now ledger) ⌝ }
-    ensures { λ r. ⌜ slotOutcome r ≡ firstMet (take used (before ledger)) (slotOutcome step) ⌝ }
+    ensures { λ r. ⌜ r ≡ metBelow highest (take used (before ledger)) va ⌝ }
+{
+    if highest < va {
+        return false;
+    }
+    met(ledger, used, va)
+}
+
+// An address met before is dropped.
+fn first_met(step: SlotStep, ledger: &[u64], used: usize, highest: u64) -> SlotStep
+    requires { ⌜ used ≤ length (now ledger) ⌝ }
+    ensures { λ r. ⌜ slotOutcome r ≡ firstMet (metBelow highest (take used (before ledger))) (slotOutcome step) ⌝ }
 {
     match step {
         SlotStep::Address(va) => {
-            if met(ledger, used, va) {
+            if met_below(ledger, used, highest, va) {
                 return SlotStep::Dropped;
             }
             SlotStep::Address(va)
@@ -224,12 +236,26 @@ pub(crate) fn next_slot(
     }
 }
 
+// The higher of two addresses.
+fn higher(a: u64, b: u64) -> u64
+    ensures { λ r. ⌜ r ≡ max a b ⌝ }
+{
+    if a < b {
+        return b;
+    }
+    a
+}
+
 impl SlotWalk {
     // Before the first slot.
     pub(crate) fn new() -> SlotWalk
-        ensures { λ r. ⌜ r ≡ slotWalk 0 0 ⌝ }
+        ensures { λ r. ⌜ r ≡ slotWalk 0 0 0 ⌝ }
     {
-        SlotWalk { slot: 0, used: 0 }
+        SlotWalk {
+            slot: 0,
+            used: 0,
+            highest: 0,
+        }
     }
 
     // 1 to 6 and 8, then 10 and 11, with a ledger of so many words.
@@ -276,7 +302,7 @@ impl SlotWalk {
         ledger: &[u64],
     ) -> SlotStep
         ensures { λ r. let t = lent image segments sections info rebases binds index in
-            ⌜ slotOutcome r ≡ nextNew t (slotsOf lists (before sections)) (self .slot) (self .used) (before ledger) ⌝ }
+            ⌜ slotOutcome r ≡ nextNew t (slotsOf lists (before sections)) (self .slot) (self .used) (self .highest) (before ledger) ⌝ }
     {
         match self.ask_ledger(
             image,
@@ -301,7 +327,7 @@ impl SlotWalk {
                     lists,
                     self.slot,
                 );
-                first_met(step, ledger, self.used as usize)
+                first_met(step, ledger, self.used as usize, self.highest)
             }
             Asked::Refused(k) => SlotStep::Refused(k),
         }
@@ -310,25 +336,27 @@ impl SlotWalk {
     // Past a slot that was dropped.
     pub(crate) fn past(self) -> SlotWalk
         requires { ⌜ self .slot + 1 < 2 ^ 64 ⌝ }
-        ensures { λ r. ⌜ r ≡ slotWalk (self .slot + 1) (self .used) ⌝ }
+        ensures { λ r. ⌜ r ≡ slotWalk (self .slot + 1) (self .used) (self .highest) ⌝ }
     {
         let slot = self.slot + 1;
         SlotWalk {
             slot,
             used: self.used,
+            highest: self.highest,
         }
     }
 
     // Past a slot whose address was first met: it becomes the next word of the ledger.
     pub(crate) fn note(self, va: u64, ledger: &mut [u64]) -> SlotWalk
         requires { ⌜ Room self (length (now ledger)) ⌝ }
-        ensures { λ r. ⌜ (r ≡ slotWalk (self .slot + 1) (self .used + 1)) × (after ledger ≡ set (before ledger) (self .used) va) ⌝ }
+        ensures { λ r. ⌜ (r ≡ slotWalk (self .slot + 1) (self .used + 1) (max (self .highest) va)) × (after ledger ≡ set (before ledger) (self .used) va) ⌝ }
     {
         let used = self.used as usize;
         ledger[used] = va;
         SlotWalk {
             slot: self.slot + 1,
             used: self.used + 1,
+            highest: higher(self.highest, va),
         }
     }
 }

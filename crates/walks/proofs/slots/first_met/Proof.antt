@@ -5,10 +5,10 @@ use Rattle.walks.proofs.slots.first_met.Statement.{statement}
 use Rattle.walks.proofs.slots.first_met.Tie as tie
 
 returns : tie.Need-returns
-returns c = rw (c .before .before .before .step .given .1) (sym (choose-true _ _ (sym (c .before .met .ensures) ∙ c .if1 .taken)))
+returns c = rw (c .before .before .before .step .given .1) (sym (choose-true _ _ (sym (c .before .met-below .ensures) ∙ c .if1 .taken)))
 
 returns-2 : tie.Need-returns-2
-returns-2 c = rw (c .before .before .before .step .given .1) (sym (choose-false _ _ (sym (c .before .met .ensures) ∙ c .if1 .left)))
+returns-2 c = rw (c .before .before .before .step .given .1) (sym (choose-false _ _ (sym (c .before .met-below .ensures) ∙ c .if1 .left)))
 
 returns-3 : tie.Need-returns-3
 returns-3 c = rw (c .enum-told .given .1)

@@ -15,10 +15,10 @@ first-met-requires : tie.Need-first-met-requires
 first-met-requires c κs = let h = ledger-room _ _ _ _ _ (outcome-told askedOutcome (c .before .before .before .ask-ledger .ensures) (c .before .enum-told .given .1)) in omega (arith, h .0, h .1, h .2)
 
 returns : tie.Need-returns
-returns c = new-on _ _ _ _ _ (outcome-told askedOutcome (c .before .before .before .before .ask-ledger .ensures) (c .before .before .enum-told .given .1)) (c .first-met .ensures ∙ ap (firstMet _) (c .before .take-slot .ensures))
+returns c = new-on _ _ _ _ _ _ (outcome-told askedOutcome (c .before .before .before .before .ask-ledger .ensures) (c .before .before .enum-told .given .1)) (c .first-met .ensures ∙ ap (firstMet _) (c .before .take-slot .ensures))
 
 returns-2 : tie.Need-returns-2
-returns-2 c = new-no _ _ _ _ _ (outcome-told askedOutcome (c .before .before .before .ask-ledger .ensures) (c .before .k .given .1))
+returns-2 c = new-no _ _ _ _ _ _ (outcome-told askedOutcome (c .before .before .before .ask-ledger .ensures) (c .before .k .given .1))
 
 pub next-new-spec : {M : Type 1} → statement M
 next-new-spec =
