@@ -1,9 +1,10 @@
 -- Laws of the slots of the section lists, by the tests and the answers that the code goes by.
 use Prim.Native.Nat.{ℕ, zero, suc, _+_, _-_, _*_, _^_, _≤_, _<_, max}
 use mathlib.Core.Path.{_≡_, refl, sym, ap, _∙_}
-use mathlib.Core.Bool.{Bool, true, false, _&&_, _||_, or-true, true≢false}
+use mathlib.Core.Bool.{Bool, true, false, _&&_, _||_, or-true, or-false, true≢false}
 use mathlib.Core.List.{List, [], _∷_, _++_}
 use native.Mathlib.Omega.{arith}
+use native.Mathlib.Numerals.{add-one}
 use lib.Dec.{leb, eqb}
 use lib.ListN.{length, getD, take, length-append, List·getD-append}
 use lib.Seq.{take-suc, getD-append-add}
@@ -117,15 +118,13 @@ among-end a (x ∷ bs) b = go (eqb x a) (among-end a bs b)
     go true e = refl
     go false e = e
 
-pub among-more : (a : ℕ) (l : List ℕ) (i : ℕ) → i < length l → among a (take i l) ≡ false → (getD l i 0 ≡ a → ⊥) → among a (take (suc i) l) ≡ false
-among-more a l i h e n = rw (take-suc l i 0 h, among-end a (take i l) (getD l i 0), e, ne-eqb (getD l i 0) a n)
+-- One word more is looked at.
+module _ (a : ℕ) (l : List ℕ) (i : ℕ) (h : i < length l) where
+  pub among-other : (getD l i 0 ≡ a → ⊥) → among a (take i l) ≡ among a (take (i + 1) l)
+  among-other n = sym (rw (add-one, take-suc l i 0 h, among-end a (take i l) (getD l i 0), ne-eqb (getD l i 0) a n) (or-false (among a (take i l))))
 
-pub among-here : (a : ℕ) (l : List ℕ) (i n : ℕ) → i < n → i < length l → getD l i 0 ≡ a → among a (take n l) ≡ true
-unfolding among
-among-here a [] i n p q e = absurd (omega arith)
-among-here a (b ∷ l) i zero p q e = absurd (omega arith)
-among-here a (b ∷ l) zero (suc n) p q e = rw (eq-eqb b a e)
-among-here a (b ∷ l) (suc i) (suc n) p q e = rw (among-here a l i n (omega arith) (omega arith) e) (or-true (eqb b a))
+  pub among-here : getD l i 0 ≡ a → true ≡ among a (take (i + 1) l)
+  among-here e = sym (rw (add-one, take-suc l i 0 h, among-end a (take i l) (getD l i 0), eq-eqb (getD l i 0) a e) (or-true (among a (take i l))))
 
 -- The greatest of some addresses, one by one, and what lies above it.
 pub greatest-end : (bs : List ℕ) (b : ℕ) → greatest (bs ++ (b ∷ [])) ≡ max (greatest bs) b

@@ -110,19 +110,22 @@ fn address_in(
     }
 }
 
-// Is the address among the first `used` words of the ledger?
+// Is the address among the first `used` words of the ledger? All of them are looked at, so that the loop can take several at a time.
 fn met(ledger: &[u64], used: usize, va: u64) -> bool
     requires { ⌜ used ≤ length (now ledger) ⌝ }
     ensures { λ r. ⌜ r ≡ among va (take used (before ledger)) ⌝ }
 {
+    let mut found = false;
     let mut i = 0;
     while i < used {
-        if ledger[i] == va {
-            return true;
-        }
+        let word = ledger[i];
         i += 1;
+        if word != va {
+            continue;
+        }
+        found = true;
     }
-    false
+    found
 }
 
 // The same, by the highest address met so far: one above it is new without a look.

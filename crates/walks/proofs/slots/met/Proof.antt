@@ -1,34 +1,36 @@
 use Prim.Native.Nat.{_≤_, _-_}
-use mathlib.Core.Bool.{false}
-use mathlib.Core.Path.{_≡_, refl, sym}
+use mathlib.Core.Path.{_≡_, refl, _∙_}
 use native.Mathlib.Omega.{arith}
-use native.Mathlib.Numerals.{add-one}
 use lib.ListN.{take}
 use Rattle.walks.specs.Slots.{among}
-use Rattle.walks.proofs.SlotLaws.{among-here, among-more}
+use Rattle.walks.proofs.SlotLaws.{among-other, among-here}
 use borrow.Author.Needs.{needs}
 use Rattle.walks.proofs.slots.met.Statement.{statement}
 use Rattle.walks.proofs.slots.met.Tie as tie
 
--- None of the first i words is the address.
+-- The address was found if it is among the first i words.
 abbrev Inv-loop : tie.InvT-loop
-Inv-loop ledger used va i₀ i = (i ≤ used) × (among va (take i ledger) ≡ false)
+Inv-loop ledger used va found₀ i₀ found i = (i ≤ used) × (found ≡ among va (take i ledger))
 
 abbrev μ-loop : tie.MeasureT-loop
-μ-loop ledger used va i₀ i = used - i
+μ-loop ledger used va found₀ i₀ found i = used - i
 
 loop-holds : tie.Need-loop-holds Inv-loop μ-loop
 unfolding among
 loop-holds c = (omega arith, refl)
 
-returns : tie.Need-returns Inv-loop μ-loop
-returns c = sym (among-here (c .before .before .before .before .args .va) (c .before .before .before .before .args .ledger .now) (c .before .before .before .loop .i) (c .before .before .before .before .args .used) (omega arith) (omega arith) (c .if1 .taken))
-
 loop-again : tie.Need-loop-again Inv-loop μ-loop
-loop-again c = (omega arith, rw add-one (among-more (c .before .before .before .before .args .va) (c .before .before .before .before .args .ledger .now) (c .before .before .before .loop .i) (omega arith) (c .before .before .before .loop .inv .1) (c .if1 .left)))
+loop-again c =
+    let d = c .before .before .before in
+    (omega arith, d .loop .inv .1 ∙ among-other (d .before .args .va) (d .before .args .ledger .now) (d .loop .i) (omega arith) (c .if1 .taken))
 
-returns-2 : tie.Need-returns-2 Inv-loop μ-loop
-returns-2 c = let e : c .before .loop .i ≡ c .before .before .args .used = omega arith in sym (rw e at (c .before .loop .inv .1))
+loop-again-2 : tie.Need-loop-again-2 Inv-loop μ-loop
+loop-again-2 c =
+    let d = c .before .before .before in
+    (omega arith, among-here (d .before .args .va) (d .before .args .ledger .now) (d .loop .i) (omega arith) (c .if1 .left))
+
+returns : tie.Need-returns Inv-loop μ-loop
+returns c = let e : c .before .loop .i ≡ c .before .before .args .used = omega arith in rw e at (c .before .loop .inv .1)
 
 pub met-spec : {M : Type 1} → statement M
 met-spec =
@@ -39,8 +41,9 @@ met-spec =
     loop-holds
     (λ c. search needs)
     (λ c. search needs)
-    returns
     (λ c. search needs)
     (λ c. search needs)
     loop-again
-    returns-2)
+    (λ c. search needs)
+    loop-again-2
+    returns)
