@@ -53,7 +53,7 @@ module _ {A : Type 0} (k : Kind A) (t : Tables) (w : Walk) (l : List ℕ) (h : H
   unfolding stepOf ledgerStepOf stepBy takeSlot
   step-by-ledger =
       rw (first-met-same {f = metBelow (w .highest) (metIn w l)} {g = λ a. among a (metIn w l)}
-        (λ a. ap (λ (n : ℕ). metBelow n (metIn w l) a) h ∙ met-by-greatest (metIn w l) a) (slotTaken t (slotsIn k t) (w .slot)))
+      (λ a. ap (λ (n : ℕ). metBelow n (metIn w l) a) h ∙ met-by-greatest (metIn w l) a) (slotTaken t (slotsIn k t) (w .slot)))
       refl
 
 pub highest-at-start : (l : List ℕ) → Highest atStart l
