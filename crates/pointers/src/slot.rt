@@ -104,7 +104,10 @@ pub fn resolve_pointer(
 ) -> Word
     ensures { λ r. ⌜ wordOutcome r ≡ resolve (lentImage image segments) (before rebases) (before index) slot ⌝ }
 {
-    because(rebased_or_stored(image, segments, rebases, index, slot), Reason::Unresolved)
+    because(
+        rebased_or_stored(image, segments, rebases, index, slot),
+        Reason::Unresolved,
+    )
 }
 
 // The same, an absent slot counting as 0.
