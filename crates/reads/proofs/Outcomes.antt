@@ -110,7 +110,18 @@ module _ {W A : Type 0} (out : W → Outcome A) (y : Outcome A) where
   pub else-number : {w v : W} {x : Outcome A} {k : ℕ} → out w ≡ x → w ≡ v → out v ≡ number k → number k ≡ orElse x y
   else-number e g h = rw (← e, g, h)
 
--- The same, where the code has tested the first for absence.
+-- A second lookup where the first is absent, whose reason stands.
+module _ {W A : Type 0} (out : W → Outcome A) (y : Outcome A) where
+  pub first-value : {w v : W} {x : Outcome A} {a : A} → out w ≡ x → w ≡ v → out v ≡ value a → value a ≡ orFirst x y
+  first-value e g h = rw (← e, g, h)
+
+  pub first-absent : {w v : W} {x z : Outcome A} {r : Reason} → out w ≡ x → w ≡ v → out v ≡ absent r → z ≡ because r y → z ≡ orFirst x y
+  first-absent e g h k = rw (← e, g, h) k
+
+  pub first-number : {w v : W} {x : Outcome A} {k : ℕ} → out w ≡ x → w ≡ v → out v ≡ number k → number k ≡ orFirst x y
+  first-number e g h = rw (← e, g, h)
+
+-- The second lookup's reason stands, and the code has tested the first for absence.
 module _ {A : Type 0} (y : Outcome A) where
   absent-else : (o : Outcome A) → true ≡ isAbsent o → y ≡ orElse o y
   absent-else (value a) e = let z : _≡_ {A = ℕ} 0 1 = cc in absurd (omega arith)
@@ -141,4 +152,8 @@ pub because-of : (r w : Word) (why : Reason) (x : Outcome ℕ) → wordOutcome r
     → wordOutcome r ≡ because why x
 because-of r w why x e g = e ∙ ap (because why) g
 
-pub ruleset outcomes = (or-zero-of, or-empty-of, because-of, word-value, word-missing, place-value, place-missing, text-value, text-missing)
+pub text-because-of : (r w : TextAnswer) (why : Reason) (x : Outcome Text) → textOutcome r ≡ because why (textOutcome w) → textOutcome w ≡ x
+    → textOutcome r ≡ because why x
+text-because-of r w why x e g = e ∙ ap (because why) g
+
+pub ruleset outcomes = (or-zero-of, or-empty-of, because-of, text-because-of, word-value, word-missing, place-value, place-missing, text-value, text-missing)

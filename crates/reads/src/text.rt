@@ -11,7 +11,7 @@ ghost use Prim.Native.Nat.{_≤_, _<_};
 ghost use lib.ListN.{length, drop, replicate};
 ghost use Rattle.reads.specs.Reference.{before};
 ghost use Rattle.reads.specs.Answer.{wordOutcome, textOutcome};
-ghost use Rattle.reads.specs.Outcome.{orEmpty};
+ghost use Rattle.reads.specs.Outcome.{because, orEmpty};
 ghost use Rattle.reads.specs.Utf8.{_to_, tail, verdict, utf8, begins, follow, character};
 ghost use Rattle.reads.specs.Place.{lentImage};
 ghost use Rattle.reads.specs.Text.{textLength, textAt, textIn, fixedLength, lengthPlusOne};
@@ -51,6 +51,16 @@ pub fn or_empty(t: TextAnswer) -> TextAnswer
             Missing::Absent(_) => TextAnswer::Found(Text { offset: 0, len: 0 }),
             Missing::Refused(k) => TextAnswer::Missing(Missing::Refused(k)),
         },
+    }
+}
+
+// An absent text gets this reason.
+pub fn text_because(t: TextAnswer, why: Reason) -> TextAnswer
+    ensures { λ r. ⌜ textOutcome r ≡ because why (textOutcome t) ⌝ }
+{
+    match t {
+        TextAnswer::Found(s) => TextAnswer::Found(s),
+        TextAnswer::Missing(m) => TextAnswer::Missing(m.because(why)),
     }
 }
 
