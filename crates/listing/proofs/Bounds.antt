@@ -1,12 +1,12 @@
 -- How long a listing can be. The settling steps are at most 6 x R x S x floor(n / 12): R the records, S the rows of the segment table, n
 -- the image's length (settled-few). Line E's numbers fit: the records in one word, the settling steps in two (records-few, events-few).
-use Prim.Native.Nat.{ℕ, suc, _+_, _*_, _/_, _≤_, _<_, _^_}
+use Prim.Native.Nat.{ℕ, suc, _*_, _/_, _≤_, _<_, _^_}
 use mathlib.Core.Path.{_≡_, refl, ap, _∙_}
 use mathlib.Core.Bool.{true}
 use mathlib.Core.List.{List, [], _∷_}
 use native.Mathlib.Nat.{mul-le-mul, mul-le-mul-right, suc-mul, lt-of-lt-of-le}
 use native.Mathlib.Omega.{arith}
-use lib.ListN.{length, replicate, length-append, length-map, length-replicate}
+use lib.ListN.{length, replicate, length-replicate}
 use lib.Pow.{pow-mono}
 use borrow.Author.Tests.{leb-true}
 use Rattle.reads.specs.Table.{wordOf}
@@ -17,29 +17,31 @@ use Rattle.pointers.specs.Question.{sectionTable}
 use Rattle.pointers.specs.Section.{sectionAt}
 use Rattle.pointers.specs.Tables.{Tables, imageIn, sectionWords}
 use Rattle.pointers.specs.declared.section.ObjcSection.{ObjcSection}
-use Rattle.pointers.proofs.OpenedTables.{opened-room}
+use Rattle.pointers.proofs.OpenedTables.{opened-asked, opened-room}
 use Rattle.pointers.proofs.Questions.{section-by, section-row}
 use Rattle.pointers.proofs.SectionRows.{by-section}
 use Rattle.records.specs.Class.{roOf}
 use Rattle.records.specs.List.{listAt}
 use Rattle.records.specs.Search.{readables}
+use Rattle.records.specs.declared.category.ObjcCategory.{ObjcCategory}
 use Rattle.records.specs.declared.class.ClassRo.{ClassRo}
+use Rattle.records.specs.declared.class.ObjcClass.{ObjcClass}
 use Rattle.records.specs.declared.list.Layout.{Layout}
 use Rattle.records.specs.declared.list.ListKind.{ListKind}
-use Rattle.records.proofs.Decodes.{protocol-unrefused, category-unrefused, class-unrefused}
+use Rattle.records.specs.declared.protocol.ObjcProtocol.{ObjcProtocol}
+use Rattle.walks.specs.Gather.{ofValue, asEach}
 use Rattle.walks.specs.PlainSections.{plainClasses, plainProtocols, plainCategories, Gives, passing, giving, Run}
 use Rattle.walks.specs.PlainSections as plainSections
 use Rattle.walks.specs.Sections as sections
 use Rattle.walks.specs.Sections.{Walk}
 use Rattle.walks.specs.Slots.{slotCount, protocolCount}
+use Rattle.walks.proofs.Gathers.{joined-parts, each-came}
 use Rattle.walks.proofs.PlainWalks.{class-run, category-run, protocol-run}
 use Rattle.walks.proofs.Walk.{settled-bound}
-use Rattle.listing.specs.Gather.{ofValue}
 use Rattle.listing.specs.PlainListing.{Field, rowList, nameList, roFields, protocolFields, categoryFields, plainRecords, recordFields, entriesIn, Event, fieldEvents, recordEvents, eventsFrom, plainEvents}
 use Rattle.listing.specs.declared.at.Record.{Record}
 use Rattle.listing.specs.declared.at.Record.the-variants as aRecord
-use Rattle.listing.proofs.Events.{parts-length, field-parts, names-settle-none}
-use Rattle.listing.proofs.Gathers.{joined-parts}
+use Rattle.listing.proofs.Events.{parts-length, each-length, field-parts, names-settle-none}
 
 -- The fields that name a list of rows.
 unfoldable pub rowLists : List Field → ℕ
@@ -102,9 +104,9 @@ module _ (t : Tables) (o : Opened t) where
       (omega (arith, parts-length parts, record-few r x (parts .first) (parts .ofFirst), records-settle (suc r) xs (parts .second) (parts .ofSecond)))
 
   -- D3f.
-  pub settled-few : (gs : List Event) → plainEvents t ≡ value gs
-      → length gs ≤ 6 * (length (plainRecords t) * (length (t .segments) / 4 * (length (t .image) / 12)))
-  settled-few gs e = records-settle 0 (plainRecords t) gs e
+  pub settled-few : (rs : List Record) (gs : List Event) → plainRecords t ≡ value rs → plainEvents t ≡ value gs
+      → length gs ≤ 6 * (length rs * (length (t .segments) / 4 * (length (t .image) / 12)))
+  settled-few rs gs r e = records-settle 0 rs gs (rw r at e)
 
 -- A run gives at most a record for each step.
 gives-few : {A : Type 0} {step : Walk → List ℕ → sections.Left A} {n : ℕ} {w : Walk} {l : List ℕ} {rs : List A} → Gives step n w l rs → length rs ≤ n
@@ -146,39 +148,54 @@ module _ (t : Tables) (o : Opened t) where
   unfolding longLedger
   room k = rw (length-replicate {A = ℕ} k 0) (omega arith)
 
-  classes-few : length (plainClasses t) ≤ 4 * (length (t .image) / 8)
-  classes-few =
-      let run = class-run t o (class-unrefused t o) (longLedger (slotCount (t .sections) 0 1)) (room (slotCount (t .sections) 0 1)) in
+  classes-few : (cs : List ObjcClass) → plainClasses t ≡ value cs → length cs ≤ 4 * (length (t .image) / 8)
+  classes-few cs e =
+      let run = class-run t (opened-asked t o) (longLedger (slotCount (t .sections) 0 1)) (room (slotCount (t .sections) 0 1)) cs e in
       omega (arith, run-few run, pair-slots 0 1 (omega arith) (omega arith))
 
-  categories-few : length (plainCategories t) ≤ 4 * (length (t .image) / 8)
-  categories-few =
-      let run = category-run t o (category-unrefused t o) (longLedger (slotCount (t .sections) 2 3)) (room (slotCount (t .sections) 2 3)) in
+  categories-few : (cs : List ObjcCategory) → plainCategories t ≡ value cs → length cs ≤ 4 * (length (t .image) / 8)
+  categories-few cs e =
+      let run = category-run t (opened-asked t o) (longLedger (slotCount (t .sections) 2 3)) (room (slotCount (t .sections) 2 3)) cs e in
       omega (arith, run-few run, pair-slots 2 3 (omega arith) (omega arith))
 
-  protocols-few : length (plainProtocols t) ≤ length (t .image) / 8
+  protocols-few : (ps : List ObjcProtocol) → plainProtocols t ≡ value ps → length ps ≤ length (t .image) / 8
   unfolding protocolCount
-  protocols-few = omega (arith, run-few (protocol-run t o (protocol-unrefused t o) []), slots-of 4 (omega arith))
+  protocols-few ps e = omega (arith, run-few (protocol-run t (opened-asked t o) [] ps e), slots-of 4 (omega arith))
 
-  records-length : length (plainRecords t) ≡ length (plainClasses t) + (length (plainProtocols t) + length (plainCategories t))
+  records-slots : (rs : List Record) → plainRecords t ≡ value rs → length rs ≤ 9 * (length (t .image) / 8)
   unfolding plainRecords
-  records-length = simp (length-append, length-map)
+  records-slots rs e =
+      let all = joined-parts (asEach aRecord.Class (plainClasses t)) _ e in
+      let others = joined-parts (asEach aRecord.Protocol (plainProtocols t)) (asEach aRecord.Category (plainCategories t)) (all .ofSecond) in
+      let classes = each-came aRecord.Class (plainClasses t) (all .ofFirst) in
+      let protocols = each-came aRecord.Protocol (plainProtocols t) (others .ofFirst) in
+      let categories = each-came aRecord.Category (plainCategories t) (others .ofSecond) in
+      omega (
+        arith,
+        parts-length all,
+        parts-length others,
+        each-length classes,
+        each-length protocols,
+        each-length categories,
+        classes-few (classes .0) (classes .1),
+        protocols-few (protocols .0) (protocols .1),
+        categories-few (categories .0) (categories .1),
+      )
 
-  records-slots : length (plainRecords t) ≤ 9 * (length (t .image) / 8)
-  records-slots = rw records-length (omega (arith, classes-few, protocols-few, categories-few))
-
-  pub records-few : length (plainRecords t) < 2 ^ 64
-  records-few = omega (arith, records-slots, opened-room t o .imageLength)
+  pub records-few : (rs : List Record) → plainRecords t ≡ value rs → length rs < 2 ^ 64
+  records-few rs e = omega (arith, records-slots rs e, opened-room t o .imageLength)
 
   -- The settling steps, in numbers: at most 6 x 2^33 x 64 x 2^29.
   events-words : (gs : List Event) → plainEvents t ≡ value gs → length gs < 2 ^ 72
   events-words gs e =
+      let came = then-came (plainRecords t) (eventsFrom t 0) gs e in
+      let rs = came .0 in
       let r = opened-room t o in
       let few : length (t .image) / 12 ≤ 2 ^ 29 = omega (arith, r .imageLength) in
-      let records : length (plainRecords t) ≤ 2 ^ 33 = omega (arith, records-slots, r .imageLength) in
+      let records : length rs ≤ 2 ^ 33 = omega (arith, records-slots rs (came .1), r .imageLength) in
       let list = mul-le-mul {n₁ = length (t .segments) / 4} {m₁ = length (t .image) / 12} {n₂ = 64} {m₂ = 2 ^ 29} (r .segmentCount) few in
-      let all = mul-le-mul {n₁ = length (plainRecords t)} {n₂ = 2 ^ 33} {m₂ = 64 * 2 ^ 29} records list in
-      omega (arith, settled-few t o gs e, all)
+      let all = mul-le-mul {n₁ = length rs} {n₂ = 2 ^ 33} {m₂ = 64 * 2 ^ 29} records list in
+      omega (arith, settled-few t o rs gs (came .1) e, all)
 
   pub events-few : (gs : List Event) → plainEvents t ≡ value gs → length gs < 2 ^ 128
   events-few gs e = lt-of-lt-of-le {m = 2 ^ 72} (events-words gs e) (pow-mono {i = 72} {j = 128} (omega arith))

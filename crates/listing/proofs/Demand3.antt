@@ -14,19 +14,20 @@ use Rattle.reads.proofs.Outcomes.{then-came}
 use Rattle.pointers.specs.Open.{Opened}
 use Rattle.pointers.specs.Tables.{Tables}
 use Rattle.pointers.proofs.OpenedTables.{opened-asked}
+use Rattle.walks.specs.Gather.{gather}
 use Rattle.walks.specs.Sections as sections
 use Rattle.walks.specs.Sections.{atStart, Kind, stepBy, stepOf}
 use Rattle.walks.specs.Slots.{slotsOf, slotCount, ledgerFits}
+use Rattle.walks.proofs.Gathers.{there-known}
 use Rattle.walks.proofs.SlotLaws.{classes-count, categories-count, slot-fits, ask-11}
-use Rattle.listing.specs.Gather.{gather}
-use Rattle.listing.specs.PlainListing.{versionAndFlags, endLine, plainRecords, linesOf, Event, plainEvents, plainListing, recordLineCount}
+use Rattle.listing.specs.PlainListing.{versionAndFlags, endLine, plainRecords, linesOf, Event, eventsFrom, plainEvents, plainListing, recordLineCount}
 use Rattle.listing.specs.Listing.{classes, categories, State, state, start, leaves, says, stepAt, listingStep}
 use Rattle.listing.specs.ListingRun.{eventsAt, answerAt, GivesNoNumber, Lists, ListsWhole}
 use Rattle.listing.specs.declared.at.At.the-variants as place
 use Rattle.listing.specs.declared.line.Line.{Line}
 use Rattle.listing.specs.declared.line.Line.the-variants as line
 use Rattle.listing.proofs.Bounds.{settled-few}
-use Rattle.listing.proofs.Gathers.{there-known}
+use Rattle.listing.proofs.Events.{events-of}
 use Rattle.listing.proofs.PlainThere.{listing-there}
 use Rattle.listing.proofs.RecordLines.{records-are-record-lines}
 use Rattle.listing.proofs.Rest.{Steps, over, saying, comes-to}
@@ -89,16 +90,20 @@ module _ (t : Tables) (o : Opened t) (l : List ℕ) where
     unfolding plainListing
     demand-3-listing =
         let all = there-known (listing-there t o) in
-        let lines = then-came (gather (linesOf t) (plainRecords t)) _ (all .known) (all .is) in
-        let events = then-came (plainEvents t) _ (all .known) (lines .2) in
-        let whole : plainListing t
-        ≡ value ((line.Info (versionAndFlags (t .info)) ∷ lines .0) ++ (endLine (length (plainRecords t)) (length (events .0)) ∷ [])) = all .is ∙ sym (events .2) in
+        let recorded = then-came (plainRecords t) _ (all .known) (all .is) in
+        let lines = then-came (gather (linesOf t) (recorded .0)) _ (all .known) (recorded .2) in
+        let events = then-came (eventsFrom t 0 (recorded .0)) _ (all .known) (lines .2) in
+        let settling : plainEvents t ≡ value (events .0) = events-of t (recorded .0) (recorded .1) ∙ events .1 in
+        let said : plainListing t
+        ≡ value ((line.Info (versionAndFlags (t .info)) ∷ lines .0) ++ (endLine (length (recorded .0)) (length (events .0)) ∷ [])) = all .is ∙ sym (events .2) in
         record {
+          recordsListed = recorded .0;
           linesBefore = line.Info (versionAndFlags (t .info)) ∷ lines .0;
           events = events .0;
-          plainLines = whole;
-          plainSettling = events .1;
-          steps = whole-listing _ (events .0) whole (events .1);
-          recordLines = unfold recordLineCount in records-are-record-lines t (plainRecords t) (lines .0) (lines .1);
-          bound = settled-few t o (events .0) (events .1);
+          plainRecorded = recorded .1;
+          plainLines = said;
+          plainSettling = settling;
+          steps = whole-listing _ (events .0) said settling;
+          recordLines = unfold recordLineCount in records-are-record-lines t (recorded .0) (lines .0) (lines .1);
+          bound = settled-few t o (recorded .0) (events .0) (recorded .1) settling;
         }

@@ -5,45 +5,49 @@ use mathlib.Core.Path.{_≡_, sym, ap, _∙_}
 use mathlib.Core.List.{List, [], _∷_, _++_, map}
 use native.Mathlib.Omega.{arith}
 use lib.ListN.{length, length-append, length-map}
-use Rattle.reads.specs.Outcome.{Outcome, value, andThen}
-use Rattle.reads.proofs.Outcomes.{then-came}
+use Rattle.reads.specs.Outcome.{Outcome, value}
 use Rattle.pointers.specs.Tables.{Tables}
-use Rattle.listing.specs.Gather.{joined}
-use Rattle.listing.specs.PlainListing.{Field, nameList, entriesIn, Event, event, fieldEvents, recordEvents, eventsFrom}
+use Rattle.walks.specs.Gather.{joined, asEach}
+use Rattle.walks.proofs.Gathers.{Parts, joined-parts, joined-none, joined-joined, each-came}
+use Rattle.listing.specs.PlainListing.{Field, nameList, entriesIn, Event, event, fieldEvents, recordEvents, eventsFrom, plainEvents, plainRecords}
 use Rattle.listing.specs.declared.at.Record.{Record}
-use Rattle.listing.proofs.Gathers.{Parts, joined-parts, joined-none, joined-joined}
 
 pub parts-length : {A : Type 0} {o p : Outcome (List A)} {zs : List A} (parts : Parts o p zs) → length zs ≡ length (parts .first) + length (parts .second)
 parts-length parts = ap length (parts .whole) ∙ length-append (parts .first) (parts .second)
+
+pub each-length : {A B : Type 0} {f : A → B} {o : Outcome (List A)} {ys : List B} (came : (xs : List A) × (o ≡ value xs) × (ys ≡ map f xs)) → length ys ≡ length (came .0)
+each-length {f = f} came = ap length (came .2) ∙ length-map (came .0) f
 
 pub record FieldParts (t : Tables) (r n : ℕ) (f : Field) (fs : List Field) (gs : List Event) : Type 0 where
   pub entries : List ℕ
   pub later : List Event
   pub ofEntries : entriesIn t f ≡ value entries
   pub ofLater : fieldEvents t r (suc n) fs ≡ value later
-  pub whole : gs ≡ map (event r n) entries ++ later
+  pub entriesThenLater : gs ≡ map (event r n) entries ++ later
   pub total : length gs ≡ length entries + length later
 
 pub field-parts : (t : Tables) (r n : ℕ) (f : Field) (fs : List Field) (gs : List Event) → fieldEvents t r n (f ∷ fs) ≡ value gs → FieldParts t r n f fs gs
 unfolding fieldEvents
 field-parts t r n f fs gs e =
-    let parts = joined-parts (andThen (entriesIn t f) (λ js. value (map (event r n) js))) (fieldEvents t r (suc n) fs) e in
-    let mine = then-came (entriesIn t f) (λ js. value (map (event r n) js)) (parts .first) (parts .ofFirst) in
-    let own : parts .first ≡ map (event r n) (mine .0) = let g = mine .2 in cc in
-    let many : length (parts .first) ≡ length (mine .0) = ap length own ∙ length-map (mine .0) (event r n) in
+    let parts = joined-parts (asEach (event r n) (entriesIn t f)) (fieldEvents t r (suc n) fs) e in
+    let mine = each-came (event r n) (entriesIn t f) (parts .ofFirst) in
     record {
       entries = mine .0;
       later = parts .second;
       ofEntries = mine .1;
       ofLater = parts .ofSecond;
-      whole = parts .whole ∙ ap (λ (es : List Event). es ++ parts .second) own;
-      total = omega (arith, parts-length parts);
+      entriesThenLater = parts .whole ∙ ap (λ (es : List Event). es ++ parts .second) (mine .2);
+      total = omega (arith, parts-length parts, each-length mine);
     }
 
 -- A list of protocol names settles none.
 pub names-settle-none : (t : Tables) (va : ℕ) (js : List ℕ) → entriesIn t (nameList va) ≡ value js → js ≡ []
 unfolding entriesIn
 names-settle-none t va js e = cc
+
+-- Those of a listing, by its records.
+pub events-of : (t : Tables) (rs : List Record) → plainRecords t ≡ value rs → plainEvents t ≡ eventsFrom t 0 rs
+events-of t rs e = rw e
 
 pub events-append : (t : Tables) (r : ℕ) (xs ys : List Record) → eventsFrom t r (xs ++ ys) ≡ joined (eventsFrom t r xs) (eventsFrom t (r + length xs) ys)
 unfolding eventsFrom

@@ -21,16 +21,17 @@ use Rattle.records.specs.declared.list.ListKind.{ListKind}
 use Rattle.records.specs.declared.row.Row.{Row}
 use Rattle.records.proofs.Headers.{list-unrefused}
 use Rattle.records.proofs.Readables.{restFrom, found-below-count, rest-of-some, rest-of-none, rest-from-0}
+use Rattle.walks.specs.Gather.{gather, ofValue, present}
 use Rattle.walks.specs.PlainWalk.{settling, countOf, plainStep, shown}
-use Rattle.walks.specs.ProtocolNames.{protocolListAt, hasSlot, slotIn, nameIn, walkAt, namesFinished, NameLeft, named, stepIn, nextName, slotNames}
+use Rattle.walks.specs.ProtocolNames.{protocolListAt, hasSlot, slotIn, nameIn, walkAt, namesFinished, NameLeft, named, stepIn, nextName, slotNames, protocolNames}
 use Rattle.walks.specs.Handed.{hands}
 use Rattle.walks.specs.Walk.{walkOf, rowsFinished, RowLeft, nextOf}
 use Rattle.walks.specs.declared.protocol_names.ProtocolList.{ProtocolList}
+use Rattle.walks.proofs.Gathers.{joined-parts, gather-parts, gather-none, Held, held-one, held-none, present-held, each-came}
 use Rattle.walks.proofs.ProtocolLists.{no-slot-from-count}
 use Rattle.walks.proofs.ProtocolNameWalks.{next-in, next-absent}
-use Rattle.walks.proofs.Walk.{opened-step, opened-unrefused, step-value, step-finished}
-use Rattle.listing.specs.Gather.{gather, ofValue}
-use Rattle.listing.specs.PlainListing.{Field, rowList, nameList, rowLine, nameLine, entryLines, slotLines, fieldLines, fieldsLines, entriesIn, Event, event, fieldEvents}
+use Rattle.walks.proofs.Walk.{opened-step, opened-unrefused, within-count, step-value, step-finished}
+use Rattle.listing.specs.PlainListing.{Field, rowList, nameList, rowLine, nameLine, entryLines, fieldLines, fieldsLines, entriesIn, Event, event, fieldEvents}
 use Rattle.listing.specs.Listing.{ownerFields, inList, enter, SectionWalk, State, state, afterRow, afterName, stepAt, listingStep}
 use Rattle.listing.specs.ListingRun.{eventsIn, eventsAt, settledIn}
 use Rattle.listing.specs.declared.at.At.the-variants as place
@@ -38,7 +39,6 @@ use Rattle.listing.specs.declared.at.FieldWalk.the-variants as fieldWalk
 use Rattle.listing.specs.declared.at.Owner.{Owner}
 use Rattle.listing.specs.declared.line.Line.{Line}
 use Rattle.listing.proofs.Events.{field-parts, names-settle-none}
-use Rattle.listing.proofs.Gathers.{joined-parts, gather-parts, gather-none}
 use Rattle.listing.proofs.Rest.{Steps, silent, saying}
 
 pub less : (m a b : ℕ) → a ≤ b → b < m → a < m
@@ -75,16 +75,13 @@ module _ (t : Tables) (o : Opened t) (Over : State → List ℕ → Type 0) (k :
         silent (step-by 0 c′ _ next) (events-by 0 c′ _ next) later
 
     module _ (h : Layout) (there : listAt t k list ≡ value h) where
-      within-count : (p : ℕ) → p ≤ h .count → p ≤ countOf (listAt t k list)
-      within-count p u = rw there u
-
       next-finished : (p : ℕ) → p ≤ h .count → firstReadable (imageIn t) h p ≡ none
           → nextOf t (walkOf list k p) ≡ hands (value rowsFinished) (walkOf list k (h .count))
-      next-finished p u e = opened-step t o k list p (within-count p u) ∙ ap (shown k list) (step-finished t o k list h there p u e)
+      next-finished p u e = opened-step t o k list p (within-count t o k list h there p u) ∙ ap (shown k list) (step-finished t o k list h there p u e)
 
       next-settles : (p j : ℕ) → p ≤ h .count → firstReadable (imageIn t) h p ≡ some j
           → nextOf t (walkOf list k p) ≡ shown k list (settling j (rowAt t (h .kind) (entryAddress h j)))
-      next-settles p j u e = opened-step t o k list p (within-count p u) ∙ ap (shown k list) (step-value t o k list h there p j u e)
+      next-settles p j u e = opened-step t o k list p (within-count t o k list h there p u) ∙ ap (shown k list) (step-value t o k list h there p j u e)
 
       -- What comes from entry p on, where the readable entries from there are js and give these lines.
       abbrev EntriesCome : ℕ → ℕ → List ℕ → List Line → Type 0
@@ -99,7 +96,7 @@ module _ (t : Tables) (o : Opened t) (Over : State → List ℕ → Type 0) (k :
           let after : EntriesCome (suc j) ((c + 1) % 2 ^ 128) js ys = rw m more in
           let back : suc j - 1 ≡ j = omega arith in
           let own : first ≡ rowLine n row ∷ [] = cc in
-          rw own (saying (step-by p c _ e) (events-by p c _ e ∙ ap (λ (i : ℕ). event (r - 1) n i ∷ []) back) after)
+          rw own (saying (step-by p c _ e) (events-by p c _ e ∙ ap (λ (i : ℕ). value (event (r - 1) n i ∷ [])) back) after)
       entry-comes p c j js first ys absent d a e u more =
           let m : (c + 1) % 2 ^ 128 ≡ c + 1 = mod-eq-of-lt (less (2 ^ 128) (c + 1) c′ u below) in
           let after : EntriesCome (suc j) ((c + 1) % 2 ^ 128) js ys = rw m more in
@@ -156,15 +153,15 @@ module _ (t : Tables) (o : Opened t) (Over : State → List ℕ → Type 0) (lis
   unfolding stepAt
   name-by i x e = ap (λ (y : NameLeft). afterName (atName i) l w n y) e
 
-  no-event : (i : ℕ) → eventsIn t (atName i) ≡ []
+  no-event : (i : ℕ) → eventsIn t (atName i) ≡ value []
   unfolding eventsAt
   no-event i = refl
 
   module _ (xs : List Line) (es : List Event) (later : Steps t Over (state (enter w (suc n)) sec r c) l xs es) where
     module _ (p : ProtocolList) (there : protocolListAt t list ≡ value p) where
-      -- What comes from slot i on, with these lines.
-      abbrev NamesCome : ℕ → List Line → Type 0
-      NamesCome i ys = Steps t Over (atName i) l (ys ++ xs) es
+      -- What comes from slot i on, with these names.
+      abbrev NamesCome : ℕ → List Text → Type 0
+      NamesCome i names = Steps t Over (atName i) l (map (nameLine n) names ++ xs) es
 
       names-end : (i : ℕ) → i ≤ p .count → hasSlot p i ≡ false → NamesCome i []
       unfolding stepIn
@@ -172,43 +169,45 @@ module _ (t : Tables) (o : Opened t) (Over : State → List ℕ → Type 0) (lis
           let next : nextName t (walkAt list i) ≡ hands (value namesFinished) (walkAt list (p .count)) = next-in t o (walkAt list i) p there u ∙ choose-false _ _ e in
           silent (name-by i _ next) (no-event i) later
 
-      name-comes : (i : ℕ) (first ys : List Line) (v : Outcome Text) → slotLines n v ≡ value first → nextName t (walkAt list i) ≡ named (walkAt list i) v
-          → NamesCome (i + 1) ys → NamesCome i (first ++ ys)
-      name-comes i first ys (value name) a e more = let own : first ≡ nameLine n name ∷ [] = cc in rw own (saying (name-by i _ e) (no-event i) more)
-      name-comes i first ys absent a e more = let none : first ≡ [] = cc in rw none (silent (name-by i _ e) (no-event i) more)
-      name-comes i first ys (number k) a e more = let z : _≡_ {A = ℕ} 0 1 = cc in absurd (omega arith)
+      name-comes : (i : ℕ) {v : Outcome Text} {first : List Text} (names : List Text) → Held v first → nextName t (walkAt list i) ≡ named (walkAt list i) v
+          → NamesCome (i + 1) names → NamesCome i (first ++ names)
+      name-comes i names (held-one name) e more = saying (name-by i _ e) (no-event i) more
+      name-comes i names held-none e more = silent (name-by i _ e) (no-event i) more
 
-      names-come : (q i : ℕ) (ys : List Line) → i + q ≡ p .count → gather (slotLines n) (slotNames t p i q) ≡ value ys → NamesCome i ys
+      names-come : (q i : ℕ) (names : List Text) → i + q ≡ p .count → gather present (slotNames t p i q) ≡ value names → NamesCome i names
       unfolding slotNames stepIn
-      names-come zero i ys u a =
-          let none = gather-none (slotLines n) a in
+      names-come zero i names u a =
+          let none = gather-none present a in
           rw none (names-end i (omega arith) (no-slot-from-count p i (omega arith)))
-      names-come (suc q) i ys u a =
-          by-choose (λ (os : List (Outcome Text)). gather (slotLines n) os ≡ value ys → NamesCome i ys)
-          (λ e lines.
+      names-come (suc q) i names u a =
+          by-choose (λ (os : List (Outcome Text)). gather present os ≡ value names → NamesCome i names)
+          (λ e given.
           let next : nextName t (walkAt list i) ≡ named (walkAt list i) (nameIn t (slotIn p i)) =
           next-in t o (walkAt list i) p there (omega arith) ∙ choose-true _ _ e in
-          let parts = gather-parts (slotLines n) (nameIn t (slotIn p i)) (slotNames t p (i + 1) q) lines in
+          let parts = gather-parts present (nameIn t (slotIn p i)) (slotNames t p (i + 1) q) given in
           rw (parts .whole)
-          (name-comes i (parts .first) (parts .second) (nameIn t (slotIn p i)) (parts .ofFirst) next (names-come q (i + 1) (parts .second) (omega arith) (parts .ofSecond))))
-          (λ e lines.
-          let none = gather-none (slotLines n) lines in
+          (name-comes i (parts .second) (present-held (nameIn t (slotIn p i)) (parts .ofFirst)) next (names-come q (i + 1) (parts .second) (omega arith) (parts .ofSecond))))
+          (λ e given.
+          let none = gather-none present given in
           rw none (names-end i (omega arith) e))
           a
 
-    -- A field that names a list of protocol names.
-    rest-names : (v : Outcome ProtocolList) → protocolListAt t list ≡ v → (ys : List Line) → fieldLines t n (nameList list) ≡ value ys
-        → Steps t Over (atName 0) l (ys ++ xs) es
-    unfolding fieldLines
-    rest-names (value p) e ys a = names-come p e (p .count) 0 ys (omega arith) (rw e at a)
-    rest-names absent e ys a =
+    -- The names of a list.
+    list-comes : (v : Outcome ProtocolList) → protocolListAt t list ≡ v → (names : List Text)
+        → ofValue v (λ p. gather present (slotNames t p 0 (p .count))) ≡ value names → Steps t Over (atName 0) l (map (nameLine n) names ++ xs) es
+    list-comes (value p) e names a = names-come p e (p .count) 0 names (omega arith) a
+    list-comes absent e names a =
         let next = next-absent t o (walkAt list 0) e (omega arith) in
-        let lines : value [] ≡ value ys = rw e at a in
-        let none : ys ≡ [] = cc in
+        let none : names ≡ [] = cc in
         rw none (silent (name-by 0 _ next) (no-event 0) later)
-    rest-names (number k) e ys a =
-        let lines : number k ≡ value ys = rw e at a in
-        let z : _≡_ {A = ℕ} 0 1 = cc in absurd (omega arith)
+    list-comes (number k) e names a = let z : _≡_ {A = ℕ} 0 1 = cc in absurd (omega arith)
+
+    -- A field that names a list of protocol names.
+    rest-names : (ys : List Line) → fieldLines t n (nameList list) ≡ value ys → Steps t Over (atName 0) l (ys ++ xs) es
+    unfolding fieldLines protocolNames
+    rest-names ys a =
+        let names = each-came (nameLine n) (protocolNames t list) a in
+        rw (names .2) (list-comes (protocolListAt t list) refl (names .0) (names .1))
 
 -- A record's lists, from list n on, and then the section goes on.
 module _ (t : Tables) (o : Opened t) (Over : State → List ℕ → Type 0) (w : Owner) (sec : SectionWalk) (r : ℕ) (l : List ℕ) (xs : List Line) (es : List Event) (c′ : ℕ)
@@ -229,7 +228,7 @@ module _ (t : Tables) (o : Opened t) (Over : State → List ℕ → Type 0) (w :
       let events = field-parts t (r - 1) n (rowList k va) fs gs b in
       let c₁ = c + length (events .entries) in
       let h : c₁ ≤ c′ = omega arith in
-      rw (e, lines .whole, events .whole, append-assoc (lines .first) (lines .second) xs, append-assoc (map (event (r - 1) n) (events .entries)) (events .later) es)
+      rw (e, lines .whole, events .entriesThenLater, append-assoc (lines .first) (lines .second) xs, append-assoc (map (event (r - 1) n) (events .entries)) (events .later) es)
       (rest-rows t o Over k va n w sec r l (lines .second ++ xs) (events .later ++ es) c₁ (less (2 ^ 128) c₁ c′ h below)
       (rest-fields fs (suc n) c₁ (drop-next n (ownerFields w) e) (lines .second) (events .later) (lines .ofSecond) (events .ofLater) (omega arith))
       (listAt t k va) (list-unrefused t k va) refl c (lines .first) (events .entries) (lines .ofFirst) (events .ofEntries) refl)
@@ -237,8 +236,8 @@ module _ (t : Tables) (o : Opened t) (Over : State → List ℕ → Type 0) (w :
       let lines = joined-parts (fieldLines t n (nameList va)) (fieldsLines t (suc n) fs) a in
       let events = field-parts t (r - 1) n (nameList va) fs gs b in
       let none = names-settle-none t va (events .entries) (events .ofEntries) in
-      let all : gs ≡ events .later = events .whole ∙ ap (λ (js : List ℕ). map (event (r - 1) n) js ++ events .later) none in
+      let all : gs ≡ events .later = events .entriesThenLater ∙ ap (λ (js : List ℕ). map (event (r - 1) n) js ++ events .later) none in
       rw (e, lines .whole, append-assoc (lines .first) (lines .second) xs, all)
       (rest-names t o Over va n w sec r c l (lines .second ++ xs) (events .later ++ es)
       (rest-fields fs (suc n) c (drop-next n (ownerFields w) e) (lines .second) (events .later) (lines .ofSecond) (events .ofLater) (rw all at d))
-      (protocolListAt t va) refl (lines .first) (lines .ofFirst))
+      (lines .first) (lines .ofFirst))

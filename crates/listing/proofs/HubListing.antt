@@ -1,7 +1,7 @@
 -- ◆ The listing of document 01's image ("The program's listing"), line by line, from the plain definition. Its method list claims
 -- 4,294,967,295 rows: which of them are readable is known by a law (hub-two), and none is counted.
 use mathlib.Core.Path.{_≡_, refl}
-use mathlib.Core.List.{List, [], _∷_, flatMap}
+use mathlib.Core.List.{List, [], _∷_}
 use Rattle.reads.specs.Outcome.{value, choose, sum64, nonzero, textOf}
 use Rattle.reads.specs.Place.{le, readableAt, readable, word, wordIn}
 use Rattle.reads.specs.Address.{stripped}
@@ -10,8 +10,10 @@ use Rattle.reads.specs.Segment.{rows, ends, holds, placed, lookup}
 use Rattle.pointers.specs.ImageInfo.{infoOf}
 use Rattle.pointers.specs.Section.{sectionAt}
 use Rattle.pointers.specs.Slot.{stored}
+use Rattle.walks.specs.Gather.{gather}
 use Rattle.walks.specs.declared.slots.Lists.the-variants.{Classes}
 use Rattle.walks.specs.PlainSections.{addressesIn, without, once, listed, withMeta, plainClasses, plainProtocols, plainCategories}
+use Rattle.walks.specs.ProtocolNames.{protocolNames}
 use Rattle.walks.specs.Slots.{slotsFrom, sectionSlots, decodeAddress}
 use Rattle.walks.specs.Sections.{metaOf}
 use Rattle.records.specs.declared.class.ClassRo.{ClassRo}
@@ -19,7 +21,6 @@ use Rattle.records.specs.declared.list.ListKind.the-variants.{Ivars, Properties
 use Rattle.records.proofs.HubImage.{counted}
 use Rattle.walks.proofs.HubRun.{hub, hub-methods, slot-stored, up, row-0, row-1, hub-class-record, hub-class, hub-ro, hub-ro-of, hub-superclass}
 use Rattle.records.proofs.ListCases.{hub-two}
-use Rattle.listing.specs.Gather.{gather}
 use Rattle.listing.specs.PlainListing as plain
 use Rattle.listing.specs.declared.at.Record.the-variants as aRecord
 use Rattle.listing.specs.declared.line.Line.{Line}
@@ -28,20 +29,20 @@ use Rattle.listing.specs.declared.line.Named.the-variants as named
 use Rattle.listing.proofs.EmptyLists.{no-list, no-names}
 
 -- class_list holds one address; the other sections are absent.
-hub-listed : listed hub Classes ≡ 0x1000 ∷ []
-unfolding listed once without addressesIn flatMap sectionSlots slotsFrom sectionAt slotAddress decodeAddress stored word stripped readable readableAt lookup rows ends holds placed le nonzero choose sum64 counted
+hub-listed : listed hub Classes ≡ value (0x1000 ∷ [])
+unfolding listed once without addressesIn gather sectionSlots slotsFrom sectionAt slotAddress decodeAddress stored word stripped readable readableAt lookup rows ends holds placed le nonzero choose sum64 counted
 hub-listed = rw (slot-stored 0x10A0)
 
-hub-classes : plainClasses hub ≡ hub-class-record ∷ []
-unfolding plainClasses withMeta metaOf flatMap nonzero choose
+hub-classes : plainClasses hub ≡ value (hub-class-record ∷ [])
+unfolding plainClasses withMeta metaOf gather nonzero choose
 hub-classes = rw (hub-listed, hub-class)
 
-hub-protocols : plainProtocols hub ≡ []
-unfolding plainProtocols addressesIn flatMap sectionSlots slotsFrom sectionAt choose
+hub-protocols : plainProtocols hub ≡ value []
+unfolding plainProtocols gather sectionSlots slotsFrom sectionAt choose
 hub-protocols = refl
 
-hub-categories : plainCategories hub ≡ []
-unfolding plainCategories listed once addressesIn flatMap sectionSlots slotsFrom sectionAt choose
+hub-categories : plainCategories hub ≡ value []
+unfolding plainCategories listed once addressesIn gather sectionSlots slotsFrom sectionAt choose
 hub-categories = refl
 
 -- R 1028 0 8 8 3:Hub, and the fields that name its lists.
@@ -65,7 +66,7 @@ hub-class-ro =
 abbrev pub class-line : Line
 class-line = line.Class (record { class = hub-class-record; «superclass_name» = named.Text (textOf 182 8) })
 
-hub-records : plain.plainRecords hub ≡ aRecord.Class hub-class-record ∷ []
+hub-records : plain.plainRecords hub ≡ value (aRecord.Class hub-class-record ∷ [])
 unfolding plain.plainRecords
 hub-records = rw (hub-classes, hub-protocols, hub-categories)
 
@@ -82,12 +83,15 @@ abbrev pub row-line : Line
 row-line = plain.rowLine 0 up
 
 hub-lines : plain.fieldsLines hub 0 (plain.roFields hub-class-ro) ≡ value (row-line ∷ [])
-unfolding plain.fieldsLines plain.fieldLines gather
+unfolding plain.fieldsLines plain.fieldLines protocolNames gather
 hub-lines = rw (hub-methods, hub-two, row-0, row-1, no-list hub Ivars, no-list hub Properties, no-names hub)
 
-pub hub-events : plain.plainEvents hub ≡ value (plain.event 0 0 0 ∷ plain.event 0 0 1 ∷ [])
+hub-settling : plain.eventsFrom hub 0 (aRecord.Class hub-class-record ∷ []) ≡ value (plain.event 0 0 0 ∷ plain.event 0 0 1 ∷ [])
 unfolding plain.eventsFrom plain.recordEvents plain.fieldEvents plain.entriesIn
-hub-events = rw (hub-records, hub-fields) (rw (hub-methods, hub-two, no-list hub Ivars, no-list hub Properties))
+hub-settling = rw hub-fields (rw (hub-methods, hub-two, no-list hub Ivars, no-list hub Properties))
+
+pub hub-events : plain.plainEvents hub ≡ value (plain.event 0 0 0 ∷ plain.event 0 0 1 ∷ [])
+hub-events = rw hub-records hub-settling
 
 -- I 0 0, the lines of the class, and E 1 2.
 abbrev pub five-lines : List Line
@@ -101,4 +105,4 @@ five-lines =
 
 pub hub-listing : plain.plainListing hub ≡ value five-lines
 unfolding plain.plainListing plain.linesOf gather wordIn le choose
-hub-listing = rw (hub-events, hub-records, hub-own, hub-fields, hub-lines)
+hub-listing = rw (hub-records, hub-own, hub-fields, hub-lines) (rw hub-settling)

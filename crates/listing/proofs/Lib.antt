@@ -9,7 +9,6 @@ pub mod Determined
 pub mod Remaining
 pub mod Falls
 pub mod WordsKept
-pub mod Gathers
 pub mod Events
 pub mod PlainThere
 pub mod Rest

@@ -3,7 +3,7 @@
 use Prim.Native.Nat.{ℕ, _≤_}
 use mathlib.Core.Path.{_≡_, refl}
 use mathlib.Core.Bool.{true, false}
-use mathlib.Core.List.{List, [], _∷_, _++_, map, flatMap}
+use mathlib.Core.List.{List, [], _∷_, _++_, map}
 use lib.ListN.{length, replicate}
 use borrow.Author.Tests.{le-leb}
 use Rattle.reads.specs.Breaks.{canRead}
@@ -44,14 +44,15 @@ use Rattle.records.specs.declared.method.MethodKind.the-variants as kind
 use Rattle.records.specs.declared.protocol.ObjcProtocol.{ObjcProtocol}
 use Rattle.records.specs.declared.row.Row.{Row}
 use Rattle.records.specs.declared.row.Row.the-variants as row
+use Rattle.walks.specs.Gather.{gather}
 use Rattle.walks.specs.declared.slots.Lists.the-variants.{Classes, Categories}
 use Rattle.walks.specs.PlainSections.{addressesIn, without, once, listed, withMeta, plainClasses, plainProtocols, plainCategories}
-use Rattle.walks.specs.Slots.{slotsFrom, sectionSlots, decodeAddress, slotCount}
-use Rattle.walks.specs.ProtocolNames.{protocolListAt, decodeProtocolList, hasSlot, decodeProtocolName, decodeOrBound, decodeNameIn, slotNames}
+use Rattle.walks.specs.Slots.{slotsFrom, sectionSlots, addressIn, decodeAddress, slotCount}
+use Rattle.walks.specs.ProtocolNames.{protocolListAt, decodeProtocolList, hasSlot, decodeProtocolName, decodeOrBound, decodeNameIn, slotNames, protocolNames}
 use Rattle.walks.specs.Sections.{metaOf}
 use Rattle.listing.specs.Bundle.{wordsFrom, bundleFits, bundleCounts, bundled}
-use Rattle.listing.specs.Gather.{gather}
 use Rattle.listing.specs.PlainListing as plain
+use Rattle.listing.specs.declared.at.Record.{Record}
 use Rattle.listing.specs.declared.at.Record.the-variants as aRecord
 use Rattle.listing.specs.declared.bundle.Counts.{Counts}
 use Rattle.listing.specs.declared.line.Line.{Line}
@@ -221,16 +222,16 @@ module _ (before : List ℕ) where
   unfolding decodeClass decodeData bitsOf picked pickedWide mapped dataArm64e data64 resolve readable readableAt lookup rows ends holds placed sum64 stored word stripped le nonzero choose node-bytes
   the-meta = simp no-rebase
 
-  class-addresses : listed (node before) Classes ≡ 0x1000 ∷ []
-  unfolding listed once without addressesIn flatMap sectionSlots slotsFrom sectionAt slotAddress decodeAddress resolve readable readableAt lookup rows ends holds placed sum64 stored word stripped le nonzero choose node-bytes
+  class-addresses : listed (node before) Classes ≡ value (0x1000 ∷ [])
+  unfolding listed once without addressesIn gather sectionSlots slotsFrom sectionAt slotAddress decodeAddress resolve readable readableAt lookup rows ends holds placed sum64 stored word stripped le nonzero choose node-bytes
   class-addresses = simp no-rebase
 
-  protocol-addresses : addressesIn (node before) (sectionSlots node-sections 4) ≡ 0x10E0 ∷ []
-  unfolding addressesIn flatMap sectionSlots slotsFrom sectionAt slotAddress decodeAddress resolve readable readableAt lookup rows ends holds placed sum64 stored word stripped le nonzero choose node-bytes
-  protocol-addresses = simp no-rebase
+  protocol-address : addressIn (node before) 0x11A8 ≡ value 0x10E0
+  unfolding decodeAddress resolve readable readableAt lookup rows ends holds placed sum64 stored word stripped le nonzero choose node-bytes
+  protocol-address = simp no-rebase
 
-  category-addresses : listed (node before) Categories ≡ 0x1128 ∷ []
-  unfolding listed once without addressesIn flatMap sectionSlots slotsFrom sectionAt slotAddress decodeAddress resolve readable readableAt lookup rows ends holds placed sum64 stored word stripped le nonzero choose node-bytes
+  category-addresses : listed (node before) Categories ≡ value (0x1128 ∷ [])
+  unfolding listed once without addressesIn gather sectionSlots slotsFrom sectionAt slotAddress decodeAddress resolve readable readableAt lookup rows ends holds placed sum64 stored word stripped le nonzero choose node-bytes
   category-addresses = simp no-rebase
 
   the-protocol : protocolAt (node before) 0x10E0 ≡ value walks-protocol
@@ -241,19 +242,22 @@ module _ (before : List ℕ) where
   unfolding decodeCategory decodeCategoryOf decodeCategoryLists decodeCategoryProperties imageInfo bit pointerOr0At textIn textAt textLength text utf8 judge resolve readable readableAt lookup rows ends holds placed sum64 stored word stripped le nonzero choose node-bytes
   the-category = simp no-rebase
 
-  the-classes : plainClasses (node before) ≡ node-class ∷ meta-class ∷ []
-  unfolding plainClasses withMeta metaOf flatMap nonzero choose
+  the-classes : plainClasses (node before) ≡ value (node-class ∷ meta-class ∷ [])
+  unfolding plainClasses withMeta metaOf gather nonzero choose
   the-classes = rw (class-addresses, the-class, the-meta)
 
-  the-protocols : plainProtocols (node before) ≡ walks-protocol ∷ []
-  unfolding plainProtocols flatMap
-  the-protocols = rw (protocol-addresses, the-protocol)
+  the-protocols : plainProtocols (node before) ≡ value (walks-protocol ∷ [])
+  unfolding plainProtocols gather sectionSlots slotsFrom sectionAt slotAddress choose
+  the-protocols = rw (protocol-address, the-protocol)
 
-  the-categories : plainCategories (node before) ≡ extra-category ∷ []
-  unfolding plainCategories flatMap
+  the-categories : plainCategories (node before) ≡ value (extra-category ∷ [])
+  unfolding plainCategories gather
   the-categories = rw (category-addresses, the-category)
 
-  the-records : plain.plainRecords (node before) ≡ aRecord.Class node-class ∷ aRecord.Class meta-class ∷ aRecord.Protocol walks-protocol ∷ aRecord.Category extra-category ∷ []
+  abbrev four-records : List Record
+  four-records = aRecord.Class node-class ∷ aRecord.Class meta-class ∷ aRecord.Protocol walks-protocol ∷ aRecord.Category extra-category ∷ []
+
+  the-records : plain.plainRecords (node before) ≡ value four-records
   unfolding plain.plainRecords
   the-records = rw (the-classes, the-protocols, the-categories)
 
@@ -325,11 +329,11 @@ module _ (before : List ℕ) where
   name-entries va = refl
 
   no-name-lines : (n : ℕ) → plain.fieldLines (node before) n (plain.nameList 0) ≡ value []
-  unfolding plain.fieldLines
+  unfolding plain.fieldLines protocolNames
   no-name-lines n = rw (no-names (node before))
 
   name-lines : (n : ℕ) → plain.fieldLines (node before) n (plain.nameList 0x1190) ≡ value (plain.nameLine n (textOf 0x1BD 5) ∷ [])
-  unfolding plain.fieldLines gather
+  unfolding plain.fieldLines protocolNames gather
   name-lines n = rw (one-name, its-slots)
 
   node-lines : plain.linesOf (node before) (aRecord.Class node-class) ≡ value (plain.classLine node-class named.Nothing ∷ line.Ro node-ro ∷ [])
@@ -365,15 +369,17 @@ module _ (before : List ℕ) where
   category-lines =
       rw (category-class, list-lines 0, list-lines 1, name-lines 2, none-lines 3 Properties, none-lines 4 Properties)
 
-  pub node-events : plain.plainEvents (node before) ≡ value six-events
+  the-settling : plain.eventsFrom (node before) 0 four-records ≡ value six-events
   unfolding plain.eventsFrom plain.recordEvents plain.recordFields plain.fieldEvents
-  node-events =
-      rw the-records
-      (rw (node-ro-there, meta-ro-there, list-entries, none-entries Methods, none-entries Ivars, none-entries Properties, name-entries 0, name-entries 0x1190))
+  the-settling =
+      rw (node-ro-there, meta-ro-there, list-entries, none-entries Methods, none-entries Ivars, none-entries Properties, name-entries 0, name-entries 0x1190)
+
+  pub node-events : plain.plainEvents (node before) ≡ value six-events
+  node-events = rw the-records the-settling
 
   pub node-listing : plain.plainListing (node before) ≡ value twelve-lines
   unfolding plain.plainListing gather wordIn le choose
-  node-listing = rw (node-events, the-records, node-lines, meta-lines, protocol-lines, category-lines)
+  node-listing = rw (the-records, node-lines, meta-lines, protocol-lines, category-lines) (rw the-settling)
 
   -- Opening accepts the tables, with an index of at least 8,192 words.
   module _ (enough : 8192 ≤ length before) where

@@ -1,5 +1,5 @@
 -- Over what opening accepted the plain listing is there: no lookup that it asks for gives a number.
-use Prim.Native.Nat.{ℕ, zero, suc, _+_, _≤_}
+use Prim.Native.Nat.{ℕ, suc, _≤_}
 use mathlib.Core.Path.{_≡_, _∙_}
 use mathlib.Core.List.{List, [], _∷_, map}
 use native.Mathlib.Omega.{arith}
@@ -9,7 +9,7 @@ use Rattle.reads.specs.Outcome.{Outcome, value, Unrefused, is-value, is-absent}
 use Rattle.reads.specs.declared.text.Text.{Text}
 use Rattle.reads.specs.Segment.{placeAt}
 use Rattle.reads.proofs.Numbers.{word-in}
-use Rattle.reads.proofs.Tests.{by-choose, choose-true}
+use Rattle.reads.proofs.Tests.{choose-true}
 use Rattle.pointers.specs.ImageInfo.{imageInfo}
 use Rattle.pointers.specs.Open.{Opened}
 use Rattle.pointers.specs.Tables.{Tables, imageIn}
@@ -18,22 +18,27 @@ use Rattle.records.specs.List.{entryAddress}
 use Rattle.records.specs.Search.{readables}
 use Rattle.records.proofs.Decodes.{class-name-of-unrefused, ro-unrefused, row-unrefused}
 use Rattle.records.proofs.Headers.{list-unrefused}
-use Rattle.walks.specs.ProtocolNames.{slotIn, slotNames}
-use Rattle.walks.specs.declared.protocol_names.ProtocolList.{ProtocolList}
-use Rattle.walks.proofs.ProtocolNameWalks.{protocol-list-unrefused, name-in-unrefused}
-use Rattle.listing.specs.Gather.{gather}
-use Rattle.listing.specs.PlainListing.{versionAndFlags, Field, rowList, nameList, nameOrNone, classLine, ownLines, recordFields, entryLines, slotLines, fieldLines, fieldsLines, linesOf, entriesIn, event, fieldEvents, recordEvents, eventsFrom, plainRecords, plainListing}
+use Rattle.walks.specs.Gather.{gather}
+use Rattle.walks.proofs.Gathers.{There, is-there, there-then, there-joined, there-of, there-gather}
+use Rattle.walks.proofs.OpenedSections.{classes-there, categories-there, protocols-there}
+use Rattle.walks.proofs.ProtocolNameWalks.{names-there}
+use Rattle.listing.specs.PlainListing.{versionAndFlags, Field, rowList, nameList, nameOrNone, classLine, ownLines, recordFields, entryLines, fieldLines, fieldsLines, linesOf, entriesIn, event, fieldEvents, recordEvents, eventsFrom, plainEvents, plainRecords, plainListing}
 use Rattle.listing.specs.declared.at.Record.{Record}
 use Rattle.listing.specs.declared.at.Record.the-variants as aRecord
 use Rattle.listing.specs.declared.line.Line.the-variants as line
 use Rattle.listing.specs.declared.line.Named.the-variants as named
-use Rattle.listing.proofs.Gathers.{There, is-there, there-then, there-joined, there-of, there-gather}
 
 name-there : {v : Outcome Text} → Unrefused v → There (nameOrNone v)
 name-there (is-value name) = is-there (named.Text name)
 name-there is-absent = is-there named.Nothing
 
 module _ (t : Tables) (o : Opened t) where
+  pub records-there : There (plainRecords t)
+  unfolding plainRecords
+  records-there =
+      there-joined (there-then _ (classes-there t o) (λ cs. is-there _))
+      (there-joined (there-then _ (protocols-there t o) (λ ps. is-there _)) (there-then _ (categories-there t o) (λ cs. is-there _)))
+
   own-there : (x : Record) → There (ownLines t x)
   unfolding ownLines
   own-there (aRecord.Class c) =
@@ -48,20 +53,12 @@ module _ (t : Tables) (o : Opened t) where
   fields-there (aRecord.Protocol p) = is-there _
   fields-there (aRecord.Category c) = is-there _
 
-  slots-there : (n : ℕ) (p : ProtocolList) (q i : ℕ) → There (gather (slotLines n) (slotNames t p i q))
-  unfolding slotNames gather
-  slots-there n p zero i = is-there []
-  slots-there n p (suc q) i =
-      by-choose (λ (os : List (Outcome Text)). There (gather (slotLines n) os))
-      (λ e. there-joined (there-of _ (name-in-unrefused t o (slotIn p i)) (λ name. is-there _)) (slots-there n p q (i + 1)))
-      (λ e. is-there [])
-
   field-lines-there : (n : ℕ) (f : Field) → There (fieldLines t n f)
   unfolding fieldLines
   field-lines-there n (rowList k va) =
       there-of _ (list-unrefused t k va) (λ h.
       there-gather (entryLines t n h) (λ j. there-of _ (row-unrefused t o (h .kind) (entryAddress h j)) (λ r. is-there _)) (readables (imageIn t) h))
-  field-lines-there n (nameList va) = there-of _ (protocol-list-unrefused t va) (λ p. slots-there n p (p .count) 0)
+  field-lines-there n (nameList va) = there-then _ (names-there t o va) (λ names. is-there _)
 
   fields-lines-there : (n : ℕ) (fs : List Field) → There (fieldsLines t n fs)
   unfolding fieldsLines
@@ -90,9 +87,13 @@ module _ (t : Tables) (o : Opened t) where
   events-there r [] = is-there []
   events-there r (x ∷ xs) = there-joined (there-then _ (fields-there x) (field-events-there r 0)) (events-there (suc r) xs)
 
+  pub plain-events-there : There (plainEvents t)
+  plain-events-there = there-then _ records-there (events-there 0)
+
   pub listing-there : There (plainListing t)
   unfolding plainListing
-  listing-there = there-then _ (lines-there (plainRecords t)) (λ lines. there-then _ (events-there 0 (plainRecords t)) (λ events. is-there _))
+  listing-there =
+      there-then _ records-there (λ records. there-then _ (lines-there records) (λ lines. there-then _ (events-there 0 records) (λ events. is-there _)))
 
   -- Line I is what opening gave.
   pub opened-version : versionAndFlags (t .info) ≡ o .info

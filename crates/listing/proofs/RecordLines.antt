@@ -1,7 +1,7 @@
 -- E's first number is the number of record lines of the plain listing.
 use Prim.Native.Nat.{ℕ, suc, _+_}
 use mathlib.Core.Path.{_≡_, refl, ap, _∙_}
-use mathlib.Core.List.{List, [], _∷_, _++_}
+use mathlib.Core.List.{List, [], _∷_, _++_, map}
 use native.Mathlib.Omega.{arith}
 use lib.ListN.{length}
 use Rattle.reads.specs.Outcome.{Outcome, value, absent, number, andThen}
@@ -16,15 +16,14 @@ use Rattle.records.specs.Search.{readables}
 use Rattle.records.specs.declared.class.ClassRo.{ClassRo}
 use Rattle.records.specs.declared.list.Layout.{Layout}
 use Rattle.records.specs.declared.row.Row.{Row}
-use Rattle.walks.specs.ProtocolNames.{protocolListAt, slotNames}
-use Rattle.walks.specs.declared.protocol_names.ProtocolList.{ProtocolList}
-use Rattle.listing.specs.Gather.{gather, ofValue}
-use Rattle.listing.specs.PlainListing.{Field, rowList, nameList, nameOrNone, classLine, categoryLine, rowLine, nameLine, ownLines, recordFields, entryLines, slotLines, fieldLines, fieldsLines, linesOf, recordLineCount}
+use Rattle.walks.specs.Gather.{gather, ofValue}
+use Rattle.walks.specs.ProtocolNames.{protocolNames}
+use Rattle.walks.proofs.Gathers.{Parts, joined-parts, gather-parts, each-came}
+use Rattle.listing.specs.PlainListing.{Field, rowList, nameList, nameOrNone, classLine, categoryLine, rowLine, nameLine, ownLines, recordFields, entryLines, fieldLines, fieldsLines, linesOf, recordLineCount}
 use Rattle.listing.specs.declared.at.Record.{Record}
 use Rattle.listing.specs.declared.at.Record.the-variants as aRecord
 use Rattle.listing.specs.declared.line.Line.{Line}
 use Rattle.listing.specs.declared.line.Line.the-variants as line
-use Rattle.listing.proofs.Gathers.{Parts, joined-parts, gather-parts}
 
 -- Lines that come after one another.
 lines-after : (xs ys : List Line) → recordLineCount (xs ++ ys) ≡ recordLineCount xs + recordLineCount ys
@@ -63,29 +62,17 @@ list-none t n (value h) ys e = entries-none t n h (readables (imageIn t) h) ys e
 list-none t n absent ys e = let same : ys ≡ [] = cc in rw same (unfold recordLineCount in refl)
 list-none t n (number k) ys e = let z : _≡_ {A = ℕ} 0 1 = cc in absurd (omega arith)
 
-slot-none : (n : ℕ) (v : Outcome Text) (ys : List Line) → slotLines n v ≡ value ys → recordLineCount ys ≡ 0
+names-none : (n : ℕ) (names : List Text) → recordLineCount (map (nameLine n) names) ≡ 0
 unfolding recordLineCount
-slot-none n (value name) ys e = let same : ys ≡ nameLine n name ∷ [] = cc in rw same
-slot-none n absent ys e = let same : ys ≡ [] = cc in rw same
-slot-none n (number k) ys e = let z : _≡_ {A = ℕ} 0 1 = cc in absurd (omega arith)
-
-slots-none : (n : ℕ) (os : List (Outcome Text)) (ys : List Line) → gather (slotLines n) os ≡ value ys → recordLineCount ys ≡ 0
-unfolding gather
-slots-none n [] ys e = let same : ys ≡ [] = cc in rw same (unfold recordLineCount in refl)
-slots-none n (o ∷ os) ys e =
-    let parts = gather-parts (slotLines n) o os e in
-    omega (arith, parts-count parts, slot-none n o (parts .first) (parts .ofFirst), slots-none n os (parts .second) (parts .ofSecond))
-
-names-none : (t : Tables) (n : ℕ) (v : Outcome ProtocolList) (ys : List Line)
-    → ofValue v (λ p. gather (slotLines n) (slotNames t p 0 (p .count))) ≡ value ys → recordLineCount ys ≡ 0
-names-none t n (value p) ys e = slots-none n (slotNames t p 0 (p .count)) ys e
-names-none t n absent ys e = let same : ys ≡ [] = cc in rw same (unfold recordLineCount in refl)
-names-none t n (number k) ys e = let z : _≡_ {A = ℕ} 0 1 = cc in absurd (omega arith)
+names-none n [] = refl
+names-none n (name ∷ names) = names-none n names
 
 field-none : (t : Tables) (n : ℕ) (f : Field) (ys : List Line) → fieldLines t n f ≡ value ys → recordLineCount ys ≡ 0
 unfolding fieldLines
 field-none t n (rowList k va) ys e = list-none t n (listAt t k va) ys e
-field-none t n (nameList va) ys e = names-none t n (protocolListAt t va) ys e
+field-none t n (nameList va) ys e =
+    let names = each-came (nameLine n) (protocolNames t va) e in
+    rw (names .2) (names-none n (names .0))
 
 fields-none : (t : Tables) (n : ℕ) (fs : List Field) (ys : List Line) → fieldsLines t n fs ≡ value ys → recordLineCount ys ≡ 0
 unfolding fieldsLines

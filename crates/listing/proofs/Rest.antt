@@ -6,18 +6,18 @@ use mathlib.Core.List.{List, [], _∷_, _++_}
 use native.Mathlib.Omega.{arith}
 use Rattle.reads.specs.Outcome.{Outcome, value}
 use Rattle.pointers.specs.Tables.{Tables}
-use Rattle.listing.specs.Gather.{joined}
+use Rattle.walks.specs.Gather.{joined}
 use Rattle.listing.specs.PlainListing.{Event}
 use Rattle.listing.specs.Listing.{State, Answer, Left, leaves, start, says, nothing, ended, listingStep}
 use Rattle.listing.specs.ListingRun.{eventsIn, lineSaid, settledAt, answerAt, linesBy, eventsBy, Answered, is-said, Lists}
 use Rattle.listing.specs.declared.line.Line.{Line}
 
 pub data Steps (t : Tables) (Over : State → List ℕ → Type 0) : State → List ℕ → List Line → List Event → Type 0 where
-  over : {s : State} {l : List ℕ} → Over s l → eventsIn t s ≡ [] → Steps t Over s l [] []
+  over : {s : State} {l : List ℕ} → Over s l → eventsIn t s ≡ value [] → Steps t Over s l [] []
   silent : {s v : State} {l m : List ℕ} {xs : List Line} {fs es : List Event}
-      → listingStep t s l ≡ leaves (value nothing) v m → eventsIn t s ≡ fs → Steps t Over v m xs es → Steps t Over s l xs (fs ++ es)
+      → listingStep t s l ≡ leaves (value nothing) v m → eventsIn t s ≡ value fs → Steps t Over v m xs es → Steps t Over s l xs (fs ++ es)
   saying : {s v : State} {l m : List ℕ} {x : Line} {xs : List Line} {fs es : List Event}
-      → listingStep t s l ≡ leaves (value (says x)) v m → eventsIn t s ≡ fs → Steps t Over v m xs es → Steps t Over s l (x ∷ xs) (fs ++ es)
+      → listingStep t s l ≡ leaves (value (says x)) v m → eventsIn t s ≡ value fs → Steps t Over v m xs es → Steps t Over s l (x ∷ xs) (fs ++ es)
 
 -- To the end.
 abbrev pub Rest : Tables → State → List ℕ → List Line → List Event → Type 0
@@ -44,12 +44,12 @@ module _ (t : Tables) where
   unfolding linesBy
   lines-next s l n e = ap (λ (r : Left). joined (lineSaid (r .answer)) (linesBy t n (r .state) (r .ledger))) e
 
-  events-next : (s : State) (l : List ℕ) {v : State} {m : List ℕ} {a : Answer} {fs : List Event} (n : ℕ) → listingStep t s l ≡ leaves (value a) v m → eventsIn t s ≡ fs
+  events-next : (s : State) (l : List ℕ) {v : State} {m : List ℕ} {a : Answer} {fs : List Event} (n : ℕ) → listingStep t s l ≡ leaves (value a) v m → eventsIn t s ≡ value fs
       → eventsBy t (suc n) s l ≡ joined (value fs) (eventsBy t n v m)
   unfolding eventsBy
   events-next s l {v} {m} n e f =
       ap (λ (r : Left). joined (settledAt t s (r .answer)) (eventsBy t n (r .state) (r .ledger))) e
-      ∙ ap (λ (es : List Event). joined (value es) (eventsBy t n v m)) f
+      ∙ ap (λ (o : Outcome (List Event)). joined o (eventsBy t n v m)) f
 
   stepCount : {s : State} {l : List ℕ} {xs : List Line} {es : List Event} → Rest t s l xs es → ℕ
   stepCount (over e f) = 0

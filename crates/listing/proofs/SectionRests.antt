@@ -16,11 +16,12 @@ use Rattle.records.specs.declared.category.ObjcCategory.{ObjcCategory}
 use Rattle.records.specs.declared.class.ClassRo.{ClassRo}
 use Rattle.records.specs.declared.class.ObjcClass.{ObjcClass}
 use Rattle.records.specs.declared.protocol.ObjcProtocol.{ObjcProtocol}
+use Rattle.walks.specs.Gather.{gather, ofValue}
 use Rattle.walks.specs.PlainSections as plainSections
 use Rattle.walks.specs.PlainSections.{Gives, passing, giving}
 use Rattle.walks.specs.Sections as sections
 use Rattle.walks.specs.Sections.{Walk, found, passed, finished}
-use Rattle.listing.specs.Gather.{gather, ofValue}
+use Rattle.walks.proofs.Gathers.{joined-parts, gather-parts}
 use Rattle.listing.specs.PlainListing.{Field, roFields, nameOrNone, classLine, categoryLine, ownLines, recordFields, fieldsLines, linesOf, Event, fieldEvents, recordEvents, eventsFrom}
 use Rattle.listing.specs.Listing.{ownerFields, enter, SectionWalk, State, state, leaves, says, nothing, sectionLeaves, onSection, sectionStep, stepAt, listingStep}
 use Rattle.listing.specs.ListingRun.{eventsAt}
@@ -33,7 +34,6 @@ use Rattle.listing.specs.declared.line.Line.{Line}
 use Rattle.listing.specs.declared.line.Line.the-variants as line
 use Rattle.listing.specs.declared.line.Named.{Named}
 use Rattle.listing.proofs.FieldRests.{less, rest-fields}
-use Rattle.listing.proofs.Gathers.{joined-parts, gather-parts}
 use Rattle.listing.proofs.Rest.{Steps, silent, saying}
 
 -- A record after r others, with c entries settled before it.

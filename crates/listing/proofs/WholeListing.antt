@@ -10,13 +10,17 @@ use Rattle.reads.specs.Outcome.{value}
 use Rattle.pointers.specs.Open.{Opened}
 use Rattle.pointers.specs.Tables.{Tables}
 use Rattle.pointers.proofs.OpenedTables.{opened-asked}
-use Rattle.records.proofs.Decodes.{protocol-unrefused, category-unrefused, class-unrefused}
+use Rattle.records.specs.declared.category.ObjcCategory.{ObjcCategory}
+use Rattle.records.specs.declared.class.ObjcClass.{ObjcClass}
+use Rattle.records.specs.declared.protocol.ObjcProtocol.{ObjcProtocol}
+use Rattle.walks.specs.Gather.{gather}
 use Rattle.walks.specs.PlainSections.{plainClasses, plainProtocols, plainCategories}
 use Rattle.walks.specs.Sections as sections
 use Rattle.walks.specs.Sections.{Walk, atStart, finished, stepOf, protocolStepOf}
 use Rattle.walks.specs.Slots.{slotCount}
+use Rattle.walks.proofs.Gathers.{gather-append, Known, there-known}
+use Rattle.walks.proofs.OpenedSections.{classes-there, categories-there, protocols-there}
 use Rattle.walks.proofs.PlainWalks.{class-run, protocol-run, category-run}
-use Rattle.listing.specs.Gather.{gather}
 use Rattle.listing.specs.PlainListing.{versionAndFlags, endLine, plainRecords, linesOf, Event, eventsFrom, plainEvents, plainListing}
 use Rattle.listing.specs.Listing.{classes, protocols, categories, State, state, start, leaves, says, ended, sectionStep, sectionLeaves, stepAt, listingStep}
 use Rattle.listing.specs.ListingRun.{eventsAt, Lists}
@@ -26,9 +30,8 @@ use Rattle.listing.specs.declared.at.Record.the-variants as aRecord
 use Rattle.listing.specs.declared.line.Line.{Line}
 use Rattle.listing.specs.declared.line.Line.the-variants as line
 use Rattle.listing.proofs.Bounds.{records-few, events-few}
-use Rattle.listing.proofs.Events.{events-append}
+use Rattle.listing.proofs.Events.{events-of, events-append}
 use Rattle.listing.proofs.FieldRests.{less}
-use Rattle.listing.proofs.Gathers.{gather-append, there-known}
 use Rattle.walks.proofs.Moves.{step-keeps-length, protocol-step-keeps}
 use Rattle.listing.proofs.PlainThere.{lines-there, events-there}
 use Rattle.listing.proofs.Rest.{Steps, Rest, over, silent, saying, rest-lists}
@@ -47,26 +50,52 @@ section-there t o r xs =
     let events = there-known (events-there t o r xs) in
     record { lines = lines .known; events = events .known; ofLines = lines .is; ofEvents = events .is }
 
+-- The records of all, by those of each section.
+records-of : (t : Tables) (cs : List ObjcClass) (ps : List ObjcProtocol) (ks : List ObjcCategory)
+    → plainClasses t ≡ value cs → plainProtocols t ≡ value ps → plainCategories t ≡ value ks
+    → plainRecords t ≡ value (map aRecord.Class cs ++ (map aRecord.Protocol ps ++ map aRecord.Category ks))
+unfolding plainRecords
+records-of t cs ps ks a b c = rw (a, b, c)
+
 module _ (t : Tables) (o : Opened t) where
+  -- The records of each section.
+  abbrev theClasses : Known (plainClasses t)
+  theClasses = there-known (classes-there t o)
+
+  abbrev theProtocols : Known (plainProtocols t)
+  theProtocols = there-known (protocols-there t o)
+
+  abbrev theCategories : Known (plainCategories t)
+  theCategories = there-known (categories-there t o)
+
+  abbrev classRecords : List Record
+  classRecords = map aRecord.Class (theClasses .known)
+
+  abbrev protocolRecords : List Record
+  protocolRecords = map aRecord.Protocol (theProtocols .known)
+
+  abbrev categoryRecords : List Record
+  categoryRecords = map aRecord.Category (theCategories .known)
+
   -- The records before each section and at the end.
   abbrev r₁ : ℕ
-  r₁ = length (plainClasses t)
+  r₁ = length (theClasses .known)
 
   abbrev r₂ : ℕ
-  r₂ = r₁ + length (plainProtocols t)
+  r₂ = r₁ + length (theProtocols .known)
 
   abbrev r₃ : ℕ
-  r₃ = r₂ + length (plainCategories t)
+  r₃ = r₂ + length (theCategories .known)
 
   -- The lines and the settling steps of each section.
-  abbrev ofClasses : SectionLines t 0 (map aRecord.Class (plainClasses t))
-  ofClasses = section-there t o 0 (map aRecord.Class (plainClasses t))
+  abbrev ofClasses : SectionLines t 0 classRecords
+  ofClasses = section-there t o 0 classRecords
 
-  abbrev ofProtocols : SectionLines t r₁ (map aRecord.Protocol (plainProtocols t))
-  ofProtocols = section-there t o r₁ (map aRecord.Protocol (plainProtocols t))
+  abbrev ofProtocols : SectionLines t r₁ protocolRecords
+  ofProtocols = section-there t o r₁ protocolRecords
 
-  abbrev ofCategories : SectionLines t r₂ (map aRecord.Category (plainCategories t))
-  ofCategories = section-there t o r₂ (map aRecord.Category (plainCategories t))
+  abbrev ofCategories : SectionLines t r₂ categoryRecords
+  ofCategories = section-there t o r₂ categoryRecords
 
   -- The entries settled before each section and at the end.
   abbrev c₁ : ℕ
@@ -79,41 +108,35 @@ module _ (t : Tables) (o : Opened t) where
   c₃ = c₂ + length (ofCategories .events)
 
   -- The three sections as one list of records.
-  records-in-all : length (plainRecords t) ≡ r₃
-  unfolding plainRecords
-  records-in-all = simp (length-append, length-map) (omega arith)
+  abbrev allRecords : List Record
+  allRecords = classRecords ++ (protocolRecords ++ categoryRecords)
 
-  lines-in-all : gather (linesOf t) (plainRecords t) ≡ value (ofClasses .lines ++ (ofProtocols .lines ++ ofCategories .lines))
-  unfolding plainRecords
+  records-in-all : plainRecords t ≡ value allRecords
+  records-in-all = records-of t (theClasses .known) (theProtocols .known) (theCategories .known) (theClasses .is) (theProtocols .is) (theCategories .is)
+
+  records-number : length allRecords ≡ r₃
+  records-number = simp (length-append, length-map) (omega arith)
+
+  lines-in-all : gather (linesOf t) allRecords ≡ value (ofClasses .lines ++ (ofProtocols .lines ++ ofCategories .lines))
   lines-in-all =
-      gather-append (linesOf t) (map aRecord.Class (plainClasses t)) (map aRecord.Protocol (plainProtocols t) ++ map aRecord.Category (plainCategories t))
-      ∙ rw (
-        ofClasses .ofLines,
-        gather-append (linesOf t) (map aRecord.Protocol (plainProtocols t)) (map aRecord.Category (plainCategories t)),
-        ofProtocols .ofLines,
-        ofCategories .ofLines,
-      )
+      gather-append (linesOf t) classRecords (protocolRecords ++ categoryRecords)
+      ∙ rw (ofClasses .ofLines, gather-append (linesOf t) protocolRecords categoryRecords, ofProtocols .ofLines, ofCategories .ofLines)
+
+  settling-in-all : eventsFrom t 0 allRecords ≡ value (ofClasses .events ++ (ofProtocols .events ++ ofCategories .events))
+  settling-in-all =
+      let z : 0 + length classRecords ≡ r₁ = simp length-map (omega arith) in
+      let y : r₁ + length protocolRecords ≡ r₂ = simp length-map in
+      events-append t 0 classRecords (protocolRecords ++ categoryRecords)
+      ∙ rw (z, ofClasses .ofEvents, events-append t r₁ protocolRecords categoryRecords, y, ofProtocols .ofEvents, ofCategories .ofEvents)
 
   events-in-all : plainEvents t ≡ value (ofClasses .events ++ (ofProtocols .events ++ ofCategories .events))
-  unfolding plainRecords
-  events-in-all =
-      let z : 0 + length (map aRecord.Class (plainClasses t)) ≡ r₁ = simp length-map (omega arith) in
-      let y : r₁ + length (map aRecord.Protocol (plainProtocols t)) ≡ r₂ = simp length-map in
-      events-append t 0 (map aRecord.Class (plainClasses t)) (map aRecord.Protocol (plainProtocols t) ++ map aRecord.Category (plainCategories t))
-      ∙ rw (
-        z,
-        ofClasses .ofEvents,
-        events-append t r₁ (map aRecord.Protocol (plainProtocols t)) (map aRecord.Category (plainCategories t)),
-        y,
-        ofProtocols .ofEvents,
-        ofCategories .ofEvents,
-      )
+  events-in-all = events-of t allRecords records-in-all ∙ settling-in-all
 
   settled-in-all : length (ofClasses .events ++ (ofProtocols .events ++ ofCategories .events)) ≡ c₃
   settled-in-all = simp length-append (omega arith)
 
   few : r₃ < 2 ^ 64
-  few = rw records-in-all at (records-few t o)
+  few = rw records-number at (records-few t o allRecords records-in-all)
 
   below : c₃ < 2 ^ 128
   below = rw settled-in-all at (events-few t o _ events-in-all)
@@ -143,7 +166,7 @@ module _ (t : Tables) (o : Opened t) where
       protocols-come =
           section-comes t (protocolStepOf t) aRecord.Protocol protocols (λ _. m) (λ k. k ≡ []) is-protocols o Over (λ w n h. protocol-step-keeps t w n ∙ h)
           xs es r₂ c₂ (omega (arith, few)) (less (2 ^ 128) c₂ c₃ (omega arith) below) protocols-end
-          (protocol-run t o (protocol-unrefused t o) [] .2) refl r₁ c₁ (ofProtocols .lines) (ofProtocols .events) (ofProtocols .ofLines) (ofProtocols .ofEvents) refl refl
+          (protocol-run t (opened-asked t o) [] (theProtocols .known) (theProtocols .is) .2) refl r₁ c₁ (ofProtocols .lines) (ofProtocols .events) (ofProtocols .ofLines) (ofProtocols .ofEvents) refl refl
 
     classes-end : (w : Walk) (m : List ℕ) → Kept m → stepOf sections.classes t w m ≡ sections.leaves (value finished) w m
         → Steps t Over (state place.Section (classes w) r₁ c₁) m (ofProtocols .lines ++ xs) (ofProtocols .events ++ es)
@@ -159,7 +182,7 @@ module _ (t : Tables) (o : Opened t) where
         saying first refl
         (section-comes t (stepOf sections.classes t) aRecord.Class classes (λ n. n) Kept (λ v n g. refl) o Over (λ w n g. step-keeps-length sections.classes t w n ∙ g)
         (ofProtocols .lines ++ xs) (ofProtocols .events ++ es) r₁ c₁ (omega (arith, few)) (less (2 ^ 128) c₁ c₃ h below) classes-end
-        (class-run t o (class-unrefused t o) l classRoom .2) refl 0 0 (ofClasses .lines) (ofClasses .events) (ofClasses .ofLines) (ofClasses .ofEvents) (omega arith) (omega arith))
+        (class-run t (opened-asked t o) l classRoom (theClasses .known) (theClasses .is) .2) refl 0 0 (ofClasses .lines) (ofClasses .events) (ofClasses .ofLines) (ofClasses .ofEvents) (omega arith) (omega arith))
 
   -- With room for the categories too: the listing comes to its end.
   module _ (l : List ℕ) (classRoom : slotCount (t .sections) 0 1 ≤ length l) (categoryRoom : slotCount (t .sections) 2 3 ≤ length l) where
@@ -179,16 +202,17 @@ module _ (t : Tables) (o : Opened t) where
     categories-come m g =
         section-comes t (stepOf sections.categories t) aRecord.Category categories (λ n. n) (λ n. length n ≡ length l) (λ v n h. refl) o _
         (λ w n h. step-keeps-length sections.categories t w n ∙ h) (end ∷ []) [] r₃ c₃ few below categories-end
-        (category-run t o (category-unrefused t o) m (rw g categoryRoom) .2) g r₂ c₂ (ofCategories .lines) (ofCategories .events) (ofCategories .ofLines) (ofCategories .ofEvents) refl refl
+        (category-run t (opened-asked t o) m (rw g categoryRoom) (theCategories .known) (theCategories .is) .2) g r₂ c₂ (ofCategories .lines) (ofCategories .events) (ofCategories .ofLines) (ofCategories .ofEvents) refl refl
 
     -- All that is left at the start.
     in-all : plainListing t ≡ value (info ∷ (ofClasses .lines ++ (ofProtocols .lines ++ (ofCategories .lines ++ (end ∷ [])))))
     unfolding plainListing
     in-all =
         rw (
-          lines-in-all,
-          events-in-all,
           records-in-all,
+          lines-in-all,
+          settling-in-all,
+          records-number,
           settled-in-all,
           append-assoc (ofClasses .lines) (ofProtocols .lines ++ ofCategories .lines) (end ∷ []),
           append-assoc (ofProtocols .lines) (ofCategories .lines) (end ∷ []),

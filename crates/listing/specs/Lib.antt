@@ -1,6 +1,5 @@
 -- The definitions that the contracts of listing cite.
 pub mod Bundle
-pub mod Gather
 pub mod PlainListing
 pub mod Listing
 pub mod ListingAnswer

@@ -6,43 +6,43 @@ use mathlib.Core.List.{List, [], _∷_, _++_}
 use lib.ListN.{length}
 use Rattle.reads.specs.Segment.{segmentWords}
 use Rattle.reads.specs.Table.{records}
-use Rattle.reads.specs.Outcome.{Outcome, value, absent, number, andThen}
+use Rattle.reads.specs.Outcome.{Outcome, value, number, andThen}
 use Rattle.pointers.specs.Tables.{Tables}
+use Rattle.walks.specs.Gather.{joined, ofValue}
 use Rattle.walks.specs.Walk.{ReachedRow, rowReached, rowSkipped, rowsFinished, RowLeft, nextOf}
-use Rattle.listing.specs.Gather.{joined}
 use Rattle.listing.specs.PlainListing.{endLine, Event, event, plainRecords, plainEvents, plainListing, recordLineCount}
 use Rattle.listing.specs.Listing.{State, Answer, start, says, nothing, ended, listingStep}
 use Rattle.listing.specs.declared.at.At.{At}
 use Rattle.listing.specs.declared.at.At.the-variants as place
 use Rattle.listing.specs.declared.at.FieldWalk.{FieldWalk}
 use Rattle.listing.specs.declared.at.FieldWalk.the-variants as fieldWalk
+use Rattle.listing.specs.declared.at.Record.{Record}
 use Rattle.listing.specs.declared.line.Line.{Line}
 
 -- What a step over list n of a record settles: the entry whose row it gives, one before the cursor that it leaves, or the one it skips.
-abbrev pub settledBy : ℕ → ℕ → ℕ → Outcome ReachedRow → List Event
-settledBy of n cursor (value (rowReached r)) = event of n (cursor - 1) ∷ []
-settledBy of n cursor (value (rowSkipped j)) = event of n j ∷ []
-settledBy of n cursor (value rowsFinished) = []
-settledBy of n cursor absent = []
-settledBy of n cursor (number k) = []
+abbrev pub settledBy : ℕ → ℕ → ℕ → ReachedRow → List Event
+settledBy of n cursor (rowReached r) = event of n (cursor - 1) ∷ []
+settledBy of n cursor (rowSkipped j) = event of n j ∷ []
+settledBy of n cursor rowsFinished = []
 
-abbrev pub settledIn : ℕ → ℕ → RowLeft → List Event
-settledIn of n x = settledBy of n (x .walk .cursor) (x .answer)
+-- The same by its answer: over an absent list nothing, and a number stays.
+abbrev pub settledIn : ℕ → ℕ → RowLeft → Outcome (List Event)
+settledIn of n x = ofValue (x .answer) (λ a. value (settledBy of n (x .walk .cursor) a))
 
-abbrev pub settledOver : Tables → ℕ → ℕ → FieldWalk → List Event
+abbrev pub settledOver : Tables → ℕ → ℕ → FieldWalk → Outcome (List Event)
 settledOver t of n (fieldWalk.Rows w) = settledIn of n (nextOf t w)
-settledOver t of n (fieldWalk.Names w) = []
+settledOver t of n (fieldWalk.Names w) = value []
 
 -- The settling step as an event, if the step at a place is one; r records have been said, so the record is number r - 1 from 0.
-unfoldable pub eventsAt : Tables → ℕ → At → List Event
-eventsAt t r place.Info = []
-eventsAt t r place.Section = []
-eventsAt t r (place.Record x) = []
-eventsAt t r (place.Ro c) = []
+unfoldable pub eventsAt : Tables → ℕ → At → Outcome (List Event)
+eventsAt t r place.Info = value []
+eventsAt t r place.Section = value []
+eventsAt t r (place.Record x) = value []
+eventsAt t r (place.Ro c) = value []
 eventsAt t r (place.List x) = settledOver t (r - 1) (x .list) (x .walk)
-eventsAt t r place.End = []
+eventsAt t r place.End = value []
 
-abbrev pub eventsIn : Tables → State → List Event
+abbrev pub eventsIn : Tables → State → Outcome (List Event)
 eventsIn t s = eventsAt t (s .records) (s .at)
 
 -- The line that a step says.
@@ -56,7 +56,7 @@ lineSaid o = andThen o (λ a. value (lineIn a))
 
 -- What the step at a state settles, by its answer.
 abbrev pub settledAt : Tables → State → Outcome Answer → Outcome (List Event)
-settledAt t s o = andThen o (λ _. value (eventsIn t s))
+settledAt t s o = andThen o (λ _. eventsIn t s)
 
 -- Steps, each given the state and the ledger that the last left: what step n, counted from 0, answers; and the lines and the events of the
 -- first n. The number of a refused step is the outcome of both.
@@ -91,14 +91,16 @@ pub record Lists (t : Tables) (l : List ℕ) (lines : List Line) (events : List 
   pub saidLines : (n : ℕ) → answerAt t n start l ≡ value ended → linesBy t n start l ≡ value lines
   pub settledEvents : (n : ℕ) → answerAt t n start l ≡ value ended → eventsBy t n start l ≡ value events
 
--- Demand 3 of the listing, with a ledger: the steps say the lines of the plain listing, their settling steps are one for one its events, the
--- last line is E with R and the number of settling steps, R the records, as many as there are record lines; and that number is at most
--- 6 x R x S x floor(n / 12), S the segments and n the image's length.
+-- Demand 3 of the listing, with a ledger: the plain definitions give records, lines and events, no number; the steps say the lines of the
+-- plain listing, their settling steps are one for one its events, the last line is E with R and the number of settling steps, R the records, as
+-- many as there are record lines; and that number is at most 6 x R x S x floor(n / 12), S the segments and n the image's length.
 pub record ListsWhole (t : Tables) (l : List ℕ) : Type 0 where
+  pub recordsListed : List Record
   pub linesBefore : List Line
   pub events : List Event
-  pub plainLines : plainListing t ≡ value (linesBefore ++ (endLine (length (plainRecords t)) (length events) ∷ []))
+  pub plainRecorded : plainRecords t ≡ value recordsListed
+  pub plainLines : plainListing t ≡ value (linesBefore ++ (endLine (length recordsListed) (length events) ∷ []))
   pub plainSettling : plainEvents t ≡ value events
-  pub steps : Lists t l (linesBefore ++ (endLine (length (plainRecords t)) (length events) ∷ [])) events
-  pub recordLines : recordLineCount linesBefore ≡ length (plainRecords t)
-  pub bound : length events ≤ 6 * (length (plainRecords t) * (records segmentWords (t .segments) * (length (t .image) / 12)))
+  pub steps : Lists t l (linesBefore ++ (endLine (length recordsListed) (length events) ∷ [])) events
+  pub recordLines : recordLineCount linesBefore ≡ length recordsListed
+  pub bound : length events ≤ 6 * (length recordsListed * (records segmentWords (t .segments) * (length (t .image) / 12)))

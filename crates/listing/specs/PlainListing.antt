@@ -1,7 +1,7 @@
 -- The plain listing of tables (document 01, "The program's listing"): a direct definition from the section walks' records and the readable
 -- entries of their lists, with no state and no ledger. A number that a lookup gives is its outcome; over what opening accepted there is none.
 use Prim.Native.Nat.{ℕ, suc, _/_, _%_, _^_}
-use mathlib.Core.List.{List, [], _∷_, _++_, map}
+use mathlib.Core.List.{List, [], _∷_, _++_}
 use lib.ListN.{length}
 use Rattle.reads.specs.Outcome.{Outcome, value, absent, number, andThen}
 use Rattle.reads.specs.Place.{wordIn}
@@ -23,9 +23,9 @@ use Rattle.records.specs.declared.list.ListKind.{ListKind}
 use Rattle.records.specs.declared.list.ListKind.the-variants as lists
 use Rattle.records.specs.declared.protocol.ObjcProtocol.{ObjcProtocol}
 use Rattle.records.specs.declared.row.Row.{Row}
+use Rattle.walks.specs.Gather.{joined, gather, ofValue, asEach}
 use Rattle.walks.specs.PlainSections.{plainClasses, plainProtocols, plainCategories}
-use Rattle.walks.specs.ProtocolNames.{protocolListAt, slotNames}
-use Rattle.listing.specs.Gather.{joined, gather, ofValue}
+use Rattle.walks.specs.ProtocolNames.{protocolNames}
 use Rattle.listing.specs.declared.at.Record.{Record}
 use Rattle.listing.specs.declared.at.Record.the-variants as aRecord
 use Rattle.listing.specs.declared.line.Line.{Line}
@@ -99,9 +99,10 @@ categoryFields c =
     ∷ []
 
 -- The records in the order classes, protocols, categories.
-unfoldable pub plainRecords : Tables → List Record
+unfoldable pub plainRecords : Tables → Outcome (List Record)
 plainRecords t =
-    map aRecord.Class (plainClasses t) ++ (map aRecord.Protocol (plainProtocols t) ++ map aRecord.Category (plainCategories t))
+    joined (asEach aRecord.Class (plainClasses t))
+    (joined (asEach aRecord.Protocol (plainProtocols t)) (asEach aRecord.Category (plainCategories t)))
 
 -- A record's own line, and R if it has a class_ro.
 unfoldable pub ownLines : Tables → Record → Outcome (List Line)
@@ -117,17 +118,13 @@ recordFields t (aRecord.Class c) = ofValue (roOf t c) (λ r. value (roFields r))
 recordFields t (aRecord.Protocol p) = value (protocolFields p)
 recordFields t (aRecord.Category c) = value (categoryFields c)
 
--- The line of an entry is its row's, none where the entry is skipped; that of a slot of protocol names is its name's, none where it gives
--- none. The lines of a list, and of the lists from number n on.
+-- The line of an entry is its row's, none where the entry is skipped. The lines of a list, and of the lists from number n on.
 abbrev pub entryLines : Tables → ℕ → Layout → ℕ → Outcome (List Line)
 entryLines t n h j = ofValue (rowAt t (h .kind) (entryAddress h j)) (λ r. value (rowLine n r ∷ []))
 
-abbrev pub slotLines : ℕ → Outcome Text → Outcome (List Line)
-slotLines n o = ofValue o (λ name. value (nameLine n name ∷ []))
-
 unfoldable pub fieldLines : Tables → ℕ → Field → Outcome (List Line)
 fieldLines t n (rowList k va) = ofValue (listAt t k va) (λ h. gather (entryLines t n h) (readables (imageIn t) h))
-fieldLines t n (nameList va) = ofValue (protocolListAt t va) (λ l. gather (slotLines n) (slotNames t l 0 (l .count)))
+fieldLines t n (nameList va) = asEach (nameLine n) (protocolNames t va)
 
 unfoldable pub fieldsLines : Tables → ℕ → List Field → Outcome (List Line)
 fieldsLines t n [] = value []
@@ -153,7 +150,7 @@ event of field entry = record { of = of; field = field; entry = entry }
 -- The settling steps of a record's fields, each list once for each field that names it.
 unfoldable pub fieldEvents : Tables → ℕ → ℕ → List Field → Outcome (List Event)
 fieldEvents t r n [] = value []
-fieldEvents t r n (f ∷ fs) = joined (andThen (entriesIn t f) (λ js. value (map (event r n) js))) (fieldEvents t r (suc n) fs)
+fieldEvents t r n (f ∷ fs) = joined (asEach (event r n) (entriesIn t f)) (fieldEvents t r (suc n) fs)
 
 unfoldable pub recordEvents : Tables → ℕ → Record → Outcome (List Event)
 recordEvents t r x = andThen (recordFields t x) (fieldEvents t r 0)
@@ -163,16 +160,17 @@ eventsFrom t r [] = value []
 eventsFrom t r (x ∷ xs) = joined (recordEvents t r x) (eventsFrom t (suc r) xs)
 
 abbrev pub plainEvents : Tables → Outcome (List Event)
-plainEvents t = eventsFrom t 0 (plainRecords t)
+plainEvents t = andThen (plainRecords t) (eventsFrom t 0)
 
 -- The whole listing: I, the records with their rows and names, and E with the number of records and of settling steps.
 unfoldable pub plainListing : Tables → Outcome (List Line)
 plainListing t =
-    andThen (gather (linesOf t) (plainRecords t)) (λ lines.
-    andThen (plainEvents t) (λ events.
+    andThen (plainRecords t) (λ records.
+    andThen (gather (linesOf t) records) (λ lines.
+    andThen (eventsFrom t 0 records) (λ events.
     value
     (line.Info (versionAndFlags (t .info))
-    ∷ (lines ++ (endLine (length (plainRecords t)) (length events) ∷ [])))))
+    ∷ (lines ++ (endLine (length records) (length events) ∷ []))))))
 
 -- The record lines among lines: C, M, P and K.
 unfoldable pub recordLineCount : List Line → ℕ

@@ -12,15 +12,15 @@ use Rattle.reads.specs.Table.{records}
 use Rattle.pointers.specs.Tables.{Tables, withIndex}
 use Rattle.pointers.specs.declared.imageinfo.ImageInfo.{ImageInfo}
 use Rattle.walks.specs.Slots.{slotCount}
+use Rattle.walks.proofs.Gathers.{there-known}
 use Rattle.listing.specs.Bundle.{wordsFrom, segmentsAt, countsOf, bundled, Accepted}
 use Rattle.listing.specs.Listing.{State, Left, leaves, start, says, nothing, ended, listingStep}
-use Rattle.listing.specs.PlainListing.{Event, plainRecords, plainListing}
+use Rattle.listing.specs.PlainListing.{Event, plainListing}
 use Rattle.listing.specs.declared.bundle.Counts.{Counts}
 use Rattle.listing.specs.declared.line.Line.{Line}
 use Rattle.listing.proofs.Bounds.{pair-slots}
 use Rattle.listing.proofs.Remaining.{goesOn, InWords}
-use Rattle.listing.proofs.Gathers.{there-known}
-use Rattle.listing.proofs.PlainThere.{events-there, listing-there}
+use Rattle.listing.proofs.PlainThere.{plain-events-there, listing-there}
 use Rattle.listing.proofs.Rest.{Rest, over, silent, saying}
 use Rattle.listing.proofs.WholeListing.{whole-rest}
 use Rattle.printing.specs.BundleLent.{tableWords, wordsBy, wordsAfter, tablesIn, openingBy, openingIn, indexBy, indexAfter, tablesBy, tablesLent}
@@ -68,7 +68,7 @@ module _ (t : Tables) (o : Opened t) (short : length (t .image) ≤ 32768) (l : 
   listing-comes : toCome t (begun (value (o .info)) l) ≡ listingText (t .image) (plainListing t)
   listing-comes =
       let lines = there-known (listing-there t o) in
-      let events = there-known (events-there t o 0 (plainRecords t)) in
+      let events = there-known (plain-events-there t o) in
       let rest = whole-rest t o l (room 0 1 (omega arith) (omega arith)) (room 2 3 (omega arith) (omega arith)) (lines .known) (events .known) (lines .is) (events .is) in
       come-step t (begun (value (o .info)) l) (begun-sound (value (o .info)) l)
       ∙ rest-comes t rest start-words

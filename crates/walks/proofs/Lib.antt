@@ -1,4 +1,5 @@
 -- Laws that the proofs of walks share, and that the crates above cite.
+pub mod Gathers
 pub mod Steps
 pub mod Walk
 pub mod SlotLaws

@@ -4,7 +4,7 @@ use mathlib.Core.Path.{_≡_, refl}
 use mathlib.Core.List.{List, [], _∷_, _++_}
 use lib.ListN.{length, replicate}
 use borrow.Author.Tests.{le-leb}
-use Rattle.reads.specs.Outcome.{value, absent, choose, sum64, nonzero, textOf}
+use Rattle.reads.specs.Outcome.{value, absent, number, choose, sum64, nonzero, textOf}
 use Rattle.reads.specs.Segment.{rows, ends, holds, placed, lookup}
 use Rattle.reads.specs.Place.{le, readableAt, readable, word, wordIn}
 use Rattle.reads.specs.Address.{stripped}
@@ -14,15 +14,16 @@ use Rattle.pointers.specs.Tables.{Tables, tablesOf, withIndex}
 use Rattle.pointers.specs.Question.{question, imageFits, wholeRows, every, sectionFits, sectionTable, infoWhole, nameFits, indexFits, askedTables, askedIndex, namesFit}
 use Rattle.pointers.specs.ImageInfo.{imageInfo, infoOf}
 use Rattle.pointers.specs.Index.{indexed}
-use Rattle.pointers.specs.Chain.{lastAmong}
+use Rattle.pointers.specs.Chain.{followFrom, follow, lastAmong}
 use Rattle.pointers.specs.Open.{askedOpening, opening, openedIndex, Opened}
 use Rattle.pointers.specs.Slot.{rebaseAt, bindName, bindAt, symbolOf, stored, resolve, pointerAt, pointerOr0At}
 use Rattle.pointers.specs.Symbol.{ascii, starts, fitting, strippedName}
 use Rattle.pointers.proofs.Chains.{rebase-last-wins, bind-last-wins}
 use Rattle.records.specs.Protocol.{decodeProtocolLists, decodeClassProperties, decodeProtocol}
 use Rattle.records.specs.Ask.{evenList}
+use Rattle.walks.specs.Gather.{gather}
 use Rattle.walks.specs.Handed.{answersOf}
-use Rattle.walks.specs.ProtocolNames.{protocolListAt, decodeProtocolList, hasSlot, decodeProtocolName, decodeOrBound, nameIn, decodeNameIn, walkAt, nameReached, namePassed, namesFinished, nextName, slotNames, namesAmong, protocolNames}
+use Rattle.walks.specs.ProtocolNames.{protocolListAt, decodeProtocolList, hasSlot, decodeProtocolName, decodeOrBound, nameIn, decodeNameIn, walkAt, nameReached, namePassed, namesFinished, nextName, slotNames, protocolNames}
 use Rattle.walks.proofs.ProtocolNameWalks.{slots-said-then-finished}
 
 -- The list at 0x1000 with slots at 0x1008, 0x1010 and 0x1018; a protocol_t of 72 bytes at 0x1020; its name at 0x1068; a symbol's name.
@@ -71,8 +72,8 @@ module _ (before : List ℕ) where
   unfolding slotNames hasSlot choose
   names-in-slots = simp (name-bound, name-empty, name-decoded)
 
-  pub names : protocolNames (namesTables before) 0x1000 ≡ textOf 123 9 ∷ textOf 104 1 ∷ []
-  unfolding protocolNames namesAmong
+  pub names : protocolNames (namesTables before) 0x1000 ≡ value (textOf 123 9 ∷ textOf 104 1 ∷ [])
+  unfolding protocolNames gather
   names = rw (list-there, names-in-slots)
 
   -- Opening accepts the namesTables with an index of 8,194 words.
@@ -88,3 +89,8 @@ module _ (before : List ℕ) where
     pub name-answers : answersOf (nextName (namesTables before)) 4 (walkAt 0x1000 0)
         ≡ value (nameReached (textOf 123 9)) ∷ value namePassed ∷ value (nameReached (textOf 104 1)) ∷ value namesFinished ∷ []
     name-answers = simp names-in-slots at (slots-said-then-finished (namesTables before) opened 0x1000 (record { base = 0x1008; count = 3 }) list-there 1)
+
+-- With an index of which each word is 7 every chain begins above the record count: 9, which is not left out.
+pub names-number : protocolNames (withIndex (namesTables []) (replicate 8194 7)) 0x1000 ≡ number 9
+unfolding protocolNames gather decodeProtocolList slotNames hasSlot decodeNameIn evenList wordIn readable lookup rows ends holds placed sum64 readableAt le nonzero resolve rebaseAt follow followFrom choose
+names-number = refl

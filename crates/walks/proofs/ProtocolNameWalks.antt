@@ -19,11 +19,13 @@ use Rattle.pointers.proofs.Questions.{question-yes}
 use Rattle.pointers.proofs.OpenedTables.{opened-asked}
 use Rattle.walks.specs.declared.protocol_names.ProtocolList.{ProtocolList}
 use Rattle.walks.specs.declared.protocol_names.ProtocolNameWalk.{ProtocolNameWalk}
+use Rattle.walks.specs.Gather.{gather, ofValue, present}
 use Rattle.walks.specs.Handed.{hands, countBy, fromCursor, answersOf}
-use Rattle.walks.specs.ProtocolNames.{protocolListAt, decodeProtocolList, hasSlot, slotIn, nameIn, decodeNameIn, walkAt, nameReached, namePassed, namesFinished, NameLeft, slotAnswer, named, stepIn, overNames, nextName, slotNames, namesAmong, protocolNames, namesSaid}
+use Rattle.walks.specs.ProtocolNames.{protocolListAt, decodeProtocolList, hasSlot, slotIn, nameIn, decodeNameIn, walkAt, nameReached, namePassed, namesFinished, NameLeft, slotAnswer, named, stepIn, overNames, nextName, slotNames, protocolNames, nameSaid, namesSaid}
 use Rattle.records.specs.Ask.{evenList}
 use Rattle.records.proofs.Headers.{even-unrefused}
 use Rattle.records.proofs.Decodes.{unrefused}
+use Rattle.walks.proofs.Gathers.{There, is-there, there-joined, there-of, there-present, there-known}
 use Rattle.walks.proofs.ProtocolLists.{no-slot-from-count}
 
 pub protocol-list-unrefused : (t : Tables) (va : ℕ) → Unrefused (protocolListAt t va)
@@ -63,22 +65,38 @@ answer-unrefused (is-value name) = is-value (nameReached name)
 answer-unrefused is-absent = is-value namePassed
 
 -- The names among the answers for slots are the names among the slots.
-none-finished : (n : ℕ) → namesSaid (replicate n (value namesFinished)) ≡ []
-unfolding namesSaid
+none-finished : (n : ℕ) → namesSaid (replicate n (value namesFinished)) ≡ value []
+unfolding namesSaid gather
 none-finished zero = refl
-none-finished (suc n) = none-finished n
+none-finished (suc n) = rw (none-finished n)
+
+slot-says : (o : Outcome Text) → ofValue (slotAnswer o) (λ r. value (nameSaid r)) ≡ present o
+slot-says (value name) = refl
+slot-says absent = refl
+slot-says (number k) = refl
 
 names-of-slots : (os : List (Outcome Text)) (n : ℕ)
-    → namesSaid (map slotAnswer os ++ replicate n (value namesFinished)) ≡ namesAmong os
-unfolding namesSaid namesAmong
+    → namesSaid (map slotAnswer os ++ replicate n (value namesFinished)) ≡ gather present os
+unfolding namesSaid gather
 names-of-slots [] n = none-finished n
-names-of-slots (value name ∷ os) n = ap (λ names. name ∷ names) (names-of-slots os n)
-names-of-slots (absent ∷ os) n = names-of-slots os n
-names-of-slots (number k ∷ os) n = names-of-slots os n
+names-of-slots (o ∷ os) n = rw (slot-says o, names-of-slots os n)
 
 module _ (t : Tables) (o : Opened t) where
   pub name-in-unrefused : (a : ℕ) → Unrefused (nameIn t a)
   name-in-unrefused a = unrefused t o (decodeNameIn a)
+
+  -- The names of a list's slots, and of a list, are there.
+  slots-there : (l : ProtocolList) (k i : ℕ) → There (gather present (slotNames t l i k))
+  unfolding slotNames gather
+  slots-there l zero i = is-there []
+  slots-there l (suc k) i =
+      by-choose (λ (os : List (Outcome Text)). There (gather present os))
+      (λ e. there-joined (there-present (name-in-unrefused (slotIn l i))) (slots-there l k (i + 1)))
+      (λ e. is-there [])
+
+  pub names-there : (va : ℕ) → There (protocolNames t va)
+  unfolding protocolNames
+  names-there va = there-of _ (protocol-list-unrefused t va) (λ l. slots-there l (l .count) 0)
 
   -- Every question passes.
   pub next-in : (w : ProtocolNameWalk) (l : ProtocolList) → protocolListAt t (w .list) ≡ value l → w .cursor ≤ l .count → nextName t w ≡ stepIn t w l
@@ -143,11 +161,12 @@ module _ (t : Tables) (o : Opened t) where
         ≡ map slotAnswer (slotNames t l 0 (l .count)) ++ replicate n (value namesFinished)
     slots-said-then-finished n = said-from (l .count) 0 n (omega arith) (length (slotNames t l 0 (l .count)) + n) refl
 
-    -- Count + 1 steps are enough for every name.
-    pub names-said : namesSaid (answersOf (nextName t) (l .count + 1) (walkAt list 0)) ≡ protocolNames t list
+    -- The list's names are there, no number, and count + 1 steps say exactly these.
+    pub names-said : (names : List Text) × (protocolNames t list ≡ value names) × (namesSaid (answersOf (nextName t) (l .count + 1) (walkAt list 0)) ≡ value names)
     unfolding protocolNames
     names-said =
         let os = slotNames t l 0 (l .count) in
         let few = slots-at-most t l (l .count) 0 in
         let more = l .count + 1 - length os in
-        ap namesSaid (said-from (l .count) 0 more (omega arith) (l .count + 1) (omega arith)) ∙ names-of-slots os more ∙ rw there
+        let names = there-known (slots-there l (l .count) 0) in
+        (names .known, rw there (names .is), ap namesSaid (said-from (l .count) 0 more (omega arith) (l .count + 1) (omega arith)) ∙ names-of-slots os more ∙ names .is)

@@ -2,19 +2,20 @@
 use Prim.Native.Nat.{ℕ}
 use mathlib.Core.Path.{_≡_, refl}
 use mathlib.Core.Bool.{true, false}
-use mathlib.Core.List.{List, [], _∷_, _++_, map, flatMap}
+use mathlib.Core.List.{List, [], _∷_, _++_, map}
 use lib.ListN.{replicate}
 use Rattle.reads.specs.Outcome.{value, number, choose, sum64, nonzero}
 use Rattle.reads.specs.Place.{le, readableAt, readable, word}
 use Rattle.reads.specs.Segment.{rows, ends, holds, placed, lookup}
 use Rattle.reads.specs.Address.{stripped, dataArm64e, data64, mapped, pickedWide, picked}
 use Rattle.reads.specs.Relative.{slotAddress}
-use Rattle.pointers.specs.Tables.{Tables, tablesOf}
+use Rattle.pointers.specs.Tables.{Tables, tablesOf, withIndex}
 use Rattle.pointers.specs.Question.{question, imageFits, wholeRows, sectionFits, every, sectionTable, infoWhole, indexFits, askedTables, askedIndex, asked}
 use Rattle.pointers.specs.Section.{sectionAt}
 use Rattle.pointers.specs.Chain.{followFrom, follow}
 use Rattle.pointers.specs.Slot.{rebaseAt, stored, resolve}
 use Rattle.records.specs.Class.{bitsOf, decodeData, decodeClass}
+use Rattle.walks.specs.Gather.{gather}
 use Rattle.walks.specs.Slots.{slotsFrom, sectionSlots, decodeAddress, among, slotFits, ledgerFits, askedSlot, askedLedger, slotTaken}
 use Rattle.walks.specs.Sections.{Walk, walk, atStart, found, passed, finished, Left, leaves, classes, metaOf, takeWaiting, takeNew, takeSlot, stepBy, stepOf}
 use Rattle.walks.specs.PlainSections.{addressesIn, without, once, listed, withMeta, plainClasses}
@@ -91,6 +92,11 @@ pub step-cases : map (λ (c : Case). stepOf classes example (c .walk) (c .ledger
 unfolding stepOf stepBy askedLedger askedSlot slotFits ledgerFits sectionSlots slotsFrom asked askedTables askedIndex question imageFits wholeRows sectionTable every sectionFits infoWhole indexFits takeSlot takeNew takeWaiting slotTaken among decodeAddress sectionAt slotAddress resolve rebaseAt follow followFrom stored stripped word readable readableAt lookup rows ends holds placed le nonzero choose sum64 decodeClass decodeData bitsOf picked pickedWide mapped dataArm64e data64 metaOf
 step-cases = refl
 
-pub plain-case : plainClasses example ≡ listedClass ∷ listedMeta ∷ []
-unfolding plainClasses listed withMeta addressesIn sectionSlots slotsFrom without once flatMap decodeAddress sectionAt slotAddress resolve rebaseAt follow followFrom stored stripped word readable readableAt lookup rows ends holds placed le nonzero choose sum64 decodeClass decodeData bitsOf picked pickedWide mapped dataArm64e data64 metaOf
+pub plain-case : plainClasses example ≡ value (listedClass ∷ listedMeta ∷ [])
+unfolding plainClasses listed withMeta addressesIn gather sectionSlots slotsFrom without once decodeAddress sectionAt slotAddress resolve rebaseAt follow followFrom stored stripped word readable readableAt lookup rows ends holds placed le nonzero choose sum64 decodeClass decodeData bitsOf picked pickedWide mapped dataArm64e data64 metaOf
 plain-case = refl
+
+-- With an index of which each word is 7 every chain begins above the record count: 9, which is not left out.
+pub plain-number : plainClasses (withIndex example (replicate 8192 7)) ≡ number 9
+unfolding plainClasses listed addressesIn gather sectionSlots slotsFrom sectionAt slotAddress decodeAddress resolve rebaseAt follow followFrom choose
+plain-number = refl

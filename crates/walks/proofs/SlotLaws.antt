@@ -126,6 +126,14 @@ module _ (a : ℕ) (l : List ℕ) (i : ℕ) (h : i < length l) where
   pub among-here : getD l i 0 ≡ a → true ≡ among a (take (i + 1) l)
   among-here e = sym (rw (add-one, take-suc l i 0 h, among-end a (take i l) (getD l i 0), eq-eqb (getD l i 0) a e) (or-true (among a (take i l))))
 
+-- A word in use.
+pub among-word : (a : ℕ) (l : List ℕ) (i n : ℕ) → i < n → i < length l → getD l i 0 ≡ a → among a (take n l) ≡ true
+unfolding among
+among-word a [] i n p q e = absurd (omega arith)
+among-word a (b ∷ l) i zero p q e = absurd (omega arith)
+among-word a (b ∷ l) zero (suc n) p q e = rw (eq-eqb b a e)
+among-word a (b ∷ l) (suc i) (suc n) p q e = rw (among-word a l i n (omega arith) (omega arith) e) (or-true (eqb b a))
+
 -- The greatest of some addresses, one by one, and what lies above it.
 pub greatest-end : (bs : List ℕ) (b : ℕ) → greatest (bs ++ (b ∷ [])) ≡ max (greatest bs) b
 unfolding greatest
@@ -147,6 +155,9 @@ met-by-greatest bs a = go (leb a (greatest bs)) refl
 
 pub met-above : (highest : ℕ) (bs : List ℕ) (a : ℕ) → highest < a → false ≡ metBelow highest bs a
 met-above highest bs a h = simp (lt-leb a highest h)
+
+pub met-found : (highest : ℕ) (bs : List ℕ) (a : ℕ) → a ≤ highest → among a bs ≡ true → true ≡ metBelow highest bs a
+met-found highest bs a h e = rw (le-leb a highest h, e)
 
 pub met-look : (highest : ℕ) (bs : List ℕ) (a : ℕ) → a ≤ highest → among a bs ≡ metBelow highest bs a
 met-look highest bs a h = simp (le-leb a highest h)

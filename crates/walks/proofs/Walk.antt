@@ -166,16 +166,16 @@ module _ (t : Tables) (opened : Opened t) (k : ListKind) (list : ℕ) where
 
   -- The list is there, with the layout h.
   module _ (h : Layout) (there : listAt t k list ≡ value h) where
-    fits : (p : ℕ) → p ≤ h .count → p ≤ countOf (listAt t k list)
-    fits p l = rw there l
+    pub within-count : (p : ℕ) → p ≤ h .count → p ≤ countOf (listAt t k list)
+    within-count p l = rw there l
 
     pub step-value : (p j : ℕ) → p ≤ h .count → firstReadable (imageIn t) h p ≡ some j → plainStep t k list t p ≡ settling j (rowAt t (h .kind) (entryAddress h j))
     unfolding plainStep
-    step-value p j l e = rw (opened-unrefused p (fits p l), there, rest-of-some (imageIn t) h p j e)
+    step-value p j l e = rw (opened-unrefused p (within-count p l), there, rest-of-some (imageIn t) h p j e)
 
     pub step-finished : (p : ℕ) → p ≤ h .count → firstReadable (imageIn t) h p ≡ none → plainStep t k list t p ≡ told (value rowsFinished) (h .count)
     unfolding plainStep
-    step-finished p l e = rw (opened-unrefused p (fits p l), there, rest-of-none (imageIn t) h p e)
+    step-finished p l e = rw (opened-unrefused p (within-count p l), there, rest-of-none (imageIn t) h p e)
 
     -- One step over the opened tables takes the first entry that is left.
     one-taken : (loans : List Tables) (p : ℕ) → p ≤ h .count → (o : Option ℕ) → firstReadable (imageIn t) h p ≡ o
@@ -184,10 +184,10 @@ module _ (t : Tables) (opened : Opened t) (k : ListKind) (list : ℕ) where
         → plainWalk t k list (t ∷ loans) p ≡ handedOut t k list h (t ∷ loans) (leftFrom t h p) p
     unfolding plainWalk handedOut
     one-taken loans p l (some j) e ih =
-        rw (opened-unrefused p (fits p l), rest-of-some (imageIn t) h p j e)
+        rw (opened-unrefused p (within-count p l), rest-of-some (imageIn t) h p j e)
         (rw (step-value p j l e) (ap (λ (more : List Told). settling j (rowAt t (h .kind) (entryAddress h j)) ∷ more) (rw (step-value p j l e) at ih)))
     one-taken loans p l none e ih =
-        rw (opened-unrefused p (fits p l), rest-of-none (imageIn t) h p e)
+        rw (opened-unrefused p (within-count p l), rest-of-none (imageIn t) h p e)
         (rw (step-finished p l e) (ap (λ (more : List Told). told (value rowsFinished) (h .count) ∷ more)
         (rw (step-finished p l e, rest-from-count (imageIn t) h) at ih)))
 
@@ -196,7 +196,7 @@ module _ (t : Tables) (opened : Opened t) (k : ListKind) (list : ℕ) where
     takes-from [] p loans-end l = refl
     takes-from (t′ ∷ loans) p (loan-opened r) l =
         one-taken loans p l (firstReadable (imageIn t) h p) refl
-        (takes-from loans (plainStep t k list t p .position) r (rw there at (stands p (fits p l))))
+        (takes-from loans (plainStep t k list t p .position) r (rw there at (stands p (within-count p l))))
     takes-from (lent ∷ loans) p (loan-refused q e r) l =
         rw (e, refused-plain lent p q e) (ap (λ (more : List Told). told (number q) p ∷ more) (takes-from loans p r l))
 
@@ -228,7 +228,7 @@ module _ (t : Tables) (opened : Opened t) (k : ListKind) (list : ℕ) where
     unfolding answersOf
     finished-from zero p l e = refl
     finished-from (suc n) p l e =
-        let next = opened-step p (fits p l) ∙ ap (shown k list) (step-finished p l (none-left p (firstReadable (imageIn t) h p) refl e)) in
+        let next = opened-step p (within-count p l) ∙ ap (shown k list) (step-finished p l (none-left p (firstReadable (imageIn t) h p) refl e)) in
         rw next (ap (λ (rest : List (Outcome ReachedRow)). value rowsFinished ∷ rest) (finished-from n (h .count) (omega arith) (rest-from-count (imageIn t) h)))
 
     meets-from : (es : List ℕ) (p n : ℕ) → p ≤ h .count → leftFrom t h p ≡ es → Meets p n es
@@ -236,7 +236,7 @@ module _ (t : Tables) (opened : Opened t) (k : ListKind) (list : ℕ) where
     meets-from [] p n l e = λ m f. let same : m ≡ n = omega arith in rw same (finished-from n p l e)
     meets-from (j ∷ js) p n l e = λ m f.
         let first = first-left p j js (firstReadable (imageIn t) h p) refl e in
-        let next = opened-step p (fits p l) ∙ ap (shown k list) (step-value p j l (first .0)) in
+        let next = opened-step p (within-count p l) ∙ ap (shown k list) (step-value p j l (first .0)) in
         let below = found-below-count (imageIn t) h p j (first .0) in
         let one : m ≡ suc (length js + n) = omega arith in
         rw (one, next)

@@ -29,7 +29,8 @@ overList w step (value l) = step l
 overList w step absent = hands absent w
 overList w step (number k) = handsBack w k
 
--- The count of a list, 0 for an absent one.
+-- The count of a list, 0 for an absent one. The last clause is never met: a list is looked up by reads alone, and these give no number,
+-- whatever the tables (list-unrefused in records/proofs/Headers.antt, protocol-list-unrefused in proofs/ProtocolNameWalks.antt).
 abbrev pub countBy : {L : Type 0} → (L → ℕ) → Outcome L → ℕ
 countBy count (value l) = count l
 countBy count absent = 0

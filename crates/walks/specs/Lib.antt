@@ -1,5 +1,6 @@
 -- The definitions that the contracts of walks cite.
 pub mod Handed
+pub mod Gather
 pub mod Walk
 pub mod PlainWalk
 pub mod Slots

@@ -11,6 +11,7 @@ use Rattle.pointers.specs.Question.{asked}
 use Rattle.records.specs.Header.{protocolList·size, protocolList·count}
 use Rattle.records.specs.Decode.{Decode, run, done, then, else, or0, sum64, nonzero, even, readable, u64In, slot, symbol}
 use Rattle.records.specs.Protocol.{decodeProtocol}
+use Rattle.walks.specs.Gather.{gather, ofValue, present}
 use Rattle.walks.specs.Handed.{unlessRefused, Handed, hands, handsBack, fromCursor}
 use Rattle.walks.specs.declared.protocol_names.ProtocolList.{ProtocolList}
 use Rattle.walks.specs.declared.protocol_names.ProtocolListAnswer.{ProtocolListAnswer}
@@ -123,28 +124,15 @@ unfoldable pub slotNames : Tables → ProtocolList → ℕ → ℕ → List (Out
 slotNames t l i zero = []
 slotNames t l i (suc k) = choose (hasSlot l i) (nameIn t (slotIn l i) ∷ slotNames t l (i + 1) k) []
 
--- What every slot of a list gives; an absent list has none.
-abbrev pub slotNamesOf : Tables → Outcome ProtocolList → List (Outcome Text)
-slotNamesOf t (value l) = slotNames t l 0 (l .count)
-slotNamesOf t absent = []
-slotNamesOf t (number k) = []
+-- The protocol names of the list at an address: of every slot that gives one; an absent list has none.
+unfoldable pub protocolNames : Tables → ℕ → Outcome (List Text)
+protocolNames t va = ofValue (protocolListAt t va) (λ l. gather present (slotNames t l 0 (l .count)))
 
--- The names among what slots give.
-unfoldable pub namesAmong : List (Outcome Text) → List Text
-namesAmong [] = []
-namesAmong (value name ∷ os) = name ∷ namesAmong os
-namesAmong (absent ∷ os) = namesAmong os
-namesAmong (number k ∷ os) = namesAmong os
+-- The names among answers; an absent list says none.
+abbrev pub nameSaid : ReachedName → List Text
+nameSaid (nameReached name) = name ∷ []
+nameSaid namePassed = []
+nameSaid namesFinished = []
 
--- The protocol names of the list at an address.
-unfoldable pub protocolNames : Tables → ℕ → List Text
-protocolNames t va = namesAmong (slotNamesOf t (protocolListAt t va))
-
--- The names among answers.
-unfoldable pub namesSaid : List (Outcome ReachedName) → List Text
-namesSaid [] = []
-namesSaid (value (nameReached name) ∷ rest) = name ∷ namesSaid rest
-namesSaid (value namePassed ∷ rest) = namesSaid rest
-namesSaid (value namesFinished ∷ rest) = namesSaid rest
-namesSaid (absent ∷ rest) = namesSaid rest
-namesSaid (number k ∷ rest) = namesSaid rest
+unfoldable pub namesSaid : List (Outcome ReachedName) → Outcome (List Text)
+namesSaid answers = gather (λ o. ofValue o (λ r. value (nameSaid r))) answers

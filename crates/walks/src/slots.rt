@@ -8,6 +8,7 @@ use reads::answer::Word;
 use reads::answer::nonzero;
 use reads::relative::slot_address;
 ghost use mathlib.Core.Path.{_≡_};
+ghost use mathlib.Core.Bool.{true};
 ghost use mathlib.Core.List.{_++_};
 ghost use Prim.Native.Nat.{_+_, _^_, _≤_, _<_, max};
 ghost use lib.ListN.{length, getD, take, set};
@@ -128,13 +129,39 @@ fn met(ledger: &[u64], used: usize, va: u64) -> bool
     found
 }
 
-// The same, by the highest address met so far: one above it is new without a look.
+// Found by halves among the first `used` words of the ledger. Where they ascend, as over a list that rises, an address among them is found;
+// where they do not it may be missed.
+fn found_by_halves(ledger: &[u64], used: usize, va: u64) -> bool
+    requires { ⌜ used ≤ length (now ledger) ⌝ }
+    ensures { λ r. ⌜ (r ≡ true → among va (take used (before ledger)) ≡ true) ⌝ }
+{
+    let mut low = 0;
+    let mut high = used;
+    while low < high {
+        let middle = low + (high - low) / 2;
+        let word = ledger[middle];
+        if word == va {
+            return true;
+        }
+        if word < va {
+            low = middle + 1;
+            continue;
+        }
+        high = middle;
+    }
+    false
+}
+
+// The same, by the highest address met so far: one above it is new without a look. An address of a second list is mostly found by halves.
 fn met_below(ledger: &[u64], used: usize, highest: u64, va: u64) -> bool
     requires { ⌜ used ≤ length (now ledger) ⌝ }
     ensures { λ r. ⌜ r ≡ metBelow highest (take used (before ledger)) va ⌝ }
 {
     if highest < va {
         return false;
+    }
+    if found_by_halves(ledger, used, va) {
+        return true;
     }
     met(ledger, used, va)
 }

@@ -1,5 +1,5 @@
 -- Lists that outcomes give, one after the other. A number is never left out: the first one is the outcome of the whole.
-use mathlib.Core.List.{List, [], _∷_, _++_}
+use mathlib.Core.List.{List, [], _∷_, _++_, map}
 use Rattle.reads.specs.Outcome.{Outcome, value, absent, number, andThen}
 
 abbrev pub joined : {A : Type 0} → Outcome (List A) → Outcome (List A) → Outcome (List A)
@@ -15,3 +15,11 @@ abbrev pub ofValue : {A B : Type 0} → Outcome A → (A → Outcome (List B)) �
 ofValue (value a) f = f a
 ofValue absent f = value []
 ofValue (number k) f = number k
+
+-- A value alone; what is absent gives none.
+abbrev pub present : {A : Type 0} → Outcome A → Outcome (List A)
+present o = ofValue o (λ a. value (a ∷ []))
+
+-- Each of a list, by a function.
+abbrev pub asEach : {A B : Type 0} → (A → B) → Outcome (List A) → Outcome (List B)
+asEach f o = andThen o (λ xs. value (map f xs))

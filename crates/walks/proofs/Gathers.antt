@@ -1,10 +1,10 @@
 -- Laws of lists that outcomes give, one after the other.
 use Prim.Native.Nat.{ℕ}
 use mathlib.Core.Path.{_≡_, refl, sym, ap, _∙_}
-use mathlib.Core.List.{List, [], _∷_, _++_, append-assoc}
+use mathlib.Core.List.{List, [], _∷_, _++_, map, append-assoc}
 use native.Mathlib.Omega.{arith}
 use Rattle.reads.specs.Outcome.{Outcome, value, absent, number, andThen, Unrefused, is-value, is-absent}
-use Rattle.listing.specs.Gather.{joined, gather, ofValue}
+use Rattle.walks.specs.Gather.{joined, gather, ofValue, present, asEach}
 
 -- What was joined, where it is a value.
 pub record Parts {A : Type 0} (o p : Outcome (List A)) (zs : List A) : Type 0 where
@@ -50,6 +50,27 @@ module _ {A B : Type 0} (f : A → Outcome (List B)) where
   gather-append [] second = sym (joined-none (gather f second))
   gather-append (a ∷ first) second = ap (joined (f a)) (gather-append first second) ∙ sym (joined-joined (f a) (gather f first) (gather f second))
 
+  pub gather-same : (g : A → Outcome (List B)) → ((a : A) → f a ≡ g a) → (xs : List A) → gather f xs ≡ gather g xs
+  unfolding gather
+  gather-same g e [] = refl
+  gather-same g e (a ∷ rest) = rw (e a, gather-same g e rest)
+
+-- What `present` gave, where it is a list: the value alone, or none of what is absent.
+pub data Held {A : Type 0} : Outcome A → List A → Type 0 where
+  held-one : (a : A) → Held (value a) (a ∷ [])
+  held-none : Held absent []
+
+pub present-held : {A : Type 0} (o : Outcome A) {xs : List A} → present o ≡ value xs → Held o xs
+present-held (value a) {xs} e = let one : xs ≡ a ∷ [] = cc in rw one (held-one a)
+present-held absent {xs} e = let none : xs ≡ [] = cc in rw none held-none
+present-held (number k) e = let z : _≡_ {A = ℕ} 0 1 = cc in absurd (omega arith)
+
+-- What each was taken of, where that gave a list.
+pub each-came : {A B : Type 0} (f : A → B) (o : Outcome (List A)) {ys : List B} → asEach f o ≡ value ys → (xs : List A) × (o ≡ value xs) × (ys ≡ map f xs)
+each-came f (value xs) e = (xs, refl, cc)
+each-came f absent e = let z : _≡_ {A = ℕ} 0 1 = cc in absurd (omega arith)
+each-came f (number k) e = let z : _≡_ {A = ℕ} 0 1 = cc in absurd (omega arith)
+
 -- A value.
 pub data There {A : Type 0} : Outcome A → Type 0 where
   is-there : (a : A) → There (value a)
@@ -63,6 +84,9 @@ there-joined (is-there xs) (is-there ys) = is-there (xs ++ ys)
 pub there-of : {A B : Type 0} {o : Outcome A} (f : A → Outcome (List B)) → Unrefused o → ((a : A) → There (f a)) → There (ofValue o f)
 there-of f (is-value a) h = h a
 there-of f is-absent h = is-there []
+
+pub there-present : {A : Type 0} {o : Outcome A} → Unrefused o → There (present o)
+there-present u = there-of _ u (λ a. is-there (a ∷ []))
 
 pub there-gather : {A B : Type 0} (f : A → Outcome (List B)) → ((a : A) → There (f a)) → (xs : List A) → There (gather f xs)
 unfolding gather
