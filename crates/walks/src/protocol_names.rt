@@ -227,6 +227,13 @@ impl ProtocolNameWalk {
         ProtocolNameWalk { list, cursor: 0 }
     }
 
+    // The number of the slot that the next step takes.
+    pub fn cursor(self) -> u64
+        ensures { λ r. ⌜ r ≡ self .cursor ⌝ }
+    {
+        self.cursor
+    }
+
     // The walk as given, with a number.
     fn refused(self, k: u8) -> ProtocolNameStepped
         ensures { λ r. ⌜ nameLeft r ≡ handsBack self k ⌝ }
