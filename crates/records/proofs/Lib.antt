@@ -9,3 +9,4 @@ pub mod Decodes
 pub mod HubImage
 pub mod ListCases
 pub mod RowCases
+pub mod Alignments
