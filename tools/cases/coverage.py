@@ -17,7 +17,7 @@ from collections import Counter
 import cases
 from lister import run
 
-FIELDS = {"I": "nn", "C": "nnnno", "M": "nnnno", "R": "nnnnt", "P": "nnnt", "K": "nnto", "m": "nttxn", "v": "nttxnn",
+FIELDS = {"I": "nn", "C": "nnnno", "M": "nnnno", "R": "nnnnt", "P": "nnnt", "K": "nnto", "m": "nttxn", "v": "nttxnxx",
           "p": "ntt", "q": "nt", "E": "nn"}
 LISTS = {"C": "class", "M": "metaclass", "P": "protocol", "K": "category"}
 FORMS = ["legacy", "small indirect", "small direct"]
@@ -31,9 +31,10 @@ WANTED = (["line " + letter for letter in "ICMRPKmvpqE"]
           + ["method " + form for form in FORMS]
           + ["imp none, " + form for form in FORMS] + ["imp 0, small indirect", "imp 0, small direct"]
           + ["types empty", "type empty", "attributes empty", "selector or name empty", "ivar offset none",
-             "ivar offset 0", "superclass name none", "superclass name empty", "superclass name there",
-             "class name none", "class name empty", "class name there", "class without R", "metaclass without R",
-             "no record", "entries skipped", "more than 1000 entries settled", "more than 4096 bytes of listing"])
+             "ivar offset 0", "alignment none", "aligned none", "aligned 0", "aligned 1", "superclass name none",
+             "superclass name empty", "superclass name there", "class name none", "class name empty", "class name there",
+             "class without R", "metaclass without R", "no record", "entries skipped", "more than 1000 entries settled",
+             "more than 4096 bytes of listing"])
 
 
 def fields(listing, at, kinds):
@@ -97,6 +98,8 @@ def count(listing, table):
             table["type empty"] += not got[2]
             if not got[3]:
                 table["ivar offset " + ("none" if got[3] is None else "0")] += 1
+            table["alignment none"] += got[5] is None
+            table["aligned %s" % ("none" if got[6] is None else got[6])] += 1
         if letter == "p":
             table["attributes empty"] += not got[2]
         if letter == "E":

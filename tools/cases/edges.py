@@ -737,8 +737,28 @@ def differences():
         yield "bound slot holds %d" % ordinal, s.pack()
 
 
+# -- alignments beside offsets (note 8); last, so that the bundles before keep their numbers
+
+def aligned():
+    words = (0, 1, 2, 3, 4, 31, 32, 33, 40, 62, 63, 64, 65, 0xFF, 0x100, 0x103, 0x80000000, 0xFFFFFFFE, 0xFFFFFFFF)
+    offsets = (None, 0, 1, 2, 3, 4, 8, 12, 16, 0x100, 0x40000000, 0x80000000, 0xC0000000, 0xFFFFFFFF)
+
+    def bundle(rows):
+        s = Sketch()
+        name, rows = s.text("_i"), list(rows)
+        cells = [0 if offset is None else s.add(struct.pack("<I", offset), 4) for _, offset in rows]
+        some = b"".join(struct.pack("<3Q2I", cell, name, 0, word, 8) for cell, (word, _) in zip(cells, rows))
+        s.with_ro(ivars=s.add(struct.pack("<2I", 32, len(rows)) + some))
+        return s.pack()
+
+    for word in words:
+        yield "alignment word %x" % word, bundle((word, offset) for offset in offsets)
+    for offset in offsets[1:]:
+        yield "ivar offset %x" % offset, bundle((word, offset) for word in [*range(66), *words[13:]])
+
+
 FAMILIES = [lengths, refused, cuts, list_heads, windows, lookups, protocol_sizes, masks, chains, prefixes, zeros,
-            texts, alignments, relatives, sections, info, ranges, entries, differences]
+            texts, alignments, relatives, sections, info, ranges, entries, differences, aligned]
 
 
 def edges():

@@ -38,7 +38,9 @@ NAMED = ["diamond", "empty", "length 406", "length 408", "total 32768", "total 3
          "order 4", "cut cell vmsize 1 0", "head methods 2f ffffffff", "list methods 1 at +1", "list ivars 1 at +1",
          "protocol names 100001", "bits word, bit 38", "bits word, bit 39", "chain 04213", "prefixes 0",
          "sections from 2^64 - 16", "ranges of UTF-8", "alignment 3", "alignment 100", "alignment ffffffff",
-         "offset of 64 bits", "bound slot holds 0", "bound slot holds 1"]
+         "offset of 64 bits", "bound slot holds 0", "bound slot holds 1", "alignment word 3", "alignment word 28",
+         "alignment word 3f", "alignment word 40", "alignment word ff", "alignment word 100", "alignment word fffffffe",
+         "alignment word ffffffff", "ivar offset 0", "ivar offset 1", "ivar offset 8", "ivar offset 80000000"]
 LONG = ("texts", "alignments", "prefixes", "protocol names", "protocol list cap")   # long bundles, or long walks
 
 

@@ -1,4 +1,5 @@
--- The cases that document 01 marks with ◆, as one table, and one statement over all of it: the definitions give what document 01 says.
+-- The cases that document 01 marks with ◆, as one table, and one statement over all of it: the definitions give what document 01 says, and
+-- of alignments what note 8 says in its place.
 use Prim.Native.Nat.{ℕ, _≤_}
 use Prim.Native.String.{String}
 use mathlib.Core.Path.{_≡_, refl, sym, _∙_}
@@ -22,8 +23,10 @@ use Rattle.pointers.specs.Tables.{Tables, tablesOf, withIndex}
 use Rattle.pointers.proofs.OpenedTables.{opened-info}
 use Rattle.records.specs.Ask.{evenList, entrySize}
 use Rattle.records.specs.List.{methodRows, listAt, decodeList}
-use Rattle.records.specs.Row.{alignmentOf, decodeOffset, ivarAt, decodeIvar}
+use Rattle.records.specs.Row.{alignmentOf, alignedOf, decodeOffset, ivarAt, decodeIvar}
 use Rattle.walks.specs.Slots.{slotCount}
+use Rattle.records.specs.declared.ivar.Aligned.the-variants.{Unknown}
+use Rattle.records.specs.declared.ivar.Alignment.the-variants as alignment
 use Rattle.records.specs.declared.ivar.Ivar.{Ivar}
 use Rattle.records.specs.declared.ivar.IvarOffset.the-variants as offset
 use Rattle.records.specs.declared.list.Layout.{Layout}
@@ -40,7 +43,7 @@ use Rattle.listing.proofs.HubListing.{hub-events, five-lines, hub-listi
 use Rattle.listing.proofs.LittleEndian.{bytesOf, eights}
 use Rattle.listing.proofs.WholeListing.{lists-with-room}
 
--- A case: its name, what the definitions give, and what document 01 says.
+-- A case: its name, what the definitions give, and what the documents say.
 pub data Case : Type 1 where
   case : {A : Type 0} → String → A → A → Case
 
@@ -122,8 +125,16 @@ segments = 0x1000 ∷ 0x100 ∷ 0 ∷ 0x80 ∷ later-segment
 abbrev ivar : List ℕ
 ivar = eights (0 ∷ 0x1020 ∷ 0 ∷ []) ++ bytesOf 4 0x100 ++ bytesOf 4 8 ++ ascii "x" ++ 0 ∷ []
 
-abbrev aligned : Ivar
-aligned = record { name = textOf 0x20 1; «type_encoding» = textOf 0 0; offset = offset.Nothing; size = 8; «log2_alignment» = 0 }
+abbrev unaligned : Ivar
+unaligned =
+    record {
+      name = textOf 0x20 1;
+      «type_encoding» = textOf 0 0;
+      offset = offset.Nothing;
+      size = 8;
+      «log2_alignment» = alignment.Nothing;
+      aligned = Unknown;
+    }
 
 abbrev pub edge-cases : List Case
 edge-cases =
@@ -134,12 +145,12 @@ edge-cases =
     ∷ case "segment 0x1000, 0x100, 0, 0x80: 0x107F gives 0x7F" (lookup (rows segments) 0x107F) (value (placeAt 0x7F))
     ∷ case "0x1080: absent" (lookup (rows segments) 0x1080) (absent Unmapped)
     ∷ case "0x1080: the later-segment segment has it" (lookup (rows later-segment) 0x1080) (value (placeAt 0x80))
-    ∷ case {A = ℕ} "alignment 0x100: 0" (alignmentOf 0x100) 0
-    ∷ case "an ivar with the alignment 0x100: 0" (ivarAt (whole-image ivar) 0x1000) (value aligned)
+    ∷ case "alignment 0x100: none" (alignmentOf 0x100) alignment.Nothing
+    ∷ case "an ivar with the alignment 0x100: none" (ivarAt (whole-image ivar) 0x1000) (value unaligned)
     ∷ []
 
 edges-hold : AllHold edge-cases
-unfolding decodeList evenList entrySize methodRows bit nonzero readable readableAt lookup rows ends holds placed sum64 wordIn le choose alignmentOf decodeOffset decodeIvar resolve rebaseAt follow followFrom stored stripped word pointerAt pointerOr0At textIn textAt textLength text utf8 judge
+unfolding decodeList evenList entrySize methodRows bit nonzero readable readableAt lookup rows ends holds placed sum64 wordIn le choose alignmentOf alignedOf decodeOffset decodeIvar resolve rebaseAt follow followFrom stored stripped word pointerAt pointerOr0At textIn textAt textLength text utf8 judge
 edges-hold = (refl, (refl, (refl, (refl, (refl, (refl, (refl, (refl, (refl, tt)))))))))
 
 abbrev pub cases : List Case

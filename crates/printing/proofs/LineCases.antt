@@ -6,6 +6,10 @@ use mathlib.Core.List.{List, [], _∷_, _++_, flatMap}
 use Rattle.reads.specs.Outcome.{choose, textOf}
 use Rattle.pointers.specs.Symbol.{ascii}
 use Rattle.records.specs.Row.{methodOf}
+use Rattle.records.specs.declared.ivar.Aligned.{Aligned}
+use Rattle.records.specs.declared.ivar.Aligned.the-variants as aligned
+use Rattle.records.specs.declared.ivar.Alignment.{Alignment}
+use Rattle.records.specs.declared.ivar.Alignment.the-variants as alignment
 use Rattle.records.specs.declared.ivar.IvarOffset.{IvarOffset}
 use Rattle.records.specs.declared.ivar.IvarOffset.the-variants as offset
 use Rattle.records.specs.declared.method.Imp.the-variants as imp
@@ -39,12 +43,12 @@ classLine name =
 abbrev methodLine : Method → Line
 methodLine m = line.Row (record { list = 6; row = row.Method m })
 
-abbrev ivarLine : IvarOffset → Line
-ivarLine o =
+abbrev ivarLine : IvarOffset → Alignment → Aligned → Line
+ivarLine o k a =
     line.Row
     (record {
       list = 1;
-      row = row.Ivar (record { name = textOf 0 7; «type_encoding» = textOf 0 0; offset = o; size = 16; «log2_alignment» = 3 });
+      row = row.Ivar (record { name = textOf 0 7; «type_encoding» = textOf 0 0; offset = o; size = 16; «log2_alignment» = k; aligned = a });
     })
 
 abbrev endLine : ℕ → ℕ → Line
@@ -78,13 +82,26 @@ pub imp-none :
 unfolding lineText methodText textFields textField stringField noneField numberField hexText places choose
 imp-none = refl
 
-pub offset-zero : lineText image (ivarLine (offset.At 0)) ≡ ended (ascii "v 1 7:fifteen 0: 0 10 3")
+-- An ivar's offset 0 is there; an offset without its alignment; no offset; an alignment that is none.
+pub offset-zero :
+    lineText image (ivarLine (offset.At 0) (alignment.Log2 40) aligned.Yes) ≡ ended (ascii "v 1 7:fifteen 0: 0 10 28 1")
 unfolding lineText ivarText textFields textField stringField numberField hexText places choose
 offset-zero = refl
 
-pub offset-none : lineText image (ivarLine offset.Nothing) ≡ ended (ascii "v 1 7:fifteen 0: - 10 3")
+pub offset-unaligned :
+    lineText image (ivarLine (offset.At 12) (alignment.Log2 3) aligned.No) ≡ ended (ascii "v 1 7:fifteen 0: c 10 3 0")
+unfolding lineText ivarText textFields textField stringField numberField hexText places choose
+offset-unaligned = refl
+
+pub offset-none :
+    lineText image (ivarLine offset.Nothing (alignment.Log2 3) aligned.Unknown) ≡ ended (ascii "v 1 7:fifteen 0: - 10 3 -")
 unfolding lineText ivarText textFields textField stringField noneField numberField hexText places choose
 offset-none = refl
+
+pub alignment-none :
+    lineText image (ivarLine (offset.At 8) alignment.Nothing aligned.Unknown) ≡ ended (ascii "v 1 7:fifteen 0: 8 10 - -")
+unfolding lineText ivarText textFields textField stringField noneField numberField hexText places choose
+alignment-none = refl
 
 -- The entries settled, of one word and of two.
 pub one-word : lineText image (endLine 0 (2 ^ 64 - 1)) ≡ ended (ascii "E a ffffffffffffffff")

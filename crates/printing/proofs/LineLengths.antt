@@ -8,6 +8,10 @@ use Rattle.io.specs.Digits.{digits, glyph}
 use Rattle.reads.specs.Outcome.{Outcome, value, absent, number}
 use Rattle.reads.specs.declared.text.Text.{Text}
 use Rattle.reads.proofs.Tests.{by-choose}
+use Rattle.records.specs.declared.ivar.Aligned.{Aligned}
+use Rattle.records.specs.declared.ivar.Aligned.the-variants as aligned
+use Rattle.records.specs.declared.ivar.Alignment.{Alignment}
+use Rattle.records.specs.declared.ivar.Alignment.the-variants as alignment
 use Rattle.records.specs.declared.ivar.IvarOffset.{IvarOffset}
 use Rattle.records.specs.declared.ivar.IvarOffset.the-variants as offset
 use Rattle.records.specs.declared.method.Imp.{Imp}
@@ -20,7 +24,7 @@ use Rattle.listing.specs.declared.line.Line.the-variants as line
 use Rattle.listing.specs.declared.line.Named.{Named}
 use Rattle.listing.specs.declared.line.Named.the-variants as named
 use Rattle.printing.specs.Buffer.{places, hexText, decimalText}
-use Rattle.printing.specs.LineText.{noneField, numberField, stringField, textField, textFields, namedField, impField, offsetField, kindNumber, infoText, classText, roText, protocolText, categoryText, methodText, ivarText, propertyText, rowText, nameText, endText, fieldsText, lineText, refusedText}
+use Rattle.printing.specs.LineText.{noneField, numberField, stringField, textField, textFields, namedField, impField, offsetField, alignmentField, alignedField, kindNumber, infoText, classText, roText, protocolText, categoryText, methodText, ivarText, propertyText, rowText, nameText, endText, fieldsText, lineText, refusedText}
 use Rattle.printing.specs.Pieces.{saidText}
 
 places-few : (b k n : ℕ) → places b k n ≤ suc k
@@ -68,6 +72,15 @@ module _ (image : List ℕ) where
   offset-short (offset.At n) = number-short n
   offset-short offset.Nothing = none-short
 
+  alignment-short : (k : Alignment) → length (alignmentField k) ≤ 33
+  alignment-short (alignment.Log2 k) = number-short k
+  alignment-short alignment.Nothing = none-short
+
+  aligned-short : (a : Aligned) → length (alignedField a) ≤ 33
+  aligned-short aligned.Yes = number-short 1
+  aligned-short aligned.No = number-short 0
+  aligned-short aligned.Unknown = none-short
+
   abbrev Short : List ℕ → Type 0
   Short text = length text ≤ 300 + 2 * length image
 
@@ -84,7 +97,8 @@ module _ (image : List ℕ) where
         texts-short (v .name) (v .«type_encoding»),
         offset-short (v .offset),
         number-short (v .size),
-        number-short (v .«log2_alignment»),
+        alignment-short (v .«log2_alignment»),
+        aligned-short (v .aligned),
       ))
   row-short n (row.Property p) = simp length-append (omega (arith, number-short n, texts-short (p .name) (p .attributes)))
 

@@ -1,5 +1,5 @@
 -- The text of a listing's lines (document 01, "The program's listing"): fields split by one space, numbers lower-case hex, strings length,
--- colon, bytes; `-` is none.
+-- colon, bytes; `-` is none. An ivar's last field: note 8.
 use Prim.Native.Nat.{ℕ, _+_, _*_, _^_}
 use mathlib.Core.Bool.{Bool, true, false}
 use mathlib.Core.List.{List, [], _∷_, _++_}
@@ -11,6 +11,10 @@ use Rattle.reads.specs.declared.text.Text.{Text}
 use Rattle.pointers.specs.Symbol.{ascii}
 use Rattle.pointers.specs.declared.imageinfo.ImageInfo.{ImageInfo}
 use Rattle.records.specs.declared.class.ClassRo.{ClassRo}
+use Rattle.records.specs.declared.ivar.Aligned.{Aligned}
+use Rattle.records.specs.declared.ivar.Aligned.the-variants as aligned
+use Rattle.records.specs.declared.ivar.Alignment.{Alignment}
+use Rattle.records.specs.declared.ivar.Alignment.the-variants as alignment
 use Rattle.records.specs.declared.ivar.Ivar.{Ivar}
 use Rattle.records.specs.declared.ivar.IvarOffset.{IvarOffset}
 use Rattle.records.specs.declared.ivar.IvarOffset.the-variants as offset
@@ -63,6 +67,16 @@ abbrev pub offsetField : IvarOffset → List ℕ
 offsetField (offset.At n) = numberField n
 offsetField offset.Nothing = noneField
 
+abbrev pub alignmentField : Alignment → List ℕ
+alignmentField (alignment.Log2 k) = numberField k
+alignmentField alignment.Nothing = noneField
+
+-- 1 or 0.
+abbrev pub alignedField : Aligned → List ℕ
+alignedField aligned.Yes = numberField 1
+alignedField aligned.No = numberField 0
+alignedField aligned.Unknown = noneField
+
 -- 0 legacy, 1 indirect, 2 direct.
 abbrev pub kindNumber : MethodKind → ℕ
 kindNumber kind.Legacy = 0
@@ -114,13 +128,14 @@ methodText image n m =
     ++ (numberField n
     ++ (textFields image (m .selector) (m .types) ++ (impField (m .implementation) ++ numberField (kindNumber (m .kind)))))
 
--- v name type offset size alignment.
+-- v name type offset size alignment aligned.
 unfoldable pub ivarText : List ℕ → ℕ → Ivar → List ℕ
 ivarText image n v =
     ascii "v"
     ++ (numberField n
     ++ (textFields image (v .name) (v .«type_encoding»)
-    ++ (offsetField (v .offset) ++ (numberField (v .size) ++ numberField (v .«log2_alignment»)))))
+    ++ (offsetField (v .offset)
+    ++ (numberField (v .size) ++ (alignmentField (v .«log2_alignment») ++ alignedField (v .aligned))))))
 
 -- p name attributes.
 unfoldable pub propertyText : List ℕ → ℕ → Property → List ℕ

@@ -16,6 +16,8 @@ use listing::line::RowLine;
 use pointers::imageinfo::ImageInfo;
 use reads::text::Text;
 use records::class::ClassRo;
+use records::ivar::Aligned;
+use records::ivar::Alignment;
 use records::ivar::Ivar;
 use records::ivar::IvarOffset;
 use records::method::Imp;
@@ -28,7 +30,7 @@ ghost use mathlib.Core.List.{_∷_};
 ghost use mathlib.Core.Path.{_≡_};
 ghost use Rattle.reads.specs.Reference.{before, after};
 ghost use Rattle.printing.specs.Buffer.{buffer, putAll};
-ghost use Rattle.printing.specs.LineText.{noneField, numberField, stringField, textField, textFields, namedField, impField, offsetField, kindNumber, classLetter, infoText, classText, roText, protocolText, categoryText, methodText, ivarText, propertyText, rowText, nameText, endText, fieldsText, lineText, refusedText};
+ghost use Rattle.printing.specs.LineText.{noneField, numberField, stringField, textField, textFields, namedField, impField, offsetField, alignmentField, alignedField, kindNumber, classLetter, infoText, classText, roText, protocolText, categoryText, methodText, ivarText, propertyText, rowText, nameText, endText, fieldsText, lineText, refusedText};
 
 // A field that is none.
 fn none(out: &mut [u8], w: Window) -> Window
@@ -113,6 +115,27 @@ fn offset(offset: IvarOffset, out: &mut [u8], w: Window) -> Window
     match offset {
         IvarOffset::At(n) => number(n as u64, out, w),
         IvarOffset::Nothing => none(out, w),
+    }
+}
+
+// An ivar's alignment, or none.
+fn alignment(alignment: Alignment, out: &mut [u8], w: Window) -> Window
+    ensures { λ r. ⌜ buffer (after out) r ≡ putAll (buffer (before out) w) (alignmentField alignment) ⌝ }
+{
+    match alignment {
+        Alignment::Log2(n) => number(n as u64, out, w),
+        Alignment::Nothing => none(out, w),
+    }
+}
+
+// 1 where an ivar's offset is aligned, 0 where it is not, none where that is unknown.
+fn aligned(aligned: Aligned, out: &mut [u8], w: Window) -> Window
+    ensures { λ r. ⌜ buffer (after out) r ≡ putAll (buffer (before out) w) (alignedField aligned) ⌝ }
+{
+    match aligned {
+        Aligned::Yes => number(1, out, w),
+        Aligned::No => number(0, out, w),
+        Aligned::Unknown => none(out, w),
     }
 }
 
@@ -209,18 +232,21 @@ fn method(image: &[u8], list: u8, m: Method, out: &mut [u8], w: Window) -> Windo
     number(kind_number(kind), out, c)
 }
 
-// v: list number, name, type, offset, size, alignment.
+// v: list number, name, type, offset, size, alignment, aligned.
 fn ivar(image: &[u8], list: u8, v: Ivar, out: &mut [u8], w: Window) -> Window
     ensures { λ r. ⌜ buffer (after out) r ≡ putAll (buffer (before out) w) (ivarText (before image) list v) ⌝ }
 {
     let name = v.name;
     let encoding = v.type_encoding;
     let place = v.offset;
+    let log2 = v.log2_alignment;
+    let is_aligned = v.aligned;
     let a = start(b'v', list as u64, out, w);
     let b = texts(image, name, encoding, out, a);
     let c = offset(place, out, b);
     let d = number(v.size as u64, out, c);
-    number(v.log2_alignment as u64, out, d)
+    let e = alignment(log2, out, d);
+    aligned(is_aligned, out, e)
 }
 
 // p: list number, name, attributes.

@@ -10,3 +10,4 @@ pub mod HubImage
 pub mod ListCases
 pub mod RowCases
 pub mod ReasonCases
+pub mod Alignments

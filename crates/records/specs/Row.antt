@@ -1,8 +1,9 @@
 -- Rows of method, ivar and property lists (objc-runtime-new.h, method_t, ivar_t, property_t; document 01, Rows; method.rs, ivar.rs,
--- property.rs).
-use Prim.Native.Nat.{ℕ, _%_}
-use mathlib.Core.Bool.{Bool, true, false}
-use lib.Dec.{eqb}
+-- property.rs; alignments: note 8).
+use Prim.Native.Nat.{ℕ}
+use mathlib.Core.Bool.{Bool, true, false, _||_}
+use lib.Count.{trailingZeros}
+use lib.Dec.{eqb, leb}
 use Rattle.reads.specs.Outcome.{Outcome, value, choose}
 use Rattle.reads.specs.Answer.{missed}
 use Rattle.reads.specs.Address.{stripped}
@@ -25,6 +26,10 @@ use Rattle.records.specs.declared.method.MethodKind.{MethodKind}
 use Rattle.records.specs.declared.method.MethodKind.the-variants as kind
 use Rattle.records.specs.declared.method.MethodAnswer.{MethodAnswer}
 use Rattle.records.specs.declared.method.MethodAnswer.the-variants as method
+use Rattle.records.specs.declared.ivar.Aligned.{Aligned}
+use Rattle.records.specs.declared.ivar.Aligned.the-variants as aligned
+use Rattle.records.specs.declared.ivar.Alignment.{Alignment}
+use Rattle.records.specs.declared.ivar.Alignment.the-variants as alignment
 use Rattle.records.specs.declared.ivar.Ivar.{Ivar}
 use Rattle.records.specs.declared.ivar.IvarOffset.{IvarOffset}
 use Rattle.records.specs.declared.ivar.IvarOffset.the-variants as offset
@@ -121,9 +126,16 @@ decodeSmallMethod va direct =
 abbrev pub smallMethodAt : Tables → ℕ → Bool → Outcome Method
 smallMethodAt t va direct = run t (decodeSmallMethod va direct)
 
--- An ivar's alignment: 0xFFFFFFFF gives 3 (WORD_SHIFT), else the low byte.
-unfoldable pub alignmentOf : ℕ → ℕ
-alignmentOf raw = choose (eqb raw 4294967295) 3 (raw % 256)
+-- An ivar's alignment: 0xFFFFFFFF gives 3 (WORD_SHIFT), 0 to 63 stand, anything else is none.
+unfoldable pub alignmentOf : ℕ → Alignment
+alignmentOf raw =
+    choose (eqb raw 0xFFFFFFFF) (alignment.Log2 3) (choose (leb raw 63) (alignment.Log2 raw) alignment.Nothing)
+
+-- Whether an offset has at least as many trailing zero bits as the alignment; offset 0 always does. Unknown where one of the two is none.
+unfoldable pub alignedOf : IvarOffset → Alignment → Aligned
+alignedOf (offset.At n) (alignment.Log2 k) = choose (eqb n 0 || leb k (trailingZeros 32 n)) aligned.Yes aligned.No
+alignedOf (offset.At n) alignment.Nothing = aligned.Unknown
+alignedOf offset.Nothing a = aligned.Unknown
 
 -- An ivar's offset: the four bytes at the pointed place, none if the pointer is 0 or they cannot be read.
 unfoldable pub decodeOffset : ℕ → Decode IvarOffset
@@ -141,7 +153,7 @@ decodeIvar va =
     then (or0 (slot va)) (λ place.
     then (pointer va ivar·name) (λ named.
     then (pointerOr0 va ivar·type) (λ typed.
-    then (u32In p ivar·alignmentRaw) (λ alignment.
+    then (u32In p ivar·alignmentRaw) (λ raw.
     then (u32In p ivar·ownSize) (λ size.
     then (string named) (λ name.
     then (orEmpty (string typed)) (λ encoding.
@@ -152,7 +164,8 @@ decodeIvar va =
       «type_encoding» = encoding;
       offset = offset;
       size = size;
-      «log2_alignment» = alignmentOf alignment;
+      «log2_alignment» = alignmentOf raw;
+      aligned = alignedOf offset (alignmentOf raw);
     }))))))))))
 
 abbrev pub ivarAt : Tables → ℕ → Outcome Ivar

@@ -16,13 +16,26 @@ ghost use mathlib.Core.Path.{_≡_};
 ghost use Rattle.reads.specs.Answer.{missed};
 ghost use Rattle.reads.specs.Outcome.{value, orElse};
 ghost use Rattle.pointers.specs.Tables.{lent};
-ghost use Rattle.records.specs.Row.{ivarOutcome, alignmentOf, offsetOutcome, offsetAt, ivarAt};
+ghost use Rattle.records.specs.Row.{ivarOutcome, alignmentOf, alignedOf, offsetOutcome, offsetAt, ivarAt};
 ghost use Rattle.records.specs.declared.ivar.IvarOffset.the-variants as none;
 
 // An ivar's offset in its instance, or none: a stored 0 is the offset 0.
 pub enum IvarOffset {
     At(u32),
     Nothing,
+}
+
+// An ivar's alignment by its log2; none where its word can be no alignment.
+pub enum Alignment {
+    Log2(u8),
+    Nothing,
+}
+
+// Whether an ivar's offset is aligned; unknown without an offset or an alignment.
+pub enum Aligned {
+    Yes,
+    No,
+    Unknown,
 }
 
 enum OffsetAnswer {
@@ -36,7 +49,8 @@ pub struct Ivar {
     pub type_encoding: Text,
     pub offset: IvarOffset,
     pub size: u32,
-    pub log2_alignment: u8,
+    pub log2_alignment: Alignment,
+    pub aligned: Aligned,
 }
 
 impl Ivar {
@@ -57,14 +71,37 @@ pub enum IvarAnswer {
     Missing(Missing),
 }
 
-// The alignment: 0xFFFFFFFF gives WORD_SHIFT, else the low byte.
-fn alignment_of(raw: u32) -> u8
+// The alignment: 0xFFFFFFFF gives WORD_SHIFT, 0 to 63 stand, anything else is none.
+fn alignment_of(raw: u32) -> Alignment
     ensures { λ r. ⌜ r ≡ alignmentOf raw ⌝ }
 {
     if raw == 0xFFFF_FFFF {
-        return 3;
+        return Alignment::Log2(3);
     }
-    (raw % 256) as u8
+    if raw > 63 {
+        return Alignment::Nothing;
+    }
+    Alignment::Log2(raw as u8)
+}
+
+// Whether the offset has at least as many trailing zero bits as the alignment. Offset 0 has a test of its own: it always does, but its count
+// is 32, and alignments go to 63.
+fn aligned_of(offset: IvarOffset, alignment: Alignment) -> Aligned
+    ensures { λ r. ⌜ r ≡ alignedOf offset alignment ⌝ }
+{
+    let IvarOffset::At(n) = offset else {
+        return Aligned::Unknown;
+    };
+    let Alignment::Log2(log2) = alignment else {
+        return Aligned::Unknown;
+    };
+    if n == 0 {
+        return Aligned::Yes;
+    }
+    if u32::trailing_zeros(n) < log2 as u32 {
+        return Aligned::No;
+    }
+    Aligned::Yes
 }
 
 // No offset, where it is absent.
@@ -151,11 +188,13 @@ pub(crate) fn ivar_at(
         OffsetAnswer::Offset(offset) => offset,
         OffsetAnswer::Missing(m) => return IvarAnswer::Missing(m),
     };
+    let log2_alignment = alignment_of(u32_in(image, p, Ivar::ALIGNMENT_RAW));
     IvarAnswer::Row(Ivar {
         name,
         type_encoding,
         offset,
         size: u32_in(image, p, Ivar::OWN_SIZE),
-        log2_alignment: alignment_of(u32_in(image, p, Ivar::ALIGNMENT_RAW)),
+        log2_alignment,
+        aligned: aligned_of(offset, log2_alignment),
     })
 }

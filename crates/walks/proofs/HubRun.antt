@@ -26,8 +26,8 @@ use Rattle.pointers.specs.Slot.{rebaseAt, bindName, bindAt, symbolOf, stored, r
 use Rattle.pointers.specs.Symbol.{starts, fitting, strippedName}
 use Rattle.pointers.proofs.OpenedTables.{opened-follow-rebase, opened-follow-bind}
 use Rattle.pointers.proofs.Questions.{question-yes}
-use Rattle.records.specs.Class.{bitsOf, decodeData, classAt, decodeClass, classRoAt, decodeRoLists, decodeClassRo, roOf, decodeRoOf, decodeNonzeroClassName, decodeBoundName, decodeClassNameOf, superclassName}
-use Rattle.records.specs.Ask.{evenList, entrySize}
+use Rattle.records.specs.Class.{bitsOf, decodeData, classAt, decodeClass, classRoAt, decodeRoLists, decodeClassRo, roOf, decodeRoOf, decodeRoData, decodeClassName, decodeNonzeroClassName, decodeBoundName, decodeClassNameOf, classNameOf, superclassName}
+use Rattle.records.specs.Ask.{pickedIn, evenList, entrySize}
 use Rattle.records.specs.List.{methodRows, listAt, decodeList, entry}
 use Rattle.walks.specs.PlainWalk.{told, refusal, steps, plainStep, plainWalk, shownAll, Loans, loans-end, loan-opened, loan-refused, handedOut}
 use Rattle.records.specs.Row.{methodOf, legacyImp, decodeLegacyMethod, rowAt, decodeRow}
@@ -285,3 +285,8 @@ hub-ro-of = refl
 pub hub-superclass : superclassName hub hub-class-record ≡ value (textOf 182 8)
 unfolding decodeClassNameOf decodeNonzeroClassName decodeBoundName symbolOf bindAt lastAmong bindName strippedName fitting starts sum64 nonzero choose counted
 hub-superclass = rw (opened-follow-bind hub hub-opened 0x1008, question-yes 7 (nameInside bytes 168 22) inside-hub, question-yes 14 (nameUtf8 bytes 168 22) utf8-hub)
+
+-- Where a class decodes, its name goes before the bind: here were the class its own superclass.
+pub decoded-before-bind : classNameOf hub 0x1000 0x1000 ≡ value (textOf 0x90 3)
+unfolding decodeClassNameOf decodeNonzeroClassName decodeClassName decodeRoData pickedIn picked pickedWide mapped dataArm64e readable readableAt lookup rows ends holds placed sum64 stored word stripped le textIn textAt textLength text utf8 judge nonzero choose counted
+decoded-before-bind = rw (no-rebase 0x1020, pointer-stored 0x1028 24 0x1040 0x1090 refl refl)

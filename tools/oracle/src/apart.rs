@@ -1,6 +1,7 @@
-//! What the Rust does not give, computed apart from document 01 alone ("Reading rules", "Lists", "Rows"): the addresses
-//! of a record's lists, which are private there; the readable entries, which line E counts; and the rows at indices
-//! that the Rust, which tries each index in turn, would reach too late.
+//! What the Rust does not give, computed apart from document 01 alone ("Reading rules", "Lists", "Rows") and, of ivars,
+//! note 8: the addresses of a record's lists, which are private there; the readable entries, which line E counts; the
+//! rows at indices that the Rust, which tries each index in turn, would reach too late; which alignment words are none,
+//! and whether an offset is aligned.
 
 use std::collections::HashMap;
 
@@ -42,6 +43,20 @@ const LOW_48: u64 = 0x0000_FFFF_FFFF_FFFF;
 
 fn u32_in(bytes: &[u8], at: usize) -> u32 {
     u32::from_le_bytes(bytes[at..at + 4].try_into().unwrap())
+}
+
+/// An alignment word's log2, unless it is none.
+fn alignment(word: u32) -> Option<u32> {
+    match word {
+        0xFFFF_FFFF => Some(3),
+        0..=63 => Some(word),
+        _ => None,
+    }
+}
+
+/// 1 or 0: whether the offset is a multiple of 2 to the alignment.
+pub fn aligned(offset: Option<u32>, log2: Option<u32>) -> Option<u64> {
+    Some((u64::from(offset?) % 1u64.checked_shl(log2?)? == 0).into())
 }
 
 impl<'a> Apart<'a> {
@@ -155,6 +170,14 @@ impl<'a> Apart<'a> {
         (0..list.count).filter(|&i| self.entry(list, i).is_some_and(|e| self.readable(list, e))).collect()
     }
 
+    /// Of each row of the ivar list at `a`, in order: whether its alignment word is an alignment.
+    pub fn alignments(&self, a: u64) -> Vec<bool> {
+        let Some(list) = self.list(a, Kind::Ivar) else { return Vec::new() };
+        let rows = self.readables(&list).into_iter().filter(|&i| self.row(&list, i, 0).is_some());
+        let words = rows.filter_map(|i| Some(u32_in(self.read(self.entry(&list, i)?, list.least)?, 24)));
+        words.map(|word| alignment(word).is_some()).collect()
+    }
+
     /// The line of a readable entry in list number `number`, or None if the entry is skipped.
     pub fn row(&self, list: &List, index: u64, number: u64) -> Option<Vec<u8>> {
         let e = self.entry(list, index)?;
@@ -185,12 +208,9 @@ impl<'a> Apart<'a> {
                 let name = self.slot(e.checked_add(8)?)?;
                 let kind = self.slot(e.checked_add(16)?).and_then(|a| self.text(a)).unwrap_or("");
                 let offset = place.and_then(|a| self.read(a, 4)).map(|b| u32_in(b, 0));
-                let alignment = match u32_in(bytes, 24) {
-                    0xFFFF_FFFF => 3,
-                    word => word % 256,
-                };
+                let log2 = alignment(u32_in(bytes, 24));
                 let line = Line::new('v').hex(number).text(self.text(name)?).text(kind);
-                line.hex_or_none(offset).hex(u32_in(bytes, 28)).hex(alignment)
+                line.hex_or_none(offset).hex(u32_in(bytes, 28)).hex_or_none(log2).hex_or_none(aligned(offset, log2))
             }
             Form::Property => {
                 let name = self.slot(e)?;

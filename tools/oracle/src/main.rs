@@ -4,7 +4,8 @@
 //!
 //! --whole walks every list to its end by the Rust, which takes seconds or minutes for a long list; --apart says on
 //! standard error how many rows were computed apart. Status 70: something computed apart is not what the Rust gives.
-//! --bare, for timing, does as --whole and computes nothing apart: line E then counts rows, and no skipped entry.
+//! --bare, for timing, does as --whole and computes nothing apart but whether an offset is aligned: line E then counts
+//! rows, and no skipped entry; an alignment is the low byte of its word, as the Rust gives it.
 
 // The Rust offers more than the listing uses.
 #![allow(dead_code, unused_imports)]
@@ -25,7 +26,7 @@ mod util;
 use std::io::{Read, Write};
 use std::process::ExitCode;
 
-use apart::{Apart, Kind};
+use apart::{Apart, Kind, aligned};
 use line::Line;
 use objc::{ClassRo, Ivar, Method, MethodKind, ObjcCategory, ObjcClass, ObjcProtocol, ObjcRuntime, Property};
 
@@ -43,9 +44,12 @@ fn method_line(number: u64, m: Method<'_>) -> Vec<u8> {
     line.hex_or_none(m.implementation()).hex(kind).end()
 }
 
-fn ivar_line(number: u64, v: Ivar<'_>) -> Vec<u8> {
+/// The alignment is the Rust's if its word can be one (`there`), which the Rust, keeping the low byte, does not say.
+/// Computed apart too: whether the offset is aligned.
+fn ivar_line(number: u64, v: Ivar<'_>, there: bool) -> Vec<u8> {
+    let log2 = there.then(|| u32::from(v.log2_alignment()));
     let line = Line::new('v').hex(number).text(v.name()).text(v.type_encoding());
-    line.hex_or_none(v.offset()).hex(v.size()).hex(v.log2_alignment()).end()
+    line.hex_or_none(v.offset()).hex(v.size()).hex_or_none(log2).hex_or_none(aligned(v.offset(), log2)).end()
 }
 
 fn property_line(number: u64, p: Property<'_>) -> Vec<u8> {
@@ -122,7 +126,8 @@ impl<'a> Listing<'a> {
     }
 
     fn ivars(&mut self, number: u64, va: u64, rust: impl Iterator<Item = Ivar<'a>>) {
-        self.rows(number, va, Kind::Ivar, rust.map(|v| ivar_line(number, v)));
+        let mut there = self.apart.alignments(va).into_iter();
+        self.rows(number, va, Kind::Ivar, rust.map(|v| ivar_line(number, v, there.next().unwrap_or(true))));
     }
 
     fn properties(&mut self, number: u64, va: u64, rust: impl Iterator<Item = Property<'a>>) {

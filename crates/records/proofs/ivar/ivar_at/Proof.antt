@@ -132,7 +132,7 @@ returns-7 c = stops (tables (start-6 (c .before .before .before .before))) (rest
 
 returns-8 : tie.Need-returns-8
 unfolding decodeIvar
-returns-8 c = (rw (c .alignment-of .ensures, c .before .u32-in2 .ensures, c .before .before .u32-in .ensures)) ∙ sym (reach-7 (c .before .before .before))
+returns-8 c = (rw (c .aligned-of .ensures, c .before .before .alignment-of .ensures, c .before .u32-in2 .ensures, c .before .before .before .u32-in .ensures)) ∙ sym (reach-7 (c .before .before .before .before))
 
 pub ivar-at-spec : {M : Type 1} → statement M
 ivar-at-spec =
@@ -166,6 +166,7 @@ ivar-at-spec =
     (λ c. search needs)
     (λ c. search needs)
     returns-7
+    (λ c κs. search needs)
     (λ c κs. search needs)
     (λ c κs. search needs)
     (λ c κs. search needs)
