@@ -14,14 +14,14 @@ use Rattle.pointers.specs.declared.imageinfo.ImageInfo.{ImageInfo}
 use Rattle.walks.specs.Slots.{slotCount}
 use Rattle.walks.proofs.Gathers.{there-known}
 use Rattle.listing.specs.Bundle.{wordsFrom, segmentsAt, countsOf, bundled, Accepted}
-use Rattle.listing.specs.Listing.{State, Left, leaves, start, says, nothing, ended, listingStep}
+use Rattle.listing.specs.Listing.{State, Left, leaves, start, says, lacks, nothing, ended, listingStep}
 use Rattle.listing.specs.PlainListing.{Event, plainListing}
 use Rattle.listing.specs.declared.bundle.Counts.{Counts}
 use Rattle.listing.specs.declared.line.Line.{Line}
 use Rattle.listing.proofs.Bounds.{pair-slots}
 use Rattle.listing.proofs.Remaining.{goesOn, InWords}
 use Rattle.listing.proofs.PlainThere.{plain-events-there, listing-there}
-use Rattle.listing.proofs.Rest.{Rest, over, silent, saying}
+use Rattle.listing.proofs.Rest.{Rest, over, silent, telling, saying}
 use Rattle.listing.proofs.WholeListing.{whole-rest}
 use Rattle.printing.specs.BundleLent.{tableWords, wordsBy, wordsAfter, tablesIn, openingBy, openingIn, indexBy, indexAfter, tablesBy, tablesLent}
 use Rattle.printing.specs.BundleText.{indexWords, bundleTables, bundleOpening, listingText, openedText, bundleText}
@@ -48,6 +48,9 @@ module _ (t : Tables) where
   rest-comes {s} {l} (silent {v = v} {m = m} e f r) h =
       let k = words-after s l _ h e in
       ap (λ (x : Left). toCome t (made x)) e ∙ come-step t (made (leaves (value nothing) v m)) (record { words = k }) ∙ rest-comes r (k refl)
+  rest-comes {s} {l} (telling {v = v} {m = m} {x = x} e f r) h =
+      let k = words-after s l _ h e in
+      ap (λ (y : Left). toCome t (made y)) e ∙ come-step t (made (leaves (value (lacks x)) v m)) (record { words = k }) ∙ rest-comes r (k refl)
   rest-comes {s} {l} (saying {v = v} {m = m} {x = x} e f r) h =
       let k = words-after s l _ h e in
       ap (λ (y : Left). toCome t (made y)) e
@@ -77,7 +80,7 @@ module _ (t : Tables) (o : Opened t) (short : length (t .image) ≤ 32768) (l : 
 -- A number that refuses comes as its text, and nothing comes where nothing was said.
 over-comes : (t : Tables) (o : Outcome ImageInfo) (l : List ℕ) → goesOn (begun o l .said) ≡ false → toCome t (begun o l) ≡ openedText t o
 over-comes t (value info) l e = let z : _≡_ {A = ℕ} 0 1 = cc in absurd (omega arith)
-over-comes t absent l e = come-step t (begun absent l) (begun-sound absent l)
+over-comes t (absent r) l e = come-step t (begun (absent r) l) (begun-sound (absent r) l)
 over-comes t (number k) l e = come-step t (begun (number k) l) (begun-sound (number k) l) ∙ append-nil (refusedText k)
 
 module _ (bytes : List ℕ) (c : Counts) (a : Accepted bytes c) (more index l : List ℕ) (room : 10240 ≤ length index) (long : length l ≡ 8192) where
@@ -136,7 +139,7 @@ module _ (bytes : List ℕ) (c : Counts) (a : Accepted bytes c) (more index l : 
     where
       go : (o : Outcome ImageInfo) → opening (bundled bytes c zeros) ≡ o → toCome read (begun o l) ≡ openedText said o
       go (value info) e = opened-comes info e
-      go absent e = over-comes read absent l refl
+      go (absent r) e = over-comes read (absent r) l refl
       go (number k) e = over-comes read (number k) l refl
 
 -- What comes of a bundle that was decoded and then opened.
