@@ -109,7 +109,7 @@ class Sketch:
         return out + (struct.pack("<Q", self.add(self.properties(1))) if wide else b"")
 
 
-# -- 13, 2, 3, 7
+# -- 13, 2, 3, 7, 14
 
 def diamond():
     """The ◆ bundle of document 01."""
@@ -757,8 +757,31 @@ def aligned():
         yield "ivar offset %x" % offset, bundle((word, offset) for word in [*range(66), *words[13:]])
 
 
+# -- bind names, 7 of all before 14 of all (note 2); last, so that the bundles before keep their numbers
+
+def bind_names():
+    n = len(diamond().image)
+    names = b"ok", b"\xc3\xa9", b"\xff", b"a\xc3", b"\xe2(", b"\xe2\x82", b"\xed\xa0\x80", b"\xc0\x80", b"\xf4\x90\x80\x80"
+
+    def bundle(*binds, segments=0, present=1):
+        b = diamond()
+        b.segments += [(0, 0, 0, 0)] * segments
+        b.sections[3] = (present, 0, 0)
+        for at, text, longer in binds:
+            b.binds.insert(at, (0, len(b.image), len(text) + longer))
+            b.image.extend(text)
+        return b.pack()
+
+    for name in names:
+        for at in (0, 1):
+            yield "bound name %s at %d" % (name.hex(), at), bundle((at, name, 0))
+    for k in range(16):     # which of 2, 3, 7 and 14 comes first, the name that is not UTF-8 before the one outside
+        binds = ([(0, b"\xe2(", 0)] if k & 8 else []) + ([(1 + (k >> 3), b"x", 1)] if k & 4 else [])
+        yield "names order %d" % k, bundle(*binds, segments=64 * (k & 1), present=1 + (k >> 1 & 1))
+
+
 FAMILIES = [lengths, refused, cuts, list_heads, windows, lookups, protocol_sizes, masks, chains, prefixes, zeros,
-            texts, alignments, relatives, sections, info, ranges, entries, differences, aligned]
+            texts, alignments, relatives, sections, info, ranges, entries, differences, aligned, bind_names]
 
 
 def edges():

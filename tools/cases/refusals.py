@@ -1,4 +1,4 @@
-"""Bundles that a question refuses. A bundle can reach 13, 2, 3 and 7: it is too short for 1, 5 and 6, and holds the 8
+"""Bundles that a question refuses. A bundle can reach 13, 2, 3, 7 and 14: it is too short for 1, 5 and 6, and holds the 8
 bytes of 4; the program lends the index of 8. 9 to 12 are about what a caller lends later."""
 import struct
 
@@ -7,7 +7,7 @@ from image import M64
 
 
 def tables(rng, bundle):
-    """2, 3 or 7, or the bundle at the edge of one, sometimes several at once."""
+    """2, 3, 7 or 14, or the bundle at the edge of one, sometimes several at once."""
     for _ in range(rng.choice([1, 1, 1, 2, 3])):
         n = len(bundle.image)
         k = rng.randrange(6)

@@ -40,7 +40,8 @@ NAMED = ["diamond", "empty", "length 406", "length 408", "total 32768", "total 3
          "sections from 2^64 - 16", "ranges of UTF-8", "alignment 3", "alignment 100", "alignment ffffffff",
          "offset of 64 bits", "bound slot holds 0", "bound slot holds 1", "alignment word 3", "alignment word 28",
          "alignment word 3f", "alignment word 40", "alignment word ff", "alignment word 100", "alignment word fffffffe",
-         "alignment word ffffffff", "ivar offset 0", "ivar offset 1", "ivar offset 8", "ivar offset 80000000"]
+         "alignment word ffffffff", "ivar offset 0", "ivar offset 1", "ivar offset 8", "ivar offset 80000000",
+         "bound name e228 at 0", "bound name e282 at 1", "names order 12", "names order 10"]
 LONG = ("texts", "alignments", "prefixes", "protocol names", "protocol list cap")   # long bundles, or long walks
 
 

@@ -7,7 +7,10 @@ use lib.Dec.{leb, ltb, eqb}
 use lib.ListN.{length, getD, take, drop}
 use Rattle.reads.specs.Answer.{missed}
 use Rattle.reads.specs.Outcome.{Outcome, value, absent, andThen, choose}
-use Rattle.reads.specs.Utf8.{utf8}
+use Rattle.reads.specs.Utf8.{verdict}
+use Rattle.reads.specs.declared.answer.Reason.the-variants.{NotUtf8}
+use Rattle.reads.specs.declared.text.Verdict.{Verdict}
+use Rattle.reads.specs.declared.text.Verdict.the-variants.{Good, Bad}
 use Rattle.pointers.specs.Open.{leftBy}
 use Rattle.pointers.specs.Question.{question}
 use Rattle.attributes.specs.declared.items.Attributes.{Attributes}
@@ -81,9 +84,13 @@ unfoldable pub itemsFit : ℕ → ℕ → Bool
 itemsFit count room = leb (3 * count) room
 
 -- What parse_attributes gives, of a text and the words of the lent buffer: absent unless UTF-8, then question 12.
+abbrev pub ifUtf8 : Verdict → Outcome Attributes → Outcome Attributes
+ifUtf8 Good o = o
+ifUtf8 (Bad k) o = absent (NotUtf8 k)
+
 unfoldable pub attributesOf : List ℕ → ℕ → Outcome Attributes
 attributesOf text room =
-    choose (utf8 text) (andThen (question 12 (itemsFit (length (items text)) room)) (λ _. value (attributes text))) absent
+    ifUtf8 (verdict text) (andThen (question 12 (itemsFit (length (items text)) room)) (λ _. value (attributes text)))
 
 -- The words of items: key, value start, length.
 unfoldable pub words : List Item → List ℕ

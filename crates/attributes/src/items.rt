@@ -1,6 +1,8 @@
 // The attribute string of a property, as `T@"NSString",C,N,V_name`: property.rs, parse_attributes.
 use reads::answer::Missing;
-use reads::text::utf8;
+use reads::answer::Reason;
+use reads::text::Verdict;
+use reads::text::utf8_verdict;
 ghost use mathlib.Core.Path.{_≡_};
 ghost use Prim.Native.Nat.{_+_, _*_, _-_, _≤_, _<_};
 ghost use lib.ListN.{length, drop};
@@ -145,8 +147,11 @@ pub fn parse_attributes(text: &[u8], buffer: &mut [u64]) -> AttributesAnswer
     ensures outcome { λ r. ⌜ attributesOutcome r ≡ attributesOf (before text) (length (before buffer)) ⌝ }
     ensures contents { λ _. ⌜ after buffer ≡ itemsLeft (before text) (before buffer) ⌝ }
 {
-    if !utf8(text) {
-        return AttributesAnswer::Missing(Missing::Absent);
+    match utf8_verdict(text) {
+        Verdict::Good => {}
+        Verdict::Bad(k) => {
+            return AttributesAnswer::Missing(Missing::Absent(Reason::NotUtf8(k)));
+        }
     }
     let found = count_items(text);
     if !items_fit(found.count, buffer.len()) {

@@ -29,8 +29,8 @@ use Rattle.records.specs.declared.class.ObjcClass.{ObjcClass}
 use Rattle.records.specs.declared.list.Layout.{Layout}
 use Rattle.records.specs.declared.list.ListKind.{ListKind}
 use Rattle.records.specs.declared.protocol.ObjcProtocol.{ObjcProtocol}
-use Rattle.walks.specs.Gather.{ofValue, asEach}
-use Rattle.walks.specs.PlainSections.{plainClasses, plainProtocols, plainCategories, Gives, passing, giving, Run}
+use Rattle.walks.specs.Gather.{gather, ofValue, asEach}
+use Rattle.walks.specs.PlainSections.{plainClasses, plainProtocols, plainCategories, Gives, passing, dropping, giving, Run}
 use Rattle.walks.specs.PlainSections as plainSections
 use Rattle.walks.specs.Sections as sections
 use Rattle.walks.specs.Sections.{Walk}
@@ -38,10 +38,10 @@ use Rattle.walks.specs.Slots.{slotCount, protocolCount}
 use Rattle.walks.proofs.Gathers.{joined-parts, each-came}
 use Rattle.walks.proofs.PlainWalks.{class-run, category-run, protocol-run}
 use Rattle.walks.proofs.Walk.{settled-bound}
-use Rattle.listing.specs.PlainListing.{Field, rowList, nameList, roFields, protocolFields, categoryFields, plainRecords, recordFields, entriesIn, Event, fieldEvents, recordEvents, eventsFrom, plainEvents}
+use Rattle.listing.specs.PlainListing.{Field, rowList, nameList, roFields, protocolFields, categoryFields, plainRecords, recordFields, Entry, entryIn, entriesIn, Event, fieldEvents, recordEvents, eventsFrom, plainEvents}
 use Rattle.listing.specs.declared.at.Record.{Record}
 use Rattle.listing.specs.declared.at.Record.the-variants as aRecord
-use Rattle.listing.proofs.Events.{parts-length, each-length, field-parts, names-settle-none}
+use Rattle.listing.proofs.Events.{parts-length, each-length, field-parts, entries-length, names-settle-none}
 
 -- The fields that name a list of rows.
 unfoldable pub rowLists : List Field → ℕ
@@ -52,7 +52,7 @@ rowLists (nameList va ∷ fs) = rowLists fs
 -- A record has at most six of them: a class three, a protocol six, a category four.
 class-six : (v : Outcome ClassRo) (fs : List Field) → ofValue v (λ r. value (roFields r)) ≡ value fs → rowLists fs ≤ 6
 class-six (value r) fs e = let same : fs ≡ roFields r = cc in rw same (unfold rowLists in omega arith)
-class-six absent fs e = let same : fs ≡ [] = cc in rw same (unfold rowLists in omega arith)
+class-six (absent r) fs e = let same : fs ≡ [] = cc in rw same (unfold rowLists in omega arith)
 class-six (number k) fs e = let z : _≡_ {A = ℕ} 0 1 = cc in absurd (omega arith)
 
 six-lists : (t : Tables) (x : Record) (fs : List Field) → recordFields t x ≡ value fs → rowLists fs ≤ 6
@@ -66,13 +66,13 @@ module _ (t : Tables) (o : Opened t) where
   abbrev listMost : ℕ
   listMost = length (t .segments) / 4 * (length (t .image) / 12)
 
-  list-few : (k : ListKind) (va : ℕ) (v : Outcome Layout) → listAt t k va ≡ v → (js : List ℕ)
-      → ofValue v (λ h. value (readables (imageIn t) h)) ≡ value js → length js ≤ listMost
-  list-few k va (value h) e js d = let same : js ≡ readables (imageIn t) h = cc in rw same (settled-bound t o k va h e)
-  list-few k va absent e js d = let same : js ≡ [] = cc in rw same (omega arith)
+  list-few : (k : ListKind) (va : ℕ) (v : Outcome Layout) → listAt t k va ≡ v → (js : List Entry)
+      → ofValue v (λ h. gather (entryIn t h) (readables (imageIn t) h)) ≡ value js → length js ≤ listMost
+  list-few k va (value h) e js d = rw (entries-length t h (readables (imageIn t) h) js d) (settled-bound t o k va h e)
+  list-few k va (absent r) e js d = let same : js ≡ [] = cc in rw same (omega arith)
   list-few k va (number i) e js d = let z : _≡_ {A = ℕ} 0 1 = cc in absurd (omega arith)
 
-  pub entries-few : (k : ListKind) (va : ℕ) (js : List ℕ) → entriesIn t (rowList k va) ≡ value js
+  pub entries-few : (k : ListKind) (va : ℕ) (js : List Entry) → entriesIn t (rowList k va) ≡ value js
       → length js ≤ length (t .segments) / 4 * (length (t .image) / 12)
   unfolding entriesIn
   entries-few k va js e = list-few k va (listAt t k va) refl js e
@@ -112,6 +112,7 @@ module _ (t : Tables) (o : Opened t) where
 gives-few : {A : Type 0} {step : Walk → List ℕ → sections.Left A} {n : ℕ} {w : Walk} {l : List ℕ} {rs : List A} → Gives step n w l rs → length rs ≤ n
 gives-few (plainSections.ended e) = omega arith
 gives-few (passing e g) = omega (arith, gives-few g)
+gives-few (dropping e g) = omega (arith, gives-few g)
 gives-few (giving e g) = omega (arith, gives-few g)
 
 run-few : {A : Type 0} {step : Walk → List ℕ → sections.Left A} {k : ℕ} {l : List ℕ} {rs : List A} → Run step k l rs → length rs ≤ k

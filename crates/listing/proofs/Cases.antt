@@ -12,6 +12,7 @@ use Rattle.reads.specs.Address.{stripped}
 use Rattle.reads.specs.Segment.{rows, ends, holds, placeAt, placed, lookup}
 use Rattle.reads.specs.Text.{text, textLength, textAt, textIn}
 use Rattle.reads.specs.Utf8.{judge, utf8}
+use Rattle.reads.specs.declared.answer.Reason.the-variants.{Unmapped, ShortEntry}
 use Rattle.pointers.specs.Chain.{followFrom, follow}
 use Rattle.pointers.specs.ImageInfo.{infoOf, imageInfo, bit}
 use Rattle.pointers.specs.Open.{opening}
@@ -36,7 +37,7 @@ use Rattle.records.proofs.HubImage as image
 use Rattle.walks.proofs.HubRun.{hub, hub-opened}
 use Rattle.listing.specs.Bundle.{wordsFrom, bundleFits, bundleCounts, bundled}
 use Rattle.listing.specs.ListingRun.{Lists}
-use Rattle.listing.specs.PlainListing.{event, plainEvents, plainListing}
+use Rattle.listing.specs.PlainListing.{withRow, withoutRow, event, plainEvents, plainListing}
 use Rattle.listing.specs.declared.bundle.Counts.{Counts}
 use Rattle.listing.proofs.HubListing.{hub-events, five-lines, hub-listing}
 use Rattle.listing.proofs.LittleEndian.{bytesOf, eights}
@@ -79,7 +80,7 @@ listing-cases =
     ∷ case "listing: hub-tables" (bundled hub-bundle hub-counts (hub .index)) hub
     ∷ case "listing: opening" (opening (withIndex hub (hub-opened .indexBefore))) (value (infoOf 0 0))
     ∷ case "listing: lines" (plainListing hub) (value five-lines)
-    ∷ case "listing: settling steps" (plainEvents hub) (value (event 0 0 0 ∷ event 0 0 1 ∷ []))
+    ∷ case "listing: settling steps" (plainEvents hub) (value (event 0 0 (withRow 0) ∷ event 0 0 (withoutRow 1 Unmapped) ∷ []))
     ∷ case "listing: superclass name" (part image.bytes 182 8) (ascii "NSObject")
     ∷ case "listing: class name" (part image.bytes 0x90 3) (ascii "Hub")
     ∷ case "listing: selector" (part image.bytes 0x94 2) (ascii "up")
@@ -138,11 +139,11 @@ unaligned =
 abbrev pub edge-cases : List Case
 edge-cases =
     case "entry word 27: legacy, 24" (method-list 27) (value (layout 24 rowKind.Legacy))
-    ∷ case "entry word 23: absent" (method-list 23) absent
+    ∷ case "entry word 23: absent" (method-list 23) (absent ShortEntry)
     ∷ case "entry word 0x8000000C: small" (method-list 0x8000000C) (value (layout 12 rowKind.SmallIndirect))
-    ∷ case "entry word 0x80000008: absent" (method-list 0x80000008) absent
+    ∷ case "entry word 0x80000008: absent" (method-list 0x80000008) (absent ShortEntry)
     ∷ case "segment 0x1000, 0x100, 0, 0x80: 0x107F gives 0x7F" (lookup (rows segments) 0x107F) (value (placeAt 0x7F))
-    ∷ case "0x1080: absent" (lookup (rows segments) 0x1080) absent
+    ∷ case "0x1080: absent" (lookup (rows segments) 0x1080) (absent Unmapped)
     ∷ case "0x1080: the later-segment segment has it" (lookup (rows later-segment) 0x1080) (value (placeAt 0x80))
     ∷ case "alignment 0x100: none" (alignmentOf 0x100) alignment.Nothing
     ∷ case "an ivar with the alignment 0x100: none" (ivarAt (whole-image ivar) 0x1000) (value unaligned)
@@ -159,8 +160,8 @@ pub cases-hold : AllHold cases
 cases-hold = both-hold listing-cases edge-cases listing-holds edges-hold
 
 -- The steps of the listing over these tables say the five lines and settle the two entries, with any ledger that has a word.
-pub hub-steps-say : (l : List ℕ) → 1 ≤ length l → Lists hub l five-lines (event 0 0 0 ∷ event 0 0 1 ∷ [])
+pub hub-steps-say : (l : List ℕ) → 1 ≤ length l → Lists hub l five-lines (event 0 0 (withRow 0) ∷ event 0 0 (withoutRow 1 Unmapped) ∷ [])
 hub-steps-say l room =
     let classes : slotCount (hub .sections) 0 1 ≡ 1 = unfold slotCount sectionAt choose in refl in
     let categories : slotCount (hub .sections) 2 3 ≡ 0 = unfold slotCount sectionAt choose in refl in
-    lists-with-room hub hub-opened l (rw classes room) (rw categories (omega arith)) five-lines (event 0 0 0 ∷ event 0 0 1 ∷ []) hub-listing hub-events
+    lists-with-room hub hub-opened l (rw classes room) (rw categories (omega arith)) five-lines (event 0 0 (withRow 0) ∷ event 0 0 (withoutRow 1 Unmapped) ∷ []) hub-listing hub-events

@@ -16,7 +16,7 @@ use Rattle.records.specs.Class.{roOf, superclassName}
 use Rattle.records.specs.declared.class.ClassRo.{ClassRo}
 use Rattle.walks.specs.ProtocolNames.{ReachedName, nameReached, namePassed, namesFinished, nextName}
 use Rattle.walks.specs.Sections as sections
-use Rattle.walks.specs.Sections.{Walk, atStart, Step, found, passed, finished, stepOf, protocolStepOf}
+use Rattle.walks.specs.Sections.{Walk, atStart, Step, found, passed, dropped, finished, stepOf, protocolStepOf}
 use Rattle.walks.specs.Walk.{ReachedRow, rowReached, rowSkipped, rowsFinished, nextOf}
 use Rattle.walks.specs.declared.list_walk.ListWalk.{ListWalk}
 use Rattle.walks.specs.declared.protocol_names.ProtocolNameWalk.{ProtocolNameWalk}
@@ -80,7 +80,7 @@ module _ (s : State) (l : List ℕ) where
   -- A step that goes on to another place of the same section.
   onward-falls : {A : Type 0} (o : Outcome A) (go : A → listing.Left) → ((a : A) → Falls s (go a)) → Falls s (onward s l o go)
   onward-falls (value a) go f = f a
-  onward-falls absent go f = record { falls = λ e f. never e }
+  onward-falls (absent r) go f = record { falls = λ e f. never e }
   onward-falls (number k) go f = stays k
 
   record-falls : placeLeft (s .at) ≡ 2 ^ 71 → (t : Tables) (x : Record) → Falls s (recordStep t s l x)
@@ -94,7 +94,7 @@ module _ (s : State) (l : List ℕ) where
 
   ro-falls : placeLeft (s .at) ≡ 2 ^ 70 → (o : Outcome ClassRo) → Falls s (byRo s l o)
   ro-falls h (value r) = record { falls = λ e f. nearer _ s refl (omega (arith, h, enter-few (anOwner.Class r) 0)) }
-  ro-falls h absent = record { falls = λ e f. nearer _ s refl (omega (arith, h)) }
+  ro-falls h (absent r) = record { falls = λ e f. nearer _ s refl (omega (arith, h)) }
   ro-falls h (number k) = stays k
 
   module _ (o : Owner) (n : ℕ) where
@@ -103,17 +103,17 @@ module _ (s : State) (l : List ℕ) where
 
     row-falls : (w v : ListWalk) → placeLeft (s .at) ≡ listLeft (w .cursor) listsAfter → (x : Outcome ReachedRow) → RowMoves w v x → Falls s (byRow s l o n v x)
     row-falls w v h (value (rowReached r)) m = record { falls = λ e f. nearer _ s refl (omega (arith, h, m, f .cursor)) }
-    row-falls w v h (value (rowSkipped j)) m = record { falls = λ e f. nearer _ s refl (omega (arith, h, m, f .cursor)) }
+    row-falls w v h (value (rowSkipped j r)) m = record { falls = λ e f. nearer _ s refl (omega (arith, h, m, f .cursor)) }
     row-falls w v h (value rowsFinished) m = record { falls = λ e f. nearer _ s refl (omega (arith, h, enter-few o (suc n))) }
     row-falls w v h (number k) m = stays k
-    row-falls w v h absent m = record { falls = λ e f. nearer _ s refl (omega (arith, h, enter-few o (suc n))) }
+    row-falls w v h (absent r) m = record { falls = λ e f. nearer _ s refl (omega (arith, h, enter-few o (suc n))) }
 
-    name-falls : (w v : ProtocolNameWalk) → placeLeft (s .at) ≡ listLeft (w .cursor) listsAfter → (x : Outcome ReachedName) → NameMoves w v x → Falls s (byName s l o n v x)
+    name-falls : (w v : ProtocolNameWalk) → placeLeft (s .at) ≡ listLeft (w .cursor) listsAfter → (x : Outcome ReachedName) → NameMoves w v x → Falls s (byName s l o n (w .cursor) v x)
     name-falls w v h (value (nameReached name)) m = record { falls = λ e f. nearer _ s refl (omega (arith, h, m, f .cursor)) }
-    name-falls w v h (value namePassed) m = record { falls = λ e f. nearer _ s refl (omega (arith, h, m, f .cursor)) }
+    name-falls w v h (value (namePassed r)) m = record { falls = λ e f. nearer _ s refl (omega (arith, h, m, f .cursor)) }
     name-falls w v h (value namesFinished) m = record { falls = λ e f. nearer _ s refl (omega (arith, h, enter-few o (suc n))) }
     name-falls w v h (number k) m = stays k
-    name-falls w v h absent m = record { falls = λ e f. nearer _ s refl (omega (arith, h, enter-few o (suc n))) }
+    name-falls w v h (absent r) m = record { falls = λ e f. nearer _ s refl (omega (arith, h, enter-few o (suc n))) }
 
     list-falls : (t : Tables) (x : FieldWalk) → placeLeft (s .at) ≡ listLeft (cursorIn x) listsAfter → Falls s (listStep t s l o n x)
     list-falls t (fieldWalk.Rows w) h = let x = nextOf t w in row-falls w (x .walk) h (x .answer) (row-step-moved t w .moves)
@@ -128,9 +128,10 @@ module _ {A : Type 0} (s : State) (h : placeLeft (s .at) ≡ 1) (f : A → Recor
 
   walk-falls : (o : Outcome (Step A)) → SectionMoves w v o → Falls s (onward s m (asRecord f o) (bySection s m (inWalk v)))
   walk-falls (value (found a)) b = record { falls = λ e g. taken-falls (further-less w v b (rw (slots v) at (g .slot))) (place.Record (f a)) (omega arith) }
-  walk-falls (value passed) b = record { falls = λ e g. taken-falls (further-less w v b (rw (slots v) at (g .slot))) place.Section (omega arith) }
+  walk-falls (value (passed r)) b = record { falls = λ e g. taken-falls (further-less w v b (rw (slots v) at (g .slot))) place.Section (omega arith) }
+  walk-falls (value dropped) b = record { falls = λ e g. taken-falls (further-less w v b (rw (slots v) at (g .slot))) place.Section (omega arith) }
   walk-falls (value finished) b = last b
-  walk-falls absent b = absurd b
+  walk-falls (absent r) b = absurd b
   walk-falls (number k) b = record { falls = λ e g. never e }
 
 module _ (s : State) (l : List ℕ) where

@@ -1,7 +1,7 @@
 -- A record's lists, walked one after the other: each list of rows settles its readable entries and says their rows, each list of protocol
 -- names says its names, and then the next list comes.
 use Prim.Native.Nat.{ℕ, zero, suc, _+_, _-_, _%_, _^_, _≤_, _<_}
-use mathlib.Core.Path.{_≡_, refl, sym, ap, _∙_, subst}
+use mathlib.Core.Path.{_≡_, refl, sym, ap, _∙_}
 use mathlib.Core.Bool.{false}
 use mathlib.Core.Option.{Option, none, some}
 use mathlib.Core.List.{List, [], _∷_, _++_, map, append-assoc}
@@ -11,6 +11,7 @@ use lib.ListN.{length, drop}
 use Rattle.reads.specs.Outcome.{Outcome, value, absent, number, Unrefused}
 use Rattle.reads.specs.declared.text.Text.{Text}
 use Rattle.reads.proofs.Tests.{by-choose, choose-true, choose-false}
+use Rattle.reads.specs.declared.answer.Reason.{Reason}
 use Rattle.pointers.specs.Open.{Opened}
 use Rattle.pointers.specs.Tables.{Tables, imageIn}
 use Rattle.records.specs.List.{listAt, entryAddress}
@@ -31,15 +32,15 @@ use Rattle.walks.proofs.Gathers.{joined-parts, gather-parts, gather-none, Held,
 use Rattle.walks.proofs.ProtocolLists.{no-slot-from-count}
 use Rattle.walks.proofs.ProtocolNameWalks.{next-in, next-absent}
 use Rattle.walks.proofs.Walk.{opened-step, opened-unrefused, within-count, step-value, step-finished}
-use Rattle.listing.specs.PlainListing.{Field, rowList, nameList, rowLine, nameLine, entryLines, fieldLines, fieldsLines, entriesIn, Event, event, fieldEvents}
+use Rattle.listing.specs.PlainListing.{Field, rowList, nameList, rowLine, nameLine, entryLines, fieldLines, fieldsLines, Entry, withRow, withoutRow, entryBy, entryIn, entriesIn, Event, event, fieldEvents}
 use Rattle.listing.specs.Listing.{ownerFields, inList, enter, SectionWalk, State, state, afterRow, afterName, stepAt, listingStep}
 use Rattle.listing.specs.ListingRun.{eventsIn, eventsAt, settledIn}
 use Rattle.listing.specs.declared.at.At.the-variants as place
 use Rattle.listing.specs.declared.at.FieldWalk.the-variants as fieldWalk
 use Rattle.listing.specs.declared.at.Owner.{Owner}
 use Rattle.listing.specs.declared.line.Line.{Line}
-use Rattle.listing.proofs.Events.{field-parts, names-settle-none}
-use Rattle.listing.proofs.Rest.{Steps, silent, saying}
+use Rattle.listing.proofs.Events.{field-parts, names-settle-none, entries-length}
+use Rattle.listing.proofs.Rest.{Steps, silent, telling, saying}
 
 pub less : (m a b : ℕ) → a ≤ b → b < m → a < m
 less m a b u v = omega arith
@@ -66,11 +67,11 @@ module _ (t : Tables) (o : Opened t) (Over : State → List ℕ → Type 0) (k :
 
   module _ (xs : List Line) (es : List Event) (c′ : ℕ) (below : c′ < 2 ^ 128) (later : Steps t Over (state (enter w (suc n)) sec r c′) l xs es) where
     -- An absent list.
-    rest-absent : listAt t k list ≡ absent → Steps t Over (atEntry 0 c′) l xs es
+    rest-absent : (why : Reason) → listAt t k list ≡ absent why → Steps t Over (atEntry 0 c′) l xs es
     unfolding plainStep
-    rest-absent e =
+    rest-absent why e =
         let zero-fits : 0 ≤ countOf (listAt t k list) = omega arith in
-        let next : nextOf t (walkOf list k 0) ≡ hands absent (walkOf list k 0) =
+        let next : nextOf t (walkOf list k 0) ≡ hands (absent why) (walkOf list k 0) =
         opened-step t o k list 0 zero-fits ∙ rw (opened-unrefused t o k list 0 zero-fits, e) refl in
         silent (step-by 0 c′ _ next) (events-by 0 c′ _ next) later
 
@@ -83,75 +84,80 @@ module _ (t : Tables) (o : Opened t) (Over : State → List ℕ → Type 0) (k :
           → nextOf t (walkOf list k p) ≡ shown k list (settling j (rowAt t (h .kind) (entryAddress h j)))
       next-settles p j u e = opened-step t o k list p (within-count t o k list h there p u) ∙ ap (shown k list) (step-value t o k list h there p j u e)
 
-      -- What comes from entry p on, where the readable entries from there are js and give these lines.
-      abbrev EntriesCome : ℕ → ℕ → List ℕ → List Line → Type 0
-      EntriesCome p c js ys = Steps t Over (atEntry p c) l (ys ++ xs) (map (event (r - 1) n) js ++ es)
+      -- What comes from entry p on, where the entries from there are zs and give these lines.
+      abbrev EntriesCome : ℕ → ℕ → List Entry → List Line → Type 0
+      EntriesCome p c zs ys = Steps t Over (atEntry p c) l (ys ++ xs) (map (event (r - 1) n) zs ++ es)
 
-      entry-comes : (p c j : ℕ) (js : List ℕ) (first ys : List Line) (v : Outcome Row) → rowAt t (h .kind) (entryAddress h j) ≡ v
-          → ofValue v (λ row. value (rowLine n row ∷ [])) ≡ value first
+      entry-comes : (p c j : ℕ) (mine zs : List Entry) (first ys : List Line) (v : Outcome Row) → rowAt t (h .kind) (entryAddress h j) ≡ v
+          → ofValue v (λ row. value (rowLine n row ∷ [])) ≡ value first → entryBy j v ≡ value mine
           → nextOf t (walkOf list k p) ≡ shown k list (settling j v)
-          → c + 1 ≤ c′ → EntriesCome (suc j) (c + 1) js ys → EntriesCome p c (j ∷ js) (first ++ ys)
-      entry-comes p c j js first ys (value row) d a e u more =
+          → c + 1 ≤ c′ → EntriesCome (suc j) (c + 1) zs ys → EntriesCome p c (mine ++ zs) (first ++ ys)
+      entry-comes p c j mine zs first ys (value row) d a b e u more =
           let m : (c + 1) % 2 ^ 128 ≡ c + 1 = mod-eq-of-lt (less (2 ^ 128) (c + 1) c′ u below) in
-          let after : EntriesCome (suc j) ((c + 1) % 2 ^ 128) js ys = rw m more in
+          let after : EntriesCome (suc j) ((c + 1) % 2 ^ 128) zs ys = rw m more in
           let back : suc j - 1 ≡ j = omega arith in
           let own : first ≡ rowLine n row ∷ [] = cc in
-          rw own (saying (step-by p c _ e) (events-by p c _ e ∙ ap (λ (i : ℕ). value (event (r - 1) n i ∷ [])) back) after)
-      entry-comes p c j js first ys absent d a e u more =
+          let settled : mine ≡ withRow j ∷ [] = cc in
+          rw (own, settled) (saying (step-by p c _ e) (events-by p c _ e ∙ ap (λ (i : ℕ). value (event (r - 1) n (withRow i) ∷ [])) back) after)
+      entry-comes p c j mine zs first ys (absent why) d a b e u more =
           let m : (c + 1) % 2 ^ 128 ≡ c + 1 = mod-eq-of-lt (less (2 ^ 128) (c + 1) c′ u below) in
-          let after : EntriesCome (suc j) ((c + 1) % 2 ^ 128) js ys = rw m more in
+          let after : EntriesCome (suc j) ((c + 1) % 2 ^ 128) zs ys = rw m more in
           let none : first ≡ [] = cc in
-          rw none (silent (step-by p c _ e) (events-by p c _ e) after)
-      entry-comes p c j js first ys (number i) d a e u more = let z : _≡_ {A = ℕ} 0 1 = cc in absurd (omega arith)
+          let settled : mine ≡ withoutRow j why ∷ [] = cc in
+          rw (none, settled) (telling (step-by p c _ e) (events-by p c _ e) after)
+      entry-comes p c j mine zs first ys (number i) d a b e u more = let z : _≡_ {A = ℕ} 0 1 = cc in absurd (omega arith)
 
-      entries-come : (js : List ℕ) (p c : ℕ) (ys : List Line) → p ≤ h .count → (v : Option ℕ) → firstReadable (imageIn t) h p ≡ v
-          → restFrom (imageIn t) h p ≡ js → gather (entryLines t n h) js ≡ value ys → c′ ≡ c + length js → EntriesCome p c js ys
-      entries-come [] p c ys u (some j) e f a d = let g = rest-of-some (imageIn t) h p j e in let z : _≡_ {A = ℕ} 0 1 = cc in absurd (omega arith)
-      entries-come [] p c ys u none e f a d =
+      entries-come : (js : List ℕ) (p c : ℕ) (ys : List Line) (zs : List Entry) → p ≤ h .count → (v : Option ℕ) → firstReadable (imageIn t) h p ≡ v
+          → restFrom (imageIn t) h p ≡ js → gather (entryLines t n h) js ≡ value ys → gather (entryIn t h) js ≡ value zs → c′ ≡ c + length js
+          → EntriesCome p c zs ys
+      entries-come [] p c ys zs u (some j) e f a b d = let g = rest-of-some (imageIn t) h p j e in let z : _≡_ {A = ℕ} 0 1 = cc in absurd (omega arith)
+      entries-come [] p c ys zs u none e f a b d =
           let same : c′ ≡ c = omega arith in
           let next = next-finished p u e in
           let none = gather-none (entryLines t n h) a in
-          rw none (silent (step-by p c _ next) (events-by p c _ next) (rw same at later))
-      entries-come (j ∷ js) p c ys u none e f a d = let g = rest-of-none (imageIn t) h p e in let z : _≡_ {A = ℕ} 0 1 = cc in absurd (omega arith)
-      entries-come (j ∷ js) p c ys u (some i) e f a d =
+          let nothing = gather-none (entryIn t h) b in
+          rw (none, nothing) (silent (step-by p c _ next) (events-by p c _ next) (rw same at later))
+      entries-come (j ∷ js) p c ys zs u none e f a b d = let g = rest-of-none (imageIn t) h p e in let z : _≡_ {A = ℕ} 0 1 = cc in absurd (omega arith)
+      entries-come (j ∷ js) p c ys zs u (some i) e f a b d =
           let g = rest-of-some (imageIn t) h p i e in
           let first : i ≡ j = cc in
           let rest : restFrom (imageIn t) h (suc i) ≡ js = cc in
           let stands = found-below-count (imageIn t) h p i e in
           let parts = gather-parts (entryLines t n h) j js a in
+          let entries = gather-parts (entryIn t h) j js b in
           let own : entryLines t n h i ≡ value (parts .first) = rw first (parts .ofFirst) in
-          rw (parts .whole)
-          (subst (λ (q : ℕ). EntriesCome p c (q ∷ js) (parts .first ++ parts .second)) first
-          (entry-comes p c i js (parts .first) (parts .second) (rowAt t (h .kind) (entryAddress h i)) refl own (next-settles p i u e) (omega arith)
-          (entries-come js (suc i) (c + 1) (parts .second) (omega arith) (firstReadable (imageIn t) h (suc i)) refl rest (parts .ofSecond) (omega arith))))
+          let mine : entryIn t h i ≡ value (entries .first) = rw first (entries .ofFirst) in
+          rw (parts .whole, entries .whole)
+          (entry-comes p c i (entries .first) (entries .second) (parts .first) (parts .second) (rowAt t (h .kind) (entryAddress h i)) refl own mine (next-settles p i u e) (omega arith)
+          (entries-come js (suc i) (c + 1) (parts .second) (entries .second) (omega arith) (firstReadable (imageIn t) h (suc i)) refl rest (parts .ofSecond) (entries .ofSecond) (omega arith)))
 
     -- A field that names a list of rows.
-    rest-rows : (v : Outcome Layout) → Unrefused v → listAt t k list ≡ v → (c : ℕ) (ys : List Line) (js : List ℕ)
-        → fieldLines t n (rowList k list) ≡ value ys → entriesIn t (rowList k list) ≡ value js → c′ ≡ c + length js
-        → Steps t Over (atEntry 0 c) l (ys ++ xs) (map (event (r - 1) n) js ++ es)
+    rest-rows : (v : Outcome Layout) → Unrefused v → listAt t k list ≡ v → (c : ℕ) (ys : List Line) (zs : List Entry)
+        → fieldLines t n (rowList k list) ≡ value ys → entriesIn t (rowList k list) ≡ value zs → c′ ≡ c + length zs
+        → Steps t Over (atEntry 0 c) l (ys ++ xs) (map (event (r - 1) n) zs ++ es)
     unfolding fieldLines entriesIn
-    rest-rows (value h) u e c ys js a b d =
+    rest-rows (value h) u e c ys zs a b d =
         let lines : gather (entryLines t n h) (readables (imageIn t) h) ≡ value ys = rw e at a in
-        let entries : value (readables (imageIn t) h) ≡ value js = rw e at b in
-        let same : readables (imageIn t) h ≡ js = cc in
-        entries-come h e js 0 c ys (omega arith) (firstReadable (imageIn t) h 0) refl (sym (rest-from-0 (imageIn t) h) ∙ same) (rw same at lines) d
-    rest-rows absent u e c ys js a b d =
+        let entries : gather (entryIn t h) (readables (imageIn t) h) ≡ value zs = rw e at b in
+        let count : c′ ≡ c + length (readables (imageIn t) h) = omega (arith, entries-length t h (readables (imageIn t) h) zs entries) in
+        entries-come h e (readables (imageIn t) h) 0 c ys zs (omega arith) (firstReadable (imageIn t) h 0) refl (sym (rest-from-0 (imageIn t) h)) lines entries count
+    rest-rows (absent why) u e c ys zs a b d =
         let lines : value [] ≡ value ys = rw e at a in
-        let entries : value [] ≡ value js = rw e at b in
+        let entries : value [] ≡ value zs = rw e at b in
         let none : ys ≡ [] = cc in
-        let nothing : js ≡ [] = cc in
-        let count : length js ≡ 0 = rw nothing in
+        let nothing : zs ≡ [] = cc in
+        let count : length zs ≡ 0 = rw nothing in
         let same : c ≡ c′ = omega arith in
-        rw (none, nothing, same) (rest-absent e)
+        rw (none, nothing, same) (rest-absent why e)
 
 -- The steps over one list of protocol names.
 module _ (t : Tables) (o : Opened t) (Over : State → List ℕ → Type 0) (list n : ℕ) (w : Owner) (sec : SectionWalk) (r c : ℕ) (l : List ℕ) where
   abbrev atName : ℕ → State
   atName i = state (inList w n (fieldWalk.Names (walkAt list i))) sec r c
 
-  name-by : (i : ℕ) (x : NameLeft) → nextName t (walkAt list i) ≡ x → listingStep t (atName i) l ≡ afterName (atName i) l w n x
+  name-by : (i : ℕ) (x : NameLeft) → nextName t (walkAt list i) ≡ x → listingStep t (atName i) l ≡ afterName (atName i) l w n i x
   unfolding stepAt
-  name-by i x e = ap (λ (y : NameLeft). afterName (atName i) l w n y) e
+  name-by i x e = ap (λ (y : NameLeft). afterName (atName i) l w n i y) e
 
   no-event : (i : ℕ) → eventsIn t (atName i) ≡ value []
   unfolding eventsAt
@@ -172,7 +178,7 @@ module _ (t : Tables) (o : Opened t) (Over : State → List ℕ → Type 0) (lis
       name-comes : (i : ℕ) {v : Outcome Text} {first : List Text} (names : List Text) → Held v first → nextName t (walkAt list i) ≡ named (walkAt list i) v
           → NamesCome (i + 1) names → NamesCome i (first ++ names)
       name-comes i names (held-one name) e more = saying (name-by i _ e) (no-event i) more
-      name-comes i names held-none e more = silent (name-by i _ e) (no-event i) more
+      name-comes i names (held-none why) e more = telling (name-by i _ e) (no-event i) more
 
       names-come : (q i : ℕ) (names : List Text) → i + q ≡ p .count → gather present (slotNames t p i q) ≡ value names → NamesCome i names
       unfolding slotNames stepIn
@@ -196,8 +202,8 @@ module _ (t : Tables) (o : Opened t) (Over : State → List ℕ → Type 0) (lis
     list-comes : (v : Outcome ProtocolList) → protocolListAt t list ≡ v → (names : List Text)
         → ofValue v (λ p. gather present (slotNames t p 0 (p .count))) ≡ value names → Steps t Over (atName 0) l (map (nameLine n) names ++ xs) es
     list-comes (value p) e names a = names-come p e (p .count) 0 names (omega arith) a
-    list-comes absent e names a =
-        let next = next-absent t o (walkAt list 0) e (omega arith) in
+    list-comes (absent why) e names a =
+        let next = next-absent t o (walkAt list 0) why e (omega arith) in
         let none : names ≡ [] = cc in
         rw none (silent (name-by 0 _ next) (no-event 0) later)
     list-comes (number k) e names a = let z : _≡_ {A = ℕ} 0 1 = cc in absurd (omega arith)
@@ -236,7 +242,7 @@ module _ (t : Tables) (o : Opened t) (Over : State → List ℕ → Type 0) (w :
       let lines = joined-parts (fieldLines t n (nameList va)) (fieldsLines t (suc n) fs) a in
       let events = field-parts t (r - 1) n (nameList va) fs gs b in
       let none = names-settle-none t va (events .entries) (events .ofEntries) in
-      let all : gs ≡ events .later = events .entriesThenLater ∙ ap (λ (js : List ℕ). map (event (r - 1) n) js ++ events .later) none in
+      let all : gs ≡ events .later = events .entriesThenLater ∙ ap (λ (zs : List Entry). map (event (r - 1) n) zs ++ events .later) none in
       rw (e, lines .whole, append-assoc (lines .first) (lines .second) xs, all)
       (rest-names t o Over va n w sec r c l (lines .second ++ xs) (events .later ++ es)
       (rest-fields fs (suc n) c (drop-next n (ownerFields w) e) (lines .second) (events .later) (lines .ofSecond) (events .ofLater) (rw all at d))

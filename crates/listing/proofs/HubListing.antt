@@ -7,6 +7,7 @@ use Rattle.reads.specs.Place.{le, readableAt, readable, word, wordIn}
 use Rattle.reads.specs.Address.{stripped}
 use Rattle.reads.specs.Relative.{slotAddress}
 use Rattle.reads.specs.Segment.{rows, ends, holds, placed, lookup}
+use Rattle.reads.specs.declared.answer.Reason.the-variants.{Unmapped}
 use Rattle.pointers.specs.ImageInfo.{infoOf}
 use Rattle.pointers.specs.Section.{sectionAt}
 use Rattle.pointers.specs.Slot.{stored}
@@ -86,11 +87,11 @@ hub-lines : plain.fieldsLines hub 0 (plain.roFields hub-class-ro) ≡ value (row
 unfolding plain.fieldsLines plain.fieldLines protocolNames gather
 hub-lines = rw (hub-methods, hub-two, row-0, row-1, no-list hub Ivars, no-list hub Properties, no-names hub)
 
-hub-settling : plain.eventsFrom hub 0 (aRecord.Class hub-class-record ∷ []) ≡ value (plain.event 0 0 0 ∷ plain.event 0 0 1 ∷ [])
-unfolding plain.eventsFrom plain.recordEvents plain.fieldEvents plain.entriesIn
-hub-settling = rw hub-fields (rw (hub-methods, hub-two, no-list hub Ivars, no-list hub Properties))
+hub-settling : plain.eventsFrom hub 0 (aRecord.Class hub-class-record ∷ []) ≡ value (plain.event 0 0 (plain.withRow 0) ∷ plain.event 0 0 (plain.withoutRow 1 Unmapped) ∷ [])
+unfolding plain.eventsFrom plain.recordEvents plain.fieldEvents plain.entriesIn gather
+hub-settling = rw hub-fields (rw (hub-methods, hub-two, row-0, row-1, no-list hub Ivars, no-list hub Properties))
 
-pub hub-events : plain.plainEvents hub ≡ value (plain.event 0 0 0 ∷ plain.event 0 0 1 ∷ [])
+pub hub-events : plain.plainEvents hub ≡ value (plain.event 0 0 (plain.withRow 0) ∷ plain.event 0 0 (plain.withoutRow 1 Unmapped) ∷ [])
 hub-events = rw hub-records hub-settling
 
 -- I 0 0, the lines of the class, and E 1 2.

@@ -15,11 +15,12 @@ use Rattle.reads.specs.Segment.{rows, ends, holds, placed, lookup}
 use Rattle.reads.specs.Text.{text, textLength, textAt, textIn}
 use Rattle.reads.specs.Utf8.{judge, utf8}
 use Rattle.reads.specs.declared.text.Text.{Text}
+use Rattle.reads.specs.declared.answer.Reason.the-variants.{NullAddress, NoRecord}
 use Rattle.pointers.specs.Chain.{lastAmong}
 use Rattle.pointers.specs.ImageInfo.{infoOf, imageInfo, bit}
 use Rattle.pointers.specs.Index.{indexed}
 use Rattle.pointers.specs.Open.{askedOpening, opening, openedIndex, Opened}
-use Rattle.pointers.specs.Question.{question, imageFits, wholeRows, sectionFits, every, sectionTable, infoWhole, namesFit, indexFits, askedTables, askedIndex}
+use Rattle.pointers.specs.Question.{question, imageFits, wholeRows, sectionFits, every, sectionTable, infoWhole, namesInside, namesUtf8, indexFits, askedTables, askedIndex}
 use Rattle.pointers.specs.Section.{sectionAt}
 use Rattle.pointers.specs.Slot.{rebaseAt, bindAt, symbolOf, stored, resolve, pointerAt, pointerOr0At}
 use Rattle.pointers.specs.Symbol.{ascii}
@@ -48,7 +49,7 @@ use Rattle.walks.specs.Gather.{gather}
 use Rattle.walks.specs.declared.slots.Lists.the-variants.{Classes, Categories}
 use Rattle.walks.specs.PlainSections.{addressesIn, without, once, listed, withMeta, plainClasses, plainProtocols, plainCategories}
 use Rattle.walks.specs.Slots.{slotsFrom, sectionSlots, addressIn, decodeAddress, slotCount}
-use Rattle.walks.specs.ProtocolNames.{protocolListAt, decodeProtocolList, hasSlot, decodeProtocolName, decodeOrBound, decodeNameIn, slotNames, protocolNames}
+use Rattle.walks.specs.ProtocolNames.{protocolListAt, decodeProtocolList, hasSlot, decodeProtocolName, decodeProtocolNameIn, decodeNameIn, slotNames, protocolNames}
 use Rattle.walks.specs.Sections.{metaOf}
 use Rattle.listing.specs.Bundle.{wordsFrom, bundleFits, bundleCounts, bundled}
 use Rattle.listing.specs.PlainListing as plain
@@ -196,20 +197,20 @@ twelve-lines =
 -- Both entries of the list are settled once for each field that names it: by the metaclass, which is record 1, and twice by the category.
 abbrev pub six-events : List plain.Event
 six-events =
-    plain.event 1 0 0
-    ∷ plain.event 1 0 1
-    ∷ plain.event 3 0 0
-    ∷ plain.event 3 0 1
-    ∷ plain.event 3 1 0
-    ∷ plain.event 3 1 1
+    plain.event 1 0 (plain.withRow 0)
+    ∷ plain.event 1 0 (plain.withoutRow 1 NullAddress)
+    ∷ plain.event 3 0 (plain.withRow 0)
+    ∷ plain.event 3 0 (plain.withoutRow 1 NullAddress)
+    ∷ plain.event 3 1 (plain.withRow 0)
+    ∷ plain.event 3 1 (plain.withoutRow 1 NullAddress)
     ∷ []
 
 module _ (before : List ℕ) where
-  no-rebase : (a : ℕ) → rebaseAt [] (indexed [] [] before) a ≡ absent
+  no-rebase : (a : ℕ) → rebaseAt [] (indexed [] [] before) a ≡ absent NoRecord
   unfolding rebaseAt lastAmong
   no-rebase a = rw (rebase-last-wins [] [] before a)
 
-  no-bind : (a : ℕ) → bindAt node-bytes [] [] (indexed [] [] before) a ≡ absent
+  no-bind : (a : ℕ) → bindAt node-bytes [] [] (indexed [] [] before) a ≡ absent NoRecord
   unfolding bindAt lastAmong
   no-bind a = rw (bind-last-wins [] [] before a)
 
@@ -270,11 +271,11 @@ module _ (before : List ℕ) where
   unfolding decodeRoOf decodeClassRo decodeRoLists picked pickedWide mapped dataArm64e data64 pointerAt pointerOr0At wordIn textIn textAt textLength text utf8 judge resolve readable readableAt lookup rows ends holds placed sum64 stored word stripped le nonzero choose node-bytes
   meta-ro-there = simp no-rebase
 
-  node-superclass : superclassName (node before) node-class ≡ absent
+  node-superclass : superclassName (node before) node-class ≡ absent NullAddress
   unfolding decodeClassNameOf decodeNonzeroClassName decodeBoundName symbolOf sum64 nonzero choose
   node-superclass = rw (no-bind 0x1008)
 
-  meta-superclass : superclassName (node before) meta-class ≡ absent
+  meta-superclass : superclassName (node before) meta-class ≡ absent NullAddress
   unfolding decodeClassNameOf decodeNonzeroClassName decodeBoundName symbolOf sum64 nonzero choose
   meta-superclass = rw (no-bind 0x1030)
 
@@ -295,7 +296,7 @@ module _ (before : List ℕ) where
   unfolding decodeRow decodeLegacyMethod legacyImp pointerAt pointerOr0At textIn textAt textLength text utf8 judge resolve readable readableAt lookup rows ends holds placed sum64 stored word stripped le nonzero choose node-bytes
   first-row = simp no-rebase
 
-  second-row : rowAt (node before) Legacy 0x1178 ≡ absent
+  second-row : rowAt (node before) Legacy 0x1178 ≡ absent NullAddress
   unfolding decodeRow decodeLegacyMethod legacyImp pointerAt pointerOr0At textIn textAt textLength text utf8 judge resolve readable readableAt lookup rows ends holds placed sum64 stored word stripped le nonzero choose node-bytes
   second-row = simp no-rebase
 
@@ -304,7 +305,7 @@ module _ (before : List ℕ) where
   one-name = refl
 
   its-slots : slotNames (node before) (record { base = 0x1198; count = 1 }) 0 1 ≡ value (textOf 0x1BD 5) ∷ []
-  unfolding slotNames hasSlot decodeNameIn decodeOrBound decodeProtocolName decodeProtocol decodeProtocolLists decodeClassProperties pointerAt pointerOr0At wordIn textIn textAt textLength text utf8 judge resolve readable readableAt lookup rows ends holds placed sum64 stored word stripped le nonzero choose node-bytes
+  unfolding slotNames hasSlot decodeNameIn decodeProtocolNameIn decodeProtocolName decodeProtocol decodeProtocolLists decodeClassProperties pointerAt pointerOr0At wordIn textIn textAt textLength text utf8 judge resolve readable readableAt lookup rows ends holds placed sum64 stored word stripped le nonzero choose node-bytes
   its-slots = simp no-rebase
 
   -- The lines and the settling steps of a field that names the list, and of one that names none.
@@ -312,9 +313,9 @@ module _ (before : List ℕ) where
   unfolding plain.fieldLines gather
   list-lines n = rw (the-methods, both-readable, first-row, second-row)
 
-  list-entries : plain.entriesIn (node before) (plain.rowList Methods 0x1158) ≡ value (0 ∷ 1 ∷ [])
-  unfolding plain.entriesIn
-  list-entries = rw (the-methods, both-readable)
+  list-entries : plain.entriesIn (node before) (plain.rowList Methods 0x1158) ≡ value (plain.withRow 0 ∷ plain.withoutRow 1 NullAddress ∷ [])
+  unfolding plain.entriesIn gather
+  list-entries = rw (the-methods, both-readable, first-row, second-row)
 
   none-lines : (n : ℕ) (k : ListKind) → plain.fieldLines (node before) n (plain.rowList k 0) ≡ value []
   unfolding plain.fieldLines
@@ -384,7 +385,7 @@ module _ (before : List ℕ) where
   -- Opening accepts the tables, with an index of at least 8,192 words.
   module _ (enough : 8192 ≤ length before) where
     accepts : askedOpening (withIndex (node before) before) ≡ value tt
-    unfolding askedOpening askedTables askedIndex question imageFits wholeRows every sectionFits sectionTable infoWhole namesFit indexFits choose node-bytes
+    unfolding askedOpening askedTables askedIndex question imageFits wholeRows every sectionFits sectionTable infoWhole namesInside namesUtf8 indexFits choose node-bytes
     accepts = rw (le-leb 8192 (length before) enough)
 
     pub node-opened : Opened (node before)

@@ -18,11 +18,12 @@ use Rattle.records.specs.List.{entryAddress}
 use Rattle.records.specs.Search.{readables}
 use Rattle.records.proofs.Decodes.{class-name-of-unrefused, ro-unrefused, row-unrefused}
 use Rattle.records.proofs.Headers.{list-unrefused}
+use Rattle.records.specs.declared.row.Row.{Row}
 use Rattle.walks.specs.Gather.{gather}
 use Rattle.walks.proofs.Gathers.{There, is-there, there-then, there-joined, there-of, there-gather}
 use Rattle.walks.proofs.OpenedSections.{classes-there, categories-there, protocols-there}
 use Rattle.walks.proofs.ProtocolNameWalks.{names-there}
-use Rattle.listing.specs.PlainListing.{versionAndFlags, Field, rowList, nameList, nameOrNone, classLine, ownLines, recordFields, entryLines, fieldLines, fieldsLines, linesOf, entriesIn, event, fieldEvents, recordEvents, eventsFrom, plainEvents, plainRecords, plainListing}
+use Rattle.listing.specs.PlainListing.{versionAndFlags, Field, rowList, nameList, nameOrNone, classLine, ownLines, recordFields, entryLines, fieldLines, fieldsLines, linesOf, withRow, withoutRow, entryBy, entryIn, entriesIn, event, fieldEvents, recordEvents, eventsFrom, plainEvents, plainRecords, plainListing}
 use Rattle.listing.specs.declared.at.Record.{Record}
 use Rattle.listing.specs.declared.at.Record.the-variants as aRecord
 use Rattle.listing.specs.declared.line.Line.the-variants as line
@@ -30,7 +31,11 @@ use Rattle.listing.specs.declared.line.Named.the-variants as named
 
 name-there : {v : Outcome Text} → Unrefused v → There (nameOrNone v)
 name-there (is-value name) = is-there (named.Text name)
-name-there is-absent = is-there named.Nothing
+name-there (is-absent r) = is-there named.Nothing
+
+entry-there : (j : ℕ) {v : Outcome Row} → Unrefused v → There (entryBy j v)
+entry-there j (is-value row) = is-there (withRow j ∷ [])
+entry-there j (is-absent r) = is-there (withoutRow j r ∷ [])
 
 module _ (t : Tables) (o : Opened t) where
   pub records-there : There (plainRecords t)
@@ -74,7 +79,9 @@ module _ (t : Tables) (o : Opened t) where
 
   entries-there : (f : Field) → There (entriesIn t f)
   unfolding entriesIn
-  entries-there (rowList k va) = there-of _ (list-unrefused t k va) (λ h. is-there _)
+  entries-there (rowList k va) =
+      there-of _ (list-unrefused t k va) (λ h.
+      there-gather (entryIn t h) (λ j. entry-there j (row-unrefused t o (h .kind) (entryAddress h j))) (readables (imageIn t) h))
   entries-there (nameList va) = is-there _
 
   field-events-there : (r n : ℕ) (fs : List Field) → There (fieldEvents t r n fs)

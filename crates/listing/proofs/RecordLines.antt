@@ -46,7 +46,7 @@ parts-count parts = ap recordLineCount (parts .whole) ∙ lines-after (parts .fi
 entry-none : (n : ℕ) (v : Outcome Row) (ys : List Line) → ofValue v (λ r. value (rowLine n r ∷ [])) ≡ value ys → recordLineCount ys ≡ 0
 unfolding recordLineCount
 entry-none n (value r) ys e = let same : ys ≡ rowLine n r ∷ [] = cc in rw same
-entry-none n absent ys e = let same : ys ≡ [] = cc in rw same
+entry-none n (absent r) ys e = let same : ys ≡ [] = cc in rw same
 entry-none n (number k) ys e = let z : _≡_ {A = ℕ} 0 1 = cc in absurd (omega arith)
 
 entries-none : (t : Tables) (n : ℕ) (h : Layout) (js : List ℕ) (ys : List Line) → gather (entryLines t n h) js ≡ value ys → recordLineCount ys ≡ 0
@@ -59,7 +59,7 @@ entries-none t n h (j ∷ js) ys e =
 list-none : (t : Tables) (n : ℕ) (v : Outcome Layout) (ys : List Line) → ofValue v (λ h. gather (entryLines t n h) (readables (imageIn t) h)) ≡ value ys
     → recordLineCount ys ≡ 0
 list-none t n (value h) ys e = entries-none t n h (readables (imageIn t) h) ys e
-list-none t n absent ys e = let same : ys ≡ [] = cc in rw same (unfold recordLineCount in refl)
+list-none t n (absent r) ys e = let same : ys ≡ [] = cc in rw same (unfold recordLineCount in refl)
 list-none t n (number k) ys e = let z : _≡_ {A = ℕ} 0 1 = cc in absurd (omega arith)
 
 names-none : (n : ℕ) (names : List Text) → recordLineCount (map (nameLine n) names) ≡ 0
@@ -85,7 +85,7 @@ fields-none t n (f ∷ fs) ys e =
 ro-none : (v : Outcome ClassRo) (ys : List Line) → ofValue v (λ r. value (line.Ro r ∷ [])) ≡ value ys → recordLineCount ys ≡ 0
 unfolding recordLineCount
 ro-none (value r) ys e = let same : ys ≡ line.Ro r ∷ [] = cc in rw same
-ro-none absent ys e = let same : ys ≡ [] = cc in rw same
+ro-none (absent r) ys e = let same : ys ≡ [] = cc in rw same
 ro-none (number k) ys e = let z : _≡_ {A = ℕ} 0 1 = cc in absurd (omega arith)
 
 own-one : (t : Tables) (x : Record) (ys : List Line) → ownLines t x ≡ value ys → recordLineCount ys ≡ 1

@@ -6,7 +6,7 @@ use lib.Dec.{eqb}
 use lib.ListN.{length}
 use Rattle.reads.specs.Outcome.{Outcome, value, absent, number, choose}
 use Rattle.walks.specs.Sections.{Walk}
-use Rattle.listing.specs.Listing.{ownerFields, SectionWalk, classes, protocols, categories, State, Answer, says, nothing, ended}
+use Rattle.listing.specs.Listing.{ownerFields, SectionWalk, classes, protocols, categories, State, Answer, says, lacks, nothing, ended}
 use Rattle.listing.specs.declared.at.At.{At}
 use Rattle.listing.specs.declared.at.At.the-variants as place
 use Rattle.listing.specs.declared.at.FieldWalk.{FieldWalk}
@@ -40,12 +40,13 @@ placeLeft place.End = 0
 unfoldable pub remaining : State → ℕ
 remaining s = sectionWeight (s .section) * 2 ^ 80 + placeLeft (s .at)
 
--- The listing goes on after a line and after a step that says nothing.
+-- The listing goes on after a line, after an absence and after a step that says nothing.
 abbrev pub goesOn : Outcome Answer → Bool
 goesOn (value (says x)) = true
+goesOn (value (lacks x)) = true
 goesOn (value nothing) = true
 goesOn (value ended) = false
-goesOn absent = false
+goesOn (absent r) = false
 goesOn (number k) = false
 
 -- The numbers that a state counts up fit their words.

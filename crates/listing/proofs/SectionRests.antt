@@ -18,13 +18,14 @@ use Rattle.records.specs.declared.class.ObjcClass.{ObjcClass}
 use Rattle.records.specs.declared.protocol.ObjcProtocol.{ObjcProtocol}
 use Rattle.walks.specs.Gather.{gather, ofValue}
 use Rattle.walks.specs.PlainSections as plainSections
-use Rattle.walks.specs.PlainSections.{Gives, passing, giving}
+use Rattle.walks.specs.PlainSections.{Gives, passing, dropping, giving}
 use Rattle.walks.specs.Sections as sections
-use Rattle.walks.specs.Sections.{Walk, found, passed, finished}
+use Rattle.walks.specs.Sections.{Walk, found, passed, dropped, finished}
 use Rattle.walks.proofs.Gathers.{joined-parts, gather-parts}
 use Rattle.listing.specs.PlainListing.{Field, roFields, nameOrNone, classLine, categoryLine, ownLines, recordFields, fieldsLines, linesOf, Event, fieldEvents, recordEvents, eventsFrom}
-use Rattle.listing.specs.Listing.{ownerFields, enter, SectionWalk, State, state, leaves, says, nothing, sectionLeaves, onSection, sectionStep, stepAt, listingStep}
+use Rattle.listing.specs.Listing.{ownerFields, enter, SectionWalk, State, state, leaves, says, lacks, nothing, sectionLeaves, onSection, sectionStep, stepAt, listingStep}
 use Rattle.listing.specs.ListingRun.{eventsAt}
+use Rattle.listing.specs.declared.absence.Absence.the-variants as absence
 use Rattle.listing.specs.declared.at.At.the-variants as place
 use Rattle.listing.specs.declared.at.Owner.{Owner}
 use Rattle.listing.specs.declared.at.Owner.the-variants as anOwner
@@ -34,7 +35,7 @@ use Rattle.listing.specs.declared.line.Line.{Line}
 use Rattle.listing.specs.declared.line.Line.the-variants as line
 use Rattle.listing.specs.declared.line.Named.{Named}
 use Rattle.listing.proofs.FieldRests.{less, rest-fields}
-use Rattle.listing.proofs.Rest.{Steps, silent, saying}
+use Rattle.listing.proofs.Rest.{Steps, silent, telling, saying}
 
 -- A record after r others, with c entries settled before it.
 module _ (t : Tables) (o : Opened t) (Over : State → List ℕ → Type 0) (sec : SectionWalk) (r c : ℕ) (l : List ℕ) (few : r + 1 < 2 ^ 64) where
@@ -70,11 +71,11 @@ module _ (t : Tables) (o : Opened t) (Over : State → List ℕ → Type 0) (sec
         let own : ros ≡ line.Ro ro ∷ [] = cc in
         let fields : roFields ro ≡ fs = cc in
         rw own (saying said refl (lists (anOwner.Class ro) fields))
-    ro-comes k absent e ros a b =
-        let said : listingStep t (state (place.Ro k) sec (r + 1) c) l ≡ leaves (value nothing) (state place.Section sec (r + 1) c) l = rw (opened-asked t o, e) in
+    ro-comes k (absent why) e ros a b =
+        let said : listingStep t (state (place.Ro k) sec (r + 1) c) l ≡ leaves (value (lacks (absence.Record why))) (state place.Section sec (r + 1) c) l = rw (opened-asked t o, e) in
         let own : ros ≡ [] = cc in
         let fields : fs ≡ [] = cc in
-        rw own (silent said refl (none fields))
+        rw own (telling said refl (none fields))
     ro-comes k (number i) e ros a b = let z : _≡_ {A = ℕ} 0 1 = cc in absurd (omega arith)
 
     own-comes : (x : Record) (own : List Line) → ownLines t x ≡ value own → recordFields t x ≡ value fs → Steps t Over (state (place.Record x) sec r c) l (own ++ ys) es
@@ -158,8 +159,10 @@ module _ {A : Type 0} (t : Tables) (step : Walk → List ℕ → sections.Left A
         let x : r′ ≡ r = omega arith in
         let y : c′ ≡ c = omega arith in
         rw (none, nothing, sym x, sym y) (later w l g e)
-    section-comes {w = w} {l = l} (passing {v = v} {m = m} e more) g r c zs gs a b d h =
-        silent (step-of w v l m (value passed) g e r c) refl (section-comes more (good-after w v l m (value passed) g e) r c zs gs a b d h)
+    section-comes {w = w} {l = l} (passing {v = v} {m = m} {r = why} e more) g r c zs gs a b d h =
+        telling (step-of w v l m (value (passed why)) g e r c) refl (section-comes more (good-after w v l m (value (passed why)) g e) r c zs gs a b d h)
+    section-comes {w = w} {l = l} (dropping {v = v} {m = m} e more) g r c zs gs a b d h =
+        silent (step-of w v l m (value dropped) g e r c) refl (section-comes more (good-after w v l m (value dropped) g e) r c zs gs a b d h)
     section-comes {w = w} {l = l} (giving {v = v} {m = m} {a = x} {rs = rs} e more) g r c zs gs a b d h =
         let lines = gather-parts (linesOf t) (f x) (map f rs) a in
         let events = joined-parts (recordEvents t r (f x)) (eventsFrom t (suc r) (map f rs)) b in

@@ -29,7 +29,7 @@ use Rattle.records.proofs.Headers.{list-least, least-12}
 use Rattle.walks.specs.Handed.{overList, countBy, fromCursor}
 use Rattle.walks.specs.ProtocolNames.{protocolListAt, slotIn, nameIn, ReachedName, nameReached, namePassed, namesFinished, NameLeft, named, stepIn, overNames, nextName}
 use Rattle.walks.specs.Sections as sections
-use Rattle.walks.specs.Sections.{Walk, Step, found, passed, finished, Kind, stepBy, stepOf, protocolStepOf}
+use Rattle.walks.specs.Sections.{Walk, Step, found, passed, dropped, finished, Kind, stepBy, stepOf, protocolStepOf}
 use Rattle.walks.specs.Slots.{slotsOf, askedSlot, askedLedger}
 use Rattle.walks.specs.Walk.{ReachedRow, rowReached, rowSkipped, rowsFinished, RowLeft, settles, searched, overRows, nextOf}
 use Rattle.walks.specs.declared.list_walk.ListWalk.{ListWalk}
@@ -74,9 +74,10 @@ further-low w (past-waiting n) h = omega arith
 
 moved-low : {A : Type 0} (w v : Walk) (o : Outcome (Step A)) → SectionMoves w v o → w .slot + 1 < 2 ^ 64 → v .slot < 2 ^ 64
 moved-low w v (value (found a)) m h = further-low w m h
-moved-low w v (value passed) m h = further-low w m h
+moved-low w v (value (passed r)) m h = further-low w m h
+moved-low w v (value dropped) m h = further-low w m h
 moved-low w v (value finished) m h = rw m (omega arith)
-moved-low w v absent m h = absurd m
+moved-low w v (absent r) m h = absurd m
 moved-low w v (number k) m h = rw m (omega arith)
 
 slot-low : (t : Tables) (lists : Lists) (slot used : ℕ) → askedSlot t (slotsOf lists (t .sections)) slot used ≡ value tt → slot + 1 < 2 ^ 64
@@ -113,9 +114,9 @@ protocol-low t w l h = go (slot-answered t (slotsOf Protocols (t .sections)) (w 
 -- A row that is given or skipped has an address of 64 bits, and entries have at least 12 bytes.
 abbrev RowLow : Outcome ReachedRow → ℕ → Type 0
 RowLow (value (rowReached r)) cursor = cursor < 2 ^ 64
-RowLow (value (rowSkipped j)) cursor = cursor < 2 ^ 64
+RowLow (value (rowSkipped j r)) cursor = cursor < 2 ^ 64
 RowLow (value rowsFinished) cursor = Unit
-RowLow absent cursor = Unit
+RowLow (absent r) cursor = Unit
 RowLow (number k) cursor = Unit
 
 record RowsLow (x : RowLeft) : Type 0 where
@@ -124,7 +125,7 @@ record RowsLow (x : RowLeft) : Type 0 where
 module _ (t : Tables) (w : ListWalk) where
   row-low : (j : ℕ) → suc j < 2 ^ 64 → (o : Outcome Row) → RowsLow (settles w j o)
   row-low j h (value r) = record { low = h }
-  row-low j h absent = record { low = h }
+  row-low j h (absent r) = record { low = h }
   row-low j h (number k) = record { low = tt }
 
   entry-low : (h : Layout) (j : ℕ) → 12 ≤ h .size → entryAddress h j < 2 ^ 64 → suc j < 2 ^ 64
@@ -138,7 +139,7 @@ module _ (t : Tables) (w : ListWalk) where
   list-low : (o : Outcome Layout) → o ≡ listAt t (w .kind) (w .list) → RowsLow (overList w (λ h. searched t w h (firstReadable (imageIn t) h (w .cursor))) o)
   list-low (value h) e =
       search-low h (omega (arith, list-least t (w .kind) (w .list) h (sym e), least-12 (h .kind))) (firstReadable (imageIn t) h (w .cursor)) refl
-  list-low absent e = record { low = tt }
+  list-low (absent r) e = record { low = tt }
   list-low (number k) e = record { low = tt }
 
   rows-low : RowsLow (nextOf t w)
@@ -151,9 +152,9 @@ module _ (t : Tables) (w : ListWalk) where
 -- A protocol slot that is taken has an address of 64 bits.
 abbrev NameLow : Outcome ReachedName → ℕ → Type 0
 NameLow (value (nameReached name)) cursor = cursor < 2 ^ 64
-NameLow (value namePassed) cursor = cursor < 2 ^ 64
+NameLow (value (namePassed r)) cursor = cursor < 2 ^ 64
 NameLow (value namesFinished) cursor = Unit
-NameLow absent cursor = Unit
+NameLow (absent r) cursor = Unit
 NameLow (number k) cursor = Unit
 
 record NamesLow (x : NameLeft) : Type 0 where
@@ -162,7 +163,7 @@ record NamesLow (x : NameLeft) : Type 0 where
 module _ (t : Tables) (w : ProtocolNameWalk) where
   named-low : w .cursor + 1 < 2 ^ 64 → (o : Outcome Text) → NamesLow (named w o)
   named-low h (value name) = record { low = h }
-  named-low h absent = record { low = h }
+  named-low h (absent r) = record { low = h }
   named-low h (number k) = record { low = tt }
 
   name-slot-low : (l : ProtocolList) → NamesLow (stepIn t w l)
@@ -174,7 +175,7 @@ module _ (t : Tables) (w : ProtocolNameWalk) where
   unfolding nextName overNames
   names-low =
       by-asked NamesLow w (λ n. record { low = tt }) (asked t)
-      (by-cursor NamesLow w (λ n. record { low = tt }) (w .cursor) (λ (l : ProtocolList). l .count) (stepIn t w) name-slot-low (record { low = tt })
+      (by-cursor NamesLow w (λ n. record { low = tt }) (w .cursor) (λ (l : ProtocolList). l .count) (stepIn t w) name-slot-low (λ r. record { low = tt })
       (protocolListAt t (w .list)))
 
 first-low : (o : Owner) (n : ℕ) (fs : List Field) → cursorOf (atFirst o n fs) < 2 ^ 64
@@ -198,7 +199,7 @@ module _ (s : State) (l : List ℕ) (h : InWords s) where
 
   onward-keeps : {A : Type 0} (o : Outcome A) (go : A → steps.Left) → ((a : A) → Keeps (go a)) → Keeps (onward s l o go)
   onward-keeps (value a) go f = f a
-  onward-keeps absent go f = record { keeps = never }
+  onward-keeps (absent r) go f = record { keeps = never }
   onward-keeps (number k) go f = refuses k
 
   record-keeps : (t : Tables) (x : Record) → Keeps (recordStep t s l x)
@@ -210,27 +211,27 @@ module _ (s : State) (l : List ℕ) (h : InWords s) where
 
   ro-keeps : (o : Outcome ClassRo) → Keeps (byRo s l o)
   ro-keeps (value r) = record { keeps = λ e. in-section _ _ _ (enter-low (anOwner.Class r) 0) }
-  ro-keeps absent = record { keeps = λ e. in-section _ _ _ (omega arith) }
+  ro-keeps (absent r) = record { keeps = λ e. in-section _ _ _ (omega arith) }
   ro-keeps (number k) = refuses k
 
   module _ (o : Owner) (n : ℕ) where
     row-keeps : (v : ListWalk) (x : Outcome ReachedRow) → RowLow x (v .cursor) → Keeps (byRow s l o n v x)
     row-keeps v (value (rowReached r)) m = record { keeps = λ e. in-section _ _ _ m }
-    row-keeps v (value (rowSkipped j)) m = record { keeps = λ e. in-section _ _ _ m }
+    row-keeps v (value (rowSkipped j r)) m = record { keeps = λ e. in-section _ _ _ m }
     row-keeps v (value rowsFinished) m = record { keeps = λ e. in-section _ _ _ (enter-low o (suc n)) }
-    row-keeps v absent m = record { keeps = λ e. in-section _ _ _ (enter-low o (suc n)) }
+    row-keeps v (absent r) m = record { keeps = λ e. in-section _ _ _ (enter-low o (suc n)) }
     row-keeps v (number k) m = refuses k
 
-    name-keeps : (v : ProtocolNameWalk) (x : Outcome ReachedName) → NameLow x (v .cursor) → Keeps (byName s l o n v x)
-    name-keeps v (value (nameReached name)) m = record { keeps = λ e. in-section _ _ _ m }
-    name-keeps v (value namePassed) m = record { keeps = λ e. in-section _ _ _ m }
-    name-keeps v (value namesFinished) m = record { keeps = λ e. in-section _ _ _ (enter-low o (suc n)) }
-    name-keeps v absent m = record { keeps = λ e. in-section _ _ _ (enter-low o (suc n)) }
-    name-keeps v (number k) m = refuses k
+    name-keeps : (i : ℕ) (v : ProtocolNameWalk) (x : Outcome ReachedName) → NameLow x (v .cursor) → Keeps (byName s l o n i v x)
+    name-keeps i v (value (nameReached name)) m = record { keeps = λ e. in-section _ _ _ m }
+    name-keeps i v (value (namePassed r)) m = record { keeps = λ e. in-section _ _ _ m }
+    name-keeps i v (value namesFinished) m = record { keeps = λ e. in-section _ _ _ (enter-low o (suc n)) }
+    name-keeps i v (absent r) m = record { keeps = λ e. in-section _ _ _ (enter-low o (suc n)) }
+    name-keeps i v (number k) m = refuses k
 
     list-keeps : (t : Tables) (x : FieldWalk) → Keeps (listStep t s l o n x)
     list-keeps t (fieldWalk.Rows w) = let x = nextOf t w in row-keeps (x .walk) (x .answer) (rows-low t w .low)
-    list-keeps t (fieldWalk.Names w) = let x = nextName t w in name-keeps (x .walk) (x .answer) (names-low t w .low)
+    list-keeps t (fieldWalk.Names w) = let x = nextName t w in name-keeps (w .cursor) (x .walk) (x .answer) (names-low t w .low)
 
   -- After the last record of a section the next begins at its first slot, or E is said and the section stays.
   after-keeps : (m : List ℕ) (x : SectionWalk) → slotOf x < 2 ^ 64 → Keeps (afterSection s m x)
@@ -241,9 +242,10 @@ module _ (s : State) (l : List ℕ) (h : InWords s) where
   section-keeps : {A : Type 0} (f : A → Record) (m : List ℕ) (x : SectionWalk) → slotOf x < 2 ^ 64 → (o : Outcome (Step A))
       → Keeps (onward s m (asRecord f o) (bySection s m x))
   section-keeps f m x low (value (found a)) = record { keeps = λ e. record { slot = low; cursor = omega arith } }
-  section-keeps f m x low (value passed) = record { keeps = λ e. record { slot = low; cursor = omega arith } }
+  section-keeps f m x low (value (passed r)) = record { keeps = λ e. record { slot = low; cursor = omega arith } }
+  section-keeps f m x low (value dropped) = record { keeps = λ e. record { slot = low; cursor = omega arith } }
   section-keeps f m x low (value finished) = after-keeps m x low
-  section-keeps f m x low absent = record { keeps = never }
+  section-keeps f m x low (absent r) = record { keeps = never }
   section-keeps f m x low (number k) = record { keeps = never }
 
   walk-keeps : (t : Tables) (x : SectionWalk) → s .section ≡ x → Keeps (onSection s (sectionStep t l x))

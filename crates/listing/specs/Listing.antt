@@ -5,6 +5,7 @@ use mathlib.Core.List.{List, [], _∷_}
 use lib.Dec.{eqb}
 use lib.ListN.{drop}
 use Rattle.reads.specs.Outcome.{Outcome, value, absent, number, choose}
+use Rattle.reads.specs.declared.answer.Reason.{Reason}
 use Rattle.pointers.specs.Question.{asked, guarded}
 use Rattle.pointers.specs.Tables.{Tables}
 use Rattle.records.specs.Category.{categoryClassName}
@@ -15,11 +16,13 @@ use Rattle.records.specs.declared.class.ObjcClass.{ObjcClass}
 use Rattle.records.specs.declared.protocol.ObjcProtocol.{ObjcProtocol}
 use Rattle.walks.specs.ProtocolNames.{walkAt, ReachedName, nameReached, namePassed, namesFinished, NameLeft, nextName}
 use Rattle.walks.specs.Sections as sections
-use Rattle.walks.specs.Sections.{Walk, atStart, Step, found, passed, finished, stepOf, protocolStepOf}
+use Rattle.walks.specs.Sections.{Walk, atStart, Step, found, passed, dropped, finished, stepOf, protocolStepOf}
 use Rattle.walks.specs.Walk.{walkOf, ReachedRow, rowReached, rowSkipped, rowsFinished, RowLeft, nextOf}
 use Rattle.walks.specs.declared.list_walk.ListWalk.{ListWalk}
 use Rattle.walks.specs.declared.protocol_names.ProtocolNameWalk.{ProtocolNameWalk}
 use Rattle.listing.specs.PlainListing.{Field, rowList, nameList, roFields, protocolFields, categoryFields, versionAndFlags, nameOrNone, classLine, categoryLine, rowLine, nameLine, endLine}
+use Rattle.listing.specs.declared.absence.Absence.{Absence}
+use Rattle.listing.specs.declared.absence.Absence.the-variants as absence
 use Rattle.listing.specs.declared.at.At.{At}
 use Rattle.listing.specs.declared.at.At.the-variants as place
 use Rattle.listing.specs.declared.at.FieldWalk.{FieldWalk}
@@ -92,11 +95,19 @@ withEntry s next = state next (s .section) (s .records) ((s .settled + 1) % 2 ^ 
 abbrev pub carried : ℕ → ℕ → ℕ
 carried high low = choose (eqb low 0) ((high + 1) % 2 ^ 64) high
 
--- What a step says where no question refuses it.
+-- What a step says where no question refuses it: a line; what is absent and why, of which nothing is printed; nothing; or the end.
 pub data Answer : Type 0 where
   says : Line → Answer
+  lacks : Absence → Answer
   nothing : Answer
   ended : Answer
+
+-- An entry of list n that is skipped; a slot of list n that gives no name.
+abbrev pub skippedEntry : ℕ → ℕ → Reason → Absence
+skippedEntry n j r = absence.Entry (record { list = n; index = j; why = r })
+
+abbrev pub unnamed : ℕ → ℕ → Reason → Absence
+unnamed n i r = absence.Name (record { list = n; slot = i; why = r })
 
 -- The answer, with the state that the step hands back and the ledger as it leaves it.
 pub record Left : Type 0 where
@@ -111,7 +122,7 @@ leaves answer s ledger = record { answer = answer; state = s; ledger = ledger }
 -- questions never are, and a name that is absent is a value, none.
 abbrev pub onward : {A : Type 0} → State → List ℕ → Outcome A → (A → Left) → Left
 onward s l (value a) go = go a
-onward s l absent go = leaves absent s l
+onward s l (absent r) go = leaves (absent r) s l
 onward s l (number k) go = leaves (number k) s l
 
 -- I.
@@ -127,9 +138,10 @@ pub record SectionLeft : Type 0 where
 -- The same answer, its record as one of the listing's.
 abbrev pub asRecord : {A : Type 0} → (A → Record) → Outcome (Step A) → Outcome (Step Record)
 asRecord f (value (found a)) = value (found (f a))
-asRecord f (value passed) = value passed
+asRecord f (value (passed r)) = value (passed r)
+asRecord f (value dropped) = value dropped
 asRecord f (value finished) = value finished
-asRecord f absent = absent
+asRecord f (absent r) = absent r
 asRecord f (number k) = number k
 
 abbrev pub sectionLeaves : {A : Type 0} → (A → Record) → (Walk → SectionWalk) → Outcome (Step A) → Walk → List ℕ → SectionLeft
@@ -158,7 +170,8 @@ afterSection s l (categories w) = leaves (value (says (endLine (s .records) (s .
 -- it was given.
 abbrev pub bySection : State → List ℕ → SectionWalk → Step Record → Left
 bySection s l section (found x) = leaves (value nothing) (inSection s (place.Record x) section) l
-bySection s l section passed = leaves (value nothing) (inSection s place.Section section) l
+bySection s l section (passed r) = leaves (value (lacks (absence.Record r))) (inSection s place.Section section) l
+bySection s l section dropped = leaves (value nothing) (inSection s place.Section section) l
 bySection s l section finished = afterSection s l section
 
 abbrev pub onSection : State → SectionLeft → Left
@@ -185,39 +198,40 @@ recordStep t s l (aRecord.Class c) = classSaid s l c (nameOrNone (guarded t (sup
 recordStep t s l (aRecord.Protocol p) = protocolSaid s l p (asked t)
 recordStep t s l (aRecord.Category c) = categorySaid s l c (nameOrNone (guarded t (categoryClassName t c)))
 
--- R if class_ro decodes, and then the class's lists.
+-- R if class_ro decodes, and then the class's lists; else why it does not.
 abbrev pub byRo : State → List ℕ → Outcome ClassRo → Left
 byRo s l (value r) = leaves (value (says (line.Ro r))) (goTo s (enter (anOwner.Class r) 0)) l
-byRo s l absent = leaves (value nothing) (goTo s place.Section) l
+byRo s l (absent r) = leaves (value (lacks (absence.Record r))) (goTo s place.Section) l
 byRo s l (number k) = leaves (number k) s l
 
--- A step over list n: an entry is settled, with its line m, v or p or skipped; or the list is at its end or absent, and the next list comes.
+-- A step over list n: an entry is settled, with its line m, v or p or skipped for a reason; or the list is at its end or absent, and the
+-- next list comes.
 abbrev pub byRow : State → List ℕ → Owner → ℕ → ListWalk → Outcome ReachedRow → Left
 byRow s l o n w (value (rowReached r)) =
     leaves (value (says (rowLine n r))) (withEntry s (inList o n (fieldWalk.Rows w))) l
-byRow s l o n w (value (rowSkipped j)) = leaves (value nothing) (withEntry s (inList o n (fieldWalk.Rows w))) l
+byRow s l o n w (value (rowSkipped j r)) = leaves (value (lacks (skippedEntry n j r))) (withEntry s (inList o n (fieldWalk.Rows w))) l
 byRow s l o n w (value rowsFinished) = leaves (value nothing) (goTo s (enter o (suc n))) l
-byRow s l o n w absent = leaves (value nothing) (goTo s (enter o (suc n))) l
+byRow s l o n w (absent r) = leaves (value nothing) (goTo s (enter o (suc n))) l
 byRow s l o n w (number k) = leaves (number k) s l
 
 abbrev pub afterRow : State → List ℕ → Owner → ℕ → RowLeft → Left
 afterRow s l o n x = byRow s l o n (x .walk) (x .answer)
 
--- A step over the protocol names of list n: q, or a slot that gives none; or the next list.
-abbrev pub byName : State → List ℕ → Owner → ℕ → ProtocolNameWalk → Outcome ReachedName → Left
-byName s l o n w (value (nameReached name)) =
+-- A step over slot i of the protocol names of list n: q, or the slot gives none for a reason; or the next list.
+abbrev pub byName : State → List ℕ → Owner → ℕ → ℕ → ProtocolNameWalk → Outcome ReachedName → Left
+byName s l o n i w (value (nameReached name)) =
     leaves (value (says (nameLine n name))) (goTo s (inList o n (fieldWalk.Names w))) l
-byName s l o n w (value namePassed) = leaves (value nothing) (goTo s (inList o n (fieldWalk.Names w))) l
-byName s l o n w (value namesFinished) = leaves (value nothing) (goTo s (enter o (suc n))) l
-byName s l o n w absent = leaves (value nothing) (goTo s (enter o (suc n))) l
-byName s l o n w (number k) = leaves (number k) s l
+byName s l o n i w (value (namePassed r)) = leaves (value (lacks (unnamed n i r))) (goTo s (inList o n (fieldWalk.Names w))) l
+byName s l o n i w (value namesFinished) = leaves (value nothing) (goTo s (enter o (suc n))) l
+byName s l o n i w (absent r) = leaves (value nothing) (goTo s (enter o (suc n))) l
+byName s l o n i w (number k) = leaves (number k) s l
 
-abbrev pub afterName : State → List ℕ → Owner → ℕ → NameLeft → Left
-afterName s l o n x = byName s l o n (x .walk) (x .answer)
+abbrev pub afterName : State → List ℕ → Owner → ℕ → ℕ → NameLeft → Left
+afterName s l o n i x = byName s l o n i (x .walk) (x .answer)
 
 abbrev pub listStep : Tables → State → List ℕ → Owner → ℕ → FieldWalk → Left
 listStep t s l o n (fieldWalk.Rows w) = afterRow s l o n (nextOf t w)
-listStep t s l o n (fieldWalk.Names w) = afterName s l o n (nextName t w)
+listStep t s l o n (fieldWalk.Names w) = afterName s l o n (w .cursor) (nextName t w)
 
 -- A step, by where the listing stands. After the last line every step says so.
 unfoldable pub stepAt : Tables → State → List ℕ → At → Left

@@ -2,8 +2,8 @@
 use Prim.Native.Nat.{ℕ, _+_, _*_, _^_}
 use mathlib.Core.List.{List}
 use Rattle.reads.specs.Outcome.{Outcome, value, number}
-use Rattle.walks.specs.Sections.{Step, found, passed, finished, classWalk, categoryWalk, protocolWalk}
-use Rattle.listing.specs.Listing.{SectionWalk, classes, protocols, categories, SectionLeft, State, state, Answer, says, nothing, ended, Left, leaves}
+use Rattle.walks.specs.Sections.{Step, found, passed, dropped, finished, classWalk, categoryWalk, protocolWalk}
+use Rattle.listing.specs.Listing.{SectionWalk, classes, protocols, categories, SectionLeft, State, state, Answer, says, lacks, nothing, ended, Left, leaves}
 use Rattle.listing.specs.declared.at.Record.{Record}
 use Rattle.listing.specs.declared.line.Named.{Named}
 use Rattle.listing.specs.declared.listing.Listed.{Listed}
@@ -25,7 +25,8 @@ sectionWalkOf (aSection.Categories w) = categories (categoryWalk w)
 
 abbrev pub takenOf : Taken → Outcome (Step Record)
 takenOf (taken.Record x) = value (found x)
-takenOf taken.Passed = value passed
+takenOf (taken.Passed r) = value (passed r)
+takenOf taken.Dropped = value dropped
 takenOf taken.Finished = value finished
 takenOf (taken.Refused k) = number k
 
@@ -43,6 +44,7 @@ stateOf s = state (s .at) (sectionWalkOf (s .section)) (s .records) (s .«settle
 
 abbrev pub saidOf : Said → Outcome Answer
 saidOf (said.Line x) = value (says x)
+saidOf (said.Absent x) = value (lacks x)
 saidOf said.Nothing = value nothing
 saidOf said.Ended = value ended
 saidOf (said.Refused k) = number k

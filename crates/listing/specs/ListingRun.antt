@@ -10,8 +10,8 @@ use Rattle.reads.specs.Outcome.{Outcome, value, number, andThen}
 use Rattle.pointers.specs.Tables.{Tables}
 use Rattle.walks.specs.Gather.{joined, ofValue}
 use Rattle.walks.specs.Walk.{ReachedRow, rowReached, rowSkipped, rowsFinished, RowLeft, nextOf}
-use Rattle.listing.specs.PlainListing.{endLine, Event, event, plainRecords, plainEvents, plainListing, recordLineCount}
-use Rattle.listing.specs.Listing.{State, Answer, start, says, nothing, ended, listingStep}
+use Rattle.listing.specs.PlainListing.{endLine, withRow, withoutRow, Event, event, plainRecords, plainEvents, plainListing, recordLineCount}
+use Rattle.listing.specs.Listing.{State, Answer, start, says, lacks, nothing, ended, listingStep}
 use Rattle.listing.specs.declared.at.At.{At}
 use Rattle.listing.specs.declared.at.At.the-variants as place
 use Rattle.listing.specs.declared.at.FieldWalk.{FieldWalk}
@@ -19,10 +19,11 @@ use Rattle.listing.specs.declared.at.FieldWalk.the-variants as fieldWalk
 use Rattle.listing.specs.declared.at.Record.{Record}
 use Rattle.listing.specs.declared.line.Line.{Line}
 
--- What a step over list n of a record settles: the entry whose row it gives, one before the cursor that it leaves, or the one it skips.
+-- What a step over list n of a record settles: the entry whose row it gives, one before the cursor that it leaves, or the one it skips
+-- and why.
 abbrev pub settledBy : ℕ → ℕ → ℕ → ReachedRow → List Event
-settledBy of n cursor (rowReached r) = event of n (cursor - 1) ∷ []
-settledBy of n cursor (rowSkipped j) = event of n j ∷ []
+settledBy of n cursor (rowReached r) = event of n (withRow (cursor - 1)) ∷ []
+settledBy of n cursor (rowSkipped j r) = event of n (withoutRow j r) ∷ []
 settledBy of n cursor rowsFinished = []
 
 -- The same by its answer: over an absent list nothing, and a number stays.
@@ -48,6 +49,7 @@ eventsIn t s = eventsAt t (s .records) (s .at)
 -- The line that a step says.
 abbrev pub lineIn : Answer → List Line
 lineIn (says x) = x ∷ []
+lineIn (lacks x) = []
 lineIn nothing = []
 lineIn ended = []
 

@@ -2,11 +2,13 @@
 -- entries of their lists, with no state and no ledger. A number that a lookup gives is its outcome; over what opening accepted there is none.
 use Prim.Native.Nat.{ℕ, suc, _/_, _%_, _^_}
 use mathlib.Core.List.{List, [], _∷_, _++_}
+use mathlib.Core.Option.{Option, none, some}
 use lib.ListN.{length}
 use Rattle.reads.specs.Outcome.{Outcome, value, absent, number, andThen}
 use Rattle.reads.specs.Place.{wordIn}
 use Rattle.reads.specs.Segment.{placeAt}
 use Rattle.reads.specs.declared.text.Text.{Text}
+use Rattle.reads.specs.declared.answer.Reason.{Reason}
 use Rattle.pointers.specs.ImageInfo.{infoOf}
 use Rattle.pointers.specs.Tables.{Tables, imageIn}
 use Rattle.pointers.specs.declared.imageinfo.ImageInfo.{ImageInfo}
@@ -40,7 +42,7 @@ versionAndFlags info = infoOf (wordIn info 4 (placeAt 0) 0) (wordIn info 4 (plac
 -- A name, or none; a number stays.
 abbrev pub nameOrNone : Outcome Text → Outcome Named
 nameOrNone (value t) = value (named.Text t)
-nameOrNone absent = value named.Nothing
+nameOrNone (absent r) = value named.Nothing
 nameOrNone (number k) = number k
 
 -- C or M; K.
@@ -133,18 +135,38 @@ fieldsLines t n (f ∷ fs) = joined (fieldLines t n f) (fieldsLines t (suc n) fs
 unfoldable pub linesOf : Tables → Record → Outcome (List Line)
 linesOf t x = joined (ownLines t x) (andThen (recordFields t x) (fieldsLines t 0))
 
+-- An entry that a walk settles: its index, and why it is skipped, if it is.
+pub record Entry : Type 0 where
+  pub index : ℕ
+  pub skipped : Option Reason
+
+abbrev pub withRow : ℕ → Entry
+withRow j = record { index = j; skipped = none }
+
+abbrev pub withoutRow : ℕ → Reason → Entry
+withoutRow j r = record { index = j; skipped = some r }
+
+-- Entry j by its row; a number stays.
+abbrev pub entryBy : ℕ → Outcome Row → Outcome (List Entry)
+entryBy j (value row) = value (withRow j ∷ [])
+entryBy j (absent r) = value (withoutRow j r ∷ [])
+entryBy j (number k) = number k
+
+abbrev pub entryIn : Tables → Layout → ℕ → Outcome (List Entry)
+entryIn t h j = entryBy j (rowAt t (h .kind) (entryAddress h j))
+
 -- The entries that a walk over a list settles: all that are readable, skipped ones too.
-unfoldable pub entriesIn : Tables → Field → Outcome (List ℕ)
-entriesIn t (rowList k va) = ofValue (listAt t k va) (λ h. value (readables (imageIn t) h))
+unfoldable pub entriesIn : Tables → Field → Outcome (List Entry)
+entriesIn t (rowList k va) = ofValue (listAt t k va) (λ h. gather (entryIn t h) (readables (imageIn t) h))
 entriesIn t (nameList va) = value []
 
--- A settling step: the record it belongs to and its field, each counted from 0, and the entry's index.
+-- A settling step: the record it belongs to and its field, each counted from 0, and the entry.
 pub record Event : Type 0 where
   pub of : ℕ
   pub field : ℕ
-  pub entry : ℕ
+  pub entry : Entry
 
-abbrev pub event : ℕ → ℕ → ℕ → Event
+abbrev pub event : ℕ → ℕ → Entry → Event
 event of field entry = record { of = of; field = field; entry = entry }
 
 -- The settling steps of a record's fields, each list once for each field that names it.

@@ -1,4 +1,5 @@
 // The bundle that the program reads, and the listing of opened tables.
+pub mod absence;
 pub mod at;
 pub mod bundle;
 pub mod line;

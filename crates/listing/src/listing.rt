@@ -1,5 +1,8 @@
 // The listing, one step at a time and by value (document 01, "The program's listing"): a step says at most one line and hands the new
 // state back.
+use crate::absence::Absence;
+use crate::absence::SkippedEntry;
+use crate::absence::UnnamedSlot;
 use crate::at::At;
 use crate::at::FieldWalk;
 use crate::at::ListAt;
@@ -47,7 +50,7 @@ ghost use Rattle.walks.specs.ProtocolNames.{nameLeft};
 ghost use Rattle.walks.specs.Walk.{rowLeft};
 ghost use Rattle.listing.specs.PlainListing.{versionAndFlags, nameOrNone, endLine};
 ghost use Rattle.listing.specs.declared.at.At.the-variants as place;
-ghost use Rattle.listing.specs.Listing.{enter, start, goTo, inSection, withRecord, withEntry, carried, says, nothing, leaves, onward, afterSection, onSection, recordSaid, classSaid, categorySaid, recordStep, byRo, afterRow, afterName, listStep, stepAt, listingStep};
+ghost use Rattle.listing.specs.Listing.{enter, start, goTo, inSection, withRecord, withEntry, carried, says, lacks, nothing, leaves, onward, afterSection, onSection, recordSaid, classSaid, categorySaid, recordStep, byRo, afterRow, afterName, listStep, stepAt, listingStep};
 ghost use Rattle.listing.specs.ListingAnswer.{sectionWalkOf, sectionLeftOf, nameAnswered, stateOf, leftOf};
 
 // Where the listing stands; the records so far; the entries settled so far, high x 2^64 + low.
@@ -59,9 +62,10 @@ pub struct Listing {
     settled_low: u64,
 }
 
-// What a step says: a line, or nothing to print, or the listing has ended; or the number of the question that refuses.
+// What a step says: a line; what is absent and why; nothing; or the listing has ended; or the number of the question that refuses.
 pub enum Said {
     Line(Line),
+    Absent(Absence),
     Nothing,
     Ended,
     Refused(u8),
@@ -86,7 +90,7 @@ fn name_or_none(answer: TextAnswer) -> NameAnswer
     match answer {
         TextAnswer::Found(text) => NameAnswer::Name(Named::Text(text)),
         TextAnswer::Missing(m) => match m {
-            Missing::Absent => NameAnswer::Name(Named::Nothing),
+            Missing::Absent(_) => NameAnswer::Name(Named::Nothing),
             Missing::Refused(k) => NameAnswer::Refused(k),
         },
     }
@@ -201,6 +205,16 @@ impl Listing {
         }
     }
 
+    // What is absent, and the listing then.
+    fn lacks(self, absence: Absence) -> Listed
+        ensures { λ r. ⌜ ((l : List ℕ) → leftOf r l ≡ leaves (value (lacks absence)) (stateOf self) l) ⌝ }
+    {
+        Listed {
+            said: Said::Absent(absence),
+            listing: self,
+        }
+    }
+
     // Nothing to print.
     fn nothing(self) -> Listed
         ensures { λ r. ⌜ ((l : List ℕ) → leftOf r l ≡ leaves (value nothing) (stateOf self) l) ⌝ }
@@ -308,7 +322,11 @@ impl Listing {
                 let listing = self.in_section(At::Record(found), section);
                 listing.nothing()
             }
-            Taken::Passed => {
+            Taken::Passed(why) => {
+                let listing = self.in_section(At::Section, section);
+                listing.lacks(Absence::Record(why))
+            }
+            Taken::Dropped => {
                 let listing = self.in_section(At::Section, section);
                 listing.nothing()
             }
@@ -456,9 +474,9 @@ impl Listing {
                 listing.says(Line::Ro(ro))
             }
             ClassRoAnswer::Missing(m) => match m {
-                Missing::Absent => {
+                Missing::Absent(why) => {
                     let listing = self.go_to(At::Section);
-                    listing.nothing()
+                    listing.lacks(Absence::Record(why))
                 }
                 Missing::Refused(k) => self.refused(k),
             },
@@ -491,20 +509,20 @@ impl Listing {
                     let listing = self.with_entry(at);
                     listing.says(Line::Row(RowLine { list, row }))
                 }
-                ListStep::Skipped(_) => {
+                ListStep::Skipped(index, why) => {
                     let listing = self.with_entry(at);
-                    listing.nothing()
+                    listing.lacks(Absence::Entry(SkippedEntry { list, index, why }))
                 }
                 ListStep::Finished => self.next_list(owner, list),
                 ListStep::Refused(k) => self.refused(k),
             },
-            ListWalked::Absent => self.next_list(owner, list),
+            ListWalked::Absent(_) => self.next_list(owner, list),
         }
     }
 
-    // q, or a slot that gives no name. After the last the next list comes.
-    fn name_said(self, owner: Owner, list: u8, stepped: ProtocolNameStepped) -> Listed
-        ensures { λ r. ⌜ ((l : List ℕ) → leftOf r l ≡ afterName (stateOf self) l owner list (nameLeft stepped)) ⌝ }
+    // q, or slot number `slot`, that gives no name. After the last the next list comes.
+    fn name_said(self, owner: Owner, list: u8, slot: u64, stepped: ProtocolNameStepped) -> Listed
+        ensures { λ r. ⌜ ((l : List ℕ) → leftOf r l ≡ afterName (stateOf self) l owner list slot (nameLeft stepped)) ⌝ }
     {
         let walked = stepped.walked;
         let after = stepped.walk;
@@ -519,14 +537,14 @@ impl Listing {
                     let listing = self.go_to(at);
                     listing.says(Line::Name(NameLine { list, name }))
                 }
-                NameStep::Passed => {
+                NameStep::Passed(why) => {
                     let listing = self.go_to(at);
-                    listing.nothing()
+                    listing.lacks(Absence::Name(UnnamedSlot { list, slot, why }))
                 }
                 NameStep::Finished => self.next_list(owner, list),
                 NameStep::Refused(k) => self.refused(k),
             },
-            ProtocolNamesWalked::Absent => self.next_list(owner, list),
+            ProtocolNamesWalked::Absent(_) => self.next_list(owner, list),
         }
     }
 
@@ -553,8 +571,9 @@ impl Listing {
                 self.row_said(owner, at.list, stepped)
             }
             FieldWalk::Names(names) => {
+                let slot = names.cursor();
                 let stepped = names.next(image, segments, sections, info, rebases, binds, index);
-                self.name_said(owner, at.list, stepped)
+                self.name_said(owner, at.list, slot, stepped)
             }
         }
     }

@@ -1,5 +1,6 @@
 // The section walks one after the other: classes, protocols, categories.
 use crate::at::Record;
+use reads::answer::Reason;
 use walks::sections::CategoryStep;
 use walks::sections::CategoryWalk;
 use walks::sections::ClassStep;
@@ -23,11 +24,12 @@ pub enum Section {
     Categories(CategoryWalk),
 }
 
-// What a step of a section walk gives: a record, or nothing from what it took, or there was nothing left; or the number of the question
-// that refuses.
+// What a step of a section walk gives: a record, or the reason for which it is absent; a slot is dropped; there was nothing left; or the
+// number of the question that refuses.
 pub(crate) enum Taken {
     Record(Record),
-    Passed,
+    Passed(Reason),
+    Dropped,
     Finished,
     Refused(u8),
 }
@@ -44,7 +46,8 @@ fn class_taken(step: ClassStep) -> Taken
 {
     match step {
         ClassStep::Record(class) => Taken::Record(Record::Class(class)),
-        ClassStep::Passed => Taken::Passed,
+        ClassStep::Passed(why) => Taken::Passed(why),
+        ClassStep::Dropped => Taken::Dropped,
         ClassStep::Finished => Taken::Finished,
         ClassStep::Refused(k) => Taken::Refused(k),
     }
@@ -56,7 +59,8 @@ fn protocol_taken(step: ProtocolStep) -> Taken
 {
     match step {
         ProtocolStep::Record(protocol) => Taken::Record(Record::Protocol(protocol)),
-        ProtocolStep::Passed => Taken::Passed,
+        ProtocolStep::Passed(why) => Taken::Passed(why),
+        ProtocolStep::Dropped => Taken::Dropped,
         ProtocolStep::Finished => Taken::Finished,
         ProtocolStep::Refused(k) => Taken::Refused(k),
     }
@@ -68,7 +72,8 @@ fn category_taken(step: CategoryStep) -> Taken
 {
     match step {
         CategoryStep::Record(category) => Taken::Record(Record::Category(category)),
-        CategoryStep::Passed => Taken::Passed,
+        CategoryStep::Passed(why) => Taken::Passed(why),
+        CategoryStep::Dropped => Taken::Dropped,
         CategoryStep::Finished => Taken::Finished,
         CategoryStep::Refused(k) => Taken::Refused(k),
     }

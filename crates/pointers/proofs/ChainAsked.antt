@@ -9,6 +9,7 @@ use lib.Dec.{leb}
 use lib.ListN.{getD}
 use borrow.Author.Tests.{eq-eqb, ne-eqb, leb-true, leb-false, le-leb, lt-leb}
 use Rattle.reads.specs.Outcome.{Outcome, value, absent, number, andThen}
+use Rattle.reads.specs.declared.answer.Reason.the-variants.{NoRecord}
 use Rattle.reads.specs.Table.{records}
 use Rattle.reads.proofs.Tests.{choose-true, choose-false}
 use Rattle.pointers.specs.Tables.{slotOf}
@@ -26,7 +27,7 @@ module _ (width : ℕ) (table : List ℕ) (nexts slot : ℕ) (index : List ℕ) 
   chain most n = chainFrom width table nexts slot index most n
 
   -- The end; a number above the limit; the slot's record; another record, after which the chain goes on below it.
-  asked-end : (limit : ℕ) → asks limit [] ≡ absent
+  asked-end : (limit : ℕ) → asks limit [] ≡ absent NoRecord
   unfolding descends slotsRecord
   asked-end limit = rw (question-yes 9 true refl) refl
 

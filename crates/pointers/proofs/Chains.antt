@@ -10,6 +10,7 @@ use lib.Dec.{eqb}
 use lib.ListN.{getD}
 use borrow.Author.Tests.{eq-eqb, ne-eqb, eqb-true}
 use Rattle.reads.specs.Outcome.{Outcome, value, absent, number, choose}
+use Rattle.reads.specs.declared.answer.Reason.the-variants.{NoRecord}
 use Rattle.reads.specs.Answer.{wordOutcome}
 use Rattle.reads.specs.Table.{records}
 use Rattle.reads.specs.declared.answer.Word.{Word}
@@ -23,7 +24,7 @@ use Rattle.pointers.proofs.IndexWords.{latest-in, latest-not-in, latest
 -- The rule of question 9, for any contents of the index.
 module _ (width : ℕ) (table : List ℕ) (nexts slot : ℕ) (index : List ℕ) where
   -- Zero is the end.
-  pub follow-end : (limit : ℕ) → followFrom width table nexts slot index limit 0 ≡ absent
+  pub follow-end : (limit : ℕ) → followFrom width table nexts slot index limit 0 ≡ absent NoRecord
   unfolding followFrom
   follow-end zero = choose-true _ _ refl
   follow-end (suc limit) = choose-false _ _ (ne-eqb 0 (suc limit) (omega arith)) ∙ follow-end limit
@@ -124,7 +125,7 @@ module _ (rebases binds index : List ℕ) (slot : ℕ) where
 
 -- What `lastRecord` says.
 module _ (width : ℕ) (table : List ℕ) (slot : ℕ) where
-  pub last-absent : (n : ℕ) → lastAmong width table n slot ≡ absent → (j : ℕ) → j < n → slotOf width table j ≡ slot → ⊥
+  pub last-absent : (n : ℕ) → lastAmong width table n slot ≡ absent NoRecord → (j : ℕ) → j < n → slotOf width table j ≡ slot → ⊥
   unfolding lastAmong
   last-absent zero e j h q = omega arith
   last-absent (suc n) e j h q =

@@ -5,6 +5,7 @@ use mathlib.Core.List.{List, [], _∷_}
 use native.Mathlib.Omega.{arith}
 use lib.ListN.{getD}
 use Rattle.reads.specs.Outcome.{value, absent, number, choose}
+use Rattle.reads.specs.declared.answer.Reason.the-variants.{NoRecord}
 use Rattle.reads.specs.Table.{tabulate}
 use Rattle.pointers.specs.Tables.{rebaseWords, chains}
 use Rattle.pointers.specs.Index.{latest, nextsOf, indexed}
@@ -34,7 +35,7 @@ pub middle-case : (binds index : List ℕ) → follow rebaseWords three-rebases 
 unfolding lastAmong choose
 middle-case binds index = rebase-last-wins three-rebases binds index 32776
 
-pub absent-case : (binds index : List ℕ) → follow rebaseWords three-rebases 0 (2 * chains) 65544 (indexed three-rebases binds index) ≡ absent
+pub absent-case : (binds index : List ℕ) → follow rebaseWords three-rebases 0 (2 * chains) 65544 (indexed three-rebases binds index) ≡ absent NoRecord
 unfolding lastAmong choose
 absent-case binds index = rebase-last-wins three-rebases binds index 65544
 

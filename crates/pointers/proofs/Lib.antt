@@ -1,6 +1,7 @@
 -- Laws that the proofs of pointers share, and that the crates above cite.
 pub mod Questions
 pub mod QuestionCases
+pub mod ReasonCases
 pub mod Rooms
 pub mod RecordWords
 pub mod Chains
@@ -10,6 +11,7 @@ pub mod IndexFolds
 pub mod Opens
 pub mod OpenedTables
 pub mod LookupNumbers
+pub mod Resolves
 pub mod IndexCases
 pub mod Flags
 pub mod Infos

@@ -1,43 +1,61 @@
--- Over any tables a lookup gives no number but 9 and 7; and what is made of such outcomes gives no other.
+-- Over any tables a lookup gives no number but 9, 7 and 14; and what is made of such outcomes gives no other.
 use Prim.Native.Nat.{ℕ, _-_, _*_}
 use mathlib.Core.Bool.{Bool}
 use mathlib.Core.List.{List, [], _∷_}
 use lib.Dec.{eqb}
-use Rattle.reads.specs.Outcome.{Outcome, value, number, Unrefused, is-value, is-absent, andThen, orElse, orZero, choose}
+use Rattle.reads.specs.Outcome.{Outcome, value, number, Unrefused, is-value, is-absent, andThen, because, orElse, orFirst, orZero, choose}
 use Rattle.reads.specs.Table.{records}
+use Rattle.reads.specs.declared.answer.Reason.{Reason}
+use Rattle.reads.specs.declared.answer.Reason.the-variants.{Unresolved, Unreadable, NoRecord}
 use Rattle.reads.proofs.Tests.{by-choose}
 use Rattle.reads.proofs.Unrefused.{unrefused-choose, sum-unrefused}
 use Rattle.pointers.specs.Tables.{Tables, imageIn, bindWords, rebaseWords, chains, slotOf, rebaseRecord, bindRecord}
-use Rattle.pointers.specs.Question.{question, bindFits}
+use Rattle.pointers.specs.Question.{question, bindInside, bindUtf8}
 use Rattle.pointers.specs.ImageInfo.{imageInfo}
 use Rattle.pointers.specs.Index.{bindNexts}
 use Rattle.pointers.specs.Chain.{descends, slotsRecord, slotsChain, follow}
 use Rattle.pointers.specs.Symbol.{strippedName}
-use Rattle.pointers.specs.Slot.{rebaseAt, bindName, bindAt, symbolOf, symbolAt, resolve, pointerAt, pointerOr0At, rebase, slot, pointer, pointerOr0, NineOrSeven, unrefused, is-9, is-7}
+use Rattle.pointers.specs.Slot.{rebaseAt, bindName, bindAt, symbolOf, symbolAt, resolve, pointerAt, pointerOr0At, rebase, slot, pointer, pointerOr0, LookupOutcome, unrefused, is-9, is-7, is-14}
 use Rattle.pointers.proofs.ChainAsked.{follow-asked}
 use Rattle.pointers.proofs.OpenedTables.{stored-unrefused}
 
-pub numbers-then : {A B : Type 0} {o : Outcome A} (f : A → Outcome B) → NineOrSeven o → ((a : A) → NineOrSeven (f a)) → NineOrSeven (andThen o f)
+pub numbers-then : {A B : Type 0} {o : Outcome A} (f : A → Outcome B) → LookupOutcome o → ((a : A) → LookupOutcome (f a)) → LookupOutcome (andThen o f)
 numbers-then f (unrefused (is-value a)) v = v a
-numbers-then f (unrefused is-absent) v = unrefused is-absent
+numbers-then f (unrefused (is-absent r)) v = unrefused (is-absent r)
 numbers-then f is-9 v = is-9
 numbers-then f is-7 v = is-7
+numbers-then f is-14 v = is-14
 
-pub numbers-else : {A : Type 0} {o p : Outcome A} → NineOrSeven o → NineOrSeven p → NineOrSeven (orElse o p)
+pub numbers-else : {A : Type 0} {o p : Outcome A} → LookupOutcome o → LookupOutcome p → LookupOutcome (orElse o p)
 numbers-else (unrefused (is-value a)) v = unrefused (is-value a)
-numbers-else (unrefused is-absent) v = v
+numbers-else (unrefused (is-absent r)) v = v
 numbers-else is-9 v = is-9
 numbers-else is-7 v = is-7
+numbers-else is-14 v = is-14
 
-pub numbers-choose : {A : Type 0} (b : Bool) {o p : Outcome A} → NineOrSeven o → NineOrSeven p → NineOrSeven (choose b o p)
-numbers-choose b u v = by-choose NineOrSeven (λ e. u) (λ e. v)
+pub numbers-because : {A : Type 0} {o : Outcome A} (why : Reason) → LookupOutcome o → LookupOutcome (because why o)
+numbers-because why (unrefused (is-value a)) = unrefused (is-value a)
+numbers-because why (unrefused (is-absent r)) = unrefused (is-absent why)
+numbers-because why is-9 = is-9
+numbers-because why is-7 = is-7
+numbers-because why is-14 = is-14
+
+pub numbers-first : {A : Type 0} {o p : Outcome A} → LookupOutcome o → LookupOutcome p → LookupOutcome (orFirst o p)
+numbers-first (unrefused (is-value a)) v = unrefused (is-value a)
+numbers-first (unrefused (is-absent r)) v = numbers-because r v
+numbers-first is-9 v = is-9
+numbers-first is-7 v = is-7
+numbers-first is-14 v = is-14
+
+pub numbers-choose : {A : Type 0} (b : Bool) {o p : Outcome A} → LookupOutcome o → LookupOutcome p → LookupOutcome (choose b o p)
+numbers-choose b u v = by-choose LookupOutcome (λ e. u) (λ e. v)
 
 record-unrefused : (width : ℕ) (table : List ℕ) (a : ℕ) (ns : List ℕ) → Unrefused (slotsRecord width table a ns)
 unfolding slotsRecord
-record-unrefused width table a [] = is-absent
+record-unrefused width table a [] = is-absent NoRecord
 record-unrefused width table a (n ∷ ns) = unrefused-choose (eqb (slotOf width table (n - 1)) a) (is-value n) (record-unrefused width table a ns)
 
-follow-numbers : (width : ℕ) (table : List ℕ) (heads nexts a : ℕ) (index : List ℕ) → NineOrSeven (follow width table heads nexts a index)
+follow-numbers : (width : ℕ) (table : List ℕ) (heads nexts a : ℕ) (index : List ℕ) → LookupOutcome (follow width table heads nexts a index)
 unfolding question
 follow-numbers width table heads nexts a index =
     rw (follow-asked width table heads nexts a index)
@@ -45,24 +63,25 @@ follow-numbers width table heads nexts a index =
     (numbers-choose (descends (records width table) (slotsChain width table heads nexts a index)) (unrefused (is-value tt)) is-9)
     (λ _. unrefused (record-unrefused width table a (slotsChain width table heads nexts a index))))
 
-bind-name-numbers : (image binds : List ℕ) (i : ℕ) → NineOrSeven (bindName image binds i)
+bind-name-numbers : (image binds : List ℕ) (i : ℕ) → LookupOutcome (bindName image binds i)
 unfolding bindName question
 bind-name-numbers image binds i =
-    numbers-then (λ _. value (bindRecord binds i .name)) (numbers-choose (bindFits image binds i) (unrefused (is-value tt)) is-7)
-    (λ _. unrefused (is-value (bindRecord binds i .name)))
+    numbers-then _ (numbers-choose (bindInside image binds i) (unrefused (is-value tt)) is-7)
+    (λ _. numbers-then (λ _. value (bindRecord binds i .name)) (numbers-choose (bindUtf8 image binds i) (unrefused (is-value tt)) is-14)
+    (λ _. unrefused (is-value (bindRecord binds i .name))))
 
 pub info-unrefused : (body : List ℕ) → Unrefused (imageInfo body)
 unfolding imageInfo
-info-unrefused body = unrefused-choose _ (is-value _) is-absent
+info-unrefused body = unrefused-choose _ (is-value _) (is-absent Unreadable)
 
 module _ (t : Tables) where
-  pub rebase-numbers : (a : ℕ) → NineOrSeven (rebase t a)
+  pub rebase-numbers : (a : ℕ) → LookupOutcome (rebase t a)
   unfolding rebaseAt
   rebase-numbers a =
       numbers-then (λ n. value (rebaseRecord (t .rebases) (n - 1) .target)) (follow-numbers rebaseWords (t .rebases) 0 (2 * chains) a (t .index))
       (λ n. unrefused (is-value (rebaseRecord (t .rebases) (n - 1) .target)))
 
-  pub symbol-numbers : (a : ℕ) → NineOrSeven (symbolAt t a)
+  pub symbol-numbers : (a : ℕ) → LookupOutcome (symbolAt t a)
   unfolding symbolOf bindAt
   symbol-numbers a =
       numbers-then (λ name. value (strippedName (t .image) name))
@@ -70,15 +89,15 @@ module _ (t : Tables) where
       (λ n. bind-name-numbers (t .image) (t .binds) (n - 1)))
       (λ name. unrefused (is-value (strippedName (t .image) name)))
 
-  pub slot-numbers : (a : ℕ) → NineOrSeven (slot t a)
+  pub slot-numbers : (a : ℕ) → LookupOutcome (slot t a)
   unfolding resolve
-  slot-numbers a = numbers-else (rebase-numbers a) (unrefused (stored-unrefused (imageIn t) a))
+  slot-numbers a = numbers-because Unresolved (numbers-else (rebase-numbers a) (unrefused (stored-unrefused (imageIn t) a)))
 
-  pub pointer-numbers : (va k : ℕ) → NineOrSeven (pointer t va k)
+  pub pointer-numbers : (va k : ℕ) → LookupOutcome (pointer t va k)
   unfolding pointerAt
   pointer-numbers va k = numbers-then (resolve (imageIn t) (t .rebases) (t .index)) (unrefused (sum-unrefused va k)) slot-numbers
 
-  pub pointer-or-0-numbers : (va k : ℕ) → NineOrSeven (pointerOr0 t va k)
+  pub pointer-or-0-numbers : (va k : ℕ) → LookupOutcome (pointerOr0 t va k)
   unfolding pointerOr0At
   pointer-or-0-numbers va k =
       numbers-then (λ a. orZero (resolve (imageIn t) (t .rebases) (t .index) a)) (unrefused (sum-unrefused va k))

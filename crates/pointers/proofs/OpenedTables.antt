@@ -11,10 +11,11 @@ use Rattle.reads.specs.Outcome.{Outcome, value, absent, number, Unrefused, is-v
 use Rattle.reads.specs.Table.{records}
 use Rattle.reads.specs.Place.{Image}
 use Rattle.reads.specs.Address.{stripped}
+use Rattle.reads.specs.declared.answer.Reason.the-variants.{Unresolved}
 use Rattle.reads.proofs.Outcomes.{then-came}
-use Rattle.reads.proofs.Unrefused.{unrefused-then, unrefused-came, unrefused-else, unrefused-zero, sum-unrefused, word-unrefused}
+use Rattle.reads.proofs.Unrefused.{unrefused-then, unrefused-came, unrefused-because, unrefused-else, unrefused-zero, sum-unrefused, word-unrefused}
 use Rattle.pointers.specs.Tables.{Tables, imageIn, withIndex, bindWords, rebaseWords, chains, rebaseRecord, bindRecord}
-use Rattle.pointers.specs.Question.{bindFits, namesFit, indexFits, askedTables, askedIndex, asked}
+use Rattle.pointers.specs.Question.{bindInside, bindUtf8, namesInside, namesUtf8, indexFits, askedTables, askedIndex, asked}
 use Rattle.pointers.specs.ImageInfo.{imageInfo}
 use Rattle.pointers.specs.Index.{indexed, bindNexts, indexLength}
 use Rattle.pointers.specs.Chain.{follow, lastAmong, lastRecord}
@@ -26,11 +27,15 @@ use Rattle.pointers.proofs.Rooms.{Room, tables-room, asked-index, Accep
 use Rattle.pointers.proofs.IndexWords.{length-indexed}
 use Rattle.pointers.proofs.Chains.{rebase-last-wins, bind-last-wins, last-value, last-no-number}
 
--- Every bind name fits.
-pub name-unrefused : (image binds : List ℕ) → namesFit image binds ≡ true → (i : ℕ) → i < records bindWords binds → Unrefused (bindName image binds i)
-unfolding namesFit bindName
-name-unrefused image binds e i h =
-    rw (question-yes 7 _ (every-at (bindFits image binds) (records bindWords binds) e i h))
+-- Every bind name is inside the image, and UTF-8.
+pub name-unrefused : (image binds : List ℕ) → namesInside image binds ≡ true → namesUtf8 image binds ≡ true
+    → (i : ℕ) → i < records bindWords binds → Unrefused (bindName image binds i)
+unfolding namesInside namesUtf8 bindName
+name-unrefused image binds e g i h =
+    rw (
+      question-yes 7 _ (every-at (bindInside image binds) (records bindWords binds) e i h),
+      question-yes 14 _ (every-at (bindUtf8 image binds) (records bindWords binds) g i h),
+    )
     (is-value (bindRecord binds i .name))
 
 last-unrefused : (width : ℕ) (table : List ℕ) (a n : ℕ) → Unrefused (lastAmong width table n a)
@@ -38,7 +43,7 @@ last-unrefused width table a n = go (lastAmong width table n a) (λ k e. last-no
   where
     go : (o : Outcome ℕ) → ((k : ℕ) → o ≡ number k → ⊥) → Unrefused o
     go (value k) f = is-value k
-    go absent f = is-absent
+    go (absent r) f = is-absent r
     go (number k) f = absurd (f k refl)
 
 pub stored-unrefused : (m : Image) (a : ℕ) → Unrefused (stored m a)
@@ -110,7 +115,7 @@ module _ (t : Tables) (o : Opened t) where
       rw (opened-follow-bind a)
       (unrefused-came (λ n. bindName (t .image) (t .binds) (n - 1)) (last-unrefused bindWords (t .binds) a (records bindWords (t .binds)))
       (λ n e. let l = last-value bindWords (t .binds) a (records bindWords (t .binds)) n e in
-      name-unrefused (t .image) (t .binds) (opened-accepted .namesPass) (n - 1) (omega (arith, l .first, l .counted))))
+      name-unrefused (t .image) (t .binds) (opened-accepted .namesIn) (opened-accepted .namesGood) (n - 1) (omega (arith, l .first, l .counted))))
 
   pub symbol-unrefused : (a : ℕ) → Unrefused (symbolAt t a)
   unfolding symbolOf
@@ -119,7 +124,7 @@ module _ (t : Tables) (o : Opened t) where
 
   pub slot-unrefused : (a : ℕ) → Unrefused (slot t a)
   unfolding resolve
-  slot-unrefused a = unrefused-else (rebase-unrefused a) (stored-unrefused (imageIn t) a)
+  slot-unrefused a = unrefused-because Unresolved (unrefused-else (rebase-unrefused a) (stored-unrefused (imageIn t) a))
 
   pub pointer-unrefused : (va k : ℕ) → Unrefused (pointer t va k)
   unfolding pointerAt

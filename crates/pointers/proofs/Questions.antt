@@ -1,6 +1,6 @@
 -- Laws of the questions: what the code's tests come to, and tests of every row.
-use Prim.Native.Nat.{ℕ, zero, suc, _+_, _*_, _/_, _%_, _≤_, _<_}
-use mathlib.Core.Path.{_≡_, refl, ap, _∙_}
+use Prim.Native.Nat.{ℕ, zero, suc, _+_, _-_, _*_, _/_, _%_, _≤_, _<_}
+use mathlib.Core.Path.{_≡_, refl, ap, sym, _∙_}
 use mathlib.Core.Bool.{Bool, true, false, and-false}
 use mathlib.Core.List.{List}
 use mathlib.Core.Logic.{⊎-elim}
@@ -8,16 +8,17 @@ use native.Mathlib.Omega.{arith}
 use native.Mathlib.Nat.{eq-or-lt-of-le, le-of-suc-le-suc}
 use native.Mathlib.Numerals.{add-one}
 use lib.Dec.{leb, eqb}
-use lib.ListN.{length}
-use borrow.Author.Tests.{le-leb, lt-leb, leb-true, eq-eqb, ne-eqb, eqb-true}
+use lib.ListN.{length, drop, length-drop, drop-of-length-le}
+use lib.Seq.{take-all}
+use borrow.Author.Tests.{lt-leb, leb-true, eq-eqb, ne-eqb, eqb-true}
 use Rattle.reads.specs.Outcome.{Outcome, value, number, andThen, choose}
 use Rattle.reads.specs.Table.{records}
 use Rattle.reads.specs.Place.{part}
-use Rattle.reads.specs.Utf8.{utf8}
+use Rattle.reads.specs.Utf8.{judge, utf8}
 use Rattle.reads.proofs.Tests.{le-same, both-true}
 use Rattle.reads.proofs.Outcomes.{on-value, on-number}
 use Rattle.pointers.specs.Tables.{tablesOf, sectionWords, chains, bindRecord, sectionTableWords}
-use Rattle.pointers.specs.Question.{question, askedOutcome, wholeRows, sectionFits, every, sectionRowFits, sectionTable, nameFits, bindFits, indexFits, askedTables}
+use Rattle.pointers.specs.Question.{question, askedOutcome, wholeRows, sectionFits, every, sectionRowFits, sectionTable, nameInside, nameUtf8, bindInside, bindUtf8, indexFits, askedTables}
 use Rattle.pointers.specs.declared.table.Bind.{Bind}
 use Rattle.pointers.specs.declared.question.Asked.{Asked}
 use Rattle.pointers.specs.declared.question.Asked.the-variants as asks
@@ -117,18 +118,39 @@ section-row n ws e i h =
     every-at (sectionRowFits n ws) (records sectionWords ws) (both .1) i (omega (arith, eqb-true (length ws) sectionTableWords (both .0)))
 
 module _ (image : List ℕ) (offset len : ℕ) where
-  pub name-outside : length image < offset + len → false ≡ nameFits image offset len
-  unfolding nameFits
-  name-outside h = simp (lt-leb (offset + len) (length image) h)
+  pub name-past : length image < offset → false ≡ nameInside image offset len
+  unfolding nameInside
+  name-past h = sym (lt-leb (offset + len) (length image) (omega arith))
 
-  pub name-by : offset + len ≤ length image → utf8 (part image offset len) ≡ nameFits image offset len
-  unfolding nameFits
-  name-by h = simp (le-leb (offset + len) (length image) h)
+  pub name-by : offset ≤ length image → leb len (length image - offset) ≡ nameInside image offset len
+  unfolding nameInside
+  name-by h = le-same len (length image - offset) (offset + len) (length image) (λ u. omega arith) (λ u. omega arith)
+
+  -- Past the image's end there is no byte.
+  pub utf8-past : length image < offset → true ≡ nameUtf8 image offset len
+  unfolding nameUtf8 utf8 judge
+  utf8-past h =
+      let past : length image ≤ offset = omega arith in
+      sym (ap utf8 (take-all len (drop offset image) (omega (arith, length-drop offset image)) ∙ drop-of-length-le image past))
+
+  -- The code takes k bytes from the offset on: all that the name has there.
+  pub utf8-by : (k : ℕ) {r : Bool} → part image offset k ≡ part image offset len → r ≡ utf8 (part image offset k) → r ≡ nameUtf8 image offset len
+  unfolding nameUtf8
+  utf8-by k e g = g ∙ ap utf8 e
+
+  -- A name that passes the image's end has the bytes up to there.
+  pub part-cut : offset ≤ length image → length image - offset < len → part image offset (length image - offset) ≡ part image offset len
+  part-cut h l =
+      take-all (length image - offset) (drop offset image) (omega (arith, length-drop offset image))
+      ∙ sym (take-all len (drop offset image) (omega (arith, length-drop offset image)))
 
 -- Bind record i, as the code has it.
-pub bind-by : (image binds : List ℕ) (i : ℕ) (b : Bind) {r : Bool} → b ≡ bindRecord binds i → r ≡ nameFits image (b .name .offset) (b .name .len)
-    → r ≡ bindFits image binds i
-bind-by image binds i b e g = g ∙ ap (λ (x : Bind). nameFits image (x .name .offset) (x .name .len)) e
+module _ (image binds : List ℕ) (i : ℕ) (b : Bind) {r : Bool} (e : b ≡ bindRecord binds i) where
+  pub inside-by : r ≡ nameInside image (b .name .offset) (b .name .len) → r ≡ bindInside image binds i
+  inside-by g = g ∙ ap (λ (x : Bind). nameInside image (x .name .offset) (x .name .len)) e
+
+  pub bind-utf8-by : r ≡ nameUtf8 image (b .name .offset) (b .name .len) → r ≡ bindUtf8 image binds i
+  bind-utf8-by g = g ∙ ap (λ (x : Bind). nameUtf8 image (x .name .offset) (x .name .len)) e
 
 module _ (rebases binds words : ℕ) where
   pub index-short : words < 2 * chains + rebases + binds → false ≡ indexFits rebases binds words

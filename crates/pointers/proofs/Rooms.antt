@@ -10,7 +10,7 @@ use Rattle.reads.specs.Table.{records}
 use Rattle.reads.specs.Segment.{segmentWords}
 use Rattle.reads.proofs.Outcomes.{then-came}
 use Rattle.pointers.specs.Tables.{Tables, rebaseWords, bindWords}
-use Rattle.pointers.specs.Question.{question, imageFits, wholeRows, sectionTable, infoWhole, askedTables, askedIndex, asked, namesFit}
+use Rattle.pointers.specs.Question.{question, imageFits, wholeRows, sectionTable, infoWhole, askedTables, askedIndex, asked, namesInside, namesUtf8}
 use Rattle.pointers.specs.Index.{indexLength}
 use Rattle.pointers.specs.Open.{askedOpening}
 use Rattle.pointers.proofs.Questions.{question-came, rows-most, index-room}
@@ -51,12 +51,14 @@ asked-index t u e = index-room _ _ _ (question-came 8 _ _ e)
 -- What opening asks, taken apart.
 pub record Accepted (t : Tables) : Type 0 where
   pub tablesPass : askedTables t ≡ value tt
-  pub namesPass : namesFit (t .image) (t .binds) ≡ true
+  pub namesIn : namesInside (t .image) (t .binds) ≡ true
+  pub namesGood : namesUtf8 (t .image) (t .binds) ≡ true
   pub indexPass : askedIndex t ≡ value tt
 
 pub accepted-parts : (t : Tables) (u : Unit {0}) → askedOpening t ≡ value u → Accepted t
 unfolding askedOpening
 accepted-parts t u e =
     let a = then-came (askedTables t) _ u e in
-    let b = then-came (question 7 (namesFit (t .image) (t .binds))) _ u (a .2) in
-    record { tablesPass = a .1; namesPass = question-came 7 _ _ (b .1); indexPass = b .2 }
+    let b = then-came (question 7 (namesInside (t .image) (t .binds))) _ u (a .2) in
+    let c = then-came (question 14 (namesUtf8 (t .image) (t .binds))) _ u (b .2) in
+    record { tablesPass = a .1; namesIn = question-came 7 _ _ (b .1); namesGood = question-came 14 _ _ (c .1); indexPass = c .2 }

@@ -7,6 +7,7 @@ use lib.Dec.{eqb, leb}
 use lib.ListN.{getD}
 use Rattle.reads.specs.Outcome.{Outcome, value, absent, number, choose}
 use Rattle.reads.specs.Table.{records}
+use Rattle.reads.specs.declared.answer.Reason.the-variants.{NoRecord}
 use Rattle.pointers.specs.Tables.{slotOf}
 use Rattle.pointers.specs.Index.{chainOf}
 
@@ -24,7 +25,7 @@ descends limit (n ∷ ns) = leb n limit && descends (n - 1) ns
 
 -- The slot's record among the numbers.
 unfoldable pub slotsRecord : ℕ → List ℕ → ℕ → List ℕ → Outcome ℕ
-slotsRecord width table slot [] = absent
+slotsRecord width table slot [] = absent NoRecord
 slotsRecord width table slot (n ∷ ns) = choose (eqb (slotOf width table (n - 1)) slot) (value n) (slotsRecord width table slot ns)
 
 -- A lookup asks question 9 of the slot's chain; one that goes down from the record count has no more numbers than that. As the code goes
@@ -37,7 +38,7 @@ slotsChain width table heads nexts slot index =
 -- record, or the chain goes on at its next word. Zero is the end; an n that is never met is above the limit, that is, not below the one
 -- before it: 9.
 unfoldable pub followFrom : ℕ → List ℕ → ℕ → ℕ → List ℕ → ℕ → ℕ → Outcome ℕ
-followFrom width table nexts slot index zero n = choose (eqb n 0) absent (number 9)
+followFrom width table nexts slot index zero n = choose (eqb n 0) (absent NoRecord) (number 9)
 followFrom width table nexts slot index (suc limit) n =
     choose (eqb n (suc limit))
     (choose (eqb (slotOf width table limit) slot)
@@ -52,7 +53,7 @@ follow width table heads nexts slot index =
 
 -- What a map holds for a slot after the first n records, numbered from 1, were inserted in order: absent, or the last that has it.
 unfoldable pub lastAmong : ℕ → List ℕ → ℕ → ℕ → Outcome ℕ
-lastAmong width table zero slot = absent
+lastAmong width table zero slot = absent NoRecord
 lastAmong width table (suc n) slot = choose (eqb (slotOf width table n) slot) (value (suc n)) (lastAmong width table n slot)
 
 -- The number of the last record of a slot in table order.

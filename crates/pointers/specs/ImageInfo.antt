@@ -6,6 +6,7 @@ use lib.Dec.{leb, eqb}
 use lib.ListN.{length}
 use Rattle.reads.specs.Outcome.{Outcome, value, absent, choose}
 use Rattle.reads.specs.Answer.{missed}
+use Rattle.reads.specs.declared.answer.Reason.the-variants.{Unreadable}
 use Rattle.reads.specs.Place.{le, part}
 use Rattle.pointers.specs.declared.imageinfo.ImageInfo.{ImageInfo}
 use Rattle.pointers.specs.declared.imageinfo.ImageInfoAnswer.{ImageInfoAnswer}
@@ -18,9 +19,9 @@ infoOutcome (answer.Missing m) = missed m
 abbrev pub infoOf : ℕ → ℕ → ImageInfo
 infoOf version flags = record { version = version; flags = flags }
 
--- Fewer than 8 bytes: absent.
+-- Fewer than 8 bytes cannot be read.
 unfoldable pub imageInfo : List ℕ → Outcome ImageInfo
-imageInfo body = choose (leb 8 (length body)) (value (infoOf (le (part body 0 4)) (le (part body 4 4)))) absent
+imageInfo body = choose (leb 8 (length body)) (value (infoOf (le (part body 0 4)) (le (part body 4 4)))) (absent Unreadable)
 
 -- Bit k of a word of flags.
 unfoldable pub bit : ℕ → ℕ → Bool

@@ -51,13 +51,20 @@ sectionTable n ws = eqb (length ws) sectionTableWords && every (sectionRowFits n
 unfoldable pub infoWhole : ℕ → Bool
 infoWhole bytes = leb 8 bytes
 
--- 7, of a name: is it inside the image and UTF-8?
-unfoldable pub nameFits : List ℕ → ℕ → ℕ → Bool
-nameFits image offset len = leb (offset + len) (length image) && utf8 (part image offset len)
+-- 7, of a name: is it inside the image?
+unfoldable pub nameInside : List ℕ → ℕ → ℕ → Bool
+nameInside image offset len = leb (offset + len) (length image)
 
--- 7, of the name of bind record i.
-abbrev pub bindFits : List ℕ → List ℕ → ℕ → Bool
-bindFits image binds i = nameFits image (bindRecord binds i .name .offset) (bindRecord binds i .name .len)
+-- 14 (document 02, note 2), of a name inside the image: is it UTF-8? Of one outside, the bytes that are there.
+unfoldable pub nameUtf8 : List ℕ → ℕ → ℕ → Bool
+nameUtf8 image offset len = utf8 (part image offset len)
+
+-- The same of the name of bind record i.
+abbrev pub bindInside : List ℕ → List ℕ → ℕ → Bool
+bindInside image binds i = nameInside image (bindRecord binds i .name .offset) (bindRecord binds i .name .len)
+
+abbrev pub bindUtf8 : List ℕ → List ℕ → ℕ → Bool
+bindUtf8 image binds i = nameUtf8 image (bindRecord binds i .name .offset) (bindRecord binds i .name .len)
 
 -- 8: index at least 8,192 + rebases + binds words?
 unfoldable pub indexFits : ℕ → ℕ → ℕ → Bool
@@ -86,5 +93,9 @@ abbrev pub guarded : {A : Type 0} → Tables → Outcome A → Outcome A
 guarded t o = andThen (asked t) (λ _. o)
 
 -- 7, of every bind record, in table order.
-unfoldable pub namesFit : List ℕ → List ℕ → Bool
-namesFit image binds = every (bindFits image binds) (records bindWords binds)
+unfoldable pub namesInside : List ℕ → List ℕ → Bool
+namesInside image binds = every (bindInside image binds) (records bindWords binds)
+
+-- 14, of every bind record, in table order.
+unfoldable pub namesUtf8 : List ℕ → List ℕ → Bool
+namesUtf8 image binds = every (bindUtf8 image binds) (records bindWords binds)

@@ -1,12 +1,13 @@
 -- What the tables say of a slot, and pointer slots (document 01, Reading rules; mod.rs).
 use Prim.Native.Nat.{ℕ, _-_, _*_}
 use mathlib.Core.List.{List}
-use Rattle.reads.specs.Outcome.{Outcome, value, number, Unrefused, andThen, orElse, orZero, sum64}
+use Rattle.reads.specs.Outcome.{Outcome, value, number, Unrefused, andThen, because, orElse, orZero, sum64}
 use Rattle.reads.specs.Place.{Image, word}
 use Rattle.reads.specs.Address.{stripped}
+use Rattle.reads.specs.declared.answer.Reason.the-variants.{Unresolved}
 use Rattle.reads.specs.declared.text.Text.{Text}
 use Rattle.pointers.specs.Tables.{Tables, imageIn, rebaseWords, bindWords, chains, rebaseRecord, bindRecord}
-use Rattle.pointers.specs.Question.{question, bindFits}
+use Rattle.pointers.specs.Question.{question, bindInside, bindUtf8}
 use Rattle.pointers.specs.Index.{bindNexts}
 use Rattle.pointers.specs.Chain.{follow}
 use Rattle.pointers.specs.Symbol.{strippedName}
@@ -16,10 +17,12 @@ unfoldable pub rebaseAt : List ℕ → List ℕ → ℕ → Outcome ℕ
 rebaseAt rebases index slot =
     andThen (follow rebaseWords rebases 0 (2 * chains) slot index) (λ n. value (rebaseRecord rebases (n - 1) .target))
 
--- The name of bind record i, counted from 0; question 7 is asked of it.
+-- The name of bind record i, counted from 0; the questions 7 and 14 are asked of it.
 unfoldable pub bindName : List ℕ → List ℕ → ℕ → Outcome Text
 bindName image binds i =
-    andThen (question 7 (bindFits image binds i)) (λ _. value (bindRecord binds i .name))
+    andThen (question 7 (bindInside image binds i)) (λ _.
+    andThen (question 14 (bindUtf8 image binds i)) (λ _.
+    value (bindRecord binds i .name)))
 
 -- The name of a slot's bind.
 unfoldable pub bindAt : List ℕ → List ℕ → List ℕ → List ℕ → ℕ → Outcome Text
@@ -35,9 +38,13 @@ symbolOf image rebases binds index slot =
 unfoldable pub stored : Image → ℕ → Outcome ℕ
 stored m slot = andThen (word m 8 slot) (λ w. value (stripped w))
 
--- A pointer slot: a rebase target wins unmasked, mapped or not; else the word there; else absent.
+-- A slot's rebase target wins unmasked, mapped or not; else the word there.
+abbrev pub rebasedOr : Image → List ℕ → List ℕ → ℕ → Outcome ℕ
+rebasedOr m rebases index slot = orElse (rebaseAt rebases index slot) (stored m slot)
+
+-- A pointer slot: that, or else it does not resolve.
 unfoldable pub resolve : Image → List ℕ → List ℕ → ℕ → Outcome ℕ
-resolve m rebases index slot = orElse (rebaseAt rebases index slot) (stored m slot)
+resolve m rebases index slot = because Unresolved (rebasedOr m rebases index slot)
 
 -- The pointer in the field at va + k: absent where the field's address is over 64 bits.
 unfoldable pub pointerAt : Image → List ℕ → List ℕ → ℕ → ℕ → Outcome ℕ
@@ -63,8 +70,9 @@ pointer t va k = pointerAt (imageIn t) (t .rebases) (t .index) va k
 abbrev pub pointerOr0 : Tables → ℕ → ℕ → Outcome ℕ
 pointerOr0 t va k = pointerOr0At (imageIn t) (t .rebases) (t .index) va k
 
--- What is made of lookups: a value, absent, or the number of one of the two questions that lookups ask.
-pub data NineOrSeven {A : Type 0} : Outcome A → Type 0 where
-  unrefused : {o : Outcome A} → Unrefused o → NineOrSeven o
-  is-9 : NineOrSeven (number 9)
-  is-7 : NineOrSeven (number 7)
+-- What is made of lookups: a value, absent, or the number of one of the three questions that lookups ask.
+pub data LookupOutcome {A : Type 0} : Outcome A → Type 0 where
+  unrefused : {o : Outcome A} → Unrefused o → LookupOutcome o
+  is-9 : LookupOutcome (number 9)
+  is-7 : LookupOutcome (number 7)
+  is-14 : LookupOutcome (number 14)

@@ -3,6 +3,7 @@ use crate::table::Bind;
 use crate::table::Rebase;
 use reads::address::Address;
 use reads::answer::Missing;
+use reads::answer::Reason;
 use reads::answer::Word;
 ghost use mathlib.Core.Path.{_≡_};
 ghost use Prim.Native.Nat.{_+_, _*_, _^_, _≤_, _<_};
@@ -107,5 +108,5 @@ pub(crate) fn find(
         }
         number = index_word(index, nexts + limit);
     }
-    Word::Missing(Missing::Absent)
+    Word::Missing(Missing::Absent(Reason::NoRecord))
 }

@@ -1,11 +1,12 @@
-// Opening: asks the questions 1 to 8, then writes the index.
+// Opening: asks the questions 1 to 7, 14 and 8, then writes the index.
 use crate::imageinfo::ImageInfo;
 use crate::imageinfo::ImageInfoAnswer;
 use crate::index::fill_index;
 use crate::question::Asked;
 use crate::question::ask_index;
 use crate::question::ask_tables;
-use crate::question::names_fit;
+use crate::question::names_inside;
+use crate::question::names_utf8;
 use reads::answer::Missing;
 ghost use mathlib.Core.Path.{_≡_};
 ghost use Rattle.reads.specs.Reference.{after};
@@ -14,7 +15,7 @@ ghost use Rattle.pointers.specs.Question.{askedOutcome};
 ghost use Rattle.pointers.specs.ImageInfo.{infoOutcome};
 ghost use Rattle.pointers.specs.Open.{askedOpening, opening, openedIndex};
 
-// The questions 1 to 8, in order.
+// The questions 1 to 6, 7 of every bind, 14 of every bind, and 8.
 fn ask_opening(
     image: &[u8],
     segments: &[u64],
@@ -29,8 +30,11 @@ fn ask_opening(
 {
     match ask_tables(image, segments, sections, info, rebases, binds) {
         Asked::Yes => {
-            if !names_fit(image, binds) {
+            if !names_inside(image, binds) {
                 return Asked::Refused(7);
+            }
+            if !names_utf8(image, binds) {
+                return Asked::Refused(14);
             }
             ask_index(rebases, binds, index)
         }

@@ -13,7 +13,7 @@ ghost use Rattle.reads.specs.Reference.{before};
 ghost use Rattle.reads.specs.Table.{records};
 ghost use Rattle.reads.specs.Segment.{segmentWords};
 ghost use Rattle.pointers.specs.Tables.{lent, tablesOf, rebaseWords, bindWords};
-ghost use Rattle.pointers.specs.Question.{question, askedOutcome, imageFits, wholeRows, sectionFits, sectionTable, infoWhole, nameFits, indexFits, askedTables, asked, namesFit};
+ghost use Rattle.pointers.specs.Question.{question, askedOutcome, imageFits, wholeRows, sectionFits, sectionTable, infoWhole, nameInside, nameUtf8, indexFits, askedTables, asked, namesInside, namesUtf8};
 
 // Yes to every question, or the number of the first that says no.
 pub enum Asked {
@@ -98,30 +98,56 @@ pub fn binds_whole(n: usize) -> bool
     whole_rows(n, Bind::WORDS, 16_777_215)
 }
 
-// 7, of a record: is the name inside the image and UTF-8?
-pub fn name_fits(image: &[u8], offset: u64, len: u64) -> bool
-    ensures { λ r. ⌜ r ≡ nameFits (before image) offset len ⌝ }
+// 7, of a record: is the name inside the image?
+pub fn name_inside(image: &[u8], offset: u64, len: u64) -> bool
+    ensures { λ r. ⌜ r ≡ nameInside (before image) offset len ⌝ }
 {
     let n = image.len() as u64;
     if n < offset {
         return false;
     }
-    if n - offset < len {
-        return false;
+    len <= n - offset
+}
+
+// 14, of a record: is the name UTF-8? Of one outside the image, the bytes that are there.
+pub fn name_utf8(image: &[u8], offset: u64, len: u64) -> bool
+    ensures { λ r. ⌜ r ≡ nameUtf8 (before image) offset len ⌝ }
+{
+    let n = image.len() as u64;
+    if n < offset {
+        return true;
     }
     let from = offset as usize;
+    if n - offset < len {
+        return utf8(&image[from..image.len()]);
+    }
     let to = (offset + len) as usize;
     utf8(&image[from..to])
 }
 
-// 7: does the name of every bind record fit, in table order?
-pub fn names_fit(image: &[u8], binds: &[u64]) -> bool
-    ensures { λ r. ⌜ r ≡ namesFit (before image) (before binds) ⌝ }
+// 7: is the name of every bind record inside the image?
+pub fn names_inside(image: &[u8], binds: &[u64]) -> bool
+    ensures { λ r. ⌜ r ≡ namesInside (before image) (before binds) ⌝ }
 {
     let mut i = 0;
     while i < binds.len() / Bind::WORDS {
         let bind = Bind::at(binds, i);
-        if !name_fits(image, bind.name.offset, bind.name.len) {
+        if !name_inside(image, bind.name.offset, bind.name.len) {
+            return false;
+        }
+        i += 1;
+    }
+    true
+}
+
+// 14: is the name of every bind record UTF-8?
+pub fn names_utf8(image: &[u8], binds: &[u64]) -> bool
+    ensures { λ r. ⌜ r ≡ namesUtf8 (before image) (before binds) ⌝ }
+{
+    let mut i = 0;
+    while i < binds.len() / Bind::WORDS {
+        let bind = Bind::at(binds, i);
+        if !name_utf8(image, bind.name.offset, bind.name.len) {
             return false;
         }
         i += 1;

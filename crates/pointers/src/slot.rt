@@ -2,13 +2,16 @@
 // tables and of the index.
 use crate::index::HEADS;
 use crate::index::find;
-use crate::question::name_fits;
+use crate::question::name_inside;
+use crate::question::name_utf8;
 use crate::symbol::strip_objc_symbol_prefix;
 use crate::table::Bind;
 use crate::table::Rebase;
 use reads::address::Address;
 use reads::answer::Missing;
+use reads::answer::Reason;
 use reads::answer::Word;
+use reads::answer::because;
 use reads::answer::checked_add;
 use reads::answer::is_absent;
 use reads::answer::or_zero;
@@ -22,7 +25,7 @@ ghost use Rattle.reads.specs.Answer.{wordOutcome, textOutcome};
 ghost use Rattle.reads.specs.Table.{records};
 ghost use Rattle.reads.specs.Place.{lentImage};
 ghost use Rattle.pointers.specs.Tables.{bindWords};
-ghost use Rattle.pointers.specs.Slot.{rebaseAt, bindName, bindAt, stored, resolve, symbolOf, pointerAt, pointerOr0At};
+ghost use Rattle.pointers.specs.Slot.{rebaseAt, bindName, bindAt, stored, rebasedOr, resolve, symbolOf, pointerAt, pointerOr0At};
 
 // The target of a slot's rebase.
 pub fn rebase_at(rebases: &[u64], index: &[u32], slot: u64) -> Word
@@ -37,17 +40,20 @@ pub fn rebase_at(rebases: &[u64], index: &[u32], slot: u64) -> Word
     }
 }
 
-// The name of bind record i, counted from 0; question 7 is asked of it.
+// The name of bind record i, counted from 0; the questions 7 and 14 are asked of it.
 fn bind_name(image: &[u8], binds: &[u64], i: usize) -> TextAnswer
     requires { ⌜ i < records bindWords (now binds) ⌝ }
     ensures { λ r. ⌜ textOutcome r ≡ bindName (before image) (before binds) i ⌝ }
 {
     let bind = Bind::at(binds, i);
     let name = bind.name;
-    if name_fits(image, name.offset, name.len) {
-        return TextAnswer::Found(name);
+    if !name_inside(image, name.offset, name.len) {
+        return TextAnswer::Missing(Missing::Refused(7));
     }
-    TextAnswer::Missing(Missing::Refused(7))
+    if !name_utf8(image, name.offset, name.len) {
+        return TextAnswer::Missing(Missing::Refused(14));
+    }
+    TextAnswer::Found(name)
 }
 
 // The name of a slot's bind.
@@ -71,7 +77,24 @@ fn stored(image: &[u8], segments: &[u64], slot: u64) -> Word
     }
 }
 
-// The address in a pointer slot: a rebase target wins unmasked, mapped or not; else the word there.
+// The target of a slot's rebase, else the word there.
+fn rebased_or_stored(
+    image: &[u8],
+    segments: &[u64],
+    rebases: &[u64],
+    index: &[u32],
+    slot: u64,
+) -> Word
+    ensures { λ r. ⌜ wordOutcome r ≡ rebasedOr (lentImage image segments) (before rebases) (before index) slot ⌝ }
+{
+    let target = rebase_at(rebases, index, slot);
+    if is_absent(target) {
+        return stored(image, segments, slot);
+    }
+    target
+}
+
+// The address in a pointer slot: a rebase target wins unmasked, mapped or not; else the word there; else it does not resolve.
 pub fn resolve_pointer(
     image: &[u8],
     segments: &[u64],
@@ -81,11 +104,10 @@ pub fn resolve_pointer(
 ) -> Word
     ensures { λ r. ⌜ wordOutcome r ≡ resolve (lentImage image segments) (before rebases) (before index) slot ⌝ }
 {
-    let target = rebase_at(rebases, index, slot);
-    if is_absent(target) {
-        return stored(image, segments, slot);
-    }
-    target
+    because(
+        rebased_or_stored(image, segments, rebases, index, slot),
+        Reason::Unresolved,
+    )
 }
 
 // The same, an absent slot counting as 0.

@@ -48,28 +48,28 @@ module _ (bytes : List ℕ) (m : Missing) (o : Outcome Counts) (e : o ≡ missed
   words-kept words = rw e (go m)
     where
       go : (m : Missing) → words ≡ wordsBy bytes (missed m) words
-      go Absent = refl
+      go (Absent r) = refl
       go (Refused k) = refl
 
   pub index-kept : (words index : List ℕ) → index ≡ indexBy bytes o words index
   index-kept words index = rw e (go m)
     where
       go : (m : Missing) → index ≡ indexBy bytes (missed m) words index
-      go Absent = refl
+      go (Absent r) = refl
       go (Refused k) = refl
 
   pub not-opened : (words index : List ℕ) → missed m ≡ openingBy bytes o words index
   not-opened words index = rw e (go m)
     where
       go : (m : Missing) → _≡_ {A = Outcome ImageInfo} (missed m) (openingBy bytes (missed m) words index)
-      go Absent = refl
+      go (Absent r) = refl
       go (Refused k) = refl
 
   pub no-tables : (words index : List ℕ) → tablesOf [] [] [] [] [] [] [] ≡ tablesBy bytes o words index
   no-tables words index = rw e (go m)
     where
       go : (m : Missing) → tablesOf [] [] [] [] [] [] [] ≡ tablesBy bytes (missed m) words index
-      go Absent = refl
+      go (Absent r) = refl
       go (Refused k) = refl
 
 -- The same tables hand out the same pieces.

@@ -14,7 +14,7 @@ use Rattle.reads.proofs.Tests.{by-choose, choose-true}
 use Rattle.pointers.specs.ImageInfo.{imageInfo}
 use Rattle.pointers.specs.Index.{indexed}
 use Rattle.pointers.specs.Open.{askedOpening, opening, openedIndex}
-use Rattle.pointers.specs.Question.{question, imageFits, wholeRows, sectionTable, infoWhole, namesFit, indexFits, askedTables, askedIndex}
+use Rattle.pointers.specs.Question.{question, imageFits, wholeRows, sectionTable, infoWhole, namesInside, namesUtf8, indexFits, askedTables, askedIndex}
 use Rattle.reads.specs.Table.{records}
 use Rattle.pointers.specs.Tables.{Tables, withIndex}
 use Rattle.pointers.specs.declared.imageinfo.ImageInfo.{ImageInfo}
@@ -24,7 +24,7 @@ use Rattle.listing.specs.Bundle.{wordsFrom, rebaseTableWords, bindTableWords, i
 use Rattle.listing.specs.declared.bundle.Counts.{Counts}
 use Rattle.listing.proofs.BundleWords.{length-words}
 use Rattle.listing.proofs.Measured.{accepted}
-use Rattle.printing.specs.BundleText.{indexWords, bundleTables, bundleOpening, Met, opens, refused-13, refused-2, refused-3, refused-7}
+use Rattle.printing.specs.BundleText.{indexWords, bundleTables, bundleOpening, Met, opens, refused-13, refused-2, refused-3, refused-7, refused-14}
 
 -- Of the index opening asks the length alone, and it leaves nothing of what an index of just enough words held.
 module _ (t : Tables) (i j : List ℕ) (same : length i ≡ length j) where
@@ -53,13 +53,15 @@ module _ (t : Tables) (i : List ℕ) (long : length i ≡ 8192 + records 2 (t .r
   index-long = ap length index-left ∙ length-indexed (t .rebases) (t .binds) i (omega arith)
 
 -- The questions 2, 3 and 7, and then the image info.
-met-by : (two three seven : Bool) (o : Outcome ImageInfo) → Met o
-    → Met (andThen (andThen (andThen (question 2 two) (λ x. andThen (question 3 three) (λ y. value (tt {0})))) (λ x. andThen (question 7 seven) (λ y. value (tt {0})))) (λ x. o))
+met-by : (two three seven fourteen : Bool) (o : Outcome ImageInfo) → Met o
+    → Met (andThen (andThen (andThen (question 2 two) (λ x. andThen (question 3 three) (λ y. value (tt {0}))))
+    (λ x. andThen (question 7 seven) (λ y. andThen (question 14 fourteen) (λ z. value (tt {0}))))) (λ x. o))
 unfolding question choose
-met-by false three seven o m = refused-2
-met-by true false seven o m = refused-3
-met-by true true false o m = refused-7
-met-by true true true o m = m
+met-by false three seven fourteen o m = refused-2
+met-by true false seven fourteen o m = refused-3
+met-by true true false fourteen o m = refused-7
+met-by true true true false o m = refused-14
+met-by true true true true o m = m
 
 -- The lengths of an accepted bundle's parts.
 module _ (bytes : List ℕ) (c : Counts) (a : Accepted bytes c) where
@@ -110,7 +112,7 @@ module _ (bytes : List ℕ) (c : Counts) (a : Accepted bytes c) where
     unfolding opening askedOpening askedTables askedIndex
     opening-met =
         simp (question-yes 1 _ fits-1, question-yes 4 _ fits-4, question-yes 5 _ fits-5, question-yes 6 _ fits-6, question-yes 8 _ fits-8)
-        (met-by (wholeRows 4 64 (length (t .segments))) (sectionTable (length (t .image)) (t .sections)) (namesFit (t .image) (t .binds))
+        (met-by (wholeRows 4 64 (length (t .segments))) (sectionTable (length (t .image)) (t .sections)) (namesInside (t .image) (t .binds)) (namesUtf8 (t .image) (t .binds))
         (imageInfo (t .info)) info-there)
 
 -- Question 13 gives the bundle's first four words or 13.
@@ -120,7 +122,7 @@ unfolding bundleCounts
 counted-by bytes P counts thirteen =
     by-choose P (λ fits. counts (accepted bytes (countsOf bytes) (choose-true _ _ fits))) (λ fits. thirteen)
 
--- Every bundle is opened, or 13, 2, 3 or 7 refuses it.
+-- Every bundle is opened, or 13, 2, 3, 7 or 14 refuses it.
 pub bundle-met : (bytes : List ℕ) → Met (bundleOpening bytes)
 unfolding bundleOpening
 bundle-met bytes =

@@ -13,7 +13,7 @@ use borrow.Author.Tests.{leb-true, leb-false}
 use Rattle.reads.specs.Outcome.{Outcome, value, absent, number, choose}
 use Rattle.reads.proofs.Tests.{by-choose}
 use Rattle.pointers.specs.Tables.{Tables}
-use Rattle.listing.specs.Listing.{Answer, says, nothing, ended, listingStep}
+use Rattle.listing.specs.Listing.{Answer, says, lacks, nothing, ended, listingStep}
 use Rattle.listing.proofs.Falls.{falls-to}
 use Rattle.listing.proofs.Remaining.{remaining, goesOn, InWords}
 use Rattle.printing.specs.Pieces.{ifOn, Standing, stepped, moved, waiting, comesBy, pastBy, enough, toCome, past, pieces}
@@ -23,16 +23,18 @@ use Rattle.listing.proofs.WordsKept.{words-kept}
 -- What was said goes on or is over.
 pub on-yes : {A : Type 0} (o : Outcome Answer) (x y : A) → goesOn o ≡ true → ifOn o x y ≡ x
 on-yes (value (says l)) x y e = refl
+on-yes (value (lacks l)) x y e = refl
 on-yes (value nothing) x y e = refl
 on-yes (value ended) x y e = let z : _≡_ {A = ℕ} 0 1 = cc in absurd (omega arith)
-on-yes absent x y e = let z : _≡_ {A = ℕ} 0 1 = cc in absurd (omega arith)
+on-yes (absent r) x y e = let z : _≡_ {A = ℕ} 0 1 = cc in absurd (omega arith)
 on-yes (number k) x y e = let z : _≡_ {A = ℕ} 0 1 = cc in absurd (omega arith)
 
 pub on-no : {A : Type 0} (o : Outcome Answer) (x y : A) → goesOn o ≡ false → ifOn o x y ≡ y
 on-no (value (says l)) x y e = let z : _≡_ {A = ℕ} 0 1 = cc in absurd (omega arith)
+on-no (value (lacks l)) x y e = let z : _≡_ {A = ℕ} 0 1 = cc in absurd (omega arith)
 on-no (value nothing) x y e = let z : _≡_ {A = ℕ} 0 1 = cc in absurd (omega arith)
 on-no (value ended) x y e = refl
-on-no absent x y e = refl
+on-no (absent r) x y e = refl
 on-no (number k) x y e = refl
 
 -- Two ways on that agree where the listing goes on.

@@ -18,7 +18,7 @@ use Rattle.records.specs.declared.method.Imp.{Imp}
 use Rattle.records.specs.declared.method.Imp.the-variants as imp
 use Rattle.records.specs.declared.row.Row.{Row}
 use Rattle.records.specs.declared.row.Row.the-variants as row
-use Rattle.listing.specs.Listing.{Answer, says, nothing, ended}
+use Rattle.listing.specs.Listing.{Answer, says, lacks, nothing, ended}
 use Rattle.listing.specs.declared.line.Line.{Line}
 use Rattle.listing.specs.declared.line.Line.the-variants as line
 use Rattle.listing.specs.declared.line.Named.{Named}
@@ -146,7 +146,8 @@ module _ (image : List ℕ) where
   pub said-length : (o : Outcome Answer) → length (saidText image o) ≤ 301 + 2 * length image
   unfolding lineText
   said-length (value (says x)) = simp length-append (omega (arith, fields-short x))
+  said-length (value (lacks x)) = omega arith
   said-length (value nothing) = omega arith
   said-length (value ended) = omega arith
-  said-length absent = omega arith
+  said-length (absent r) = omega arith
   said-length (number k) = omega (arith, refused-short k)

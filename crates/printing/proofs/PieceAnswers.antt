@@ -4,6 +4,7 @@ use mathlib.Core.Path.{_≡_, sym, ap}
 use mathlib.Core.List.{List}
 use native.Mathlib.Omega.{arith}
 use Rattle.reads.specs.Outcome.{value, number}
+use Rattle.reads.specs.declared.answer.Reason.{Reason}
 use Rattle.reads.specs.declared.answer.Missing.{Missing}
 use Rattle.reads.specs.declared.answer.Missing.the-variants.{Absent, Refused}
 use Rattle.pointers.specs.ImageInfo.{infoOutcome}
@@ -16,6 +17,7 @@ use Rattle.listing.specs.ListingAnswer.{stateOf, saidOf, leftOf}
 use Rattle.listing.specs.declared.line.Line.{Line}
 use Rattle.listing.specs.declared.listing.Listed.{Listed}
 use Rattle.listing.specs.declared.listing.Listing.{Listing}
+use Rattle.listing.specs.declared.absence.Absence.{Absence}
 use Rattle.listing.specs.declared.listing.Said.{Said}
 use Rattle.listing.specs.declared.listing.Said.the-variants as said
 use Rattle.printing.specs.Buffer.{Buffer, putAll}
@@ -31,8 +33,8 @@ module _ (s : Listing) (e : stateOf s ≡ start) (a : ImageInfoAnswer) where
   begun-listing i g = rw (g, e)
 
   module _ (m : Missing) (g : a ≡ info.Missing m) where
-    pub begun-absent : m ≡ Absent → (λ (l : List ℕ). standing (value ended) 0 (stateOf s) l) ≡ begun (infoOutcome a)
-    begun-absent h = rw (g, h, e)
+    pub begun-absent : (r : Reason) → m ≡ Absent r → (λ (l : List ℕ). standing (value ended) 0 (stateOf s) l) ≡ begun (infoOutcome a)
+    begun-absent r h = rw (g, h, e)
 
     pub begun-refused : (k : ℕ) → m ≡ Refused k → (λ (l : List ℕ). standing (number k) 0 (stateOf s) l) ≡ begun (infoOutcome a)
     begun-refused k h = rw (g, h, e)
@@ -51,6 +53,9 @@ module _ (image : List ℕ) (x : Said) (s u : Buffer) where
   said-refused k g e = rw g e
 
 module _ (image : List ℕ) (x : Said) (s : Buffer) where
+  pub said-absent : (y : Absence) → x ≡ said.Absent y → s ≡ putAll s (saidText image (saidOf x))
+  said-absent y g = rw g (sym (put-empty s))
+
   pub said-nothing : x ≡ said.Nothing → s ≡ putAll s (saidText image (saidOf x))
   said-nothing g = rw g (sym (put-empty s))
 

@@ -14,14 +14,14 @@ use Rattle.pointers.specs.declared.imageinfo.ImageInfo.{ImageInfo}
 use Rattle.walks.specs.Slots.{slotCount}
 use Rattle.walks.proofs.Gathers.{there-known}
 use Rattle.listing.specs.Bundle.{wordsFrom, segmentsAt, countsOf, bundled, Accepted}
-use Rattle.listing.specs.Listing.{State, Left, leaves, start, says, nothing, ended, listingStep}
+use Rattle.listing.specs.Listing.{State, Left, leaves, start, says, lacks, nothing, ended, listingStep}
 use Rattle.listing.specs.PlainListing.{Event, plainListing}
 use Rattle.listing.specs.declared.bundle.Counts.{Counts}
 use Rattle.listing.specs.declared.line.Line.{Line}
 use Rattle.listing.proofs.Bounds.{pair-slots}
 use Rattle.listing.proofs.Remaining.{goesOn, InWords}
 use Rattle.listing.proofs.PlainThere.{plain-events-there, listing-there}
-use Rattle.listing.proofs.Rest.{Rest, over, silent, saying}
+use Rattle.listing.proofs.Rest.{Rest, over, silent, telling, saying}
 use Rattle.listing.proofs.WholeListing.{whole-rest}
 use Rattle.printing.specs.BundleLent.{tableWords, wordsBy, wordsAfter, tablesIn, openingBy, openingIn, indexBy, indexAfter, tablesBy, tablesLent}
 use Rattle.printing.specs.BundleText.{indexWords, bundleTables, bundleOpening, listingText, openedText, bundleText}
@@ -48,6 +48,9 @@ module _ (t : Tables) where
   rest-comes {s} {l} (silent {v = v} {m = m} e f r) h =
       let k = words-after s l _ h e in
       ap (λ (x : Left). toCome t (made x)) e ∙ come-step t (made (leaves (value nothing) v m)) (record { words = k }) ∙ rest-comes r (k refl)
+  rest-comes {s} {l} (telling {v = v} {m = m} {x = x} e f r) h =
+      let k = words-after s l _ h e in
+      ap (λ (y : Left). toCome t (made y)) e ∙ come-step t (made (leaves (value (lacks x)) v m)) (record { words = k }) ∙ rest-comes r (k refl)
   rest-comes {s} {l} (saying {v = v} {m = m} {x = x} e f r) h =
       let k = words-after s l _ h e in
       ap (λ (y : Left). toCome t (made y)) e
@@ -77,12 +80,12 @@ module _ (t : Tables) (o : Opened t) (short : length (t .image) ≤ 32768) (l : 
 -- A number that refuses comes as its text, and nothing comes where nothing was said.
 over-comes : (t : Tables) (o : Outcome ImageInfo) (l : List ℕ) → goesOn (begun o l .said) ≡ false → toCome t (begun o l) ≡ openedText t o
 over-comes t (value info) l e = let z : _≡_ {A = ℕ} 0 1 = cc in absurd (omega arith)
-over-comes t absent l e = come-step t (begun absent l) (begun-sound absent l)
+over-comes t (absent r) l e = come-step t (begun (absent r) l) (begun-sound (absent r) l)
 over-comes t (number k) l e = come-step t (begun (number k) l) (begun-sound (number k) l) ∙ append-nil (refusedText k)
 
 module _ (bytes : List ℕ) (c : Counts) (a : Accepted bytes c) (more index l : List ℕ) (room : 10240 ≤ length index) (long : length l ≡ 8192) where
-  abbrev words : List ℕ
-  words = wordsFrom bytes segmentsAt (tableWords c) ++ more
+  abbrev wordsRead : List ℕ
+  wordsRead = wordsFrom bytes segmentsAt (tableWords c) ++ more
 
   abbrev old : List ℕ
   old = take (indexWords c) index
@@ -96,14 +99,14 @@ module _ (bytes : List ℕ) (c : Counts) (a : Accepted bytes c) (more index l : 
   zeros-long : length zeros ≡ indexWords c
   zeros-long = length-replicate (indexWords c) 0
 
-  opens-same : opening (tablesIn bytes c words index) ≡ opening (bundled bytes c zeros)
+  opens-same : opening (tablesIn bytes c wordsRead index) ≡ opening (bundled bytes c zeros)
   opens-same = ap opening (decoded-bundled bytes more index c) ∙ opening-same (bundled bytes c zeros) old zeros (old-long ∙ sym zeros-long)
 
   abbrev read : Tables
-  read = tablesIn bytes c words (openedIndex (tablesIn bytes c words index) ++ drop (indexWords c) index)
+  read = tablesIn bytes c wordsRead (openedIndex (tablesIn bytes c wordsRead index) ++ drop (indexWords c) index)
 
-  abbrev said : Tables
-  said = withIndex (bundled bytes c zeros) (openedIndex (bundled bytes c zeros))
+  abbrev tablesSaid : Tables
+  tablesSaid = withIndex (bundled bytes c zeros) (openedIndex (bundled bytes c zeros))
 
   module _ (info : ImageInfo) (e : opening (bundled bytes c zeros) ≡ value info) where
     asks : (i : List ℕ) → length i ≡ indexWords c → length i ≡ 8192 + records 2 (bundled bytes c i .rebases) + records 3 (bundled bytes c i .binds)
@@ -117,26 +120,26 @@ module _ (bytes : List ℕ) (c : Counts) (a : Accepted bytes c) (more index l : 
         index-whole (bundled bytes c zeros) old (asks old old-long) info old-opens
         ∙ sym (index-whole (bundled bytes c zeros) zeros (asks zeros zeros-long) info e)
 
-    read-said : read ≡ said
+    read-said : read ≡ tablesSaid
     read-said =
-        decoded-bundled bytes more (openedIndex (tablesIn bytes c words index) ++ drop (indexWords c) index) c
+        decoded-bundled bytes more (openedIndex (tablesIn bytes c wordsRead index) ++ drop (indexWords c) index) c
         ∙ ap (bundled bytes c)
         (ap (λ (t : Tables). take (indexWords c) (openedIndex t ++ drop (indexWords c) index)) (decoded-bundled bytes more index c)
         ∙ take-at (openedIndex (bundled bytes c old)) (drop (indexWords c) index) (indexWords c)
         (index-long (bundled bytes c zeros) old (asks old old-long) info old-opens ∙ old-long)
         ∙ index-same)
 
-    opened-comes : toCome read (begun (value info) l) ≡ openedText said (value info)
+    opened-comes : toCome read (begun (value info) l) ≡ openedText tablesSaid (value info)
     opened-comes =
         ap (λ (t : Tables). toCome t (begun (value info) l)) read-said
-        ∙ listing-comes said (record { indexBefore = zeros; info = info; accepted = e; left = refl }) (image-length bytes c a) l long
+        ∙ listing-comes tablesSaid (record { indexBefore = zeros; info = info; accepted = e; left = refl }) (image-length bytes c a) l long
 
-  accepted-comes : toCome read (begun (opening (tablesIn bytes c words index)) l) ≡ openedText said (opening (bundled bytes c zeros))
+  accepted-comes : toCome read (begun (opening (tablesIn bytes c wordsRead index)) l) ≡ openedText tablesSaid (opening (bundled bytes c zeros))
   accepted-comes = rw opens-same (go (opening (bundled bytes c zeros)) refl)
     where
-      go : (o : Outcome ImageInfo) → opening (bundled bytes c zeros) ≡ o → toCome read (begun o l) ≡ openedText said o
+      go : (o : Outcome ImageInfo) → opening (bundled bytes c zeros) ≡ o → toCome read (begun o l) ≡ openedText tablesSaid o
       go (value info) e = opened-comes info e
-      go absent e = over-comes read absent l refl
+      go (absent r) e = over-comes read (absent r) l refl
       go (number k) e = over-comes read (number k) l refl
 
 -- What comes of a bundle that was decoded and then opened.

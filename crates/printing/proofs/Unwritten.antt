@@ -35,7 +35,7 @@ opened-unwritten t k = go (askedOpening t)
     go : (o : Outcome (Unit {0})) → andThen o (λ u. imageInfo (t .info)) ≡ number k
         → leftBy o (indexed (t .rebases) (t .binds) (t .index)) (t .index) ≡ t .index
     go (value u) e = absurd (info-unrefused (t .info) k e)
-    go absent e = refl
+    go (absent r) e = refl
     go (number n) e = refl
 
 -- A number of 13 or of opening, and the index.
@@ -44,5 +44,5 @@ index-unwritten bytes words index k = go (bundleCounts bytes)
   where
     go : (o : Outcome Counts) → openingBy bytes o words index ≡ number k → indexBy bytes o words index ≡ index
     go (value c) e = rw (opened-unwritten _ k e) (take-append-drop (indexWords c) index)
-    go absent e = refl
+    go (absent r) e = refl
     go (number n) e = refl

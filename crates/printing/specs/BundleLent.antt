@@ -19,7 +19,7 @@ tableWords c = segmentTableWords c + sectionTableWords + rebaseTableWords c + bi
 -- The words lent, after the tables were decoded into them; with 13 they are as they were.
 abbrev pub wordsBy : List ℕ → Outcome Counts → List ℕ → List ℕ
 wordsBy bytes (value c) words = wordsFrom bytes segmentsAt (tableWords c) ++ drop (tableWords c) words
-wordsBy bytes absent words = words
+wordsBy bytes (absent r) words = words
 wordsBy bytes (number k) words = words
 
 abbrev pub wordsAfter : List ℕ → List ℕ → List ℕ
@@ -47,7 +47,7 @@ openingIn bytes words index = openingBy bytes (bundleCounts bytes) words index
 -- The index lent, after opening; with a number it is as it was (proofs/Unwritten.antt).
 abbrev pub indexBy : List ℕ → Outcome Counts → List ℕ → List ℕ → List ℕ
 indexBy bytes (value c) words index = openedIndex (tablesIn bytes c words index) ++ drop (indexWords c) index
-indexBy bytes absent words index = index
+indexBy bytes (absent r) words index = index
 indexBy bytes (number k) words index = index
 
 abbrev pub indexAfter : List ℕ → List ℕ → List ℕ → List ℕ
@@ -56,7 +56,7 @@ indexAfter bytes words index = indexBy bytes (bundleCounts bytes) words index
 -- The tables that a listing reads; a bundle that is not accepted has none.
 abbrev pub tablesBy : List ℕ → Outcome Counts → List ℕ → List ℕ → Tables
 tablesBy bytes (value c) words index = tablesIn bytes c words index
-tablesBy bytes absent words index = tablesOf [] [] [] [] [] [] []
+tablesBy bytes (absent r) words index = tablesOf [] [] [] [] [] [] []
 tablesBy bytes (number k) words index = tablesOf [] [] [] [] [] [] []
 
 abbrev pub tablesLent : List ℕ → List ℕ → List ℕ → Tables

@@ -32,17 +32,18 @@ pub data Met : Outcome ImageInfo → Type 0 where
   refused-2 : Met (number 2)
   refused-3 : Met (number 3)
   refused-7 : Met (number 7)
+  refused-14 : Met (number 14)
 
 -- The text of lines, one after the other; over opened tables the plain listing is a value (listing/proofs/PlainThere.antt).
 abbrev pub listingText : List ℕ → Outcome (List Line) → List ℕ
 listingText image (value xs) = flatMap (lineText image) xs
-listingText image absent = []
+listingText image (absent r) = []
 listingText image (number k) = refusedText k
 
 -- The text of tables, by what opening gave.
 abbrev pub openedText : Tables → Outcome ImageInfo → List ℕ
 openedText t (value info) = listingText (t .image) (plainListing t)
-openedText t absent = []
+openedText t (absent r) = []
 openedText t (number k) = refusedText k
 
 unfoldable pub bundleText : List ℕ → List ℕ

@@ -8,7 +8,7 @@ use lib.ListN.{length, take, drop}
 use Rattle.reads.specs.Outcome.{Outcome, value, absent, number, choose}
 use Rattle.pointers.specs.Tables.{Tables}
 use Rattle.pointers.specs.declared.imageinfo.ImageInfo.{ImageInfo}
-use Rattle.listing.specs.Listing.{State, start, Answer, says, nothing, ended, listingStep}
+use Rattle.listing.specs.Listing.{State, start, Answer, says, lacks, nothing, ended, listingStep}
 use Rattle.listing.specs.ListingAnswer.{stateOf, saidOf}
 use Rattle.listing.proofs.Remaining.{remaining}
 use Rattle.printing.specs.Buffer.{held, fitting}
@@ -16,26 +16,28 @@ use Rattle.printing.specs.LineText.{lineText, refusedText}
 use Rattle.printing.specs.declared.pieces.Piece.{Piece}
 use Rattle.printing.specs.declared.pieces.Progress.{Progress}
 
--- The text of what a step said: its line, or the number of the question that refused it.
+-- The text of what a step said: its line, or the number of the question that refused it. Of what is absent nothing is printed.
 abbrev pub saidText : List ℕ → Outcome Answer → List ℕ
 saidText image (value (says x)) = lineText image x
+saidText image (value (lacks x)) = []
 saidText image (value nothing) = []
 saidText image (value ended) = []
-saidText image absent = []
+saidText image (absent r) = []
 saidText image (number k) = refusedText k
 
 -- One of two, by whether the listing goes on after what was said.
 abbrev pub ifOn : {A : Type 0} → Outcome Answer → A → A → A
 ifOn (value (says x)) on over = on
+ifOn (value (lacks x)) on over = on
 ifOn (value nothing) on over = on
 ifOn (value ended) on over = over
-ifOn absent on over = over
+ifOn (absent r) on over = over
 ifOn (number k) on over = over
 
 -- Whether a question refused.
 abbrev pub refusing : Outcome Answer → Bool
 refusing (value x) = false
-refusing absent = false
+refusing (absent r) = false
 refusing (number k) = true
 
 -- What the last step said, how many bytes of its text are out, and the listing's state and ledger after it.
@@ -88,7 +90,7 @@ past t p k = pastBy t (enough p) p k
 -- The start, by what opening gave: the listing's first step is to come, or the number that refused.
 abbrev pub begunBy : Outcome ImageInfo → Outcome Answer
 begunBy (value info) = value nothing
-begunBy absent = value ended
+begunBy (absent r) = value ended
 begunBy (number k) = number k
 
 abbrev pub begun : Outcome ImageInfo → List ℕ → Standing

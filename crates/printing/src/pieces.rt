@@ -36,6 +36,7 @@ fn said_text(image: &[u8], said: Said, out: &mut [u8], w: Window) -> Window
 {
     match said {
         Said::Line(line) => print::line(image, line, out, w),
+        Said::Absent(_) => w,
         Said::Nothing => w,
         Said::Ended => w,
         Said::Refused(k) => print::refused(k, out, w),
@@ -48,6 +49,7 @@ fn goes_on(said: Said) -> bool
 {
     match said {
         Said::Line(_) => true,
+        Said::Absent(_) => true,
         Said::Nothing => true,
         Said::Ended => false,
         Said::Refused(_) => false,
@@ -67,7 +69,7 @@ impl Progress {
                 listing,
             },
             ImageInfoAnswer::Missing(m) => match m {
-                Missing::Absent => Progress {
+                Missing::Absent(_) => Progress {
                     said: Said::Ended,
                     out: 0,
                     listing,
@@ -88,6 +90,7 @@ impl Progress {
         let said = self.said;
         match said {
             Said::Line(_) => false,
+            Said::Absent(_) => false,
             Said::Nothing => false,
             Said::Ended => false,
             Said::Refused(_) => true,

@@ -10,7 +10,8 @@ use native.Mathlib.Decide.{decLe}
 use lib.ListN.{length}
 use lib.Dec.{leb, ltb}
 use borrow.Author.Tests.{leb-true, leb-false, ltb-false, le-ltb, lt-ltb}
-use Rattle.reads.specs.Outcome.{Outcome, value, absent, andThen, choose, sum64}
+use Rattle.reads.specs.Outcome.{Outcome, value, absent, andThen, because, choose, sum64}
+use Rattle.reads.specs.declared.answer.Reason.the-variants.{Unmapped, Unreadable}
 use Rattle.reads.specs.Table.{records}
 use Rattle.reads.specs.Segment.{segmentWords, rows, ends, holds, placeAt, placed, lookup}
 use Rattle.reads.specs.Place.{Image, readableAt, readable}
@@ -43,7 +44,7 @@ module _ (n k : ℕ) (s : Segment) (ss : List Segment) (e : ends s ≡ false) wh
 
 -- k bytes from a place that was looked up lie in the image.
 abbrev pub inImage : List ℕ → ℕ → Outcome Place → Bool
-inImage bytes k o = isValue (andThen o (λ p. readableAt bytes (p .offset) k))
+inImage bytes k o = isValue (andThen (because Unreadable o) (λ p. readableAt bytes (p .offset) k))
 
 -- No breakpoint lies in (va, x].
 abbrev Clear : List ℕ → ℕ → ℕ → Type 0
@@ -70,7 +71,7 @@ module _ (bytes : List ℕ) (k : ℕ) (short : length bytes < 2 ^ 64) where
   in-part s va v =
       by-choose (λ o. inImage bytes k o ≡ within)
       (λ e. outside (omega (arith, leb-true (s .filesize) d e)))
-      (λ f. by-choose (λ o. inImage bytes k (andThen o (λ offset. value (placeAt offset))) ≡ within)
+      (λ f. by-choose (λ o. inImage bytes k (andThen (because Unmapped o) (λ offset. value (placeAt offset))) ≡ within)
       (λ e. by-choose (λ (o : Outcome Place). isValue o ≡ within)
       (λ g. sym (lt-ltb d (readablePart (length bytes) k s) (omega (arith, leb-false (s .filesize) d f, leb-true (s .fileoff + d + k) (length bytes) g))))
       (λ g. outside (omega (arith, leb-false (s .fileoff + d + k) (length bytes) g))))
@@ -112,11 +113,11 @@ module _ (bytes : List ℕ) (k : ℕ) (short : length bytes < 2 ^ 64) where
           rw h (choose-same (inImage bytes k) (λ g. part-same s va x l (h ∙ g) g (w _ (part-in (length bytes) k s ss e))) (λ g. ih))
 
 -- An address at or past the end of every segment is in none.
-lookup-past : (n k : ℕ) (ss : List Segment) (x : ℕ) → ((b : ℕ) → List·Memᴰ b (breaks n k ss) → b ≤ x) → lookup ss x ≡ absent
+lookup-past : (n k : ℕ) (ss : List Segment) (x : ℕ) → ((b : ℕ) → List·Memᴰ b (breaks n k ss) → b ≤ x) → lookup ss x ≡ absent Unmapped
 unfolding lookup choose
 lookup-past n k [] x f = refl
 lookup-past n k (s ∷ ss) x f =
-    by-choose (λ o. o ≡ absent) (λ e. refl)
+    by-choose (λ o. o ≡ absent Unmapped) (λ e. refl)
     (λ e. simp (holds-not-past s x (f _ (end-in n k s ss e))) (lookup-past n k ss x (λ b m. f b (later-in n k s ss e m))))
 
 breaks-fit : (n k : ℕ) (ss : List Segment) (x : ℕ) → List·Memᴰ x (breaks n k ss) → x < 2 ^ 64

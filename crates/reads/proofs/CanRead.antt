@@ -1,32 +1,48 @@
 -- canRead, by what readable gives: a value or absent, never a number.
 use mathlib.Core.Path.{_≡_, refl}
-use mathlib.Core.Bool.{true, false}
+use mathlib.Core.Bool.{true, false, true≢false}
+use mathlib.Core.List.{List}
 use Prim.Native.Nat.{ℕ}
-use Rattle.reads.specs.Outcome.{value, absent}
-use Rattle.reads.specs.Place.{Image, readable}
+use Rattle.reads.specs.Outcome.{Outcome, value, absent, Unrefused, is-value, is-absent, andThen, because}
+use Rattle.reads.specs.Segment.{rows, lookup}
+use Rattle.reads.specs.Place.{Image, readableAt, readable}
 use Rattle.reads.specs.Answer.{missed}
 use Rattle.reads.specs.Breaks.{isValue, canRead}
+use Rattle.reads.specs.declared.answer.Reason.the-variants.{Unreadable}
 use Rattle.reads.specs.declared.answer.Missing.{Missing}
 use Rattle.reads.specs.declared.answer.Missing.the-variants.{Absent, Refused}
 use Rattle.reads.specs.declared.place.Place.{Place}
-use Rattle.reads.proofs.Unrefused.{unrefused-absent, readable-unrefused}
+use Rattle.reads.proofs.Tests.{by-choose}
+use Rattle.reads.proofs.Unrefused.{lookup-unrefused}
+
+-- Bytes that cannot be read are Unreadable, for whatever cause.
+unreadable-at : (bytes : List ℕ) (offset k : ℕ) → isValue (readableAt bytes offset k) ≡ false → readableAt bytes offset k ≡ absent Unreadable
+unfolding readableAt
+unreadable-at bytes offset k =
+    by-choose (λ (o : Outcome Place). isValue o ≡ false → o ≡ absent Unreadable) (λ e z. absurd (true≢false z)) (λ e z. refl)
+
+unreadable : (bytes : List ℕ) (k : ℕ) (o : Outcome Place) → Unrefused o
+    → isValue (andThen (because Unreadable o) (λ p. readableAt bytes (p .offset) k)) ≡ false
+    → andThen (because Unreadable o) (λ p. readableAt bytes (p .offset) k) ≡ absent Unreadable
+unreadable bytes k o (is-value p) e = unreadable-at bytes (p .offset) k e
+unreadable bytes k o (is-absent r) e = refl
 
 module _ (m : Image) (k va : ℕ) where
   pub can-read-value : (p : Place) → readable m va k ≡ value p → canRead m k va ≡ true
   unfolding canRead
   can-read-value p e = simp e
 
-  pub can-read-absent : readable m va k ≡ absent → canRead m k va ≡ false
+  pub can-read-absent : readable m va k ≡ absent Unreadable → canRead m k va ≡ false
   unfolding canRead
   can-read-absent e = simp e
 
-  pub readable-absent : canRead m k va ≡ false → readable m va k ≡ absent
-  unfolding canRead
-  readable-absent e = unrefused-absent (readable-unrefused m va k) e
+  pub readable-absent : canRead m k va ≡ false → readable m va k ≡ absent Unreadable
+  unfolding canRead readable
+  readable-absent e = unreadable (m .bytes) k (lookup (rows (m .words)) va) (lookup-unrefused (rows (m .words)) va) e
 
 -- What cannot be looked up cannot be read, whatever stands in its place.
 missed-no-value : (x : Missing) → isValue (missed {A = Place} x) ≡ false
-missed-no-value Absent = refl
+missed-no-value (Absent r) = refl
 missed-no-value (Refused n) = refl
 
 pub can-read-missing : (m : Image) (k va : ℕ) (x : Missing) → missed x ≡ readable m va k → canRead m k va ≡ false

@@ -1,84 +1,93 @@
 -- UTF-8 a character at a time: what the loops over bytes need, one law for each of their cases.
 use Prim.Native.Nat.{ℕ, zero, suc, _+_, _-_, _<_, _≤_}
 use mathlib.Core.Path.{_≡_, refl, ap, sym, _∙_}
-use mathlib.Core.Bool.{Bool, true, false, _&&_, and-true}
+use mathlib.Core.Bool.{Bool, true, false, true≢false}
 use mathlib.Core.List.{List, [], _∷_}
 use mathlib.Core.Option.{Option, none, some}
 use native.Mathlib.Omega.{arith}
 use native.Mathlib.Numerals.{add-one}
 use lib.ListN.{length, getD, drop, replicate, length-drop, drop-of-length-le}
 use lib.Seq.{drop-cons, drop-drop}
-use Rattle.reads.proofs.Tests.{both-true}
 use Rattle.reads.specs.Outcome.{choose}
-use Rattle.reads.specs.Utf8.{Range, _to_, inside, multi, begun, utf8, fits, lengthWith, multiLength}
+use Rattle.reads.specs.Utf8.{Range, _to_, inside, multi, begun, goOn, judge, begins, follow, followRow, character}
+use Rattle.reads.specs.declared.text.Step.{Step}
+use Rattle.reads.specs.declared.text.Step.the-variants as step
+use Rattle.reads.specs.declared.text.Verdict.{Verdict}
+use Rattle.reads.specs.declared.text.Verdict.the-variants.{Bad}
 use Rattle.reads.proofs.Rows.{inside-between, inside-over, multi-row, multi-under, multi-over}
-use Rattle.reads.proofs.Grammar.{onward, accepts, utf8-accepts}
 
--- A text goes on where w are due exactly if its first bytes fit w, and the rest is a text.
-accepts-fits : (w : List Range) (s : List ℕ) → accepts w s ≡ (fits w s && accepts [] (drop (length w) s))
-unfolding accepts fits
-accepts-fits [] s = refl
-accepts-fits (r ∷ w) [] = refl
-accepts-fits (r ∷ w) (b ∷ s) = go (inside r b) (accepts-fits w s)
+-- Past what is due: the bytes are there, and the offset is theirs.
+pub record On (at : ℕ) (w : List Range) (s : List ℕ) (j : ℕ) : Type 0 where
+  pub is : j ≡ at + length w
+  pub within : length w ≤ length s
+
+pub follow-on : (w : List Range) (s : List ℕ) (at j : ℕ) → follow at w s ≡ step.On j → On at w s j
+unfolding follow choose
+follow-on [] s at j e = let z : at ≡ j = cc in record { is = omega arith; within = omega arith }
+follow-on (r ∷ w) [] at j e = let z : _≡_ {A = ℕ} 0 1 = cc in absurd (omega arith)
+follow-on (r ∷ w) (b ∷ s) at j e = go (inside r b) e (follow-on w s (suc at) j)
   where
-    go : (x : Bool) → accepts w s ≡ (fits w s && accepts [] (drop (length w) s))
-        → onward (choose x (some w) none) (λ w′. accepts w′ s) ≡ ((x && fits w s) && accepts [] (drop (length w) s))
-    go true e = unfold choose in e
-    go false e = unfold choose in refl
+    go : (x : Bool) → choose x (follow (suc at) w s) (step.Bad at) ≡ step.On j → (follow (suc at) w s ≡ step.On j → On (suc at) w s j)
+        → On at (r ∷ w) (b ∷ s) j
+    go true q f = let m = f q in record { is = omega (arith, m .is); within = omega (arith, m .within) }
+    go false q f = let z : _≡_ {A = ℕ} 0 1 = cc in absurd (omega arith)
 
-fits-length : (w : List Range) (s : List ℕ) → fits w s ≡ true → length w ≤ length s
-unfolding fits
-fits-length [] s f = omega arith
-fits-length (r ∷ w) [] f = let z : _≡_ {A = ℕ} 0 1 = cc in omega arith
-fits-length (r ∷ w) (b ∷ s) f = omega (arith, fits-length w s (both-true (inside r b) (fits w s) f .1))
+-- The verdict where w are due, by how the character goes on.
+abbrev pub onFrom : Step → List ℕ → Verdict
+onFrom (step.On j) s = judge j [] s
+onFrom (step.Bad k) s = Bad k
 
-multi-short : (s : List ℕ) → multiLength s ≤ length s
-unfolding multiLength
-multi-short [] = omega arith
-multi-short (b ∷ s) = go (begun multi b)
+pub judge-follow : (w : List Range) (s : List ℕ) (at : ℕ) → judge at w s ≡ onFrom (follow at w s) (drop (length w) s)
+unfolding judge follow choose
+judge-follow [] s at = refl
+judge-follow (r ∷ w) [] at = refl
+judge-follow (r ∷ w) (b ∷ s) at = go (inside r b) (judge-follow w s (suc at))
   where
-    on : (w : List Range) (x : Bool) → fits w s ≡ x → choose x (suc (length w)) 0 ≤ suc (length s)
-    on w true f = unfold choose in omega (arith, fits-length w s f)
-    on w false f = unfold choose in omega arith
+    go : (x : Bool) → judge (suc at) w s ≡ onFrom (follow (suc at) w s) (drop (length w) s)
+        → goOn (choose x (some w) none) (Bad at) (λ w′. judge (suc at) w′ s)
+        ≡ onFrom (choose x (follow (suc at) w s) (step.Bad at)) (drop (length w) s)
+    go true e = e
+    go false e = refl
 
-    go : (o : Option (List Range)) → lengthWith o s ≤ suc (length s)
-    go none = omega arith
-    go (some w) = on w (fits w s) refl
+pub judge-ascii : (b : ℕ) (s : List ℕ) (at : ℕ) → b < 0x80 → judge at [] (b ∷ s) ≡ judge (suc at) [] s
+unfolding judge choose
+judge-ascii b s at h = simp (inside-between 0x00 0x7F b (omega arith) (omega arith))
 
-pub utf8-ascii : (b : ℕ) (s : List ℕ) → b < 0x80 → utf8 (b ∷ s) ≡ utf8 s
-unfolding accepts choose
-utf8-ascii b s h = rw (utf8-accepts (b ∷ s), utf8-accepts s) (simp (inside-between 0x00 0x7F b (omega arith) (omega arith)))
+-- By the character in front, where its first byte is not ASCII.
+module _ (b : ℕ) (s : List ℕ) (at : ℕ) (h : 0x80 ≤ b) where
+  by-first : judge at [] (b ∷ s) ≡ goOn (begun multi b) (Bad at) (λ w. judge (suc at) w s)
+  unfolding judge choose
+  by-first = simp (inside-over 0x00 0x7F b (omega arith))
 
--- By the length of the character in front, where its first byte is not ASCII.
-module _ (b : ℕ) (s : List ℕ) (h : 0x80 ≤ b) where
-  by-first : utf8 (b ∷ s) ≡ onward (begun multi b) (λ w. accepts w s)
-  unfolding accepts choose
-  by-first = utf8-accepts (b ∷ s) ∙ simp (inside-over 0x00 0x7F b (omega arith))
-
-  pub utf8-multi : (multiLength (b ∷ s) ≡ 0 → ⊥) → utf8 (b ∷ s) ≡ utf8 (drop (multiLength (b ∷ s)) (b ∷ s))
-  unfolding multiLength
-  utf8-multi n = by-first ∙ go (begun multi b) n
+  pub judge-on : (j : ℕ) → character at (b ∷ s) ≡ step.On j → judge at [] (b ∷ s) ≡ judge j [] (drop (j - at) (b ∷ s))
+  unfolding character
+  judge-on j e = by-first ∙ go (begun multi b) e
     where
-      go : (o : Option (List Range)) → (lengthWith o s ≡ 0 → ⊥) → onward o (λ w. accepts w s) ≡ utf8 (drop (lengthWith o s) (b ∷ s))
-      go none n′ = absurd (n′ refl)
-      go (some w) n′ = accepts-fits w s ∙ on (fits w s) n′
-        where
-          on : (x : Bool) → (choose x (suc (length w)) 0 ≡ 0 → ⊥)
-              → (x && accepts [] (drop (length w) s)) ≡ utf8 (drop (choose x (suc (length w)) 0) (b ∷ s))
-          on true n″ = unfold choose in sym (utf8-accepts (drop (length w) s))
-          on false n″ = absurd (n″ (unfold choose in refl))
+      go : (o : Option (List Range)) → followRow at o s ≡ step.On j
+          → goOn o (Bad at) (λ w. judge (suc at) w s) ≡ judge j [] (drop (j - at) (b ∷ s))
+      go none q = let z : _≡_ {A = ℕ} 0 1 = cc in absurd (omega arith)
+      go (some w) q =
+          let m = follow-on w s (suc at) j q in
+          let n : j - at ≡ suc (length w) = omega (arith, m .is) in
+          judge-follow w s (suc at) ∙ rw (q, n)
 
-  pub utf8-malformed : multiLength (b ∷ s) ≡ 0 → utf8 (b ∷ s) ≡ false
-  unfolding multiLength
-  utf8-malformed z = by-first ∙ go (begun multi b) z
+  pub judge-bad : (k : ℕ) → character at (b ∷ s) ≡ step.Bad k → judge at [] (b ∷ s) ≡ Bad k
+  unfolding character
+  judge-bad k e = by-first ∙ go (begun multi b) e
     where
-      go : (o : Option (List Range)) → lengthWith o s ≡ 0 → onward o (λ w. accepts w s) ≡ false
-      go none z′ = refl
-      go (some w) z′ = accepts-fits w s ∙ on (fits w s) z′
-        where
-          on : (x : Bool) → choose x (suc (length w)) 0 ≡ 0 → (x && accepts [] (drop (length w) s)) ≡ false
-          on true z″ = let e : suc (length w) ≡ 0 = unfold choose in z″ in absurd (omega arith)
-          on false z″ = refl
+      go : (o : Option (List Range)) → followRow at o s ≡ step.Bad k → goOn o (Bad at) (λ w. judge (suc at) w s) ≡ Bad k
+      go none q = let z : at ≡ k = cc in ap Bad z
+      go (some w) q = judge-follow w s (suc at) ∙ rw q
+
+-- Past the character in front the offset is higher, and inside.
+pub character-on : (s : List ℕ) (at j : ℕ) → character at s ≡ step.On j → (at < j) × (j - at ≤ length s)
+unfolding character
+character-on [] at j e = let z : _≡_ {A = ℕ} 0 1 = cc in absurd (omega arith)
+character-on (b ∷ s) at j e = go (begun multi b) e
+  where
+    go : (o : Option (List Range)) → followRow at o s ≡ step.On j → (at < j) × (j - at ≤ suc (length s))
+    go none q = let z : _≡_ {A = ℕ} 0 1 = cc in absurd (omega arith)
+    go (some w) q = let m = follow-on w s (suc at) j q in (omega (arith, m .is), omega (arith, m .is, m .within))
 
 pub replicate-pred : (r : Range) (k : ℕ) → 0 < k → replicate k r ≡ r ∷ replicate (k - 1) r
 replicate-pred r zero h = absurd (omega arith)
@@ -89,53 +98,64 @@ pub here : (s : List ℕ) (i : ℕ) → i < length s → drop i s ≡ getD s i 0
 here s i h = rw (add-one, drop-cons s i 0)
 
 module _ (r : Range) (s : List ℕ) (i : ℕ) where
-  pub fits-end : length s ≤ i → fits (r ∷ []) (drop i s) ≡ false
-  unfolding fits
-  fits-end h = rw (drop-of-length-le s h)
+  pub begins-end : length s ≤ i → begins r (drop i s) ≡ false
+  begins-end h = rw (drop-of-length-le s h)
 
-  pub fits-one : i < length s → fits (r ∷ []) (drop i s) ≡ inside r (getD s i 0)
-  unfolding fits
-  fits-one h = rw (here s i h) (and-true (inside r (getD s i 0)))
+  pub begins-one : i < length s → begins r (drop i s) ≡ inside r (getD s i 0)
+  begins-one h = rw (here s i h)
 
-  pub fits-inside : fits (r ∷ []) (drop i s) ≡ true → i < length s
-  fits-inside f = omega (arith, fits-length (r ∷ []) (drop i s) f, length-drop i s)
+  pub begins-inside : begins r (drop i s) ≡ true → i < length s
+  begins-inside e = go (drop i s) e (length-drop i s)
+    where
+      go : (l : List ℕ) → begins r l ≡ true → length l ≡ length s - i → i < length s
+      go [] q n = absurd (true≢false (sym q))
+      go (b ∷ l) q n = omega (arith, n)
 
   -- One byte, and then the others.
-  pub fits-more : (w : List Range) (x : Bool) → fits (r ∷ []) (drop i s) ≡ x → fits (r ∷ w) (drop i s) ≡ (x && fits w (drop (i + 1) s))
-  fits-more w x e = go (drop i s) e ∙ ap (λ (l : List ℕ). x && fits w l) (drop-drop 1 i s)
-    where
-      go : (l : List ℕ) → fits (r ∷ []) l ≡ x → fits (r ∷ w) l ≡ (x && fits w (drop 1 l))
-      go [] q = unfold fits in ap (λ (y : Bool). y && fits w []) q
-      go (b ∷ l) q = unfold fits in ap (λ (y : Bool). y && fits w l) (sym (and-true (inside r b)) ∙ q)
+  pub follow-due : (w : List Range) → begins r (drop i s) ≡ true → follow i (r ∷ w) (drop i s) ≡ follow (i + 1) w (drop (i + 1) s)
+  unfolding follow choose
+  follow-due w e = let n : suc i ≡ i + 1 = omega arith in simp e (rw n (ap (follow (i + 1) w) (drop-drop 1 i s)))
+
+  pub follow-misfit : (w : List Range) → begins r (drop i s) ≡ false → follow i (r ∷ w) (drop i s) ≡ step.Bad i
+  unfolding follow choose
+  follow-misfit w e = simp e
 
 module _ (s : List ℕ) (i : ℕ) (h : i < length s) where
   -- The character at i, by the row that its first byte begins.
-  multi-at : (o : Option (List Range)) → begun multi (getD s i 0) ≡ o → lengthWith o (drop (i + 1) s) ≡ multiLength (drop i s)
-  unfolding multiLength
-  multi-at o e = rw (here s i h, e)
+  character-at : (o : Option (List Range)) → begun multi (getD s i 0) ≡ o → followRow i o (drop (i + 1) s) ≡ character i (drop i s)
+  unfolding character
+  character-at o e = rw (here s i h, e)
 
-  pub multi-at-row : (k lo hi : ℕ) {w : List Range} → getD multi k [] ≡ (lo to hi) ∷ w → lo ≤ getD s i 0 → getD s i 0 ≤ hi
-      → lengthWith (some w) (drop (i + 1) s) ≡ multiLength (drop i s)
-  multi-at-row k lo hi {w} e a b = multi-at (some w) (multi-row k lo hi (getD s i 0) e a b)
+  pub character-row : (k lo hi : ℕ) {w : List Range} → getD multi k [] ≡ (lo to hi) ∷ w → lo ≤ getD s i 0 → getD s i 0 ≤ hi
+      → follow (i + 1) w (drop (i + 1) s) ≡ character i (drop i s)
+  character-row k lo hi {w} e a b =
+      let n : i + 1 ≡ suc i = omega arith in
+      ap (λ (x : ℕ). follow x w (drop (i + 1) s)) n ∙ character-at (some w) (multi-row k lo hi (getD s i 0) e a b)
 
-  pub multi-at-under : getD s i 0 < 0xC2 → 0 ≡ multiLength (drop i s)
-  multi-at-under b = multi-at none (multi-under (getD s i 0) b)
+  pub character-under : getD s i 0 < 0xC2 → step.Bad i ≡ character i (drop i s)
+  character-under b = character-at none (multi-under (getD s i 0) b)
 
-  pub multi-at-over : 0xF4 < getD s i 0 → 0 ≡ multiLength (drop i s)
-  multi-at-over b = multi-at none (multi-over (getD s i 0) b)
-
-  pub multi-inside : {n : ℕ} → n ≡ multiLength (drop i s) → i + n ≤ length s
-  multi-inside e = omega (arith, e, multi-short (drop i s), length-drop i s)
+  pub character-over : 0xF4 < getD s i 0 → step.Bad i ≡ character i (drop i s)
+  character-over b = character-at none (multi-over (getD s i 0) b)
 
   -- The cases of a pass over s.
-  pub pass-ascii : getD s i 0 < 0x80 → utf8 (drop (i + 1) s) ≡ utf8 (drop i s)
-  pass-ascii a = rw (here s i h) (sym (utf8-ascii (getD s i 0) (drop (i + 1) s) a))
+  pub pass-ascii : getD s i 0 < 0x80 → judge (i + 1) [] (drop (i + 1) s) ≡ judge i [] (drop i s)
+  pass-ascii a = rw (here s i h, add-one) (sym (judge-ascii (getD s i 0) (drop (suc i) s) i a))
 
-  module _ (a : 0x80 ≤ getD s i 0) {n : ℕ} (e : n ≡ multiLength (drop i s)) where
-    pub pass-multi : (n ≡ 0 → ⊥) → utf8 (drop (i + n) s) ≡ utf8 (drop i s)
-    pass-multi z =
-        rw (e, ← drop-drop (multiLength (drop i s)) i s, here s i h)
-        (sym (utf8-multi (getD s i 0) (drop (i + 1) s) a (rw (e, here s i h) at z)))
+  module _ {c : Step} (e : c ≡ character i (drop i s)) where
+    pub pass-ahead : (j : ℕ) → c ≡ step.On j → (i < j) × (j ≤ length s)
+    pass-ahead j q =
+        let m = character-on (drop i s) i j (sym e ∙ q) in
+        (m .0, omega (arith, m .0, m .1, length-drop i s))
 
-    pub pass-malformed : n ≡ 0 → utf8 (drop i s) ≡ false
-    pass-malformed z = rw (here s i h) (utf8-malformed (getD s i 0) (drop (i + 1) s) a (rw (e, here s i h) at z))
+    module _ (a : 0x80 ≤ getD s i 0) where
+      pub pass-on : (j : ℕ) → c ≡ step.On j → judge j [] (drop j s) ≡ judge i [] (drop i s)
+      pass-on j q =
+          let n : i + (j - i) ≡ j = omega (arith, pass-ahead j q .0) in
+          let d : drop (j - i) (drop i s) ≡ drop j s = drop-drop (j - i) i s ∙ ap (λ (x : ℕ). drop x s) n in
+          let on = judge-on (getD s i 0) (drop (i + 1) s) i a j (rw (← here s i h) (sym e ∙ q)) in
+          let there : judge i [] (drop i s) ≡ judge j [] (drop (j - i) (drop i s)) = rw (here s i h) on in
+          sym (there ∙ ap (judge j []) d)
+
+      pub pass-bad : (k : ℕ) → c ≡ step.Bad k → Bad k ≡ judge i [] (drop i s)
+      pass-bad k q = sym (rw (here s i h) (judge-bad (getD s i 0) (drop (i + 1) s) i a k (rw (← here s i h) (sym e ∙ q))))

@@ -6,7 +6,8 @@ use mathlib.Core.Bool.{Bool, true, false, false≢true}
 use mathlib.Core.List.{List, [], _∷_, _++_, List·Memᴰ}
 use mathlib.Core.Option.{Option, none, some, Option·none-ne-some}
 use Rattle.reads.specs.Outcome.{choose}
-use Rattle.reads.specs.Utf8.{Range, inside, chars, Fit, fit-none, fit-more, Octets, octets-none, octets-more, dueAfter, bad, goOn, judge, isGood, utf8}
+use Rattle.reads.specs.Utf8.{Range, inside, chars, Fit, fit-none, fit-more, Octets, octets-none, octets-more, dueAfter, goOn, judge, isGood, utf8}
+use Rattle.reads.specs.declared.text.Verdict.the-variants.{Bad}
 use Rattle.reads.proofs.Rows.{begun-unique, begun-some}
 
 -- What is accepted, without the offsets
@@ -27,7 +28,7 @@ judge-accepts [] at (r ∷ w) = refl
 judge-accepts (b ∷ s) at w = go (dueAfter w b) (λ w′. judge-accepts s (suc at) w′)
   where
     go : (o : Option (List Range)) → ((w′ : List Range) → isGood (judge (suc at) w′ s) ≡ accepts w′ s)
-        → isGood (goOn o (bad at) (λ w′. judge (suc at) w′ s)) ≡ onward o (λ w′. accepts w′ s)
+        → isGood (goOn o (Bad at) (λ w′. judge (suc at) w′ s)) ≡ onward o (λ w′. accepts w′ s)
     go none f = refl
     go (some w′) f = f w′
 

@@ -4,6 +4,7 @@ use mathlib.Core.Path.{_≡_, refl}
 use mathlib.Core.List.{List, [], _∷_, _++_, map}
 use lib.IntN.{pos, negsuc}
 use Rattle.reads.specs.Outcome.{value, absent, choose}
+use Rattle.reads.specs.declared.answer.Reason.the-variants.{Unreadable, Malformed}
 use Rattle.reads.specs.Signed.{twos}
 use Rattle.reads.specs.Leb128.{digitCount, unsignedDigits, negative, signedDigits, within64, withinSigned64, ulebOf, slebOf, uleb128, sleb128, unsignedRead, signedRead}
 
@@ -37,7 +38,7 @@ pub uleb128-greatest : uleb128 (nine 0xff ++ 0x01 ∷ []) ≡ value (unsignedRea
 unfolding uleb128 digitCount ulebOf within64 unsignedDigits choose
 uleb128-greatest = refl
 
-pub uleb128-over : uleb128 (nine 0x80 ++ 0x02 ∷ []) ≡ absent
+pub uleb128-over : uleb128 (nine 0x80 ++ 0x02 ∷ []) ≡ absent Malformed
 unfolding uleb128 digitCount ulebOf within64 unsignedDigits choose
 uleb128-over = refl
 
@@ -45,7 +46,7 @@ pub uleb128-padded : uleb128 (0x85 ∷ nine 0x80 ++ nine 0x80 ++ 0x00 ∷ 0x07 �
 unfolding uleb128 digitCount ulebOf within64 unsignedDigits choose
 uleb128-padded = refl
 
-pub uleb128-cut : uleb128 (0x80 ∷ 0x80 ∷ []) ≡ absent
+pub uleb128-cut : uleb128 (0x80 ∷ 0x80 ∷ []) ≡ absent Unreadable
 unfolding uleb128 digitCount ulebOf within64 unsignedDigits choose
 uleb128-cut = refl
 
@@ -53,7 +54,7 @@ pub sleb128-greatest : sleb128 (nine 0xff ++ 0x00 ∷ []) ≡ value (signedRead 
 unfolding sleb128 digitCount slebOf withinSigned64 signedDigits negative unsignedDigits twos choose
 sleb128-greatest = refl
 
-pub sleb128-over : sleb128 (nine 0x80 ++ 0x01 ∷ []) ≡ absent
+pub sleb128-over : sleb128 (nine 0x80 ++ 0x01 ∷ []) ≡ absent Malformed
 unfolding sleb128 digitCount slebOf withinSigned64 signedDigits negative unsignedDigits twos choose
 sleb128-over = refl
 
@@ -61,7 +62,7 @@ pub sleb128-least : sleb128 (nine 0x80 ++ 0x7f ∷ []) ≡ value (signedRead (ne
 unfolding sleb128 digitCount slebOf withinSigned64 signedDigits negative unsignedDigits twos choose
 sleb128-least = refl
 
-pub sleb128-under : sleb128 (nine 0xff ++ 0x7e ∷ []) ≡ absent
+pub sleb128-under : sleb128 (nine 0xff ++ 0x7e ∷ []) ≡ absent Malformed
 unfolding sleb128 digitCount slebOf withinSigned64 signedDigits negative unsignedDigits twos choose
 sleb128-under = refl
 
@@ -69,6 +70,6 @@ pub sleb128-padded : sleb128 (0xfe ∷ nine 0xff ++ nine 0xff ++ 0x7f ∷ []) �
 unfolding sleb128 digitCount slebOf withinSigned64 signedDigits negative unsignedDigits twos choose
 sleb128-padded = refl
 
-pub sleb128-cut : sleb128 (0xff ∷ []) ≡ absent
+pub sleb128-cut : sleb128 (0xff ∷ []) ≡ absent Unreadable
 unfolding sleb128 digitCount slebOf withinSigned64 signedDigits negative unsignedDigits twos choose
 sleb128-cut = refl

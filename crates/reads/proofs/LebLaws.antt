@@ -18,6 +18,7 @@ use Rattle.reads.specs.Answer.{missed, wordOutcome}
 use Rattle.reads.specs.Outcome.{Outcome, value, absent, number, andThen, choose}
 use Rattle.reads.specs.Signed.{twos}
 use Rattle.reads.specs.Leb128.{digitCount, unsignedDigits, negative, signedDigits, within64, withinSigned64, bySign, magnitude, digit, signedRead, slebOf}
+use Rattle.reads.specs.declared.answer.Reason.the-variants.{Unreadable, Malformed}
 use Rattle.reads.specs.declared.answer.Missing.{Missing}
 use Rattle.reads.specs.declared.answer.Missing.the-variants.{Absent, Refused}
 use Rattle.reads.specs.declared.answer.Word.{Word}
@@ -64,7 +65,7 @@ module _ (sign : Bool) (ds : List ℕ) (i : ℕ) (p : 0 < i) (h : i ≤ length d
       rw (drop-cons ds (i - 1) 0 l, e) (omega (arith, magnitude-cons sign (getD ds (i - 1) 0) (drop i ds)))
 
   -- Where the digits from i on say 2^57 or more, all say 2^64 or more.
-  pub magnitude-over : 2 ^ 57 ≤ magnitude sign (drop i ds) → within64 (magnitude sign ds) ≡ absent
+  pub magnitude-over : 2 ^ 57 ≤ magnitude sign (drop i ds) → within64 (magnitude sign ds) ≡ absent Malformed
   unfolding within64 choose
   magnitude-over g =
       simp (le-ltb (magnitude sign ds) (2 ^ 64) (omega (arith, magnitude-drop sign ds (i - 1), magnitude-before)))
@@ -88,16 +89,16 @@ pub signed-by-sign : (ds : List ℕ) → signedDigits ds ≡ bySign (negative ds
 unfolding signedDigits
 signed-by-sign ds = twos-by-sign (negative ds) ds
 
-value-fits : (fits : Bool) (n m : ℕ) → value m ≡ choose fits (value n) absent → n ≡ m
+value-fits : (fits : Bool) (n m : ℕ) → value m ≡ choose fits (value n) (absent Malformed) → n ≡ m
 unfolding choose
 value-fits true n m e = cc
 value-fits false n m e = cc
 
-missing-over : (fits : Bool) (n : ℕ) (m : Missing) → missed m ≡ choose fits (value n) absent → (fits ≡ false) × (m ≡ Absent)
+missing-over : (fits : Bool) (n : ℕ) (m : Missing) → missed m ≡ choose fits (value n) (absent Malformed) → (fits ≡ false) × (m ≡ Absent Malformed)
 unfolding choose
-missing-over true n Absent e = (cc, refl)
+missing-over true n (Absent r) e = (cc, cc)
 missing-over true n (Refused k) e = (cc, cc)
-missing-over false n Absent e = (refl, refl)
+missing-over false n (Absent r) e = (refl, cc)
 missing-over false n (Refused k) e = (refl, cc)
 
 by-sign-fits : (sign : Bool) (m : ℕ) → m < 2 ^ 63 → SFits w64 (bySign sign m)
@@ -109,12 +110,12 @@ by-sign-fits false m h = record { sfits = h }
 pub code-by-sign : (sign : Bool) (m : ℕ) (z : ℤ) → z ≡ bySign sign m → m < 2 ^ 63 → toZ w64 (ofZ w64 z) ≡ bySign sign m
 code-by-sign sign m z e h = rw e (toZ-ofZ (by-sign-fits sign m h))
 
-within-signed : (sign : Bool) (m : ℕ) → withinSigned64 (bySign sign m) ≡ choose (ltb m (2 ^ 63)) (value (bySign sign m)) absent
+within-signed : (sign : Bool) (m : ℕ) → withinSigned64 (bySign sign m) ≡ choose (ltb m (2 ^ 63)) (value (bySign sign m)) (absent Malformed)
 unfolding withinSigned64 bySign
 within-signed true m = refl
 within-signed false m = refl
 
-sleb-beyond : (ds : List ℕ) → 2 ^ 63 ≤ magnitude (negative ds) ds → absent ≡ slebOf ds
+sleb-beyond : (ds : List ℕ) → 2 ^ 63 ≤ magnitude (negative ds) ds → absent Malformed ≡ slebOf ds
 unfolding slebOf choose
 sleb-beyond ds h = simp (signed-by-sign ds, within-signed, le-ltb _ (2 ^ 63) h)
 
@@ -128,7 +129,7 @@ module _ (ds : List ℕ) (w : Word) (said : wordOutcome w ≡ within64 (magnitud
   unfolding slebOf choose
   sleb-fits m g h = simp (signed-by-sign ds, magnitude-is m g, within-signed, lt-ltb m (2 ^ 63) h)
 
-  pub sleb-over : (m : ℕ) → w ≡ word.Value m → 2 ^ 63 ≤ m → absent ≡ slebOf ds
+  pub sleb-over : (m : ℕ) → w ≡ word.Value m → 2 ^ 63 ≤ m → absent Malformed ≡ slebOf ds
   sleb-over m g h = sleb-beyond ds (rw (magnitude-is m g) h)
 
   pub sleb-missing : (m : Missing) → w ≡ word.Missing m → missed m ≡ slebOf ds
@@ -144,12 +145,12 @@ shifted i o = andThen o (λ k. value (i + k))
 
 shifted-zero : (o : Outcome ℕ) → o ≡ shifted 0 o
 shifted-zero (value k) = ap value (sym (zero-add k))
-shifted-zero absent = refl
+shifted-zero (absent r) = refl
 shifted-zero (number k) = refl
 
 shifted-suc : (i : ℕ) (o : Outcome ℕ) → shifted i (andThen o (λ k. value (suc k))) ≡ shifted (suc i) o
 shifted-suc i (value k) = ap value (omega arith)
-shifted-suc i absent = refl
+shifted-suc i (absent r) = refl
 shifted-suc i (number k) = refl
 
 -- The count of the digits as the code comes to byte i.
@@ -171,7 +172,7 @@ module _ (bs : List ℕ) where
     counted-more l =
         seen ∙ simp (drop-cons bs i 0 h, le-ltb _ _ l, add-one) (shifted-suc i (digitCount (drop (suc i) bs)))
 
-  pub counted-end : (i : ℕ) → Counted bs i → i ≡ length bs → digitCount bs ≡ absent
+  pub counted-end : (i : ℕ) → Counted bs i → i ≡ length bs → digitCount bs ≡ absent Unreadable
   unfolding Counted digitCount
   counted-end i seen e = seen ∙ simp (e, drop-length)
 
@@ -190,8 +191,8 @@ count-bounds (b ∷ bs) k e = go (count-bounds bs) (ltb b 128) refl (digitCount 
         let g : value (suc j) ≡ value k = rw (t, d) at e in
         let more : suc j ≡ k = cc in
         (omega arith, omega (arith, rest j d))
-    go rest false t absent d =
-        let g : absent ≡ value k = rw (t, d) at e in
+    go rest false t (absent r) d =
+        let g : absent r ≡ value k = rw (t, d) at e in
         let z : _≡_ {A = ℕ} 0 1 = cc in
         absurd (omega arith)
     go rest false t (number j) d =

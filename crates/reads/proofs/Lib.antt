@@ -23,5 +23,6 @@ pub mod LebLaws
 pub mod ReadCases
 pub mod BreakCases
 pub mod TextCases
+pub mod ReasonCases
 pub mod RelativeCases
 pub mod LebCases

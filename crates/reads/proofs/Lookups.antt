@@ -6,7 +6,8 @@ use Prim.Native.Nat.{ℕ, suc, _+_, _-_, _^_, _≤_, _<_}
 use native.Mathlib.Omega.{arith}
 use lib.Dec.{leb, ltb}
 use borrow.Author.Tests.{leb-true, leb-false, ltb-true, le-leb, lt-leb, lt-ltb, le-ltb}
-use Rattle.reads.specs.Outcome.{value, absent, choose, sum64}
+use Rattle.reads.specs.Outcome.{value, absent, because, choose, sum64}
+use Rattle.reads.specs.declared.answer.Reason.the-variants.{Unmapped}
 use Rattle.reads.specs.Table.{records}
 use Rattle.reads.specs.Segment.{segmentWords, segmentAt, ends, holds, placeAt, placed, lookup, mappedSize, endsInFile, carries, addressOf}
 use Rattle.reads.specs.declared.segment.Segment.{Segment}
@@ -52,11 +53,11 @@ module _ (s : Segment) where
       let q = both-true (leb (s .vmaddr) va) (ltb va (s .vmaddr + s .vmsize)) (p .1) in
       (ltb-true _ _ (p .0), leb-true _ _ (q .0), ltb-true _ _ (q .1))
 
-  pub placed-past : (va : ℕ) → s .filesize ≤ va - s .vmaddr → absent ≡ placed s va
+  pub placed-past : (va : ℕ) → s .filesize ≤ va - s .vmaddr → absent Unmapped ≡ placed s va
   unfolding placed choose
   placed-past va h = simp (le-leb (s .filesize) (va - s .vmaddr) h)
 
-  pub placed-over : (va : ℕ) → va - s .vmaddr < s .filesize → 2 ^ 64 ≤ s .fileoff + (va - s .vmaddr) → absent ≡ placed s va
+  pub placed-over : (va : ℕ) → va - s .vmaddr < s .filesize → 2 ^ 64 ≤ s .fileoff + (va - s .vmaddr) → absent Unmapped ≡ placed s va
   unfolding placed choose
   placed-over va h l = simp (lt-leb (s .filesize) (va - s .vmaddr) h, sum-over (s .fileoff) (va - s .vmaddr) l)
 
@@ -89,17 +90,17 @@ module _ (s : Segment) where
   unfolding endsInFile
   ends-in-file-by m e h = rw e (over-by (s .fileoff) (mappedSize s) h)
 
-pub lookup-out : (ws : List ℕ) (i va : ℕ) → records segmentWords ws ≤ i → lookup (rowsFrom ws i) va ≡ absent
+pub lookup-out : (ws : List ℕ) (i va : ℕ) → records segmentWords ws ≤ i → lookup (rowsFrom ws i) va ≡ absent Unmapped
 unfolding lookup
 lookup-out ws i va h = simp (rows-none ws i h)
 
-pub address-out : (ws : List ℕ) (i offset : ℕ) → records segmentWords ws ≤ i → addressOf (rowsFrom ws i) offset ≡ absent
+pub address-out : (ws : List ℕ) (i offset : ℕ) → records segmentWords ws ≤ i → addressOf (rowsFrom ws i) offset ≡ absent Unmapped
 unfolding addressOf
 address-out ws i offset h = simp (rows-none ws i h)
 
 -- Row i, as the code has it.
 module _ (ws : List ℕ) (i : ℕ) (fits : i < records segmentWords ws) (s : Segment) (at : s ≡ segmentAt ws i) where
-  pub lookup-ends : (va : ℕ) → ends s ≡ true → lookup (rowsFrom ws i) va ≡ absent
+  pub lookup-ends : (va : ℕ) → ends s ≡ true → lookup (rowsFrom ws i) va ≡ absent Unmapped
   unfolding lookup choose
   lookup-ends va e = simp (rows-read ws i fits s at, e)
 
@@ -111,12 +112,12 @@ module _ (ws : List ℕ) (i : ℕ) (fits : i < records segmentWords ws) (s : Seg
   unfolding lookup choose
   lookup-on va e h = simp (rows-read ws i fits s at, e, h)
 
-  pub address-ends : (offset : ℕ) → endsInFile s ≡ true → addressOf (rowsFrom ws i) offset ≡ absent
+  pub address-ends : (offset : ℕ) → endsInFile s ≡ true → addressOf (rowsFrom ws i) offset ≡ absent Unmapped
   unfolding addressOf choose
   address-ends offset e = simp (rows-read ws i fits s at, e)
 
   pub address-carries : (offset : ℕ) → endsInFile s ≡ false → carries s offset ≡ true
-      → addressOf (rowsFrom ws i) offset ≡ sum64 (s .vmaddr) (offset - s .fileoff)
+      → addressOf (rowsFrom ws i) offset ≡ because Unmapped (sum64 (s .vmaddr) (offset - s .fileoff))
   unfolding addressOf choose
   address-carries offset e h = simp (rows-read ws i fits s at, e, h)
 

@@ -8,7 +8,8 @@ use borrow.Author.Tests.{le-leb, lt-leb, leb-true}
 use lib.Dec.{leb}
 use lib.ListN.{length, take, drop, getD, length-take, length-drop, length-reverse}
 use lib.Seq.{drop-cons, take-add, drop-drop}
-use Rattle.reads.specs.Outcome.{Outcome, value, absent, number, andThen, choose}
+use Rattle.reads.specs.Outcome.{Outcome, value, absent, number, andThen, because, choose}
+use Rattle.reads.specs.declared.answer.Reason.the-variants.{Unreadable}
 use Rattle.reads.specs.Segment.{rows, lookup, placeAt}
 use Rattle.reads.specs.Place.{Image, imageOf, le, be, part, readableAt, readable, wordIn}
 use Rattle.reads.specs.Answer.{placeOutcome}
@@ -62,12 +63,12 @@ module _ (bs : List ℕ) (offset k : ℕ) where
   unfolding readableAt choose
   readable-in h = simp (le-leb _ _ h)
 
-  pub readable-out : length bs < offset + k → absent ≡ readableAt bs offset k
+  pub readable-out : length bs < offset + k → absent Unreadable ≡ readableAt bs offset k
   unfolding readableAt choose
   readable-out h = simp (lt-leb _ _ h)
 
 -- A place handed out for k bytes has k bytes of the image after it.
-room-by : (b : Bool) (offset k n : ℕ) (p : Place) → leb (offset + k) n ≡ b → choose b (value (placeAt offset)) absent ≡ value p → p .offset + k ≤ n
+room-by : (b : Bool) (offset k n : ℕ) (p : Place) → leb (offset + k) n ≡ b → choose b (value (placeAt offset)) (absent Unreadable) ≡ value p → p .offset + k ≤ n
 unfolding choose
 room-by true offset k n p q e = let r : placeAt offset ≡ p = cc in rw (← r) (leb-true (offset + k) n q)
 room-by false offset k n p q e = let z : _≡_ {A = ℕ} 0 1 = cc in absurd (omega arith)
@@ -76,9 +77,9 @@ pub readable-at-room : (bs : List ℕ) (offset k : ℕ) (p : Place) → readable
 unfolding readableAt
 readable-at-room bs offset k p e = room-by _ offset k (length bs) p refl e
 
-then-room : (o : Outcome Place) (bs : List ℕ) (k : ℕ) (p : Place) → andThen o (λ q. readableAt bs (q .offset) k) ≡ value p → p .offset + k ≤ length bs
+then-room : (o : Outcome Place) (bs : List ℕ) (k : ℕ) (p : Place) → andThen (because Unreadable o) (λ q. readableAt bs (q .offset) k) ≡ value p → p .offset + k ≤ length bs
 then-room (value q) bs k p e = readable-at-room bs (q .offset) k p e
-then-room absent bs k p e = let z : _≡_ {A = ℕ} 0 1 = cc in absurd (omega arith)
+then-room (absent r) bs k p e = let z : _≡_ {A = ℕ} 0 1 = cc in absurd (omega arith)
 then-room (number j) bs k p e = let z : _≡_ {A = ℕ} 0 1 = cc in absurd (omega arith)
 
 pub readable-room : (m : Image) (va k : ℕ) (p : Place) → readable m va k ≡ value p → p .offset + k ≤ length (m .bytes)

@@ -3,6 +3,7 @@ use Prim.Native.Nat.{ℕ}
 use mathlib.Core.Path.{_≡_, refl}
 use mathlib.Core.List.{List, [], _∷_}
 use Rattle.reads.specs.Outcome.{value, absent, choose, sum64, nonzero}
+use Rattle.reads.specs.declared.answer.Reason.the-variants.{Unmapped, NoData, Unreadable}
 use Rattle.reads.specs.Segment.{rows, ends, holds, placeAt, placed, lookup, mappedSize, endsInFile, carries, addressOf}
 use Rattle.reads.specs.Place.{imageOf, le, readableAt, readable, word}
 use Rattle.reads.specs.Address.{dataArm64e, data64, mapped, pickedWide, picked}
@@ -17,7 +18,7 @@ unfolding lookup rows ends holds placed sum64 choose
 in-file = refl
 
 -- ◆ absent though a later segment has it
-past-file : lookup (rows table) 0x1080 ≡ absent
+past-file : lookup (rows table) 0x1080 ≡ absent Unmapped
 unfolding lookup rows ends holds placed sum64 choose
 past-file = refl
 
@@ -27,7 +28,7 @@ unfolding lookup rows ends holds placed sum64 choose
 later = refl
 
 -- a segment whose end exceeds 64 bits ends the lookup
-over-64-ends : lookup (rows (0xFFFFFFFFFFFFFFFF ∷ 1 ∷ 0 ∷ 1 ∷ table)) 0x1000 ≡ absent
+over-64-ends : lookup (rows (0xFFFFFFFFFFFFFFFF ∷ 1 ∷ 0 ∷ 1 ∷ table)) 0x1000 ≡ absent Unmapped
 unfolding lookup rows ends holds placed sum64 choose
 over-64-ends = refl
 
@@ -37,7 +38,7 @@ unfolding lookup rows ends holds placed sum64 choose
 passed-over = refl
 
 -- fileoff and the distance exceed 64 bits
-place-over-64 : lookup (rows (0x1000 ∷ 0x100 ∷ 0xFFFFFFFFFFFFFFFF ∷ 0x100 ∷ [])) 0x1001 ≡ absent
+place-over-64 : lookup (rows (0x1000 ∷ 0x100 ∷ 0xFFFFFFFFFFFFFFFF ∷ 0x100 ∷ [])) 0x1001 ≡ absent Unmapped
 unfolding lookup rows ends holds placed sum64 choose
 place-over-64 = refl
 
@@ -55,7 +56,7 @@ last-bytes : readableAt (1 ∷ 2 ∷ 3 ∷ []) 1 2 ≡ value (placeAt 1)
 unfolding readableAt choose
 last-bytes = refl
 
-too-many : readableAt (1 ∷ 2 ∷ 3 ∷ []) 2 2 ≡ absent
+too-many : readableAt (1 ∷ 2 ∷ 3 ∷ []) 2 2 ≡ absent Unreadable
 unfolding readableAt choose
 too-many = refl
 
@@ -69,6 +70,6 @@ picks-narrow : picked table 0x0100000000009007 ≡ value 0x9000
 unfolding picked pickedWide nonzero mapped dataArm64e data64 lookup rows ends holds placed sum64 choose
 picks-narrow = refl
 
-picks-none : picked table 7 ≡ absent
+picks-none : picked table 7 ≡ absent NoData
 unfolding picked pickedWide nonzero mapped dataArm64e data64 choose
 picks-none = refl

@@ -9,7 +9,8 @@ use lib.Dec.{leb}
 use lib.ListN.{length}
 use borrow.Author.Tests.{leb-true, le-leb}
 use Rattle.reads.specs.Breaks.{isValue, canRead}
-use Rattle.reads.specs.Outcome.{Outcome, value, andThen, choose, sum64}
+use Rattle.reads.specs.Outcome.{Outcome, value, andThen, because, choose, sum64}
+use Rattle.reads.specs.declared.answer.Reason.the-variants.{Unmapped}
 use Rattle.reads.specs.Place.{Image, readableAt, readable}
 use Rattle.reads.specs.Segment.{rows, holds, placeAt, placed, lookup}
 use Rattle.reads.specs.declared.place.Place.{Place}
@@ -31,7 +32,7 @@ module _ (bytes : List ℕ) (k : ℕ) where
   unfolding placed sum64 readableAt
   placed-room s va =
       by-choose (λ o. inImage bytes k o ≡ true → Room) (λ e z. never z)
-      (λ e. by-choose (λ o. inImage bytes k (andThen o (λ offset. value (placeAt offset))) ≡ true → Room)
+      (λ e. by-choose (λ o. inImage bytes k (andThen (because Unmapped o) (λ offset. value (placeAt offset))) ≡ true → Room)
       (λ f. by-choose (λ (o : Outcome Place). isValue o ≡ true → Room) (λ g z. leb-true _ _ g) (λ g z. never z))
       (λ f z. never z))
     where

@@ -1,31 +1,43 @@
 -- The reads ask no question: none of them gives a number. What is made of unrefused outcomes is unrefused.
 use mathlib.Core.Path.{_≡_, refl}
-use mathlib.Core.Bool.{Bool, false, true≢false}
+use mathlib.Core.Bool.{Bool}
 use mathlib.Core.List.{List, [], _∷_}
 use Prim.Native.Nat.{ℕ, _+_, _-_}
 use lib.ListN.{length, drop}
-use Rattle.reads.specs.Outcome.{Outcome, value, absent, Unrefused, is-value, is-absent, andThen, orElse, orZero, orEmpty, choose, sum64, nonzero, textOf}
+use Rattle.reads.specs.Outcome.{Outcome, value, Unrefused, is-value, is-absent, andThen, because, orElse, orFirst, orZero, orEmpty, choose, sum64, nonzero, textOf}
 use Rattle.reads.specs.Segment.{rows, placeAt, placed, lookup}
 use Rattle.reads.specs.Place.{Image, le, part, readableAt, readable, word}
-use Rattle.reads.specs.Text.{text, textLength, textAt, textIn}
+use Rattle.reads.specs.Utf8.{verdict}
+use Rattle.reads.specs.Text.{text, ifGood, textLength, textAt, textIn}
 use Rattle.reads.specs.Address.{dataArm64e, data64, mapped, pickedWide, picked}
-use Rattle.reads.specs.Breaks.{isValue}
+use Rattle.reads.specs.declared.answer.Reason.{Reason}
+use Rattle.reads.specs.declared.answer.Reason.the-variants.{NullAddress, Unmapped, PastEnd, NotUtf8, NoData, Unreadable, FieldOverflow}
 use Rattle.reads.specs.declared.text.Text.{Text}
+use Rattle.reads.specs.declared.text.Verdict.{Verdict}
+use Rattle.reads.specs.declared.text.Verdict.the-variants.{Good, Bad}
 use Rattle.reads.specs.declared.segment.Segment.{Segment}
 use Rattle.reads.proofs.Tests.{by-choose}
 
 pub unrefused-then : {A B : Type 0} {o : Outcome A} (f : A → Outcome B) → Unrefused o → ((a : A) → Unrefused (f a)) → Unrefused (andThen o f)
 unrefused-then f (is-value a) v = v a
-unrefused-then f is-absent v = is-absent
+unrefused-then f (is-absent r) v = is-absent r
 
 -- The same where what follows is known of the value that came.
 pub unrefused-came : {A B : Type 0} {o : Outcome A} (f : A → Outcome B) → Unrefused o → ((a : A) → o ≡ value a → Unrefused (f a)) → Unrefused (andThen o f)
 unrefused-came f (is-value a) v = v a refl
-unrefused-came f is-absent v = is-absent
+unrefused-came f (is-absent r) v = is-absent r
 
 pub unrefused-else : {A : Type 0} {o p : Outcome A} → Unrefused o → Unrefused p → Unrefused (orElse o p)
 unrefused-else (is-value a) v = is-value a
-unrefused-else is-absent v = v
+unrefused-else (is-absent r) v = v
+
+pub unrefused-because : {A : Type 0} {o : Outcome A} (why : Reason) → Unrefused o → Unrefused (because why o)
+unrefused-because why (is-value a) = is-value a
+unrefused-because why (is-absent r) = is-absent why
+
+pub unrefused-first : {A : Type 0} {o p : Outcome A} → Unrefused o → Unrefused p → Unrefused (orFirst o p)
+unrefused-first (is-value a) v = is-value a
+unrefused-first (is-absent r) v = unrefused-because r v
 
 pub unrefused-zero : {o : Outcome ℕ} → Unrefused o → Unrefused (orZero o)
 unrefused-zero u = unrefused-else u (is-value 0)
@@ -38,49 +50,53 @@ unrefused-choose b u v = by-choose Unrefused (λ e. u) (λ e. v)
 
 pub sum-unrefused : (a b : ℕ) → Unrefused (sum64 a b)
 unfolding sum64
-sum-unrefused a b = by-choose Unrefused (λ e. is-value (a + b)) (λ e. is-absent)
+sum-unrefused a b = by-choose Unrefused (λ e. is-value (a + b)) (λ e. is-absent FieldOverflow)
 
 pub nonzero-unrefused : (x : ℕ) → Unrefused (nonzero x)
 unfolding nonzero
-nonzero-unrefused x = by-choose Unrefused (λ e. is-absent) (λ e. is-value x)
+nonzero-unrefused x = by-choose Unrefused (λ e. is-absent NullAddress) (λ e. is-value x)
 
 placed-unrefused : (s : Segment) (va : ℕ) → Unrefused (placed s va)
 unfolding placed
 placed-unrefused s va =
-    by-choose Unrefused (λ e. is-absent)
-    (λ e. unrefused-then (λ offset. value (placeAt offset)) (sum-unrefused (s .fileoff) (va - s .vmaddr)) (λ offset. is-value (placeAt offset)))
+    by-choose Unrefused (λ e. is-absent Unmapped)
+    (λ e. unrefused-then (λ offset. value (placeAt offset)) (unrefused-because Unmapped (sum-unrefused (s .fileoff) (va - s .vmaddr))) (λ offset. is-value (placeAt offset)))
 
 pub lookup-unrefused : (ss : List Segment) (va : ℕ) → Unrefused (lookup ss va)
 unfolding lookup
-lookup-unrefused [] va = is-absent
+lookup-unrefused [] va = is-absent Unmapped
 lookup-unrefused (s ∷ ss) va =
-    by-choose Unrefused (λ e. is-absent) (λ e. by-choose Unrefused (λ h. placed-unrefused s va) (λ h. lookup-unrefused ss va))
+    by-choose Unrefused (λ e. is-absent Unmapped) (λ e. by-choose Unrefused (λ h. placed-unrefused s va) (λ h. lookup-unrefused ss va))
 
 pub readable-at-unrefused : (bytes : List ℕ) (offset k : ℕ) → Unrefused (readableAt bytes offset k)
 unfolding readableAt
-readable-at-unrefused bytes offset k = by-choose Unrefused (λ e. is-value (placeAt offset)) (λ e. is-absent)
+readable-at-unrefused bytes offset k = by-choose Unrefused (λ e. is-value (placeAt offset)) (λ e. is-absent Unreadable)
 
 module _ (m : Image) where
   pub readable-unrefused : (va k : ℕ) → Unrefused (readable m va k)
   unfolding readable
   readable-unrefused va k =
-      unrefused-then (λ p. readableAt (m .bytes) (p .offset) k) (lookup-unrefused (rows (m .words)) va) (λ p. readable-at-unrefused (m .bytes) (p .offset) k)
+      unrefused-then (λ p. readableAt (m .bytes) (p .offset) k) (unrefused-because Unreadable (lookup-unrefused (rows (m .words)) va)) (λ p. readable-at-unrefused (m .bytes) (p .offset) k)
 
   pub word-unrefused : (k va : ℕ) → Unrefused (word m k va)
   unfolding word
   word-unrefused k va =
       unrefused-then (λ p. value (le (part (m .bytes) (p .offset) k))) (readable-unrefused va k) (λ p. is-value (le (part (m .bytes) (p .offset) k)))
 
+if-good-unrefused : (v : Verdict) (n : ℕ) → Unrefused (ifGood v n)
+if-good-unrefused Good n = is-value n
+if-good-unrefused (Bad k) n = is-absent (NotUtf8 k)
+
 pub text-length-unrefused : (s : List ℕ) → Unrefused (textLength s)
 unfolding textLength
-text-length-unrefused s = by-choose Unrefused (λ e. is-value (length (text s))) (λ e. is-absent)
+text-length-unrefused s = if-good-unrefused (verdict (text s)) (length (text s))
 
 pub text-at-unrefused : (bytes : List ℕ) (offset : ℕ) → Unrefused (textAt bytes offset)
 unfolding textAt
 text-at-unrefused bytes offset =
     by-choose Unrefused
     (λ e. unrefused-then (λ n. value (textOf offset n)) (text-length-unrefused (drop offset bytes)) (λ n. is-value (textOf offset n)))
-    (λ e. is-absent)
+    (λ e. is-absent PastEnd)
 
 pub text-in-unrefused : (m : Image) (va : ℕ) → Unrefused (textIn m va)
 unfolding textIn
@@ -95,9 +111,5 @@ mapped-unrefused words va = unrefused-then (λ p. value va) (lookup-unrefused (r
 pub picked-unrefused : (words : List ℕ) (w : ℕ) → Unrefused (picked words w)
 unfolding picked pickedWide
 picked-unrefused words w =
-    unrefused-else (unrefused-then (mapped words) (nonzero-unrefused (dataArm64e w)) (mapped-unrefused words)) (nonzero-unrefused (data64 w))
-
--- What is unrefused and no value is absent.
-pub unrefused-absent : {A : Type 0} {o : Outcome A} → Unrefused o → isValue o ≡ false → o ≡ absent
-unrefused-absent (is-value a) e = absurd (true≢false e)
-unrefused-absent is-absent e = refl
+    unrefused-because NoData
+    (unrefused-else (unrefused-then (mapped words) (nonzero-unrefused (dataArm64e w)) (mapped-unrefused words)) (nonzero-unrefused (data64 w)))

@@ -2,6 +2,7 @@
 use Prim.Native.Nat.{ℕ}
 use lib.IntN.{ℤ}
 use Rattle.reads.specs.Outcome.{Outcome, value, absent, number}
+use Rattle.reads.specs.declared.answer.Reason.{Reason}
 use Rattle.reads.specs.declared.answer.Missing.{Missing}
 use Rattle.reads.specs.declared.answer.Missing.the-variants.{Absent, Refused}
 use Rattle.reads.specs.declared.place.Place.{Place}
@@ -16,8 +17,13 @@ use Rattle.reads.specs.declared.answer.Word.{Word}
 use Rattle.reads.specs.declared.answer.Word.the-variants as word
 
 abbrev pub missed : {A : Type 0} → Missing → Outcome A
-missed Absent = absent
+missed (Absent r) = absent r
 missed (Refused k) = number k
+
+-- What is missing, an absence for this reason.
+abbrev pub missingBecause : Reason → Missing → Missing
+missingBecause why (Absent r) = Absent why
+missingBecause why (Refused k) = Refused k
 
 abbrev pub wordOutcome : Word → Outcome ℕ
 wordOutcome (word.Value n) = value n

@@ -14,7 +14,7 @@ use Rattle.reads.specs.declared.breaks.Break.the-variants.{At, Nothing}
 
 abbrev pub isValue : {A : Type 0} → Outcome A → Bool
 isValue (value a) = true
-isValue absent = false
+isValue (absent r) = false
 isValue (number k) = false
 
 -- k bytes can be read at an address.

@@ -8,6 +8,7 @@ use lib.ListN.{length, take, getD}
 use Rattle.reads.specs.Answer.{missed}
 use Rattle.reads.specs.Outcome.{Outcome, value, absent, andThen, choose}
 use Rattle.reads.specs.Signed.{twos}
+use Rattle.reads.specs.declared.answer.Reason.the-variants.{Unreadable, Malformed}
 use Rattle.reads.specs.declared.leb128.Uleb.{Uleb}
 use Rattle.reads.specs.declared.leb128.UlebAnswer.{UlebAnswer}
 use Rattle.reads.specs.declared.leb128.UlebAnswer.the-variants as uleb
@@ -29,9 +30,9 @@ unsignedRead n consumed = record { value = n; consumed = consumed }
 abbrev pub signedRead : ℤ → ℕ → Sleb
 signedRead z consumed = record { value = z; consumed = consumed }
 
--- How many digits there are: the bytes up to and including the first below 0x80; absent where there is none.
+-- How many digits there are: the bytes up to and including the first below 0x80; where there is none the last cannot be read.
 unfoldable pub digitCount : List ℕ → Outcome ℕ
-digitCount [] = absent
+digitCount [] = absent Unreadable
 digitCount (b ∷ bs) = choose (ltb b 128) (value 1) (andThen (digitCount bs) (λ k. value (suc k)))
 
 -- The number that digits say: the sum of (b_i % 128) * 128^i.
@@ -49,12 +50,12 @@ signedDigits ds = twos (negative ds) (unsignedDigits ds) (128 ^ length ds)
 
 -- A number, absent at 2^64 and above.
 unfoldable pub within64 : ℕ → Outcome ℕ
-within64 n = choose (ltb n (2 ^ 64)) (value n) absent
+within64 n = choose (ltb n (2 ^ 64)) (value n) (absent Malformed)
 
 -- A signed number, absent outside -2^63 .. 2^63 - 1; negsuc n is -1 - n.
 unfoldable pub withinSigned64 : ℤ → Outcome ℤ
-withinSigned64 (pos n) = choose (ltb n (2 ^ 63)) (value (pos n)) absent
-withinSigned64 (negsuc n) = choose (ltb n (2 ^ 63)) (value (negsuc n)) absent
+withinSigned64 (pos n) = choose (ltb n (2 ^ 63)) (value (pos n)) (absent Malformed)
+withinSigned64 (negsuc n) = choose (ltb n (2 ^ 63)) (value (negsuc n)) (absent Malformed)
 
 unfoldable pub ulebOf : List ℕ → Outcome Uleb
 ulebOf ds = andThen (within64 (unsignedDigits ds)) (λ n. value (unsignedRead n (length ds)))

@@ -4,8 +4,9 @@ use mathlib.Core.List.{List, [], _∷_, reverse}
 use lib.Dec.{leb}
 use lib.ListN.{length, take, drop}
 use Rattle.reads.specs.Reference.{Slice, before}
-use Rattle.reads.specs.Outcome.{Outcome, value, absent, andThen, choose}
+use Rattle.reads.specs.Outcome.{Outcome, value, absent, andThen, because, choose}
 use Rattle.reads.specs.Segment.{rows, lookup, placeAt}
+use Rattle.reads.specs.declared.answer.Reason.the-variants.{Unreadable}
 use Rattle.reads.specs.declared.place.Place.{Place}
 
 -- What the reads are lent: the image's bytes and the segment table's words.
@@ -34,11 +35,11 @@ part bytes offset k = take k (drop offset bytes)
 
 -- The place at an offset, if k bytes from it lie in the image.
 unfoldable pub readableAt : List ℕ → ℕ → ℕ → Outcome Place
-readableAt bytes offset k = choose (leb (offset + k) (length bytes)) (value (placeAt offset)) absent
+readableAt bytes offset k = choose (leb (offset + k) (length bytes)) (value (placeAt offset)) (absent Unreadable)
 
--- The place of an address, if k bytes can be read there: only the first byte is looked up.
+-- The place of an address, if k bytes can be read there: only the first byte is looked up. Unmapped is a reason of strings alone.
 unfoldable pub readable : Image → ℕ → ℕ → Outcome Place
-readable m va k = andThen (lookup (rows (m .words)) va) (λ p. readableAt (m .bytes) (p .offset) k)
+readable m va k = andThen (because Unreadable (lookup (rows (m .words)) va)) (λ p. readableAt (m .bytes) (p .offset) k)
 
 -- The number of k bytes at a place.
 abbrev pub wordAt : List ℕ → ℕ → Place → ℕ

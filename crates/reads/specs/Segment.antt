@@ -3,8 +3,9 @@ use Prim.Native.Nat.{ℕ, _+_, _-_, _^_, min}
 use mathlib.Core.Bool.{Bool, _&&_}
 use mathlib.Core.List.{List, [], _∷_}
 use lib.Dec.{leb, ltb}
-use Rattle.reads.specs.Outcome.{Outcome, value, absent, andThen, choose, sum64}
+use Rattle.reads.specs.Outcome.{Outcome, value, absent, andThen, because, choose, sum64}
 use Rattle.reads.specs.Table.{records, wordOf, tabulate}
+use Rattle.reads.specs.declared.answer.Reason.the-variants.{Unmapped}
 use Rattle.reads.specs.declared.place.Place.{Place}
 use Rattle.reads.specs.declared.segment.Segment.{Segment}
 
@@ -36,16 +37,17 @@ holds s va = ltb 0 (s .filesize) && (leb (s .vmaddr) va && ltb va (s .vmaddr + s
 abbrev pub placeAt : ℕ → Place
 placeAt offset = record { offset = offset }
 
--- Absent if the distance from vmaddr is at least filesize, else fileoff + distance, absent over 64 bits.
+-- Absent if the distance from vmaddr is at least filesize, else fileoff + distance, absent over 64 bits. A lookup that is absent is
+-- Unmapped, whatever ends it.
 unfoldable pub placed : Segment → ℕ → Outcome Place
 placed s va =
-    choose (leb (s .filesize) (va - s .vmaddr)) absent
-    (andThen (sum64 (s .fileoff) (va - s .vmaddr)) (λ offset. value (placeAt offset)))
+    choose (leb (s .filesize) (va - s .vmaddr)) (absent Unmapped)
+    (andThen (because Unmapped (sum64 (s .fileoff) (va - s .vmaddr))) (λ offset. value (placeAt offset)))
 
 -- Segments in order: one that exceeds 64 bits ends the lookup, the first that holds the address decides.
 unfoldable pub lookup : List Segment → ℕ → Outcome Place
-lookup [] va = absent
-lookup (s ∷ ss) va = choose (ends s) absent (choose (holds s va) (placed s va) (lookup ss va))
+lookup [] va = absent Unmapped
+lookup (s ∷ ss) va = choose (ends s) (absent Unmapped) (choose (holds s va) (placed s va) (lookup ss va))
 
 -- How many bytes of the file are mapped, from fileoff to vmaddr on.
 unfoldable pub mappedSize : Segment → ℕ
@@ -62,7 +64,7 @@ carries s offset = leb (s .fileoff) offset && ltb offset (s .fileoff + mappedSiz
 -- The address of an offset (util.rs, file_offset_to_vm_in): segments in order, one that exceeds 64 bits ends, the first that maps the
 -- offset decides.
 unfoldable pub addressOf : List Segment → ℕ → Outcome ℕ
-addressOf [] offset = absent
+addressOf [] offset = absent Unmapped
 addressOf (s ∷ ss) offset =
-    choose (endsInFile s) absent
-    (choose (carries s offset) (sum64 (s .vmaddr) (offset - s .fileoff)) (addressOf ss offset))
+    choose (endsInFile s) (absent Unmapped)
+    (choose (carries s offset) (because Unmapped (sum64 (s .vmaddr) (offset - s .fileoff))) (addressOf ss offset))

@@ -1,12 +1,16 @@
 -- UTF-8 by the ABNF of RFC 3629, section 4. Each alternative of a rule is a row of ranges, in the RFC's order.
-use Prim.Native.Nat.{ℕ, suc}
+use Prim.Native.Nat.{ℕ, suc, _≤_, _<_}
 use mathlib.Core.Path.{_≡_}
 use mathlib.Core.Bool.{Bool, true, false, _&&_}
 use mathlib.Core.List.{List, [], _∷_, _++_, List·Memᴰ}
 use mathlib.Core.Option.{Option, none, some}
 use lib.Dec.{leb}
-use lib.ListN.{length}
+use lib.ListN.{length, take, drop}
 use Rattle.reads.specs.Outcome.{choose}
+use Rattle.reads.specs.declared.text.Step.{Step}
+use Rattle.reads.specs.declared.text.Step.the-variants as step
+use Rattle.reads.specs.declared.text.Verdict.{Verdict}
+use Rattle.reads.specs.declared.text.Verdict.the-variants.{Good, Bad}
 
 infix 90 _to_
 -- %xLO-HI
@@ -63,6 +67,19 @@ pub data Octets : List ℕ → Type 0 where
   octets-none : Octets []
   octets-more : {t c s : List ℕ} {row : List Range} → List·Memᴰ row chars → Fit row c → Octets s → t ≡ c ++ s → Octets t
 
+-- Bytes that some text of the grammar begins with.
+pub record Begins (s : List ℕ) : Type 0 where
+  pub rest : List ℕ
+  pub octets : Octets (s ++ rest)
+
+-- s is no text of the grammar, and its first k bytes are its longest beginning that begins one: k is the offset of the first byte that
+-- no well-formed text can continue, or the length of s where it ends inside a character (document 02, note 2).
+pub record FirstBad (s : List ℕ) (k : ℕ) : Type 0 where
+  pub not : Octets s → ⊥
+  pub within : k ≤ length s
+  pub beginning : Begins (take k s)
+  pub longest : (j : ℕ) → k < j → j ≤ length s → Begins (take j s) → ⊥
+
 -- The rest of the first row that b begins.
 abbrev pub begun : List (List Range) → ℕ → Option (List Range)
 begun [] b = none
@@ -74,13 +91,9 @@ abbrev pub dueAfter : List Range → ℕ → Option (List Range)
 dueAfter [] b = begun chars b
 dueAfter (r ∷ rs) b = choose (inside r b) (some rs) none
 
-pub data Verdict : Type 0 where
-  good : Verdict
-  bad : ℕ → Verdict
-
-abbrev pub ended : List Range → ℕ → Verdict
-ended [] at = good
-ended (r ∷ rs) at = bad at
+abbrev pub stopped : List Range → ℕ → Verdict
+stopped [] at = Good
+stopped (r ∷ rs) at = Bad at
 
 abbrev pub goOn : Option (List Range) → Verdict → (List Range → Verdict) → Verdict
 goOn none v f = v
@@ -89,32 +102,37 @@ goOn (some w) v f = f w
 -- The text s, of which `at` bytes came before and w are due: good, or bad at the offset of the first byte that no text of
 -- the grammar continues with, or at its length where it ends inside a character.
 unfoldable pub judge : ℕ → List Range → List ℕ → Verdict
-judge at w [] = ended w at
-judge at w (b ∷ s) = goOn (dueAfter w b) (bad at) (λ w′. judge (suc at) w′ s)
+judge at w [] = stopped w at
+judge at w (b ∷ s) = goOn (dueAfter w b) (Bad at) (λ w′. judge (suc at) w′ s)
 
+-- proofs/FirstBad.antt shows that it is `Bad k` exactly where `FirstBad s k`.
 abbrev pub verdict : List ℕ → Verdict
 verdict s = judge 0 [] s
 
 abbrev pub isGood : Verdict → Bool
-isGood good = true
-isGood (bad k) = false
+isGood Good = true
+isGood (Bad k) = false
 
 -- UTF8-octets, as a test; proofs/Grammar.antt shows that it accepts exactly `Octets`.
 unfoldable pub utf8 : List ℕ → Bool
 utf8 s = isGood (verdict s)
 
--- The ranges w hold the first bytes of s.
-unfoldable pub fits : List Range → List ℕ → Bool
-fits [] s = true
-fits (r ∷ w) [] = false
-fits (r ∷ w) (b ∷ s) = inside r b && fits w s
+-- A byte stands in front of s, and lies in the range.
+abbrev pub begins : Range → List ℕ → Bool
+begins r [] = false
+begins r (b ∷ s) = inside r b
 
--- The length of a character whose first byte came before s and left w due, 0 where s does not go on so.
-abbrev pub lengthWith : Option (List Range) → List ℕ → ℕ
-lengthWith none s = 0
-lengthWith (some w) s = choose (fits w s) (suc (length w)) 0
+-- A character of which w are due in front of s, at offset `at`: on past them, or bad at the first byte that is not the one due.
+unfoldable pub follow : ℕ → List Range → List ℕ → Step
+follow at [] s = step.On at
+follow at (r ∷ w) s = choose (begins r s) (follow (suc at) w (drop 1 s)) (step.Bad at)
 
--- The length of the character of more than one octet in front of s, 0 where there is none.
-unfoldable pub multiLength : List ℕ → ℕ
-multiLength [] = 0
-multiLength (b ∷ s) = lengthWith (begun multi b) s
+-- The same past its first byte, at offset `at`, by what is due after that.
+abbrev pub followRow : ℕ → Option (List Range) → List ℕ → Step
+followRow at none s = step.Bad at
+followRow at (some w) s = follow (suc at) w s
+
+-- The character of more than one octet in front of s, at offset `at`.
+unfoldable pub character : ℕ → List ℕ → Step
+character at [] = step.Bad at
+character at (b ∷ s) = followRow at (begun multi b) s

@@ -1,5 +1,7 @@
 // Addresses of the image, and the masks of a pointer word.
+use crate::answer::Reason;
 use crate::answer::Word;
+use crate::answer::because;
 use crate::answer::is_absent;
 use crate::answer::nonzero;
 use crate::place::Placed;
@@ -7,7 +9,7 @@ use crate::segment::vm_to_file_offset_in;
 ghost use mathlib.Core.Path.{_≡_};
 ghost use Rattle.reads.specs.Reference.{before};
 ghost use Rattle.reads.specs.Answer.{wordOutcome};
-ghost use Rattle.reads.specs.Address.{stripped, mapped, pickedWide, picked};
+ghost use Rattle.reads.specs.Address.{stripped, mapped, pickedWide, pickedEither, picked};
 
 // An address of the image, with the constants of addresses.
 pub struct Address {
@@ -54,14 +56,21 @@ impl Address {
         }
     }
 
-    // The data address in the bits word of a class: mask_class_ro_pointer.
-    pub fn pick(segments: &[u64], word: u64) -> Word
-        ensures { λ r. ⌜ wordOutcome r ≡ picked (before segments) word ⌝ }
+    // The data address by the wide mask, else by the other.
+    fn pick_either(segments: &[u64], word: u64) -> Word
+        ensures { λ r. ⌜ wordOutcome r ≡ pickedEither (before segments) word ⌝ }
     {
         let wide = Address::pick_wide(segments, word);
         if is_absent(wide) {
             return nonzero(word & Address::FAST_DATA_MASK_64);
         }
         wide
+    }
+
+    // The data address in the bits word of a class: mask_class_ro_pointer.
+    pub fn pick(segments: &[u64], word: u64) -> Word
+        ensures { λ r. ⌜ wordOutcome r ≡ picked (before segments) word ⌝ }
+    {
+        because(Address::pick_either(segments, word), Reason::NoData)
     }
 }

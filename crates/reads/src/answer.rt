@@ -1,12 +1,53 @@
-// The answers of the reading functions, by cases: what was found, or what stands in its place.
+// The answers of the reading functions, by cases: what was found, or what stands in its place and why.
 ghost use mathlib.Core.Path.{_≡_};
-ghost use Rattle.reads.specs.Outcome.{isAbsent, orZero, sum64, nonzero};
-ghost use Rattle.reads.specs.Answer.{wordOutcome};
+ghost use Rattle.reads.specs.Outcome.{because, isAbsent, orZero, sum64, nonzero};
+ghost use Rattle.reads.specs.Answer.{missingBecause, wordOutcome};
 
-// What stands in place of a value: absent, or the number of the question that refuses.
+// Why a value is absent.
+pub enum Reason {
+    // An address is 0.
+    NullAddress,
+    // The lookup of a string's address is absent.
+    Unmapped,
+    // A string's offset lies above the image's length.
+    PastEnd,
+    // A string is not UTF-8: the offset in it of the first byte that no well-formed text can continue, or its length where it
+    // ends inside a character.
+    NotUtf8(u64),
+    // The pick of a class's data word is absent.
+    NoData,
+    // A name, selector or types slot does not resolve.
+    Unresolved,
+    // Bytes of a record, row, list header or number cannot be read.
+    Unreadable,
+    // A field address is over 64 bits.
+    FieldOverflow,
+    // No rebase or bind names the slot.
+    NoRecord,
+    // A list at an odd address.
+    OddList,
+    // A list's entry size is below the least.
+    ShortEntry,
+    // A LEB128 number of more than 64 bits.
+    Malformed,
+}
+
+// What stands in place of a value: absent for a reason, or the number of the question that refuses.
 pub enum Missing {
-    Absent,
+    Absent(Reason),
     Refused(u8),
+}
+
+impl Missing {
+    // An absence gets this reason.
+    pub fn because(self, why: Reason) -> Missing
+        ensures { λ r. ⌜ r ≡ missingBecause why self ⌝ }
+    {
+        match self {
+            Missing::Absent(_) => Missing::Absent(why),
+            Missing::Refused(k) => Missing::Refused(k),
+        }
+    }
 }
 
 // A number, or none.
@@ -28,9 +69,19 @@ pub fn is_absent(w: Word) -> bool
     match w {
         Word::Value(_) => false,
         Word::Missing(m) => match m {
-            Missing::Absent => true,
+            Missing::Absent(_) => true,
             Missing::Refused(_) => false,
         },
+    }
+}
+
+// An absent number gets this reason.
+pub fn because(w: Word, why: Reason) -> Word
+    ensures { λ r. ⌜ wordOutcome r ≡ because why (wordOutcome w) ⌝ }
+{
+    match w {
+        Word::Value(n) => Word::Value(n),
+        Word::Missing(m) => Word::Missing(m.because(why)),
     }
 }
 
@@ -44,22 +95,22 @@ pub fn or_zero(w: Word) -> Word
     w
 }
 
-// a + b, absent over 64 bits: checked_add.
+// The address of a field, absent over 64 bits: checked_add.
 pub fn checked_add(a: u64, b: u64) -> Word
     ensures { λ r. ⌜ wordOutcome r ≡ sum64 a b ⌝ }
 {
     if 0xFFFF_FFFF_FFFF_FFFF - a < b {
-        return Word::Missing(Missing::Absent);
+        return Word::Missing(Missing::Absent(Reason::FieldOverflow));
     }
     Word::Value(a + b)
 }
 
-// A number that is not 0.
+// An address that is not 0.
 pub fn nonzero(x: u64) -> Word
     ensures { λ r. ⌜ wordOutcome r ≡ nonzero x ⌝ }
 {
     if x == 0 {
-        return Word::Missing(Missing::Absent);
+        return Word::Missing(Missing::Absent(Reason::NullAddress));
     }
     Word::Value(x)
 }

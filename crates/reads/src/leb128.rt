@@ -1,5 +1,6 @@
 // LEB128 numbers: util.rs, read_uleb128 and read_sleb128, for every number of 64 bits and any padding.
 use crate::answer::Missing;
+use crate::answer::Reason;
 use crate::answer::Word;
 ghost use mathlib.Core.Path.{_≡_};
 ghost use Prim.Native.Nat.{_<_, _^_};
@@ -43,7 +44,7 @@ fn digit_count(bytes: &[u8]) -> Word
         }
         i += 1;
     }
-    Word::Missing(Missing::Absent)
+    Word::Missing(Missing::Absent(Reason::Unreadable))
 }
 
 // The seven bits of a digit, complemented where the number is negative.
@@ -65,7 +66,7 @@ fn magnitude(digits: &[u8], negative: bool) -> Word
     let mut i = digits.len();
     while 0 < i {
         if 0x0200_0000_0000_0000 <= n {
-            return Word::Missing(Missing::Absent);
+            return Word::Missing(Missing::Absent(Reason::Malformed));
         }
         i -= 1;
         let b = digits[i];
@@ -109,7 +110,7 @@ fn sleb_of(digits: &[u8]) -> SlebAnswer
     match magnitude(digits, negative) {
         Word::Value(m) => {
             if 0x8000_0000_0000_0000 <= m {
-                return SlebAnswer::Missing(Missing::Absent);
+                return SlebAnswer::Missing(Missing::Absent(Reason::Malformed));
             }
             let value = by_sign(negative, m);
             SlebAnswer::Read(Sleb { value, consumed })

@@ -1,5 +1,6 @@
 // Numbers in the image, at an offset and at an address.
 use crate::answer::Missing;
+use crate::answer::Reason;
 use crate::answer::Word;
 use crate::segment::vm_to_file_offset_in;
 ghost use mathlib.Core.Path.{_≡_};
@@ -31,7 +32,7 @@ pub fn readable_at(image: &[u8], offset: u64, k: u64) -> Placed
             return Placed::At(Place { offset });
         }
     }
-    Placed::Missing(Missing::Absent)
+    Placed::Missing(Missing::Absent(Reason::Unreadable))
 }
 
 // The place of an address, if k bytes can be read there: only the first byte is looked up.
@@ -40,7 +41,7 @@ pub fn readable(image: &[u8], segments: &[u64], va: u64, k: u64) -> Placed
 {
     match vm_to_file_offset_in(segments, va) {
         Placed::At(p) => readable_at(image, p.offset, k),
-        Placed::Missing(m) => Placed::Missing(m),
+        Placed::Missing(m) => Placed::Missing(m.because(Reason::Unreadable)),
     }
 }
 

@@ -1,6 +1,8 @@
 // The segment table, lent as words, and the translation between addresses and offsets.
 use crate::answer::Missing;
+use crate::answer::Reason;
 use crate::answer::Word;
+use crate::answer::because;
 use crate::answer::checked_add;
 use crate::place::Place;
 use crate::place::Placed;
@@ -67,10 +69,10 @@ impl Segment {
     {
         let distance = va - self.vmaddr;
         if self.filesize <= distance {
-            return Placed::Missing(Missing::Absent);
+            return Placed::Missing(Missing::Absent(Reason::Unmapped));
         }
         if Segment::MAX - self.fileoff < distance {
-            return Placed::Missing(Missing::Absent);
+            return Placed::Missing(Missing::Absent(Reason::Unmapped));
         }
         Placed::At(Place {
             offset: self.fileoff + distance,
@@ -79,7 +81,7 @@ impl Segment {
 }
 
 // The place of an address. Segments count in order: one that exceeds 64 bits ends the lookup, the first that holds the
-// address decides.
+// address decides. What is absent is Unmapped, whatever ends the lookup.
 pub fn vm_to_file_offset_in(segments: &[u64], va: u64) -> Placed
     ensures { λ r. ⌜ placeOutcome r ≡ lookup (rows (before segments)) va ⌝ }
 {
@@ -87,14 +89,14 @@ pub fn vm_to_file_offset_in(segments: &[u64], va: u64) -> Placed
     while i < segments.len() / Segment::WORDS {
         let s = Segment::at(segments, i);
         if s.ends() {
-            return Placed::Missing(Missing::Absent);
+            return Placed::Missing(Missing::Absent(Reason::Unmapped));
         }
         if s.holds(va) {
             return s.place(va);
         }
         i += 1;
     }
-    Placed::Missing(Missing::Absent)
+    Placed::Missing(Missing::Absent(Reason::Unmapped))
 }
 
 impl Segment {
@@ -134,12 +136,12 @@ pub fn file_offset_to_vm_in(segments: &[u64], offset: u64) -> Word
     while i < segments.len() / Segment::WORDS {
         let s = Segment::at(segments, i);
         if s.ends_in_file() {
-            return Word::Missing(Missing::Absent);
+            return Word::Missing(Missing::Absent(Reason::Unmapped));
         }
         if s.carries(offset) {
-            return checked_add(s.vmaddr, offset - s.fileoff);
+            return because(checked_add(s.vmaddr, offset - s.fileoff), Reason::Unmapped);
         }
         i += 1;
     }
-    Word::Missing(Missing::Absent)
+    Word::Missing(Missing::Absent(Reason::Unmapped))
 }

@@ -1,17 +1,18 @@
 // Texts in the image: UTF-8 up to a zero byte, or to the end.
 use crate::answer::Missing;
+use crate::answer::Reason;
 use crate::answer::Word;
 use crate::answer::nonzero;
 use crate::place::Placed;
 use crate::segment::vm_to_file_offset_in;
 ghost use mathlib.Core.Path.{_≡_};
-ghost use mathlib.Core.List.{[], _∷_};
-ghost use Prim.Native.Nat.{_+_, _≤_, _<_};
+ghost use mathlib.Core.List.{_∷_};
+ghost use Prim.Native.Nat.{_≤_, _<_};
 ghost use lib.ListN.{length, drop, replicate};
 ghost use Rattle.reads.specs.Reference.{before};
 ghost use Rattle.reads.specs.Answer.{wordOutcome, textOutcome};
-ghost use Rattle.reads.specs.Outcome.{choose, orEmpty};
-ghost use Rattle.reads.specs.Utf8.{_to_, tail, fits, multiLength, utf8};
+ghost use Rattle.reads.specs.Outcome.{because, orEmpty};
+ghost use Rattle.reads.specs.Utf8.{_to_, tail, verdict, utf8, begins, follow, character};
 ghost use Rattle.reads.specs.Place.{lentImage};
 ghost use Rattle.reads.specs.Text.{textLength, textAt, textIn, fixedLength, lengthPlusOne};
 
@@ -27,6 +28,19 @@ pub enum TextAnswer {
     Missing(Missing),
 }
 
+// Bytes are UTF-8, or they are not: the offset of the first byte that no well-formed text can continue, or their count where
+// they end inside a character.
+pub enum Verdict {
+    Good,
+    Bad(u64),
+}
+
+// Past a character: on at an offset, or bad at the offset of the first byte that does not continue it.
+enum Step {
+    On(usize),
+    Bad(usize),
+}
+
 // An absent text counts as the text at offset 0 of length 0.
 pub fn or_empty(t: TextAnswer) -> TextAnswer
     ensures { λ r. ⌜ textOutcome r ≡ orEmpty (textOutcome t) ⌝ }
@@ -34,15 +48,25 @@ pub fn or_empty(t: TextAnswer) -> TextAnswer
     match t {
         TextAnswer::Found(s) => TextAnswer::Found(s),
         TextAnswer::Missing(m) => match m {
-            Missing::Absent => TextAnswer::Found(Text { offset: 0, len: 0 }),
+            Missing::Absent(_) => TextAnswer::Found(Text { offset: 0, len: 0 }),
             Missing::Refused(k) => TextAnswer::Missing(Missing::Refused(k)),
         },
     }
 }
 
+// An absent text gets this reason.
+pub fn text_because(t: TextAnswer, why: Reason) -> TextAnswer
+    ensures { λ r. ⌜ textOutcome r ≡ because why (textOutcome t) ⌝ }
+{
+    match t {
+        TextAnswer::Found(s) => TextAnswer::Found(s),
+        TextAnswer::Missing(m) => TextAnswer::Missing(m.because(why)),
+    }
+}
+
 // A byte stands at i, and lies between lo and hi.
 fn within(s: &[u8], i: usize, lo: u8, hi: u8) -> bool
-    ensures { λ r. ⌜ r ≡ fits (lo to hi ∷ []) (drop i (before s)) ⌝ }
+    ensures { λ r. ⌜ r ≡ begins (lo to hi) (drop i (before s)) ⌝ }
 {
     if s.len() <= i {
         return false;
@@ -54,49 +78,48 @@ fn within(s: &[u8], i: usize, lo: u8, hi: u8) -> bool
     b <= hi
 }
 
-// The length of a character whose second byte stands at i: that byte lies between lo and hi, and n of UTF8-tail follow.
-// 0 where it is malformed.
-fn rest(s: &[u8], i: usize, lo: u8, hi: u8, n: usize) -> usize
+// Past the bytes of a character that are due from `from` on: one between lo and hi, and n of UTF8-tail.
+fn follow(s: &[u8], from: usize, lo: u8, hi: u8, n: usize) -> Step
     requires { ⌜ n ≤ 2 ⌝ }
-    ensures { λ r. ⌜ r ≡ choose (fits (lo to hi ∷ replicate n tail) (drop i (before s))) (n + 2) 0 ⌝ }
+    ensures { λ r. ⌜ r ≡ follow from (lo to hi ∷ replicate n tail) (drop from (before s)) ⌝ }
 {
-    if !within(s, i, lo, hi) {
-        return 0;
+    if !within(s, from, lo, hi) {
+        return Step::Bad(from);
     }
-    let mut j = i + 1;
-    let mut k = n;
-    while 0 < k {
-        if !within(s, j, 0x80, 0xBF) {
-            return 0;
+    let mut i = from + 1;
+    let mut left = n;
+    while 0 < left {
+        if !within(s, i, 0x80, 0xBF) {
+            return Step::Bad(i);
         }
-        j += 1;
-        k -= 1;
+        i += 1;
+        left -= 1;
     }
-    n + 2
+    Step::On(i)
 }
 
-// The length of the character of more than one byte at i, 0 where there is none: a line for each row of the grammar.
-fn multi_length(s: &[u8], i: usize) -> usize
+// Past the character of more than one byte at i: a line for each row of the grammar.
+fn character(s: &[u8], i: usize) -> Step
     requires { ⌜ i < length (now s) ⌝ }
-    ensures { λ r. ⌜ r ≡ multiLength (drop i (before s)) ⌝ }
+    ensures { λ r. ⌜ r ≡ character i (drop i (before s)) ⌝ }
 {
     let second = i + 1;
     match s[i] {
-        0xC2..=0xDF => rest(s, second, 0x80, 0xBF, 0),
-        0xE0 => rest(s, second, 0xA0, 0xBF, 1),
-        0xE1..=0xEC => rest(s, second, 0x80, 0xBF, 1),
-        0xED => rest(s, second, 0x80, 0x9F, 1),
-        0xEE..=0xEF => rest(s, second, 0x80, 0xBF, 1),
-        0xF0 => rest(s, second, 0x90, 0xBF, 2),
-        0xF1..=0xF3 => rest(s, second, 0x80, 0xBF, 2),
-        0xF4 => rest(s, second, 0x80, 0x8F, 2),
-        _ => 0,
+        0xC2..=0xDF => follow(s, second, 0x80, 0xBF, 0),
+        0xE0 => follow(s, second, 0xA0, 0xBF, 1),
+        0xE1..=0xEC => follow(s, second, 0x80, 0xBF, 1),
+        0xED => follow(s, second, 0x80, 0x9F, 1),
+        0xEE..=0xEF => follow(s, second, 0x80, 0xBF, 1),
+        0xF0 => follow(s, second, 0x90, 0xBF, 2),
+        0xF1..=0xF3 => follow(s, second, 0x80, 0xBF, 2),
+        0xF4 => follow(s, second, 0x80, 0x8F, 2),
+        _ => Step::Bad(i),
     }
 }
 
-// The bytes are UTF-8.
-pub fn utf8(s: &[u8]) -> bool
-    ensures { λ r. ⌜ r ≡ utf8 (before s) ⌝ }
+// Whether the bytes are UTF-8, and where not.
+pub fn utf8_verdict(s: &[u8]) -> Verdict
+    ensures { λ r. ⌜ r ≡ verdict (before s) ⌝ }
 {
     let mut i = 0;
     while i < s.len() {
@@ -104,13 +127,26 @@ pub fn utf8(s: &[u8]) -> bool
             i += 1;
             continue;
         }
-        let n = multi_length(s, i);
-        if n == 0 {
-            return false;
+        match character(s, i) {
+            Step::On(j) => {
+                i = j;
+            }
+            Step::Bad(k) => {
+                return Verdict::Bad(k as u64);
+            }
         }
-        i += n;
     }
-    true
+    Verdict::Good
+}
+
+// The bytes are UTF-8.
+pub fn utf8(s: &[u8]) -> bool
+    ensures { λ r. ⌜ r ≡ utf8 (before s) ⌝ }
+{
+    match utf8_verdict(s) {
+        Verdict::Good => true,
+        Verdict::Bad(_) => false,
+    }
 }
 
 // The length of the text in front of s, in one pass. A zero byte inside a character is no UTF8-tail, so such a text is absent.
@@ -131,11 +167,14 @@ pub fn text_length(s: &[u8]) -> Word
         if b == 0 {
             return Word::Value(i as u64);
         }
-        let n = multi_length(s, i);
-        if n == 0 {
-            return Word::Missing(Missing::Absent);
+        match character(s, i) {
+            Step::On(j) => {
+                i = j;
+            }
+            Step::Bad(k) => {
+                return Word::Missing(Missing::Absent(Reason::NotUtf8(k as u64)));
+            }
         }
-        i += n;
     }
     Word::Value(i as u64)
 }
@@ -145,7 +184,7 @@ pub fn read_cstr_at(image: &[u8], offset: u64) -> TextAnswer
     ensures { λ r. ⌜ textOutcome r ≡ textAt (before image) offset ⌝ }
 {
     if (image.len() as u64) < offset {
-        return TextAnswer::Missing(Missing::Absent);
+        return TextAnswer::Missing(Missing::Absent(Reason::PastEnd));
     }
     match text_length(&image[offset as usize..image.len()]) {
         Word::Value(len) => TextAnswer::Found(Text { offset, len }),

@@ -1,18 +1,18 @@
 -- What holds of every definition of a record or a row, whatever it asks: over tables that opening accepted, with the index as opening left
--- it, it gives no number; over any tables none but 9 and 7.
+-- it, it gives no number; over any tables none but 9, 7 and 14.
 use Prim.Native.Nat.{ℕ}
 use mathlib.Core.Bool.{Bool}
 use Rattle.reads.specs.Outcome.{Unrefused, is-value}
-use Rattle.reads.proofs.Unrefused.{unrefused-then, unrefused-else, unrefused-choose, sum-unrefused, nonzero-unrefused, readable-unrefused, word-unrefused, text-in-unrefused, picked-unrefused}
+use Rattle.reads.proofs.Unrefused.{unrefused-then, unrefused-else, unrefused-first, unrefused-choose, sum-unrefused, nonzero-unrefused, readable-unrefused, word-unrefused, text-in-unrefused, picked-unrefused}
 use Rattle.pointers.specs.Tables.{Tables, imageIn}
 use Rattle.pointers.specs.Open.{Opened}
 use Rattle.pointers.specs.Slot as lookups
-use Rattle.pointers.specs.Slot.{NineOrSeven}
+use Rattle.pointers.specs.Slot.{LookupOutcome}
 use Rattle.pointers.proofs.OpenedTables.{opened-info, rebase-unrefused, symbol-unrefused, slot-unrefused, pointer-unrefused, pointer-or-0-unrefused}
-use Rattle.pointers.proofs.LookupNumbers.{numbers-then, numbers-else, numbers-choose, info-unrefused, rebase-numbers, symbol-numbers, slot-numbers, pointer-numbers, pointer-or-0-numbers}
+use Rattle.pointers.proofs.LookupNumbers.{numbers-then, numbers-else, numbers-first, numbers-choose, info-unrefused, rebase-numbers, symbol-numbers, slot-numbers, pointer-numbers, pointer-or-0-numbers}
 use Rattle.records.proofs.Headers.{even-unrefused, size-unrefused}
 use Rattle.records.specs.Ask.{pickedIn, Ask, sum64, nonzero, even, atLeast, readable, u32In, u64In, i32In, u64At, picked, pickedAt, slot, rebase, pointer, pointerOr0, string, symbol, info, answer}
-use Rattle.records.specs.Decode.{Decode, made, asked, after, either, chosen, run}
+use Rattle.records.specs.Decode.{Decode, made, asked, after, either, eitherFirst, chosen, run}
 use Rattle.records.specs.Class.{classAt, roOf, classNameOf, decodeClass, decodeRoOf, decodeClassNameOf}
 use Rattle.records.specs.Protocol.{protocolAt, decodeProtocol}
 use Rattle.records.specs.Category.{categoryAt, decodeCategory}
@@ -47,6 +47,7 @@ module _ (t : Tables) (o : Opened t) where
   unrefused (asked q) = answer-unrefused q
   unrefused (after d f) = unrefused-then (λ a. run t (f a)) (unrefused d) (λ a. unrefused (f a))
   unrefused (either d e) = unrefused-else (unrefused d) (unrefused e)
+  unrefused (eitherFirst d e) = unrefused-first (unrefused d) (unrefused e)
   unrefused (chosen b d e) = unrefused-choose b (unrefused d) (unrefused e)
 
   -- In the form in which walks take it.
@@ -68,9 +69,9 @@ module _ (t : Tables) (o : Opened t) where
   pub category-unrefused : (va : ℕ) → Unrefused (categoryAt t va)
   category-unrefused va = unrefused (decodeCategory va)
 
--- Over any tables a definition gives no number but 9 and 7.
+-- Over any tables a definition gives no number but 9, 7 and 14.
 module _ (t : Tables) where
-  answer-numbers : (q : Ask) → NineOrSeven (answer t q)
+  answer-numbers : (q : Ask) → LookupOutcome (answer t q)
   unfolding pickedIn
   answer-numbers (sum64 va k) = lookups.unrefused (sum-unrefused va k)
   answer-numbers (nonzero x) = lookups.unrefused (nonzero-unrefused x)
@@ -91,13 +92,14 @@ module _ (t : Tables) where
   answer-numbers (symbol a) = symbol-numbers t a
   answer-numbers info = lookups.unrefused (info-unrefused (t .info))
 
-  pub numbers : {A : Type 0} (d : Decode A) → NineOrSeven (run t d)
+  pub numbers : {A : Type 0} (d : Decode A) → LookupOutcome (run t d)
   numbers (made a) = lookups.unrefused (is-value a)
   numbers (asked q) = answer-numbers q
   numbers (after d f) = numbers-then (λ a. run t (f a)) (numbers d) (λ a. numbers (f a))
   numbers (either d e) = numbers-else (numbers d) (numbers e)
+  numbers (eitherFirst d e) = numbers-first (numbers d) (numbers e)
   numbers (chosen b d e) = numbers-choose b (numbers d) (numbers e)
 
-  -- A row's number is 9 or 7.
-  pub row-number : (k : RowKind) (va : ℕ) → NineOrSeven (rowAt t k va)
+  -- A row's number is 9, 7 or 14.
+  pub row-number : (k : RowKind) (va : ℕ) → LookupOutcome (rowAt t k va)
   row-number k va = numbers (decodeRow k va)

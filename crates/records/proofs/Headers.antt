@@ -7,6 +7,7 @@ use borrow.Author.Tests.{leb-true, ne-eqb}
 use lib.Bits.{bitAnd, and-high}
 use lib.Dec.{eqb}
 use Rattle.reads.specs.Outcome.{Outcome, value, Unrefused, is-value, is-absent, andThen, choose, sum64, nonzero}
+use Rattle.reads.specs.declared.answer.Reason.the-variants.{OddList, ShortEntry}
 use Rattle.reads.specs.Place.{readable}
 use Rattle.reads.specs.declared.place.Place.{Place}
 use Rattle.reads.proofs.Outcomes.{then-came}
@@ -63,11 +64,11 @@ module _ (t : Tables) (k : ListKind) (va : ℕ) where
 -- No question is asked of a list.
 pub even-unrefused : (va : ℕ) → Unrefused (evenList va)
 unfolding evenList
-even-unrefused va = by-choose Unrefused (λ e. is-value va) (λ e. is-absent)
+even-unrefused va = by-choose Unrefused (λ e. is-value va) (λ e. is-absent OddList)
 
 pub size-unrefused : (least size : ℕ) → Unrefused (entrySize least size)
 unfolding entrySize
-size-unrefused least size = by-choose Unrefused (λ e. is-value size) (λ e. is-absent)
+size-unrefused least size = by-choose Unrefused (λ e. is-value size) (λ e. is-absent ShortEntry)
 
 pub list-unrefused : (t : Tables) (k : ListKind) (va : ℕ) → Unrefused (listAt t k va)
 unfolding decodeList

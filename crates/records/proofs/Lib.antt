@@ -9,4 +9,5 @@ pub mod Decodes
 pub mod HubImage
 pub mod ListCases
 pub mod RowCases
+pub mod ReasonCases
 pub mod Alignments

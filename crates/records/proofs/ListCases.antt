@@ -6,6 +6,7 @@ use mathlib.Core.Option.{some}
 use native.Mathlib.Omega.{arith}
 use lib.ListN.{length, replicate}
 use Rattle.reads.specs.Outcome.{Outcome, value, absent, choose, sum64, nonzero}
+use Rattle.reads.specs.declared.answer.Reason.the-variants.{OddList, ShortEntry}
 use Rattle.reads.specs.Segment.{rows, ends, holds, placed, lookup}
 use Rattle.reads.specs.Place.{Image, imageOf, le, readableAt, readable, wordIn}
 use Rattle.reads.specs.Breaks.{canRead, readablePart, breaks, lower, nextBreak}
@@ -39,9 +40,9 @@ headed kind w =
 -- 0x4000001B: legacy, since bit 30 says nothing of it.
 pub method-words : map (headed list.Methods) (27 ∷ 23 ∷ 0x8000000C ∷ 0x80000008 ∷ 0xC000000C ∷ 0x4000001B ∷ [])
     ≡ value (laid 0x1008 24 3 row.Legacy)
-    ∷ absent
+    ∷ absent ShortEntry
     ∷ value (laid 0x1008 12 3 row.SmallIndirect)
-    ∷ absent
+    ∷ absent ShortEntry
     ∷ value (laid 0x1008 12 3 row.SmallDirect)
     ∷ value (laid 0x1008 24 3 row.Legacy)
     ∷ []
@@ -50,11 +51,11 @@ method-words = refl
 
 -- Of properties and ivars the whole word is the size.
 pub property-words : map (headed list.Properties) (27 ∷ 15 ∷ 0x80000010 ∷ [])
-    ≡ value (laid 0x1008 27 3 row.Property) ∷ absent ∷ value (laid 0x1008 0x80000010 3 row.Property) ∷ []
+    ≡ value (laid 0x1008 27 3 row.Property) ∷ absent ShortEntry ∷ value (laid 0x1008 0x80000010 3 row.Property) ∷ []
 unfolding decodeList evenList entrySize nonzero readable readableAt lookup rows ends holds placed sum64 wordIn le choose
 property-words = refl
 
-pub ivar-words : map (headed list.Ivars) (33 ∷ 31 ∷ []) ≡ value (laid 0x1008 33 3 row.Ivar) ∷ absent ∷ []
+pub ivar-words : map (headed list.Ivars) (33 ∷ 31 ∷ []) ≡ value (laid 0x1008 33 3 row.Ivar) ∷ absent ShortEntry ∷ []
 unfolding decodeList evenList entrySize nonzero readable readableAt lookup rows ends holds placed sum64 wordIn le choose
 ivar-words = refl
 
@@ -63,7 +64,7 @@ abbrev odd : List ℕ
 odd = 0 ∷ 33 ∷ 0 ∷ 0 ∷ 0 ∷ 1 ∷ 0 ∷ 0 ∷ 0 ∷ []
 
 pub odd-lists : map (λ kind. listAt (over odd) kind 0x1001) (list.Methods ∷ list.Ivars ∷ list.Properties ∷ [])
-    ≡ absent ∷ value (laid 0x1009 33 1 row.Ivar) ∷ absent ∷ []
+    ≡ absent OddList ∷ value (laid 0x1009 33 1 row.Ivar) ∷ absent OddList ∷ []
 unfolding decodeList evenList entrySize nonzero readable readableAt lookup rows ends holds placed sum64 wordIn le choose
 odd-lists = refl
 

@@ -6,6 +6,7 @@ use lib.Count.{trailingZeros}
 use lib.ListN.{length, replicate}
 use Rattle.reads.specs.Address.{stripped}
 use Rattle.reads.specs.Outcome.{value, absent, choose, nonzero, sum64, textOf}
+use Rattle.reads.specs.declared.answer.Reason.the-variants.{Unreadable}
 use Rattle.reads.specs.Place.{le, readableAt, readable, word}
 use Rattle.reads.specs.Relative.{signed32, modulo64, relative}
 use Rattle.reads.specs.Segment.{rows, ends, holds, placed, lookup}
@@ -87,6 +88,6 @@ category =
     }
 
 -- Without bit 6 it is whole; with it 56 bytes are asked for.
-pub narrow-category : map (λ flags. categoryAt (flagged flags) 0x1008) (0 ∷ 64 ∷ []) ≡ value category ∷ absent ∷ []
+pub narrow-category : map (λ flags. categoryAt (flagged flags) 0x1008) (0 ∷ 64 ∷ []) ≡ value category ∷ absent Unreadable ∷ []
 unfolding decodeCategory decodeCategoryOf decodeCategoryLists decodeCategoryProperties imageInfo bit readable readableAt lookup rows tabulate ends holds placed sum64 resolve rebaseAt follow followFrom stored stripped word le pointerOr0At textIn nonzero textAt textLength text utf8 judge choose
 narrow-category = refl

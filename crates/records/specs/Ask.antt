@@ -1,4 +1,5 @@
--- What a definition of a record or a row asks of the image and the tables, and their answers. Only here does an absence begin.
+-- What a definition of a record or a row asks of the image and the tables, and their answers. Only here does an absence begin, with its
+-- reason.
 use Prim.Native.Nat.{ℕ, _%_}
 use lib.Dec.{eqb, leb}
 use lib.IntN.{ℤ}
@@ -7,6 +8,7 @@ use Rattle.reads.specs.Outcome.{Outcome, value, absent, andThen, choose}
 use Rattle.reads.specs.Place as places
 use Rattle.reads.specs.Place.{Image}
 use Rattle.reads.specs.Address as addresses
+use Rattle.reads.specs.declared.answer.Reason.the-variants.{OddList, ShortEntry}
 use Rattle.reads.specs.declared.place.Place.{Place}
 use Rattle.reads.specs.declared.text.Text.{Text}
 use Rattle.pointers.specs.ImageInfo as infos
@@ -21,11 +23,11 @@ pickedIn m a = andThen (places.word m 8 a) (addresses.picked (m .words))
 
 -- The address of a list that must not be odd.
 unfoldable pub evenList : ℕ → Outcome ℕ
-evenList va = choose (eqb (va % 2) 0) (value va) absent
+evenList va = choose (eqb (va % 2) 0) (value va) (absent OddList)
 
 -- An entry size that is at least the least size.
 unfoldable pub entrySize : ℕ → ℕ → Outcome ℕ
-entrySize least size = choose (leb least size) (value size) absent
+entrySize least size = choose (leb least size) (value size) (absent ShortEntry)
 
 pub data Ask : Type 0 where
   -- tests of numbers, which use no byte: a + k within 64 bits; not 0; the two tests above

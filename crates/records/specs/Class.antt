@@ -6,7 +6,7 @@ use Rattle.reads.specs.Outcome.{Outcome, value}
 use Rattle.reads.specs.Answer.{missed}
 use Rattle.reads.specs.declared.text.Text.{Text}
 use Rattle.pointers.specs.Tables.{Tables}
-use Rattle.records.specs.Decode.{Decode, run, done, then, else, or0, sum64, nonzero, readable, u32In, u64At, picked, pickedAt, slot, rebase, pointer, pointerOr0, string, symbol}
+use Rattle.records.specs.Decode.{Decode, run, done, then, else, elseFirst, or0, sum64, nonzero, readable, u32In, u64At, picked, pickedAt, slot, rebase, pointer, pointerOr0, string, symbol}
 use Rattle.records.specs.Header.{class·size, class·superclass, class·bits, ro·size, ro·flags, ro·instanceStart, ro·instanceSize, ro·ivarLayout, ro·name, ro·baseMethods, ro·baseProtocols, ro·ivars, ro·weakIvarLayout, ro·baseProperties}
 use Rattle.records.specs.declared.class.ObjcClass.{ObjcClass}
 use Rattle.records.specs.declared.class.ClassAnswer.{ClassAnswer}
@@ -124,7 +124,7 @@ abbrev pub classNameAt : Tables → ℕ → Outcome Text
 classNameAt t va = run t (decodeClassName va)
 
 -- The name of the class that a slot at +8 of a record holds: the decoded name of a class that is not 0, else the bind of the slot less its
--- prefix.
+-- prefix. Where both are absent the reason is the decoded name's: that of the bind explains nothing.
 unfoldable pub decodeNonzeroClassName : ℕ → Decode Text
 decodeNonzeroClassName class = then (nonzero class) decodeClassName
 
@@ -139,7 +139,7 @@ abbrev pub boundName : Tables → ℕ → Outcome Text
 boundName t address = run t (decodeBoundName address)
 
 unfoldable pub decodeClassNameOf : ℕ → ℕ → Decode Text
-decodeClassNameOf address class = else (decodeNonzeroClassName class) (decodeBoundName address)
+decodeClassNameOf address class = elseFirst (decodeNonzeroClassName class) (decodeBoundName address)
 
 abbrev pub classNameOf : Tables → ℕ → ℕ → Outcome Text
 classNameOf t address class = run t (decodeClassNameOf address class)

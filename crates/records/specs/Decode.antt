@@ -3,7 +3,7 @@
 use Prim.Native.Nat.{ℕ}
 use mathlib.Core.Bool.{Bool}
 use lib.IntN.{ℤ}
-use Rattle.reads.specs.Outcome.{Outcome, value, andThen, orElse, choose, textOf}
+use Rattle.reads.specs.Outcome.{Outcome, value, andThen, orElse, orFirst, choose, textOf}
 use Rattle.reads.specs.declared.place.Place.{Place}
 use Rattle.reads.specs.declared.text.Text.{Text}
 use Rattle.pointers.specs.Tables.{Tables}
@@ -11,7 +11,8 @@ use Rattle.pointers.specs.declared.imageinfo.ImageInfo.{ImageInfo}
 use Rattle.records.specs.Ask as asks
 use Rattle.records.specs.Ask.{Ask, Answer, answer}
 
--- A value; an answer; what comes after another; the second where the first is absent; one of two by a test. (A type that varies between
+-- A value; an answer; what comes after another; the second where the first is absent, with the second's reason where both are, or with
+-- the first's; one of two by a test. (A type that varies between
 -- constructors is an index, and antt does not read an index backwards into an argument: definitions are written with the words below, which
 -- it does.)
 pub data Decode : Type 0 → Type 1 where
@@ -19,6 +20,7 @@ pub data Decode : Type 0 → Type 1 where
   asked : (q : Ask) → Decode (Answer q)
   after : {A B : Type 0} → Decode A → (A → Decode B) → Decode B
   either : {A : Type 0} → Decode A → Decode A → Decode A
+  eitherFirst : {A : Type 0} → Decode A → Decode A → Decode A
   chosen : {A : Type 0} → Bool → Decode A → Decode A → Decode A
 
 abbrev pub run : {A : Type 0} → Tables → Decode A → Outcome A
@@ -26,6 +28,7 @@ run t (made a) = value a
 run t (asked q) = answer t q
 run t (after d f) = andThen (run t d) (λ a. run t (f a))
 run t (either d e) = orElse (run t d) (run t e)
+run t (eitherFirst d e) = orFirst (run t d) (run t e)
 run t (chosen b d e) = choose b (run t d) (run t e)
 
 -- The words of definitions.
@@ -37,6 +40,9 @@ then d f = after d f
 
 abbrev pub else : {A : Type 0} → Decode A → Decode A → Decode A
 else d e = either d e
+
+abbrev pub elseFirst : {A : Type 0} → Decode A → Decode A → Decode A
+elseFirst d e = eitherFirst d e
 
 abbrev pub when : {A : Type 0} → Bool → Decode A → Decode A → Decode A
 when b d e = chosen b d e

@@ -18,6 +18,7 @@ use reads::place::u32_in;
 use reads::text::Text;
 use reads::text::TextAnswer;
 use reads::text::read_cstr;
+use reads::text::text_because;
 ghost use mathlib.Core.Path.{_≡_};
 ghost use Rattle.reads.specs.Answer.{wordOutcome, textOutcome};
 ghost use Rattle.reads.specs.Outcome.{orZero};
@@ -456,7 +457,8 @@ fn decoded_name(
     }
 }
 
-// The name of the class in the slot at +8 of a record: a class that decodes goes before the bind.
+// The name of the class in the slot at +8 of a record: a class that decodes goes before the bind, and where both are absent its
+// reason stands.
 pub fn class_name_of(
     image: &[u8],
     segments: &[u64],
@@ -483,15 +485,18 @@ pub fn class_name_of(
     ) {
         TextAnswer::Found(name) => TextAnswer::Found(name),
         TextAnswer::Missing(m) => match m {
-            Missing::Absent => bound_name(
-                image,
-                segments,
-                sections,
-                info,
-                rebases,
-                binds,
-                index,
-                address,
+            Missing::Absent(why) => text_because(
+                bound_name(
+                    image,
+                    segments,
+                    sections,
+                    info,
+                    rebases,
+                    binds,
+                    index,
+                    address,
+                ),
+                why,
             ),
             Missing::Refused(k) => TextAnswer::Missing(Missing::Refused(k)),
         },

@@ -109,7 +109,7 @@ fn or_none(m: Missing) -> OffsetAnswer
     ensures { λ r. ⌜ offsetOutcome r ≡ orElse (missed m) (value none.Nothing) ⌝ }
 {
     match m {
-        Missing::Absent => OffsetAnswer::Offset(IvarOffset::Nothing),
+        Missing::Absent(_) => OffsetAnswer::Offset(IvarOffset::Nothing),
         Missing::Refused(k) => OffsetAnswer::Missing(Missing::Refused(k)),
     }
 }

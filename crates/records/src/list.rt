@@ -3,6 +3,7 @@ use crate::ivar::Ivar;
 use crate::method::Method;
 use crate::property::Property;
 use reads::answer::Missing;
+use reads::answer::Reason;
 use reads::answer::Word;
 use reads::answer::checked_add;
 use reads::answer::nonzero;
@@ -135,7 +136,7 @@ fn entry_size(least: u64, size: u32) -> Word
     ensures { λ r. ⌜ wordOutcome r ≡ entrySize least size ⌝ }
 {
     if (size as u64) < least {
-        return Word::Missing(Missing::Absent);
+        return Word::Missing(Missing::Absent(Reason::ShortEntry));
     }
     Word::Value(size as u64)
 }
@@ -147,7 +148,7 @@ pub fn even_list(va: u64) -> Word
     if va % 2 == 0 {
         return Word::Value(va);
     }
-    Word::Missing(Missing::Absent)
+    Word::Missing(Missing::Absent(Reason::OddList))
 }
 
 // The address of a list, even as its kind asks.

@@ -4,6 +4,7 @@ use mathlib.Core.Path.{_≡_, refl, sym, ap, _∙_}
 use mathlib.Core.List.{List, [], _∷_, _++_, map, append-assoc}
 use native.Mathlib.Omega.{arith}
 use Rattle.reads.specs.Outcome.{Outcome, value, absent, number, andThen, Unrefused, is-value, is-absent}
+use Rattle.reads.specs.declared.answer.Reason.{Reason}
 use Rattle.walks.specs.Gather.{joined, gather, ofValue, present, asEach}
 
 -- What was joined, where it is a value.
@@ -16,24 +17,24 @@ pub record Parts {A : Type 0} (o p : Outcome (List A)) (zs : List A) : Type 0 wh
 
 pub joined-parts : {A : Type 0} (o p : Outcome (List A)) {zs : List A} → joined o p ≡ value zs → Parts o p zs
 joined-parts (value xs) (value ys) e = record { first = xs; second = ys; ofFirst = refl; ofSecond = refl; whole = cc }
-joined-parts (value xs) absent e = let z : _≡_ {A = ℕ} 0 1 = cc in absurd (omega arith)
+joined-parts (value xs) (absent r) e = let z : _≡_ {A = ℕ} 0 1 = cc in absurd (omega arith)
 joined-parts (value xs) (number k) e = let z : _≡_ {A = ℕ} 0 1 = cc in absurd (omega arith)
-joined-parts absent p e = let z : _≡_ {A = ℕ} 0 1 = cc in absurd (omega arith)
+joined-parts (absent r) p e = let z : _≡_ {A = ℕ} 0 1 = cc in absurd (omega arith)
 joined-parts (number k) p e = let z : _≡_ {A = ℕ} 0 1 = cc in absurd (omega arith)
 
 -- Joining groups either way.
 pub joined-joined : {A : Type 0} (o p q : Outcome (List A)) → joined (joined o p) q ≡ joined o (joined p q)
 joined-joined (value xs) (value ys) (value zs) = ap value (append-assoc xs ys zs)
-joined-joined (value xs) (value ys) absent = refl
+joined-joined (value xs) (value ys) (absent r) = refl
 joined-joined (value xs) (value ys) (number k) = refl
-joined-joined (value xs) absent q = refl
+joined-joined (value xs) (absent r) q = refl
 joined-joined (value xs) (number k) q = refl
-joined-joined absent p q = refl
+joined-joined (absent r) p q = refl
 joined-joined (number k) p q = refl
 
 pub joined-none : {A : Type 0} (o : Outcome (List A)) → joined (value []) o ≡ o
 joined-none (value xs) = refl
-joined-none absent = refl
+joined-none (absent r) = refl
 joined-none (number k) = refl
 
 module _ {A B : Type 0} (f : A → Outcome (List B)) where
@@ -58,17 +59,17 @@ module _ {A B : Type 0} (f : A → Outcome (List B)) where
 -- What `present` gave, where it is a list: the value alone, or none of what is absent.
 pub data Held {A : Type 0} : Outcome A → List A → Type 0 where
   held-one : (a : A) → Held (value a) (a ∷ [])
-  held-none : Held absent []
+  held-none : (r : Reason) → Held (absent r) []
 
 pub present-held : {A : Type 0} (o : Outcome A) {xs : List A} → present o ≡ value xs → Held o xs
 present-held (value a) {xs} e = let one : xs ≡ a ∷ [] = cc in rw one (held-one a)
-present-held absent {xs} e = let none : xs ≡ [] = cc in rw none held-none
+present-held (absent r) {xs} e = let none : xs ≡ [] = cc in rw none (held-none r)
 present-held (number k) e = let z : _≡_ {A = ℕ} 0 1 = cc in absurd (omega arith)
 
 -- What each was taken of, where that gave a list.
 pub each-came : {A B : Type 0} (f : A → B) (o : Outcome (List A)) {ys : List B} → asEach f o ≡ value ys → (xs : List A) × (o ≡ value xs) × (ys ≡ map f xs)
 each-came f (value xs) e = (xs, refl, cc)
-each-came f absent e = let z : _≡_ {A = ℕ} 0 1 = cc in absurd (omega arith)
+each-came f (absent r) e = let z : _≡_ {A = ℕ} 0 1 = cc in absurd (omega arith)
 each-came f (number k) e = let z : _≡_ {A = ℕ} 0 1 = cc in absurd (omega arith)
 
 -- A value.
@@ -83,7 +84,7 @@ there-joined (is-there xs) (is-there ys) = is-there (xs ++ ys)
 
 pub there-of : {A B : Type 0} {o : Outcome A} (f : A → Outcome (List B)) → Unrefused o → ((a : A) → There (f a)) → There (ofValue o f)
 there-of f (is-value a) h = h a
-there-of f is-absent h = is-there []
+there-of f (is-absent r) h = is-there []
 
 pub there-present : {A : Type 0} {o : Outcome A} → Unrefused o → There (present o)
 there-present u = there-of _ u (λ a. is-there (a ∷ []))

@@ -8,19 +8,20 @@ use mathlib.Core.List.{List, [], _∷_}
 use native.Mathlib.Omega.{arith}
 use lib.ListN.{length, getD, replicate, length-replicate, getD-replicate}
 use borrow.Author.Tests.{le-leb}
-use Rattle.reads.specs.Outcome.{value, absent, number, choose, sum64, nonzero, textOf}
+use Rattle.reads.specs.Outcome.{value, absent, number, because, choose, sum64, nonzero, textOf}
 use Rattle.reads.specs.Breaks.{canRead}
 use Rattle.reads.specs.Place.{le, readableAt, readable, word, wordIn}
 use Rattle.reads.specs.Address.{stripped, dataArm64e, data64, mapped, pickedWide, picked}
 use Rattle.reads.specs.Segment.{rows, ends, holds, placed, lookup}
 use Rattle.reads.specs.Text.{text, textLength, textAt, textIn}
 use Rattle.reads.specs.Utf8.{judge, utf8}
+use Rattle.reads.specs.declared.answer.Reason.the-variants.{Unmapped, Unresolved, NoRecord}
 use Rattle.pointers.specs.Tables.{Tables, tablesOf}
 use Rattle.pointers.specs.Chain.{followFrom, follow, lastAmong}
 use Rattle.pointers.specs.Index.{chainOf, indexed}
 use Rattle.pointers.specs.ImageInfo.{infoOf, imageInfo, bit}
 use Rattle.pointers.specs.Open.{askedOpening, opening, openedIndex, Opened}
-use Rattle.pointers.specs.Question.{question, imageFits, wholeRows, sectionFits, every, sectionTable, infoWhole, nameFits, namesFit, indexFits, askedTables, askedIndex, asked}
+use Rattle.pointers.specs.Question.{question, imageFits, wholeRows, sectionFits, every, sectionTable, infoWhole, nameInside, nameUtf8, namesInside, namesUtf8, indexFits, askedTables, askedIndex, asked}
 use Rattle.pointers.specs.Slot.{rebaseAt, bindName, bindAt, symbolOf, stored, resolve, pointerAt, pointerOr0At, rebase, slot, pointer, pointerOr0}
 use Rattle.pointers.specs.Symbol.{starts, fitting, strippedName}
 use Rattle.pointers.proofs.OpenedTables.{opened-follow-rebase, opened-follow-bind}
@@ -67,13 +68,21 @@ asked-hub : (count : ℕ) (index : List ℕ) → askedTables (tables count index
 unfolding askedTables question imageFits wholeRows sectionTable every sectionFits infoWhole choose counted
 asked-hub count index = refl
 
-name-hub : nameFits bytes 168 22 ≡ true
-unfolding nameFits utf8 judge choose counted
-name-hub = refl
+inside-hub : nameInside bytes 168 22 ≡ true
+unfolding nameInside counted
+inside-hub = refl
 
-names-hub : namesFit bytes binds ≡ true
-unfolding namesFit every
-names-hub = rw name-hub
+utf8-hub : nameUtf8 bytes 168 22 ≡ true
+unfolding nameUtf8 utf8 judge choose counted
+utf8-hub = refl
+
+names-inside-hub : namesInside bytes binds ≡ true
+unfolding namesInside every
+names-inside-hub = rw inside-hub
+
+names-utf8-hub : namesUtf8 bytes binds ≡ true
+unfolding namesUtf8 every
+names-utf8-hub = rw utf8-hub
 
 index-room : (count w : ℕ) → askedIndex (tables count (filled w)) ≡ value tt
 unfolding askedIndex indexFits filled
@@ -81,7 +90,7 @@ index-room count w = question-yes 8 _ (le-leb 8193 (length (replicate 8193 w)) (
 
 accepted-hub : askedOpening (tables 4294967295 (filled 0)) ≡ value tt
 unfolding askedOpening
-accepted-hub = rw (asked-hub 4294967295 (filled 0), question-yes 7 (namesFit bytes binds) names-hub, index-room 4294967295 0)
+accepted-hub = rw (asked-hub 4294967295 (filled 0), question-yes 7 (namesInside bytes binds) names-inside-hub, question-yes 14 (namesUtf8 bytes binds) names-utf8-hub, index-room 4294967295 0)
 
 -- Opening accepts the tables, and `hub` has the index that it leaves.
 pub hub-opened : Opened hub
@@ -95,18 +104,18 @@ hub-opened =
     }
 
 -- No slot has a rebase, so each is the word that is stored there.
-no-rebase : (a : ℕ) → rebase hub a ≡ absent
+no-rebase : (a : ℕ) → rebase hub a ≡ absent NoRecord
 unfolding rebaseAt lastAmong
 no-rebase a = rw (opened-follow-rebase hub hub-opened a)
 
-pub slot-stored : (a : ℕ) → slot hub a ≡ stored hub-image a
+pub slot-stored : (a : ℕ) → slot hub a ≡ because Unresolved (stored hub-image a)
 unfolding resolve
 slot-stored a = rw (no-rebase a)
 
 module _ (va k a w : ℕ) (sum : sum64 va k ≡ value a) (there : stored hub-image a ≡ value w) where
   pointer-stored : pointer hub va k ≡ value w
   unfolding pointerAt
-  pointer-stored = rw sum (slot-stored a ∙ there)
+  pointer-stored = rw sum (slot-stored a ∙ ap (because Unresolved) there)
 
   pointer-or-0-stored : pointerOr0 hub va k ≡ value w
   unfolding pointerOr0At
@@ -125,7 +134,7 @@ unfolding decodeRow decodeLegacyMethod legacyImp readable readableAt lookup rows
 row-0 =
     rw (slot-stored 0x1078, pointer-stored 0x1078 8 0x1080 0x1097 refl refl, pointer-or-0-stored 0x1078 16 0x1088 0x2000 refl refl)
 
-pub row-1 : rowAt hub Legacy 0x1090 ≡ absent
+pub row-1 : rowAt hub Legacy 0x1090 ≡ absent Unmapped
 unfolding decodeRow decodeLegacyMethod legacyImp readable readableAt lookup rows ends holds placed sum64 stored word stripped le textIn textAt nonzero choose counted
 row-1 =
     rw (slot-stored 0x1090, pointer-stored 0x1090 8 0x1098 0 refl refl, pointer-or-0-stored 0x1090 16 0x10A0 0x1000 refl refl)
@@ -210,7 +219,7 @@ pub hub-told : plainWalk hub Methods 0x1070 loans 0
     ∷ told (number 8) 1
     ∷ told (number 10) 1
     ∷ told (number 9) 1
-    ∷ told (value (rowSkipped 1)) 2
+    ∷ told (value (rowSkipped 1 Unmapped)) 2
     ∷ told (value rowsFinished) 4294967295
     ∷ []
 unfolding handedOut
@@ -223,13 +232,13 @@ pub hub-steps : steps loans (walkOf 0x1070 Methods 0)
     ∷ handsBack (walkOf 0x1070 Methods 1) 8
     ∷ handsBack (walkOf 0x1070 Methods 1) 10
     ∷ handsBack (walkOf 0x1070 Methods 1) 9
-    ∷ hands (value (rowSkipped 1)) (walkOf 0x1070 Methods 2)
+    ∷ hands (value (rowSkipped 1 Unmapped)) (walkOf 0x1070 Methods 2)
     ∷ hands (value rowsFinished) (walkOf 0x1070 Methods 4294967295)
     ∷ []
 hub-steps = whole-claim hub hub-opened Methods 0x1070 loans hub-run ∙ ap (shownAll Methods 0x1070) hub-told
 
 -- The same list with nothing refused, by the theorem of one walk: its row, the entry that is skipped, and then finished.
-pub hub-answers : (n : ℕ) → answersOf (nextOf hub) (2 + n) (walkOf 0x1070 Methods 0) ≡ value (rowReached up) ∷ value (rowSkipped 1) ∷ replicate n (value rowsFinished)
+pub hub-answers : (n : ℕ) → answersOf (nextOf hub) (2 + n) (walkOf 0x1070 Methods 0) ≡ value (rowReached up) ∷ value (rowSkipped 1 Unmapped) ∷ replicate n (value rowsFinished)
 hub-answers n =
     let answers = walk-meets-each-readable-once hub hub-opened Methods 0x1070 hub-list hub-methods n in
     rw (hub-two, row-0, row-1) at answers
@@ -275,7 +284,7 @@ hub-ro-of = refl
 
 pub hub-superclass : superclassName hub hub-class-record ≡ value (textOf 182 8)
 unfolding decodeClassNameOf decodeNonzeroClassName decodeBoundName symbolOf bindAt lastAmong bindName strippedName fitting starts sum64 nonzero choose counted
-hub-superclass = rw (opened-follow-bind hub hub-opened 0x1008, question-yes 7 (nameFits bytes 168 22) name-hub)
+hub-superclass = rw (opened-follow-bind hub hub-opened 0x1008, question-yes 7 (nameInside bytes 168 22) inside-hub, question-yes 14 (nameUtf8 bytes 168 22) utf8-hub)
 
 -- Where a class decodes, its name goes before the bind: here were the class its own superclass.
 pub decoded-before-bind : classNameOf hub 0x1000 0x1000 ≡ value (textOf 0x90 3)

@@ -8,6 +8,7 @@ pub mod Moves
 pub mod PlainWalks
 pub mod OpenedSections
 pub mod SectionCases
+pub mod ReasonCases
 pub mod ProtocolLists
 pub mod ProtocolNameWalks
 pub mod ProtocolNameCases

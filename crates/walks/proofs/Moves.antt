@@ -24,11 +24,12 @@ use Rattle.records.specs.declared.list.Layout.{Layout}
 use Rattle.records.specs.declared.protocol.ObjcProtocol.{ObjcProtocol}
 use Rattle.records.specs.declared.row.Row.{Row}
 use Rattle.records.proofs.Readables as readables
+use Rattle.reads.specs.declared.answer.Reason.{Reason}
 use Rattle.walks.specs.Handed.{unlessRefused, Handed, hands, handsBack, overList, countBy, fromCursor}
 use Rattle.walks.specs.Walk.{ReachedRow, rowReached, rowSkipped, rowsFinished, RowLeft, settles, searched, overRows, nextOf}
 use Rattle.walks.specs.ProtocolNames.{protocolListAt, slotIn, nameIn, ReachedName, nameReached, namePassed, namesFinished, NameLeft, named, stepIn, overNames, nextName}
-use Rattle.walks.specs.Slots.{slotsOf, askedSlot, askedLedger, TakenSlot, address, dropped, noSlot, slotRefused, addressIn, takenBy, slotTaken, metBelow, greatest, firstMet}
-use Rattle.walks.specs.Sections.{Walk, walk, metIn, Highest, Step, found, passed, finished, Left, leaves, stays, Kind, slotsIn, byRecord, bySlot, takeWaiting, takeNew, takeSlot, stepBy, stepOf, takeProtocol, protocolStepOf}
+use Rattle.walks.specs.Slots.{slotsOf, askedSlot, askedLedger, TakenSlot, address, slotDropped, noSlot, slotRefused, addressIn, takenBy, slotTaken, metBelow, greatest, firstMet}
+use Rattle.walks.specs.Sections.{Walk, walk, metIn, Highest, Step, found, passed, dropped, finished, Left, leaves, stays, Kind, slotsIn, byRecord, bySlot, takeWaiting, takeNew, takeSlot, stepBy, stepOf, takeProtocol, protocolStepOf}
 use Rattle.walks.specs.declared.list_walk.ListWalk.{ListWalk}
 use Rattle.walks.specs.declared.protocol_names.ProtocolList.{ProtocolList}
 use Rattle.walks.specs.declared.protocol_names.ProtocolNameWalk.{ProtocolNameWalk}
@@ -39,15 +40,15 @@ use Rattle.walks.proofs.SlotLaws.{greatest-end, ledger-room, Answered, 
 module _ {A W : Type 0} (P : Handed A W → Type 0) (w : W) (refused : (k : ℕ) → P (handsBack w k)) where
   pub by-asked : (o : Outcome (Unit {0})) {x : Handed A W} → P x → P (unlessRefused o (handsBack w) x)
   by-asked (value u) h = h
-  by-asked absent h = h
+  by-asked (absent r) h = h
   by-asked (number k) h = refused k
 
-  pub by-list : {L : Type 0} (step : L → Handed A W) → ((l : L) → P (step l)) → P (hands absent w) → (list : Outcome L) → P (overList w step list)
+  pub by-list : {L : Type 0} (step : L → Handed A W) → ((l : L) → P (step l)) → ((r : Reason) → P (hands (absent r) w)) → (list : Outcome L) → P (overList w step list)
   by-list step h missing (value l) = h l
-  by-list step h missing absent = missing
+  by-list step h missing (absent r) = missing r
   by-list step h missing (number k) = refused k
 
-  pub by-cursor : {L : Type 0} (cursor : ℕ) (count : L → ℕ) (step : L → Handed A W) → ((l : L) → P (step l)) → P (hands absent w) → (list : Outcome L)
+  pub by-cursor : {L : Type 0} (cursor : ℕ) (count : L → ℕ) (step : L → Handed A W) → ((l : L) → P (step l)) → ((r : Reason) → P (hands (absent r) w)) → (list : Outcome L)
       → P (fromCursor w cursor count step list)
   unfolding fromCursor
   by-cursor cursor count step h missing list = by-asked (question 10 (leb cursor (countBy count list))) (by-list step h missing list)
@@ -55,9 +56,9 @@ module _ {A W : Type 0} (P : Handed A W → Type 0) (w : W) (refused : (k : ℕ)
 -- A row step that settles an entry stands past the cursor that it was given.
 abbrev pub RowMoves : ListWalk → ListWalk → Outcome ReachedRow → Type 0
 RowMoves w v (value (rowReached r)) = w .cursor < v .cursor
-RowMoves w v (value (rowSkipped j)) = w .cursor < v .cursor
+RowMoves w v (value (rowSkipped j r)) = w .cursor < v .cursor
 RowMoves w v (value rowsFinished) = Unit
-RowMoves w v absent = v ≡ w
+RowMoves w v (absent r) = v ≡ w
 RowMoves w v (number k) = v ≡ w
 
 pub record RowMoved (w : ListWalk) (x : RowLeft) : Type 0 where
@@ -66,7 +67,7 @@ pub record RowMoved (w : ListWalk) (x : RowLeft) : Type 0 where
 module _ (t : Tables) (w : ListWalk) where
   settled-moved : (j : ℕ) → w .cursor ≤ j → (o : Outcome Row) → RowMoved w (settles w j o)
   settled-moved j h (value r) = record { moves = omega arith }
-  settled-moved j h absent = record { moves = omega arith }
+  settled-moved j h (absent r) = record { moves = omega arith }
   settled-moved j h (number k) = record { moves = refl }
 
   searched-moved : (h : Layout) (o : Option ℕ) → o ≡ firstReadable (imageIn t) h (w .cursor) → RowMoved w (searched t w h o)
@@ -78,14 +79,14 @@ module _ (t : Tables) (w : ListWalk) where
   row-step-moved =
       by-asked (RowMoved w) w (λ k. record { moves = refl }) (asked t)
       (by-cursor (RowMoved w) w (λ k. record { moves = refl }) (w .cursor) (λ h. h .count) _
-      (λ h. searched-moved h (firstReadable (imageIn t) h (w .cursor)) refl) (record { moves = refl }) (listAt t (w .kind) (w .list)))
+      (λ h. searched-moved h (firstReadable (imageIn t) h (w .cursor)) refl) (λ r. record { moves = refl }) (listAt t (w .kind) (w .list)))
 
 -- A name step that takes a slot stands past it.
 abbrev pub NameMoves : ProtocolNameWalk → ProtocolNameWalk → Outcome ReachedName → Type 0
 NameMoves w v (value (nameReached name)) = w .cursor < v .cursor
-NameMoves w v (value namePassed) = w .cursor < v .cursor
+NameMoves w v (value (namePassed r)) = w .cursor < v .cursor
 NameMoves w v (value namesFinished) = Unit
-NameMoves w v absent = v ≡ w
+NameMoves w v (absent r) = v ≡ w
 NameMoves w v (number k) = v ≡ w
 
 pub record NameMoved (w : ProtocolNameWalk) (x : NameLeft) : Type 0 where
@@ -94,7 +95,7 @@ pub record NameMoved (w : ProtocolNameWalk) (x : NameLeft) : Type 0 where
 module _ (t : Tables) (w : ProtocolNameWalk) where
   named-moved : (o : Outcome Text) → NameMoved w (named w o)
   named-moved (value name) = record { moves = omega arith }
-  named-moved absent = record { moves = omega arith }
+  named-moved (absent r) = record { moves = omega arith }
   named-moved (number k) = record { moves = refl }
 
   slot-moved : (l : ProtocolList) → NameMoved w (stepIn t w l)
@@ -105,7 +106,7 @@ module _ (t : Tables) (w : ProtocolNameWalk) where
   unfolding nextName overNames
   name-step-moved =
       by-asked (NameMoved w) w (λ k. record { moves = refl }) (asked t)
-      (by-cursor (NameMoved w) w (λ k. record { moves = refl }) (w .cursor) (λ l. l .count) (stepIn t w) slot-moved (record { moves = refl })
+      (by-cursor (NameMoved w) w (λ k. record { moves = refl }) (w .cursor) (λ l. l .count) (stepIn t w) slot-moved (λ r. record { moves = refl })
       (protocolListAt t (w .list)))
 
 -- A section step goes a slot further or takes what waits; it leaves the walk as given where that has finished. No section step is absent.
@@ -115,9 +116,10 @@ pub data Further (w : Walk) : Walk → Type 0 where
 
 abbrev pub SectionMoves : {A : Type 0} → Walk → Walk → Outcome (Step A) → Type 0
 SectionMoves w v (value (found a)) = Further w v
-SectionMoves w v (value passed) = Further w v
+SectionMoves w v (value (passed r)) = Further w v
+SectionMoves w v (value dropped) = Further w v
 SectionMoves w v (value finished) = v ≡ w
-SectionMoves w v absent = ⊥
+SectionMoves w v (absent r) = ⊥
 SectionMoves w v (number k) = v ≡ w
 
 pub record SectionMoved {A : Type 0} (w : Walk) (x : Left A) : Type 0 where
@@ -127,26 +129,26 @@ pub record SectionMoved {A : Type 0} (w : Walk) (x : Left A) : Type 0 where
 module _ {A : Type 0} (P : Left A → Type 0) (w : Walk) (l : List ℕ) (refused : (k : ℕ) → P (stays w l k)) where
   by-question : (o : Outcome (Unit {0})) (x : Left A) → P x → P (unlessRefused o (stays w l) x)
   by-question (value u) x h = h
-  by-question absent x h = h
+  by-question (absent r) x h = h
   by-question (number k) x h = refused k
 
-  by-record : (after : A → ℕ) (on : ℕ → Walk) (new : List ℕ) → ((a : A) → P (leaves (value (found a)) (on (after a)) new)) → P (leaves (value passed) (on 0) new)
+  by-record : (after : A → ℕ) (on : ℕ → Walk) (new : List ℕ) → ((a : A) → P (leaves (value (found a)) (on (after a)) new)) → ((r : Reason) → P (leaves (value (passed r)) (on 0) new))
       → (o : Outcome A) → P (byRecord w l after on new o)
   by-record after on new f p (value a) = f a
-  by-record after on new f p absent = p
+  by-record after on new f p (absent r) = p r
   by-record after on new f p (number k) = refused k
 
-  by-slot : (decode : ℕ → Left A) → ((a : ℕ) → P (decode a)) → P (leaves (value passed) (walk (w .slot + 1) (w .used) (w .highest) 0) l) → P (leaves (value finished) w l)
+  by-slot : (decode : ℕ → Left A) → ((a : ℕ) → P (decode a)) → P (leaves (value dropped) (walk (w .slot + 1) (w .used) (w .highest) 0) l) → P (leaves (value finished) w l)
       → (x : TakenSlot) → P (bySlot w l decode x)
   by-slot decode h p f (address a) = h a
-  by-slot decode h p f dropped = p
+  by-slot decode h p f slotDropped = p
   by-slot decode h p f noSlot = f
   by-slot decode h p f (slotRefused k) = refused k
 
 module _ {A : Type 0} (k : Kind A) (t : Tables) (w : Walk) (l : List ℕ) where
   -- An address is first met where the ledger has a word for it.
   by-step : (P : Left A → Type 0) → ((n : ℕ) → P (stays w l n)) → P (leaves (value finished) w l)
-      → ((a : ℕ) → w .used < length l → P (takeNew k t w l a)) → P (leaves (value passed) (walk (w .slot + 1) (w .used) (w .highest) 0) l)
+      → ((a : ℕ) → w .used < length l → P (takeNew k t w l a)) → P (leaves (value dropped) (walk (w .slot + 1) (w .used) (w .highest) 0) l)
       → ((w .waiting ≡ 0 → ⊥) → P (takeWaiting k t w l)) → P (stepOf k t w l)
   unfolding stepOf stepBy takeSlot slotTaken
   by-step P refused end new drop waited = go refl (ledger-answered t (slotsIn k t) (w .slot) (w .used) (length l))
@@ -172,10 +174,10 @@ module _ {A : Type 0} (k : Kind A) (t : Tables) (w : Walk) (l : List ℕ) where
   section-step-moved =
       by-step (SectionMoved w) (λ n. record { moves = refl }) (record { moves = refl })
       (λ a r. by-record (SectionMoved w) w l (λ n. record { moves = refl }) (k .after) (walk (w .slot + 1) (w .used + 1) (max (w .highest) a)) (set l (w .used) a)
-      (λ c. record { moves = past-slot refl }) (record { moves = past-slot refl }) (k .decoded t a))
+      (λ c. record { moves = past-slot refl }) (λ why. record { moves = past-slot refl }) (k .decoded t a))
       (record { moves = past-slot refl })
       (λ h. by-record (SectionMoved w) w l (λ n. record { moves = refl }) (λ c. 0) (walk (w .slot) (w .used) (w .highest)) l
-      (λ c. record { moves = past-waiting h }) (record { moves = past-waiting h }) (k .waited t (w .waiting)))
+      (λ c. record { moves = past-waiting h }) (λ why. record { moves = past-waiting h }) (k .waited t (w .waiting)))
 
   -- As many words are left in the ledger as there were.
   pub step-keeps-length : length (stepOf k t w l .ledger) ≡ length l
@@ -183,9 +185,9 @@ module _ {A : Type 0} (k : Kind A) (t : Tables) (w : Walk) (l : List ℕ) where
   step-keeps-length =
       by-step (λ x. length (x .ledger) ≡ length l) (λ n. refl) refl
       (λ a r. by-record (λ x. length (x .ledger) ≡ length l) w l (λ n. refl) (k .after) (walk (w .slot + 1) (w .used + 1) (max (w .highest) a)) (set l (w .used) a)
-      (λ c. length-set l (w .used) a) (length-set l (w .used) a) (k .decoded t a))
+      (λ c. length-set l (w .used) a) (λ why. length-set l (w .used) a) (k .decoded t a))
       refl
-      (λ h. by-record (λ x. length (x .ledger) ≡ length l) w l (λ n. refl) (λ c. 0) (walk (w .slot) (w .used) (w .highest)) l (λ c. refl) refl (k .waited t (w .waiting)))
+      (λ h. by-record (λ x. length (x .ledger) ≡ length l) w l (λ n. refl) (λ c. 0) (walk (w .slot) (w .used) (w .highest)) l (λ c. refl) (λ why. refl) (k .waited t (w .waiting)))
 
   -- Where the highest address met is the greatest word in use it stays so.
   pub highest-kept : Highest w l → Highest (stepOf k t w l .walk) (stepOf k t w l .ledger)
@@ -193,9 +195,9 @@ module _ {A : Type 0} (k : Kind A) (t : Tables) (w : Walk) (l : List ℕ) where
   highest-kept h =
       by-step Kept (λ n. h) h
       (λ a r. by-record Kept w l (λ n. h) (k .after) (walk (w .slot + 1) (w .used + 1) (max (w .highest) a)) (set l (w .used) a)
-      (λ c. noted a r) (noted a r) (k .decoded t a))
+      (λ c. noted a r) (λ why. noted a r) (k .decoded t a))
       h
-      (λ z. by-record Kept w l (λ n. h) (λ c. 0) (walk (w .slot) (w .used) (w .highest)) l (λ c. h) h (k .waited t (w .waiting)))
+      (λ z. by-record Kept w l (λ n. h) (λ c. 0) (walk (w .slot) (w .used) (w .highest)) l (λ c. h) (λ why. h) (k .waited t (w .waiting)))
     where
       Kept : Left A → Type 0
       Kept x = Highest (x .walk) (x .ledger)
@@ -211,17 +213,19 @@ module _ (t : Tables) (w : Walk) (l : List ℕ) where
   one-on = walk (w .slot + 1) (w .used) (w .highest) 0
 
   by-protocol-step : (P : Left ObjcProtocol → Type 0) → ((n : ℕ) → P (stays w l n)) → P (leaves (value finished) w l)
-      → ((p : ObjcProtocol) → P (leaves (value (found p)) one-on l)) → P (leaves (value passed) one-on l) → P (protocolStepOf t w l)
+      → ((p : ObjcProtocol) → P (leaves (value (found p)) one-on l)) → ((r : Reason) → P (leaves (value (passed r)) one-on l)) → P (leaves (value dropped) one-on l)
+      → P (protocolStepOf t w l)
   unfolding protocolStepOf takeProtocol
-  by-protocol-step P refused end gives pass =
+  by-protocol-step P refused end gives pass drop =
       by-question P w l refused (askedSlot t (slotsOf Protocols (t .sections)) (w .slot) (w .used)) _
-      (by-slot P w l refused (takeProtocol t w l) (λ a. by-record P w l refused (λ p. 0) (walk (w .slot + 1) (w .used) (w .highest)) l gives pass (protocolAt t a)) pass end
+      (by-slot P w l refused (takeProtocol t w l) (λ a. by-record P w l refused (λ p. 0) (walk (w .slot + 1) (w .used) (w .highest)) l gives pass (protocolAt t a)) drop end
       (slotTaken t (slotsOf Protocols (t .sections)) (w .slot)))
 
   pub protocol-step-moved : SectionMoved w (protocolStepOf t w l)
   protocol-step-moved =
-      by-protocol-step (SectionMoved w) (λ n. record { moves = refl }) (record { moves = refl }) (λ p. record { moves = past-slot refl }) (record { moves = past-slot refl })
+      by-protocol-step (SectionMoved w) (λ n. record { moves = refl }) (record { moves = refl }) (λ p. record { moves = past-slot refl })
+      (λ why. record { moves = past-slot refl }) (record { moves = past-slot refl })
 
   -- The ledger is left as it was.
   pub protocol-step-keeps : protocolStepOf t w l .ledger ≡ l
-  protocol-step-keeps = by-protocol-step (λ x. x .ledger ≡ l) (λ n. refl) refl (λ p. refl) refl
+  protocol-step-keeps = by-protocol-step (λ x. x .ledger ≡ l) (λ n. refl) refl (λ p. refl) (λ why. refl) refl

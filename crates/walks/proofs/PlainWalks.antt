@@ -12,13 +12,14 @@ use borrow.Author.Tests.{eq-eqb, ne-eqb, eqb-true, eqb-false}
 use Rattle.reads.specs.Outcome.{Outcome, value, absent, number, andThen, nonzero}
 use Rattle.reads.proofs.Tests.{choose-true, choose-false}
 use Rattle.reads.proofs.Outcomes.{nonzero-zero, nonzero-else, then-came}
+use Rattle.reads.specs.declared.answer.Reason.{Reason}
 use Rattle.pointers.specs.Tables.{Tables}
 use Rattle.pointers.specs.Question.{asked}
 use Rattle.records.specs.Protocol.{protocolAt}
 use Rattle.walks.specs.Gather.{joined, gather, ofValue, present}
-use Rattle.walks.specs.Slots.{slotsOf, slotCount, protocolCount, addressIn, among, askedLedger, TakenSlot, address, dropped, takenBy, slotTaken, firstMet}
-use Rattle.walks.specs.Sections.{Walk, walk, found, passed, finished, leaves, Kind, slotsIn, classes, categories, Highest, bySlot, takeWaiting, takeNew, takeSlot, stepBy, ledgerStepOf, stepOf, takeProtocol, protocolStepOf}
-use Rattle.walks.specs.PlainSections.{addressesIn, unless, without, once, listed, withMeta, plainClasses, plainCategories, plainProtocols, Gives, ended, passing, giving, Run}
+use Rattle.walks.specs.Slots.{slotsOf, slotCount, protocolCount, addressIn, among, askedLedger, TakenSlot, address, slotDropped, takenBy, slotTaken, firstMet}
+use Rattle.walks.specs.Sections.{Walk, walk, found, passed, dropped, finished, leaves, Kind, slotsIn, classes, categories, Highest, bySlot, takeWaiting, takeNew, takeSlot, stepBy, ledgerStepOf, stepOf, takeProtocol, protocolStepOf}
+use Rattle.walks.specs.PlainSections.{addressesIn, unless, without, once, listed, withMeta, plainClasses, plainCategories, plainProtocols, Gives, ended, passing, dropping, giving, Run}
 use Rattle.records.specs.declared.category.ObjcCategory.{ObjcCategory}
 use Rattle.records.specs.declared.class.ObjcClass.{ObjcClass}
 use Rattle.records.specs.declared.protocol.ObjcProtocol.{ObjcProtocol}
@@ -112,12 +113,12 @@ module _ {A : Type 0} (k : Kind A) (t : Tables) (yes : asked t ≡ value tt) whe
       step-taken : ledgerStepOf k t here l ≡ bySlot here l (takeNew k t here l) (takenNew at used l)
       step-taken = step-takes-slot z ∙ rw (← taken-by t (slotsIn k t) at {x = takenBy (addressIn t (getD (slotsIn k t) at 0))} (λ e. absurd (omega arith)) refl refl refl)
 
-      step-met : takenNew at used l ≡ dropped → ledgerStepOf k t here l ≡ leaves (value passed) (walk (at + 1) used highest 0) l
+      step-met : takenNew at used l ≡ slotDropped → ledgerStepOf k t here l ≡ leaves (value dropped) (walk (at + 1) used highest 0) l
       step-met e = step-taken ∙ rw e
 
-      step-undecoded : (a : ℕ) → takenNew at used l ≡ address a → k .decoded t a ≡ absent → ledgerStepOf k t here l ≡ leaves (value passed) (walk (at + 1) (used + 1) (max highest a) 0) (set l used a)
+      step-undecoded : (a : ℕ) (why : Reason) → takenNew at used l ≡ address a → k .decoded t a ≡ absent why → ledgerStepOf k t here l ≡ leaves (value (passed why)) (walk (at + 1) (used + 1) (max highest a) 0) (set l used a)
       unfolding takeNew
-      step-undecoded a e d = step-taken ∙ rw (e, d)
+      step-undecoded a why e d = step-taken ∙ rw (e, d)
 
       step-found : (a : ℕ) (c : A) → takenNew at used l ≡ address a → k .decoded t a ≡ value c
           → ledgerStepOf k t here l ≡ leaves (value (found c)) (walk (at + 1) (used + 1) (max highest a) (k .after c)) (set l used a)
@@ -128,9 +129,9 @@ module _ {A : Type 0} (k : Kind A) (t : Tables) (yes : asked t ≡ value tt) whe
     unfolding takeWaiting
     step-waited n c e = step-takes-waiting n ∙ rw e
 
-    step-unwaited : (waiting ≡ 0 → ⊥) → k .waited t waiting ≡ absent → ledgerStepOf k t here l ≡ leaves (value passed) (walk at used highest 0) l
+    step-unwaited : (waiting ≡ 0 → ⊥) → (why : Reason) → k .waited t waiting ≡ absent why → ledgerStepOf k t here l ≡ leaves (value (passed why)) (walk at used highest 0) l
     unfolding takeWaiting
-    step-unwaited n e = step-takes-waiting n ∙ rw e
+    step-unwaited n why e = step-takes-waiting n ∙ rw e
 
   -- What an address adds to the list.
   following-none : (c : A) → k .after c ≡ 0 → following c ≡ value []
@@ -147,15 +148,18 @@ module _ {A : Type 0} (k : Kind A) (t : Tables) (yes : asked t ≡ value tt) whe
     where
       go : (d : Outcome A) → present d ≡ ofValue d (λ c. joined (value (c ∷ [])) (following c))
       go (value c) = rw (following-none c (z c))
-      go absent = refl
+      go (absent why) = refl
       go (number j) = refl
 
   -- A run of at most so many steps.
   abbrev Runs : ℕ → Walk → List ℕ → List A → Type 0
   Runs most w l rs = (n : ℕ) × (n ≤ most) × Gives (ledgerStepOf k t) n w l rs
 
-  pass : {n : ℕ} {w v : Walk} {l m : List ℕ} {rs : List A} → ledgerStepOf k t w l ≡ leaves (value passed) v m → Runs n v m rs → Runs (suc n) w l rs
+  pass : {n : ℕ} {w v : Walk} {l m : List ℕ} {why : Reason} {rs : List A} → ledgerStepOf k t w l ≡ leaves (value (passed why)) v m → Runs n v m rs → Runs (suc n) w l rs
   pass e r = (suc (r .0), omega arith, passing e (r .2))
+
+  drops : {n : ℕ} {w v : Walk} {l m : List ℕ} {rs : List A} → ledgerStepOf k t w l ≡ leaves (value dropped) v m → Runs n v m rs → Runs (suc n) w l rs
+  drops e r = (suc (r .0), omega arith, dropping e (r .2))
 
   give : {n : ℕ} {w v : Walk} {l m : List ℕ} {c : A} {rs : List A}
       → ledgerStepOf k t w l ≡ leaves (value (found c)) v m → Runs n v m rs → Runs (suc n) w l (c ∷ rs)
@@ -169,7 +173,7 @@ module _ {A : Type 0} (k : Kind A) (t : Tables) (yes : asked t ≡ value tt) whe
     waited-run : (waiting : ℕ) → (waiting ≡ 0 → ⊥) → {o : Outcome A} {ms : List A} → k .waited t waiting ≡ o → Held o ms
         → Runs (suc n) (walk at used highest waiting) l (ms ++ rs)
     waited-run waiting z e (held-one c) = give (step-waited at used highest waiting l g h r z c e) later
-    waited-run waiting z e held-none = pass (step-unwaited at used highest waiting l g h r z e) later
+    waited-run waiting z e (held-none why) = pass (step-unwaited at used highest waiting l g h r z why e) later
 
     after-run : (c : A) (ms : List A) → following c ≡ value ms → Runs (suc n) (walk at used highest (k .after c)) l (ms ++ rs)
     after-run c ms f = go (eqb (k .after c) 0) refl
@@ -197,8 +201,8 @@ module _ {A : Type 0} (k : Kind A) (t : Tables) (yes : asked t ≡ value tt) whe
     abbrev Slot : List ℕ → Type 0
     Slot cs = (rs : List A) → gather recordsAt (unseen seen (once cs)) ≡ value rs → Runs (2 * suc n) (walk at used highest 0) l rs
 
-    dropped-slot : takenNew at used l ≡ dropped → Slot bs
-    dropped-slot e rs f = more (omega arith) (pass (step-met at used highest 0 l (omega arith) h r refl u e) (later used highest l (omega arith) r rs f))
+    dropped-slot : takenNew at used l ≡ slotDropped → Slot bs
+    dropped-slot e rs f = more (omega arith) (drops (step-met at used highest 0 l (omega arith) h r refl u e) (later used highest l (omega arith) r rs f))
 
     -- The ledger has the address at the end of its words in use.
     later-new : (a : ℕ) (rs : List A) → gather recordsAt (unseen (seen ++ (a ∷ [])) (once bs)) ≡ value rs
@@ -217,9 +221,9 @@ module _ {A : Type 0} (k : Kind A) (t : Tables) (yes : asked t ≡ value tt) whe
         (more (omega arith)
         (give (step-found at used highest 0 l (omega arith) h r refl u a c e d)
         (after-run (2 * n) (at + 1) (used + 1) (max highest a) (set l used a) rest (omega arith) (omega arith) (rw (length-set l used a) r) on c (parts .second) (parts .ofSecond))))
-    decoded-slot a e absent d first rest f on =
+    decoded-slot a e (absent why) d first rest f on =
         let none : first ≡ [] = cc in
-        rw none (more (omega arith) (pass (step-undecoded at used highest 0 l (omega arith) h r refl u a e d) on))
+        rw none (more (omega arith) (pass (step-undecoded at used highest 0 l (omega arith) h r refl u a why e d) on))
     decoded-slot a e (number j) d first rest f on = let z : _≡_ {A = ℕ} 0 1 = cc in absurd (omega arith)
 
     address-slot : (a : ℕ) → addressIn t here-slot ≡ value a → (b : Bool) → among a seen ≡ b → Slot (a ∷ bs)
@@ -232,7 +236,7 @@ module _ {A : Type 0} (k : Kind A) (t : Tables) (yes : asked t ≡ value tt) whe
 
     any-slot : {o : Outcome ℕ} {first : List ℕ} → addressIn t here-slot ≡ o → Held o first → Slot (first ++ bs)
     any-slot e (held-one a) = address-slot a e (among a seen) refl
-    any-slot e held-none = dropped-slot (rw e)
+    any-slot e (held-none why) = dropped-slot (rw e)
 
   -- All slots from one on, which hold the addresses bs.
   walk-runs : (n at used highest : ℕ) (l : List ℕ) → at + n ≡ length (slotsIn k t) → used ≤ at → length (slotsIn k t) ≤ length l
@@ -254,6 +258,7 @@ module _ {A : Type 0} (k : Kind A) (t : Tables) (yes : asked t ≡ value tt) whe
   ledger-run : {n : ℕ} {w : Walk} {l : List ℕ} {rs : List A} → Highest w l → Gives (ledgerStepOf k t) n w l rs → Gives (stepOf k t) n w l rs
   ledger-run h (ended e) = ended (step-by-ledger k t _ _ h ∙ e)
   ledger-run h (passing e g) = let s = step-by-ledger k t _ _ h ∙ e in passing s (ledger-run (highest-after k t _ _ h s) g)
+  ledger-run h (dropping e g) = let s = step-by-ledger k t _ _ h ∙ e in dropping s (ledger-run (highest-after k t _ _ h s) g)
   ledger-run h (giving e g) = let s = step-by-ledger k t _ _ h ∙ e in giving s (ledger-run (highest-after k t _ _ h s) g)
 
   -- The whole walk, from the first slot on.
@@ -268,67 +273,67 @@ module _ {A : Type 0} (k : Kind A) (t : Tables) (yes : asked t ≡ value tt) whe
 
 -- The protocol walk: a step for each slot.
 module _ (t : Tables) (yes : asked t ≡ value tt) where
-  abbrev lists : List ℕ
-  lists = slotsOf Protocols (t .sections)
+  abbrev protocolSlots : List ℕ
+  protocolSlots = slotsOf Protocols (t .sections)
 
-  module _ (at : ℕ) (l : List ℕ) (g : at ≤ length lists) where
+  module _ (at : ℕ) (l : List ℕ) (g : at ≤ length protocolSlots) where
     abbrev there : Walk
     there = walk at 0 0 0
 
-    protocol-slot : protocolStepOf t there l ≡ bySlot there l (takeProtocol t there l) (slotTaken t lists at)
+    protocol-slot : protocolStepOf t there l ≡ bySlot there l (takeProtocol t there l) (slotTaken t protocolSlots at)
     protocol-slot =
-        sym (protocol-step t at l (ap (bySlot there l (takeProtocol t there l)) (next-on t lists at yes (slot-fits lists at 0 g (omega arith)) refl)))
+        sym (protocol-step t at l (ap (bySlot there l (takeProtocol t there l)) (next-on t protocolSlots at yes (slot-fits protocolSlots at 0 g (omega arith)) refl)))
 
-    protocol-end : at ≡ length lists → protocolStepOf t there l ≡ leaves (value finished) there l
-    protocol-end e = protocol-slot ∙ rw (← taken-none t lists at e)
+    protocol-end : at ≡ length protocolSlots → protocolStepOf t there l ≡ leaves (value finished) there l
+    protocol-end e = protocol-slot ∙ rw (← taken-none t protocolSlots at e)
 
-    module _ (u : at < length lists) where
-      protocol-taken : protocolStepOf t there l ≡ bySlot there l (takeProtocol t there l) (takenBy (addressIn t (getD lists at 0)))
-      protocol-taken = protocol-slot ∙ rw (← taken-by t lists at {x = takenBy (addressIn t (getD lists at 0))} (λ e. absurd (omega arith)) refl refl refl)
+    module _ (u : at < length protocolSlots) where
+      protocol-taken : protocolStepOf t there l ≡ bySlot there l (takeProtocol t there l) (takenBy (addressIn t (getD protocolSlots at 0)))
+      protocol-taken = protocol-slot ∙ rw (← taken-by t protocolSlots at {x = takenBy (addressIn t (getD protocolSlots at 0))} (λ e. absurd (omega arith)) refl refl refl)
 
-      protocol-dropped : addressIn t (getD lists at 0) ≡ absent → protocolStepOf t there l ≡ leaves (value passed) (walk (at + 1) 0 0 0) l
-      protocol-dropped e = protocol-taken ∙ rw e
+      protocol-dropped : (why : Reason) → addressIn t (getD protocolSlots at 0) ≡ absent why → protocolStepOf t there l ≡ leaves (value dropped) (walk (at + 1) 0 0 0) l
+      protocol-dropped why e = protocol-taken ∙ rw e
 
-      protocol-found : (a : ℕ) (p : ObjcProtocol) → addressIn t (getD lists at 0) ≡ value a → protocolAt t a ≡ value p
+      protocol-found : (a : ℕ) (p : ObjcProtocol) → addressIn t (getD protocolSlots at 0) ≡ value a → protocolAt t a ≡ value p
           → protocolStepOf t there l ≡ leaves (value (found p)) (walk (at + 1) 0 0 0) l
       unfolding takeProtocol
       protocol-found a p e d = protocol-taken ∙ rw (e, d)
 
-      protocol-passed : (a : ℕ) → addressIn t (getD lists at 0) ≡ value a → protocolAt t a ≡ absent
-          → protocolStepOf t there l ≡ leaves (value passed) (walk (at + 1) 0 0 0) l
+      protocol-passed : (a : ℕ) (why : Reason) → addressIn t (getD protocolSlots at 0) ≡ value a → protocolAt t a ≡ absent why
+          → protocolStepOf t there l ≡ leaves (value (passed why)) (walk (at + 1) 0 0 0) l
       unfolding takeProtocol
-      protocol-passed a e d = protocol-taken ∙ rw (e, d)
+      protocol-passed a why e d = protocol-taken ∙ rw (e, d)
 
   -- The protocol that slot a gives.
   protocolIn : ℕ → Outcome (List ObjcProtocol)
   protocolIn a = ofValue (addressIn t a) (λ p. present (protocolAt t p))
 
   -- One slot is taken, then the walk goes on and gives the records rs.
-  module _ (n at : ℕ) (l : List ℕ) (u : at < length lists) (rs : List ObjcProtocol) (later : Gives (protocolStepOf t) n (walk (at + 1) 0 0 0) l rs) where
+  module _ (n at : ℕ) (l : List ℕ) (u : at < length protocolSlots) (rs : List ObjcProtocol) (later : Gives (protocolStepOf t) n (walk (at + 1) 0 0 0) l rs) where
     abbrev Next : List ObjcProtocol → Type 0
     Next ps = Gives (protocolStepOf t) (suc n) (walk at 0 0 0) l (ps ++ rs)
 
-    by-protocol : (a : ℕ) → addressIn t (getD lists at 0) ≡ value a → {o : Outcome ObjcProtocol} {ps : List ObjcProtocol} → protocolAt t a ≡ o → Held o ps → Next ps
+    by-protocol : (a : ℕ) → addressIn t (getD protocolSlots at 0) ≡ value a → {o : Outcome ObjcProtocol} {ps : List ObjcProtocol} → protocolAt t a ≡ o → Held o ps → Next ps
     by-protocol a e d (held-one p) = giving (protocol-found at l (omega arith) u a p e d) later
-    by-protocol a e d held-none = passing (protocol-passed at l (omega arith) u a e d) later
+    by-protocol a e d (held-none why) = passing (protocol-passed at l (omega arith) u a why e d) later
 
-    next-protocol : (o : Outcome ℕ) → addressIn t (getD lists at 0) ≡ o → (ps : List ObjcProtocol) → ofValue o (λ p. present (protocolAt t p)) ≡ value ps → Next ps
+    next-protocol : (o : Outcome ℕ) → addressIn t (getD protocolSlots at 0) ≡ o → (ps : List ObjcProtocol) → ofValue o (λ p. present (protocolAt t p)) ≡ value ps → Next ps
     next-protocol (value a) e ps f = by-protocol a e refl (present-held (protocolAt t a) f)
-    next-protocol absent e ps f = let none : ps ≡ [] = cc in rw none (passing (protocol-dropped at l (omega arith) u e) later)
+    next-protocol (absent why) e ps f = let none : ps ≡ [] = cc in rw none (dropping (protocol-dropped at l (omega arith) u why e) later)
     next-protocol (number k) e ps f = let z : _≡_ {A = ℕ} 0 1 = cc in absurd (omega arith)
 
   -- All slots from one on.
-  protocol-runs : (n at : ℕ) (l : List ℕ) → at + n ≡ length lists → (rs : List ObjcProtocol) → gather protocolIn (drop at lists) ≡ value rs
+  protocol-runs : (n at : ℕ) (l : List ℕ) → at + n ≡ length protocolSlots → (rs : List ObjcProtocol) → gather protocolIn (drop at protocolSlots) ≡ value rs
       → Gives (protocolStepOf t) n (walk at 0 0 0) l rs
   unfolding protocolIn
   protocol-runs zero at l e rs f =
-      let none : rs ≡ [] = gather-none protocolIn (rw (drop-of-length-le lists {i = at} (omega arith)) at f) in
+      let none : rs ≡ [] = gather-none protocolIn (rw (drop-of-length-le protocolSlots {i = at} (omega arith)) at f) in
       rw none (ended (protocol-end at l (omega arith) (omega arith)))
   protocol-runs (suc n) at l e rs f =
-      let parts = gather-parts protocolIn (getD lists at 0) (drop (at + 1) lists) (rw (slots-from lists at (omega arith)) at f) in
+      let parts = gather-parts protocolIn (getD protocolSlots at 0) (drop (at + 1) protocolSlots) (rw (slots-from protocolSlots at (omega arith)) at f) in
       rw (parts .whole)
       (next-protocol n at l (omega arith) (parts .second) (protocol-runs n (at + 1) l (omega arith) (parts .second) (parts .ofSecond))
-      (addressIn t (getD lists at 0)) refl (parts .first) (parts .ofFirst))
+      (addressIn t (getD protocolSlots at 0)) refl (parts .first) (parts .ofFirst))
 
 -- Where no question refuses the tables and the plain definition gives records, no number, the walk is a run that gives exactly these.
 module _ (t : Tables) (yes : asked t ≡ value tt) (l : List ℕ) where

@@ -10,8 +10,9 @@ use Rattle.reads.specs.Place.{le, readableAt, readable, word, wordIn}
 use Rattle.reads.specs.Address.{stripped}
 use Rattle.reads.specs.Text.{text, textLength, textAt, textIn}
 use Rattle.reads.specs.Utf8.{judge, utf8}
+use Rattle.reads.specs.declared.answer.Reason.the-variants.{NullAddress, NoRecord}
 use Rattle.pointers.specs.Tables.{Tables, tablesOf, withIndex}
-use Rattle.pointers.specs.Question.{question, imageFits, wholeRows, every, sectionFits, sectionTable, infoWhole, nameFits, indexFits, askedTables, askedIndex, namesFit}
+use Rattle.pointers.specs.Question.{question, imageFits, wholeRows, every, sectionFits, sectionTable, infoWhole, nameInside, nameUtf8, indexFits, askedTables, askedIndex, namesInside, namesUtf8}
 use Rattle.pointers.specs.ImageInfo.{imageInfo, infoOf}
 use Rattle.pointers.specs.Index.{indexed}
 use Rattle.pointers.specs.Chain.{followFrom, follow, lastAmong}
@@ -23,7 +24,7 @@ use Rattle.records.specs.Protocol.{decodeProtocolLists, decodeClassProperties, 
 use Rattle.records.specs.Ask.{evenList}
 use Rattle.walks.specs.Gather.{gather}
 use Rattle.walks.specs.Handed.{answersOf}
-use Rattle.walks.specs.ProtocolNames.{protocolListAt, decodeProtocolList, hasSlot, decodeProtocolName, decodeOrBound, nameIn, decodeNameIn, walkAt, nameReached, namePassed, namesFinished, nextName, slotNames, protocolNames}
+use Rattle.walks.specs.ProtocolNames.{protocolListAt, decodeProtocolList, hasSlot, decodeProtocolName, decodeProtocolNameIn, nameIn, decodeNameIn, walkAt, nameReached, namePassed, namesFinished, nextName, slotNames, protocolNames}
 use Rattle.walks.proofs.ProtocolNameWalks.{slots-said-then-finished}
 
 -- The list at 0x1000 with slots at 0x1008, 0x1010 and 0x1018; a protocol_t of 72 bytes at 0x1020; its name at 0x1068; a symbol's name.
@@ -48,27 +49,27 @@ abbrev namesTables : List ℕ → Tables
 namesTables before = tablesOf namesImage (0x1000 ∷ 132 ∷ 0 ∷ 132 ∷ []) (replicate 15 0) (replicate 8 0) [] namesBinds (indexed [] namesBinds before)
 
 module _ (before : List ℕ) where
-  names-unrebased : (a : ℕ) → rebaseAt [] (indexed [] namesBinds before) a ≡ absent
+  names-unrebased : (a : ℕ) → rebaseAt [] (indexed [] namesBinds before) a ≡ absent NoRecord
   unfolding rebaseAt lastAmong
   names-unrebased a = rw (rebase-last-wins [] namesBinds before a)
 
   name-bound : nameIn (namesTables before) 0x1008 ≡ value (textOf 123 9)
-  unfolding decodeNameIn decodeOrBound decodeProtocolName resolve stored word readable lookup rows ends holds placed sum64 readableAt le stripped nonzero choose symbolOf bindAt bindName question nameFits utf8 judge strippedName fitting starts lastAmong
+  unfolding decodeNameIn decodeProtocolNameIn decodeProtocolName resolve stored word readable lookup rows ends holds placed sum64 readableAt le stripped nonzero choose symbolOf bindAt bindName question nameInside nameUtf8 utf8 judge strippedName fitting starts lastAmong
   name-bound = simp (names-unrebased, bind-last-wins [] namesBinds before)
 
-  name-empty : nameIn (namesTables before) 0x1010 ≡ absent
-  unfolding decodeNameIn decodeOrBound decodeProtocolName resolve stored word readable lookup rows ends holds placed sum64 readableAt le stripped nonzero choose symbolOf bindAt lastAmong
+  name-empty : nameIn (namesTables before) 0x1010 ≡ absent NullAddress
+  unfolding decodeNameIn decodeProtocolNameIn decodeProtocolName resolve stored word readable lookup rows ends holds placed sum64 readableAt le stripped nonzero choose symbolOf bindAt lastAmong
   name-empty = simp (names-unrebased, bind-last-wins [] namesBinds before)
 
   name-decoded : nameIn (namesTables before) 0x1018 ≡ value (textOf 104 1)
-  unfolding decodeNameIn decodeOrBound decodeProtocolName decodeProtocol decodeProtocolLists decodeClassProperties pointerAt pointerOr0At resolve stored word wordIn readable lookup rows ends holds placed sum64 readableAt le stripped nonzero choose textIn textAt textLength text utf8 judge
+  unfolding decodeNameIn decodeProtocolNameIn decodeProtocolName decodeProtocol decodeProtocolLists decodeClassProperties pointerAt pointerOr0At resolve stored word wordIn readable lookup rows ends holds placed sum64 readableAt le stripped nonzero choose textIn textAt textLength text utf8 judge
   name-decoded = simp names-unrebased
 
   list-there : protocolListAt (namesTables before) 0x1000 ≡ value (record { base = 0x1008; count = 3 })
   unfolding decodeProtocolList evenList wordIn readable lookup rows ends holds placed sum64 readableAt le nonzero choose
   list-there = refl
 
-  names-in-slots : slotNames (namesTables before) (record { base = 0x1008; count = 3 }) 0 3 ≡ value (textOf 123 9) ∷ absent ∷ value (textOf 104 1) ∷ []
+  names-in-slots : slotNames (namesTables before) (record { base = 0x1008; count = 3 }) 0 3 ≡ value (textOf 123 9) ∷ absent NullAddress ∷ value (textOf 104 1) ∷ []
   unfolding slotNames hasSlot choose
   names-in-slots = simp (name-bound, name-empty, name-decoded)
 
@@ -79,7 +80,7 @@ module _ (before : List ℕ) where
   -- Opening accepts the namesTables with an index of 8,194 words.
   module _ (enough : 8194 ≤ length before) where
     accepts : askedOpening (withIndex (namesTables before) before) ≡ value tt
-    unfolding askedOpening askedTables askedIndex question imageFits wholeRows every sectionFits sectionTable infoWhole namesFit nameFits indexFits utf8 judge choose
+    unfolding askedOpening askedTables askedIndex question imageFits wholeRows every sectionFits sectionTable infoWhole namesInside namesUtf8 nameInside nameUtf8 indexFits utf8 judge choose
     accepts = rw (le-leb 8194 (length before) enough)
 
     opened : Opened (namesTables before)
@@ -87,10 +88,10 @@ module _ (before : List ℕ) where
     opened = record { indexBefore = before; info = infoOf 0 0; accepted = rw accepts; left = rw accepts }
 
     pub name-answers : answersOf (nextName (namesTables before)) 4 (walkAt 0x1000 0)
-        ≡ value (nameReached (textOf 123 9)) ∷ value namePassed ∷ value (nameReached (textOf 104 1)) ∷ value namesFinished ∷ []
+        ≡ value (nameReached (textOf 123 9)) ∷ value (namePassed NullAddress) ∷ value (nameReached (textOf 104 1)) ∷ value namesFinished ∷ []
     name-answers = simp names-in-slots at (slots-said-then-finished (namesTables before) opened 0x1000 (record { base = 0x1008; count = 3 }) list-there 1)
 
 -- With an index of which each word is 7 every chain begins above the record count: 9, which is not left out.
 pub names-number : protocolNames (withIndex (namesTables []) (replicate 8194 7)) 0x1000 ≡ number 9
-unfolding protocolNames gather decodeProtocolList slotNames hasSlot decodeNameIn evenList wordIn readable lookup rows ends holds placed sum64 readableAt le nonzero resolve rebaseAt follow followFrom choose
+unfolding protocolNames gather decodeProtocolList slotNames hasSlot decodeNameIn decodeProtocolNameIn evenList wordIn readable lookup rows ends holds placed sum64 readableAt le nonzero resolve rebaseAt follow followFrom choose
 names-number = refl

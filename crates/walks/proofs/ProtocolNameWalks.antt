@@ -13,6 +13,7 @@ use Rattle.reads.specs.declared.text.Text.{Text}
 use Rattle.reads.proofs.Outcomes.{then-came}
 use Rattle.reads.proofs.Tests.{by-choose, choose-true, choose-false}
 use Rattle.reads.proofs.Unrefused.{unrefused-then, sum-unrefused, nonzero-unrefused, readable-unrefused}
+use Rattle.reads.specs.declared.answer.Reason.{Reason}
 use Rattle.pointers.specs.Tables.{Tables, imageIn}
 use Rattle.pointers.specs.Open.{Opened}
 use Rattle.pointers.proofs.Questions.{question-yes}
@@ -58,11 +59,11 @@ slots-at-most t l (suc k) i =
 -- Without a number the walk goes one slot on.
 named-on : (w : ProtocolNameWalk) {x : Outcome Text} → Unrefused x → named w x ≡ hands (slotAnswer x) (walkAt (w .list) (w .cursor + 1))
 named-on w (is-value name) = refl
-named-on w is-absent = refl
+named-on w (is-absent r) = refl
 
 answer-unrefused : {x : Outcome Text} → Unrefused x → Unrefused (slotAnswer x)
 answer-unrefused (is-value name) = is-value (nameReached name)
-answer-unrefused is-absent = is-value namePassed
+answer-unrefused (is-absent r) = is-value (namePassed r)
 
 -- The names among the answers for slots are the names among the slots.
 none-finished : (n : ℕ) → namesSaid (replicate n (value namesFinished)) ≡ value []
@@ -72,7 +73,7 @@ none-finished (suc n) = rw (none-finished n)
 
 slot-says : (o : Outcome Text) → ofValue (slotAnswer o) (λ r. value (nameSaid r)) ≡ present o
 slot-says (value name) = refl
-slot-says absent = refl
+slot-says (absent r) = refl
 slot-says (number k) = refl
 
 names-of-slots : (os : List (Outcome Text)) (n : ℕ)
@@ -103,9 +104,9 @@ module _ (t : Tables) (o : Opened t) where
   unfolding nextName overNames fromCursor
   next-in w l e h = rw (opened-asked t o, e, question-yes 10 _ (le-leb (w .cursor) (l .count) h))
 
-  pub next-absent : (w : ProtocolNameWalk) → protocolListAt t (w .list) ≡ absent → w .cursor ≤ 0 → nextName t w ≡ hands absent w
+  pub next-absent : (w : ProtocolNameWalk) (r : Reason) → protocolListAt t (w .list) ≡ absent r → w .cursor ≤ 0 → nextName t w ≡ hands (absent r) w
   unfolding nextName overNames fromCursor
-  next-absent w e h = rw (opened-asked t o, e, question-yes 10 _ (le-leb (w .cursor) 0 h))
+  next-absent w r e h = rw (opened-asked t o, e, question-yes 10 _ (le-leb (w .cursor) 0 h))
 
   pub next-unrefused : (w : ProtocolNameWalk) → w .cursor ≤ countBy (λ l. l .count) (protocolListAt t (w .list)) → Unrefused (nextName t w .answer)
   unfolding stepIn
@@ -117,7 +118,7 @@ module _ (t : Tables) (o : Opened t) where
           (by-choose (λ (s : NameLeft). Unrefused (s .answer))
           (λ f. rw (named-on w (name-in-unrefused (slotIn l (w .cursor)))) (answer-unrefused (name-in-unrefused (slotIn l (w .cursor)))))
           (λ f. is-value namesFinished))
-      go absent e u = rw (next-absent w e (rw e at h)) is-absent
+      go (absent r) e u = rw (next-absent w r e (rw e at h)) (is-absent r)
 
   -- The steps over a list that is there.
   module _ (list : ℕ) (l : ProtocolList) (there : protocolListAt t list ≡ value l) where

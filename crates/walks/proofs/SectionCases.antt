@@ -9,6 +9,7 @@ use Rattle.reads.specs.Place.{le, readableAt, readable, word}
 use Rattle.reads.specs.Segment.{rows, ends, holds, placed, lookup}
 use Rattle.reads.specs.Address.{stripped, dataArm64e, data64, mapped, pickedWide, picked}
 use Rattle.reads.specs.Relative.{slotAddress}
+use Rattle.reads.specs.declared.answer.Reason.the-variants.{Unreadable}
 use Rattle.pointers.specs.Tables.{Tables, tablesOf, withIndex}
 use Rattle.pointers.specs.Question.{question, imageFits, wholeRows, sectionFits, every, sectionTable, infoWhole, indexFits, askedTables, askedIndex, asked}
 use Rattle.pointers.specs.Section.{sectionAt}
@@ -17,7 +18,7 @@ use Rattle.pointers.specs.Slot.{rebaseAt, stored, resolve}
 use Rattle.records.specs.Class.{bitsOf, decodeData, decodeClass}
 use Rattle.walks.specs.Gather.{gather}
 use Rattle.walks.specs.Slots.{slotsFrom, sectionSlots, decodeAddress, among, slotFits, ledgerFits, askedSlot, askedLedger, slotTaken}
-use Rattle.walks.specs.Sections.{Walk, walk, atStart, found, passed, finished, Left, leaves, classes, metaOf, takeWaiting, takeNew, takeSlot, stepBy, stepOf}
+use Rattle.walks.specs.Sections.{Walk, walk, atStart, found, passed, dropped, finished, Left, leaves, classes, metaOf, takeWaiting, takeNew, takeSlot, stepBy, stepOf}
 use Rattle.walks.specs.PlainSections.{addressesIn, without, once, listed, withMeta, plainClasses}
 use Rattle.records.specs.declared.class.ObjcClass.{ObjcClass}
 
@@ -68,10 +69,10 @@ abbrev taken : List Case
 taken =
     case atStart (replicate 5 9) (leaves (value (found listedClass)) (walk 1 1 4096 4104) one)
     ∷ case (walk 1 1 4096 4104) one (leaves (value (found listedMeta)) (walk 1 1 4096 0) one)
-    ∷ case (walk 1 1 4096 0) one (leaves (value passed) (walk 2 1 4096 0) one)
-    ∷ case (walk 2 1 4096 0) one (leaves (value passed) (walk 3 1 4096 0) one)
-    ∷ case (walk 3 1 4096 0) one (leaves (value passed) (walk 4 1 4096 0) one)
-    ∷ case (walk 4 1 4096 0) one (leaves (value passed) (walk 5 2 12288 0) two)
+    ∷ case (walk 1 1 4096 0) one (leaves (value dropped) (walk 2 1 4096 0) one)
+    ∷ case (walk 2 1 4096 0) one (leaves (value dropped) (walk 3 1 4096 0) one)
+    ∷ case (walk 3 1 4096 0) one (leaves (value dropped) (walk 4 1 4096 0) one)
+    ∷ case (walk 4 1 4096 0) one (leaves (value (passed Unreadable)) (walk 5 2 12288 0) two)
     ∷ case (walk 5 2 12288 0) two (leaves (value finished) (walk 5 2 12288 0) two)
     ∷ []
 

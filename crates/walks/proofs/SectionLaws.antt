@@ -9,7 +9,7 @@ use Rattle.reads.specs.Outcome.{Outcome, value, absent, number}
 use Rattle.reads.proofs.Tests.{choose-true, choose-false}
 use Rattle.pointers.specs.Tables.{Tables}
 use Rattle.walks.specs.Handed.{unlessRefused}
-use Rattle.walks.specs.Slots.{slotsOf, among, askedSlot, askedLedger, TakenSlot, address, dropped, noSlot, slotRefused, slotTaken, metBelow, greatest, firstMet, nextSlot, nextNew}
+use Rattle.walks.specs.Slots.{slotsOf, among, askedSlot, askedLedger, TakenSlot, address, slotDropped, noSlot, slotRefused, slotTaken, metBelow, greatest, firstMet, nextSlot, nextNew}
 use Rattle.walks.specs.Sections.{Walk, walk, atStart, metIn, Highest, Left, stays, Kind, slotsIn, bySlot, takeWaiting, nextWaiting, takeNew, takeSlot, stepBy, ledgerStepOf, stepOf, takeProtocol, protocolStepOf}
 use Rattle.records.specs.declared.protocol.ObjcProtocol.{ObjcProtocol}
 use Rattle.walks.specs.declared.slots.Lists.the-variants.{Protocols}
@@ -19,7 +19,7 @@ use Rattle.walks.proofs.SlotLaws.{met-by-greatest}
 slot-step : {A : Type 0} (w : Walk) (l : List ℕ) (f : ℕ → Left A) (o : Outcome (Unit {0})) (x : TakenSlot)
     → bySlot w l f (unlessRefused o slotRefused x) ≡ unlessRefused o (stays w l) (bySlot w l f x)
 slot-step w l f (value u) x = refl
-slot-step w l f absent x = refl
+slot-step w l f (absent r) x = refl
 slot-step w l f (number k) x = refl
 
 module _ {A : Type 0} (k : Kind A) (t : Tables) (w : Walk) (l : List ℕ) where
@@ -44,7 +44,7 @@ module _ {A : Type 0} (k : Kind A) (t : Tables) (w : Walk) (l : List ℕ) where
 -- The highest address met stands in for a look at the ledger: where it is the greatest word in use, the step is that by the ledger alone.
 first-met-same : {f g : ℕ → Bool} → ((a : ℕ) → f a ≡ g a) → (x : TakenSlot) → firstMet f x ≡ firstMet g x
 first-met-same e (address a) = rw (e a)
-first-met-same e dropped = refl
+first-met-same e slotDropped = refl
 first-met-same e noSlot = refl
 first-met-same e (slotRefused k) = refl
 

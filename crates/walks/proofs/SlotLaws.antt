@@ -13,13 +13,14 @@ use Rattle.reads.specs.Outcome.{Outcome, value, absent, number, andThen}
 use Rattle.reads.specs.Relative.{slotAddress}
 use Rattle.reads.proofs.Tests.{by-choose, choose-true, choose-false, both-true}
 use Rattle.reads.proofs.Outcomes.{then-came}
+use Rattle.reads.specs.declared.answer.Reason.{Reason}
 use Rattle.pointers.specs.Tables.{Tables}
 use Rattle.pointers.specs.Question.{question, askedTables, askedIndex, asked}
 use Rattle.pointers.specs.Section.{sectionAt}
 use Rattle.pointers.specs.declared.section.ObjcSection.{ObjcSection}
 use Rattle.pointers.proofs.Questions.{question-yes, question-no, question-came}
 use Rattle.walks.specs.Handed.{unlessRefused}
-use Rattle.walks.specs.Slots.{slotsFrom, sectionSlots, slotsOf, slotCount, protocolCount, addressIn, among, slotFits, ledgerFits, askedSlot, askedLedger, TakenSlot, address, dropped, noSlot, slotRefused, takenBy, slotTaken, metBelow, greatest, firstMet, nextSlot, nextNew, slotOutcome, Room}
+use Rattle.walks.specs.Slots.{slotsFrom, sectionSlots, slotsOf, slotCount, protocolCount, addressIn, among, slotFits, ledgerFits, askedSlot, askedLedger, TakenSlot, address, slotDropped, noSlot, slotRefused, takenBy, slotTaken, metBelow, greatest, firstMet, nextSlot, nextNew, slotOutcome, Room}
 use Rattle.walks.specs.declared.slots.Lists.{Lists}
 use Rattle.walks.specs.declared.slots.Lists.the-variants.{Classes, Categories, Protocols}
 use Rattle.walks.specs.declared.slots.SlotStep.{SlotStep}
@@ -283,12 +284,12 @@ asked-answered t =
     (λ c. answered-then _ (answered-question 4 _) (λ d. answered-then _ (answered-question 5 _) (λ e. answered-question 6 _))))))
     (λ f. answered-question 8 _)
 
-asked-never-absent : {o : Outcome (Unit {0})} → Answered o → absent ≡ o → ⊥
-asked-never-absent (answered-value u) e = let z : _≡_ {A = ℕ} 0 1 = cc in omega arith
-asked-never-absent (answered-number k) e = let z : _≡_ {A = ℕ} 0 1 = cc in omega arith
+asked-never-absent : {o : Outcome (Unit {0})} (r : Reason) → Answered o → absent r ≡ o → ⊥
+asked-never-absent r (answered-value u) e = let z : _≡_ {A = ℕ} 0 1 = cc in omega arith
+asked-never-absent r (answered-number k) e = let z : _≡_ {A = ℕ} 0 1 = cc in omega arith
 
-pub no-question-absent : (t : Tables) → absent ≡ asked t → ⊥
-no-question-absent t e = asked-never-absent (asked-answered t) e
+pub no-question-absent : (t : Tables) (r : Reason) → absent r ≡ asked t → ⊥
+no-question-absent t r e = asked-never-absent r (asked-answered t) e
 
 module _ (t : Tables) (slots : List ℕ) (slot used : ℕ) where
   pub slot-answered : Answered (askedSlot t slots slot used)
@@ -302,13 +303,13 @@ module _ (t : Tables) (slots : List ℕ) (slot used : ℕ) where
 -- A slot that comes to an address or is dropped is there, and a ledger that was asked for has a word for it.
 abbrev pub takes : TakenSlot → Bool
 takes (address a) = true
-takes dropped = true
+takes slotDropped = true
 takes noSlot = false
 takes (slotRefused k) = false
 
 first-met-takes : (met : ℕ → Bool) (x : TakenSlot) → takes (firstMet met x) ≡ takes x
 first-met-takes met (address a) = by-choose (λ (y : TakenSlot). takes y ≡ true) (λ e. refl) (λ e. refl)
-first-met-takes met dropped = refl
+first-met-takes met slotDropped = refl
 first-met-takes met noSlot = refl
 first-met-takes met (slotRefused k) = refl
 

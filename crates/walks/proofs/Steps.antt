@@ -36,11 +36,11 @@ module _ {A W : Type 0} (w : W) (y : Handed A W) {x : Handed A W} {o : Outcome (
 
 -- A missing list has count 0, and a step over it hands the walk back.
 count-missing : {L : Type 0} (count : L → ℕ) (m : Missing) → countBy count (missed m) ≡ 0
-count-missing count Absent = refl
+count-missing count (Absent r) = refl
 count-missing count (Refused k) = refl
 
 over-missing : {L A W : Type 0} (w : W) (step : L → Handed A W) (m : Missing) → overList w step (missed m) ≡ hands (missed m) w
-over-missing w step Absent = refl
+over-missing w step (Absent r) = refl
 over-missing w step (Refused k) = refl
 
 -- Question 10, of a list that is there and of one that is missing.

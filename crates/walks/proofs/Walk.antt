@@ -12,7 +12,7 @@ use lib.Dec.{leb}
 use lib.ListN.{length, replicate}
 use borrow.Author.Tests.{le-leb}
 use Rattle.reads.specs.Outcome.{Outcome, value, absent, number, Unrefused, is-value, is-absent, andThen}
-use Rattle.reads.proofs.Unrefused.{unrefused-then}
+use Rattle.reads.specs.declared.answer.Reason.{Reason}
 use Rattle.pointers.specs.Open.{Opened}
 use Rattle.pointers.specs.Question.{question, asked}
 use Rattle.pointers.specs.Tables.{Tables, imageIn}
@@ -23,7 +23,7 @@ use Rattle.records.specs.Search.{firstReadable, readables}
 use Rattle.records.specs.Row.{rowAt}
 use Rattle.walks.specs.Handed.{unlessRefused, handsBack, overList, fromCursor, answersOf}
 use Rattle.walks.specs.Walk.{walkOf, ReachedRow, rowsFinished, RowLeft, entryRow, settles, searched, overRows, nextOf}
-use Rattle.walks.specs.PlainWalk.{Told, told, countOf, rowOf, rowFrom, refusedBy, refusal, settling, goOn, leftFrom, plainOver, plainStep, plainWalk, steps, shown, shownAll, Loans, loans-end, loan-opened, loan-refused, handedOut}
+use Rattle.walks.specs.PlainWalk.{Told, told, countOf, refusedBy, rowRefusal, refusalFrom, refusal, settling, goOn, leftFrom, plainOver, plainStep, plainWalk, steps, shown, shownAll, Loans, loans-end, loan-opened, loan-refused, handedOut}
 use Rattle.records.specs.declared.list.Layout.{Layout}
 use Rattle.records.specs.declared.list.ListKind.{ListKind}
 use Rattle.records.specs.declared.row.Row.{Row}
@@ -38,18 +38,18 @@ number-same a b e = cc
 no-number : {A : Type 0} (a : A) (q : ℕ) → _≡_ {A = Outcome A} (value a) (number q) → ⊥
 no-number a q e = let z : _≡_ {A = ℕ} 0 1 = cc in omega arith
 
-not-absent : {A : Type 0} (q : ℕ) → _≡_ {A = Outcome A} absent (number q) → ⊥
-not-absent q e = let z : _≡_ {A = ℕ} 0 1 = cc in omega arith
+not-absent : {A : Type 0} (r : Reason) (q : ℕ) → _≡_ {A = Outcome A} (absent r) (number q) → ⊥
+not-absent r q e = let z : _≡_ {A = ℕ} 0 1 = cc in omega arith
 
 -- The number of an outcome, if it is one.
 refused-in : {A : Type 0} (o : Outcome A) (q : ℕ) → refusedBy o ≡ number q → o ≡ number q
 refused-in (value a) q e = absurd (no-number tt q e)
-refused-in absent q e = absurd (no-number tt q e)
+refused-in (absent r) q e = absurd (no-number tt q e)
 refused-in (number n) q e = ap number (number-same n q e)
 
 unrefused-in : {A : Type 0} {o : Outcome A} → Unrefused o → refusedBy o ≡ value tt
 unrefused-in (is-value a) = refl
-unrefused-in is-absent = refl
+unrefused-in (is-absent r) = refl
 
 -- A step that a question refuses gives its number, and the walk as given.
 module _ (t : Tables) (k : ListKind) (list p q : ℕ) where
@@ -57,31 +57,31 @@ module _ (t : Tables) (k : ListKind) (list p q : ℕ) where
   standing = walkOf list k p
 
   -- A lookup of the row that is reached refuses.
-  of-search : (h : Layout) (o : Option ℕ) → rowOf t h o ≡ number q → searched t standing h o ≡ handsBack standing q
-  of-search h (some j) e = rw e
-  of-search h none e = absurd (not-absent q e)
+  of-search : (h : Layout) (o : Option ℕ) → rowRefusal t h o ≡ number q → searched t standing h o ≡ handsBack standing q
+  of-search h (some j) e = rw (refused-in (rowAt t (h .kind) (entryAddress h j)) q e)
+  of-search h none e = absurd (no-number tt q e)
 
-  of-list : {o : Outcome Layout} → Unrefused o → rowFrom t o p ≡ number q
+  of-list : {o : Outcome Layout} → Unrefused o → refusalFrom t o p ≡ number q
       → overList standing (λ h. searched t standing h (firstReadable (imageIn t) h p)) o ≡ handsBack standing q
   of-list (is-value h) e = of-search h (firstReadable (imageIn t) h p) e
-  of-list is-absent e = absurd (not-absent q e)
+  of-list (is-absent r) e = absurd (no-number tt q e)
 
   -- Question 10, and then that lookup.
   of-cursor : (o : Outcome Layout) → Unrefused o → (b : Bool) → leb p (countOf o) ≡ b
-      → andThen (question 10 (leb p (countOf o))) (λ _. refusedBy (rowFrom t o p)) ≡ number q → overRows t standing o ≡ handsBack standing q
+      → andThen (question 10 (leb p (countOf o))) (λ _. refusalFrom t o p) ≡ number q → overRows t standing o ≡ handsBack standing q
   unfolding overRows fromCursor
   of-cursor o u true l e =
       let yes = question-yes 10 (leb p (countOf o)) l in
-      rw yes (of-list u (refused-in (rowFrom t o p) q (rw yes at e)))
+      rw yes (of-list u (rw yes at e))
   of-cursor o u false l e =
       let no = question-no 10 (leb p (countOf o)) l in
       rw no (ap (handsBack standing) (number-same 10 q (rw no at e)))
 
   of-asked : (o : Outcome (Unit {0}))
-      → andThen o (λ _. andThen (question 10 (leb p (countOf (listAt t k list)))) (λ _. refusedBy (rowFrom t (listAt t k list) p))) ≡ number q
+      → andThen o (λ _. andThen (question 10 (leb p (countOf (listAt t k list)))) (λ _. refusalFrom t (listAt t k list) p)) ≡ number q
       → unlessRefused o (handsBack standing) (overRows t standing (listAt t k list)) ≡ handsBack standing q
   of-asked (value u) e = of-cursor (listAt t k list) (list-unrefused t k list) (leb p (countOf (listAt t k list))) refl e
-  of-asked absent e = absurd (not-absent q e)
+  of-asked (absent r) e = absurd (not-absent r q e)
   of-asked (number n) e = ap (handsBack standing) (number-same n q e)
 
   pub refused-step : refusal t k list p ≡ number q → nextOf t standing ≡ handsBack standing q
@@ -90,21 +90,22 @@ module _ (t : Tables) (k : ListKind) (list p q : ℕ) where
 
 -- Over opened tables no question refuses a position up to the count, and the step is the plain one.
 module _ (t : Tables) (opened : Opened t) (k : ListKind) (list : ℕ) where
-  row-of-unrefused : (h : Layout) (o : Option ℕ) → Unrefused (rowOf t h o)
-  row-of-unrefused h (some j) = row-unrefused t opened (h .kind) (entryAddress h j)
-  row-of-unrefused h none = is-absent
+  row-unrefusing : (h : Layout) (o : Option ℕ) → rowRefusal t h o ≡ value tt
+  row-unrefusing h (some j) = unrefused-in (row-unrefused t opened (h .kind) (entryAddress h j))
+  row-unrefusing h none = refl
 
-  row-from-unrefused : (p : ℕ) → Unrefused (rowFrom t (listAt t k list) p)
-  row-from-unrefused p = unrefused-then _ (list-unrefused t k list) (λ h. row-of-unrefused h (firstReadable (imageIn t) h p))
+  list-unrefusing : (p : ℕ) {o : Outcome Layout} → Unrefused o → refusalFrom t o p ≡ value tt
+  list-unrefusing p (is-value h) = row-unrefusing h (firstReadable (imageIn t) h p)
+  list-unrefusing p (is-absent r) = refl
 
   pub opened-unrefused : (p : ℕ) → p ≤ countOf (listAt t k list) → refusal t k list p ≡ value tt
   unfolding refusal
   opened-unrefused p l =
-      rw (opened-asked t opened, question-yes 10 (leb p (countOf (listAt t k list))) (le-leb p (countOf (listAt t k list)) l)) (unrefused-in (row-from-unrefused p))
+      rw (opened-asked t opened, question-yes 10 (leb p (countOf (listAt t k list))) (le-leb p (countOf (listAt t k list)) l)) (list-unrefusing p (list-unrefused t k list))
 
   row-step : (p j : ℕ) {o : Outcome Row} → Unrefused o → settles (walkOf list k p) j o ≡ shown k list (settling j o)
   row-step p j (is-value r) = refl
-  row-step p j is-absent = refl
+  row-step p j (is-absent r) = refl
 
   search-step : (p : ℕ) (h : Layout) (o : Option ℕ) → firstReadable (imageIn t) h p ≡ o
       → searched t (walkOf list k p) h o ≡ shown k list (goOn t h (leftFrom t h p))
@@ -115,7 +116,7 @@ module _ (t : Tables) (opened : Opened t) (k : ListKind) (list : ℕ) where
   list-step : (p : ℕ) {o : Outcome Layout} → Unrefused o → p ≤ countOf o → overRows t (walkOf list k p) o ≡ shown k list (plainOver t p o)
   unfolding overRows fromCursor
   list-step p (is-value h) l = rw (question-yes 10 _ (le-leb p (h .count) l)) (search-step p h (firstReadable (imageIn t) h p) refl)
-  list-step p is-absent l = rw (question-yes 10 _ (le-leb p 0 l))
+  list-step p (is-absent r) l = rw (question-yes 10 _ (le-leb p 0 l))
 
   pub opened-step : (p : ℕ) → p ≤ countOf (listAt t k list) → nextOf t (walkOf list k p) ≡ shown k list (plainStep t k list t p)
   unfolding nextOf plainStep
@@ -128,7 +129,7 @@ module _ (t : Tables) (opened : Opened t) (k : ListKind) (list : ℕ) where
 
   over-stands : (p : ℕ) {o : Outcome Layout} → Unrefused o → p ≤ countOf o → plainOver t p o .position ≤ countOf o
   over-stands p (is-value h) l = go-on-stands p h (firstReadable (imageIn t) h p) refl
-  over-stands p is-absent l = l
+  over-stands p (is-absent r) l = l
 
   -- The walk never stands past the count.
   stands : (p : ℕ) → p ≤ countOf (listAt t k list) → plainStep t k list t p .position ≤ countOf (listAt t k list)
@@ -151,18 +152,18 @@ module _ (t : Tables) (opened : Opened t) (k : ListKind) (list : ℕ) where
 
   -- D3b, the whole claim. `opened`: the tables are what opening accepted, with the index as opening left it. The run: each loan is these
   -- tables, or is refused where the walk stands by a question that the step asks. Then every answer, with its whole row or the index that
-  -- it skipped or the number, and every cursor are the plain walk's.
+  -- it skipped and why or the number, and every cursor are the plain walk's.
   pub whole-claim : (loans : List Tables) → Loans t k list loans 0 → steps loans (walkOf list k 0) ≡ shownAll k list (plainWalk t k list loans 0)
   whole-claim loans r = steps-from loans 0 r (omega arith)
 
-  -- Over an absent list every step says so.
-  pub walk-of-absent-list : listAt t k list ≡ absent → (n : ℕ) → answersOf (nextOf t) n (walkOf list k 0) ≡ replicate n absent
+  -- Over an absent list every step says so, and why.
+  pub walk-of-absent-list : (r : Reason) → listAt t k list ≡ absent r → (n : ℕ) → answersOf (nextOf t) n (walkOf list k 0) ≡ replicate n (absent r)
   unfolding answersOf plainStep
-  walk-of-absent-list e zero = refl
-  walk-of-absent-list e (suc n) =
+  walk-of-absent-list r e zero = refl
+  walk-of-absent-list r e (suc n) =
       let none : 0 ≤ countOf (listAt t k list) = omega arith in
-      let next : nextOf t (walkOf list k 0) ≡ shown k list (told absent 0) = opened-step 0 none ∙ rw (opened-unrefused 0 none, e) in
-      rw next (ap (λ (rest : List (Outcome ReachedRow)). absent ∷ rest) (walk-of-absent-list e n))
+      let next : nextOf t (walkOf list k 0) ≡ shown k list (told (absent r) 0) = opened-step 0 none ∙ rw (opened-unrefused 0 none, e) in
+      rw next (ap (λ (rest : List (Outcome ReachedRow)). absent r ∷ rest) (walk-of-absent-list r e n))
 
   -- The list is there, with the layout h.
   module _ (h : Layout) (there : listAt t k list ≡ value h) where

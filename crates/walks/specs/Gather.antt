@@ -13,7 +13,7 @@ gather f (a ∷ rest) = joined (f a) (gather f rest)
 -- What a value gives; what is absent gives nothing.
 abbrev pub ofValue : {A B : Type 0} → Outcome A → (A → Outcome (List B)) → Outcome (List B)
 ofValue (value a) f = f a
-ofValue absent f = value []
+ofValue (absent r) f = value []
 ofValue (number k) f = number k
 
 -- A value alone; what is absent gives none.

@@ -8,7 +8,7 @@ use Rattle.pointers.specs.Question.{question}
 -- A step that a question refuses gives its number; any other goes on.
 abbrev pub unlessRefused : {A B : Type 0} → Outcome A → (ℕ → B) → B → B
 unlessRefused (value a) refused on = on
-unlessRefused absent refused on = on
+unlessRefused (absent r) refused on = on
 unlessRefused (number k) refused on = refused k
 
 -- An answer, with the walk that the step hands back.
@@ -26,14 +26,14 @@ handsBack w k = hands (number k) w
 -- A step over a list, if there is one: with a number or absent the walk comes back as given.
 abbrev pub overList : {L A W : Type 0} → W → (L → Handed A W) → Outcome L → Handed A W
 overList w step (value l) = step l
-overList w step absent = hands absent w
+overList w step (absent r) = hands (absent r) w
 overList w step (number k) = handsBack w k
 
 -- The count of a list, 0 for an absent one. The last clause is never met: a list is looked up by reads alone, and these give no number,
 -- whatever the tables (list-unrefused in records/proofs/Headers.antt, protocol-list-unrefused in proofs/ProtocolNameWalks.antt).
 abbrev pub countBy : {L : Type 0} → (L → ℕ) → Outcome L → ℕ
 countBy count (value l) = count l
-countBy count absent = 0
+countBy count (absent r) = 0
 countBy count (number k) = 0
 
 -- Question 10: is the cursor at most the list's count?

@@ -7,13 +7,14 @@ use mathlib.Core.Bool.{Bool, true, false}
 use mathlib.Core.List.{List, [], _∷_}
 use lib.Dec.{eqb}
 use Rattle.reads.specs.Outcome.{Outcome, value, andThen, nonzero}
+use Rattle.reads.specs.declared.answer.Reason.{Reason}
 use Rattle.pointers.specs.Tables.{Tables}
 use Rattle.records.specs.Class.{classAt}
 use Rattle.records.specs.Category.{categoryAt}
 use Rattle.records.specs.Protocol.{protocolAt}
 use Rattle.walks.specs.Gather.{joined, gather, ofValue, present}
 use Rattle.walks.specs.Slots.{slotsOf, addressIn}
-use Rattle.walks.specs.Sections.{Walk, atStart, found, passed, finished, Left, leaves, metaOf}
+use Rattle.walks.specs.Sections.{Walk, atStart, found, passed, dropped, finished, Left, leaves, metaOf}
 use Rattle.walks.specs.declared.slots.Lists.{Lists}
 use Rattle.walks.specs.declared.slots.Lists.the-variants.{Classes, Categories, Protocols}
 use Rattle.records.specs.declared.class.ObjcClass.{ObjcClass}
@@ -57,11 +58,13 @@ plainCategories t = andThen (listed t Categories) (gather (λ a. present (catego
 unfoldable pub plainProtocols : Tables → Outcome (List ObjcProtocol)
 plainProtocols t = gather (λ a. ofValue (addressIn t a) (λ p. present (protocolAt t p))) (slotsOf Protocols (t .sections))
 
--- Steps of a walk, each given the walk and the ledger that the last left: n that pass or give a record, none refused, and then finished, which
--- leaves walk and ledger as they are, so that every later step says finished too. The records given, in order.
+-- Steps of a walk, each given the walk and the ledger that the last left: n that give a record, pass an absent one or drop a slot, none
+-- refused, and then finished, which leaves walk and ledger as they are, so that every later step says finished too. The records given, in
+-- order.
 pub data Gives {A : Type 0} (step : Walk → List ℕ → Left A) : ℕ → Walk → List ℕ → List A → Type 0 where
   ended : {w : Walk} {l : List ℕ} → step w l ≡ leaves (value finished) w l → Gives step 0 w l []
-  passing : {n : ℕ} {w v : Walk} {l m : List ℕ} {rs : List A} → step w l ≡ leaves (value passed) v m → Gives step n v m rs → Gives step (suc n) w l rs
+  passing : {n : ℕ} {w v : Walk} {l m : List ℕ} {r : Reason} {rs : List A} → step w l ≡ leaves (value (passed r)) v m → Gives step n v m rs → Gives step (suc n) w l rs
+  dropping : {n : ℕ} {w v : Walk} {l m : List ℕ} {rs : List A} → step w l ≡ leaves (value dropped) v m → Gives step n v m rs → Gives step (suc n) w l rs
   giving : {n : ℕ} {w v : Walk} {l m : List ℕ} {a : A} {rs : List A}
       → step w l ≡ leaves (value (found a)) v m → Gives step n v m rs → Gives step (suc n) w l (a ∷ rs)
 

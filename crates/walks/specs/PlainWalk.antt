@@ -30,17 +30,20 @@ told answer position = record { answer = answer; position = position }
 abbrev pub countOf : Outcome Layout → ℕ
 countOf list = countBy (λ h. h .count) list
 
--- The row that a step over a list reaches from position p.
-abbrev pub rowOf : Tables → Layout → Option ℕ → Outcome Row
-rowOf t h (some j) = rowAt t (h .kind) (entryAddress h j)
-rowOf t h none = absent
-
-abbrev pub rowFrom : Tables → Outcome Layout → ℕ → Outcome Row
-rowFrom t list p = andThen list (λ h. rowOf t h (firstReadable (imageIn t) h p))
-
--- Whether a lookup of it refuses: its number.
+-- Whether a lookup refuses: its number.
 abbrev pub refusedBy : {A : Type 0} → Outcome A → Outcome (Unit {0})
 refusedBy o = unlessRefused o number (value tt)
+
+-- Whether a lookup of the row refuses that a step over a list reaches from position p; where it reaches none, or the list is absent, there
+-- is none.
+abbrev pub rowRefusal : Tables → Layout → Option ℕ → Outcome (Unit {0})
+rowRefusal t h (some j) = refusedBy (rowAt t (h .kind) (entryAddress h j))
+rowRefusal t h none = value tt
+
+abbrev pub refusalFrom : Tables → Outcome Layout → ℕ → Outcome (Unit {0})
+refusalFrom t (value h) p = rowRefusal t h (firstReadable (imageIn t) h p)
+refusalFrom t (absent r) p = value tt
+refusalFrom t (number k) p = number k
 
 -- The first question that refuses a step which is lent t and stands at p: 1 to 6 and 8; 10, by the count of the lent list; 9, while the row
 -- that it reaches is decoded.
@@ -48,9 +51,9 @@ unfoldable pub refusal : Tables → ListKind → ℕ → ℕ → Outcome (Unit {
 refusal t k list p =
     andThen (asked t) (λ _.
     andThen (question 10 (leb p (countOf (listAt t k list)))) (λ _.
-    refusedBy (rowFrom t (listAt t k list) p)))
+    refusalFrom t (listAt t k list) p))
 
--- Entry j is settled: its row, or skipped with its index; the position is one past it.
+-- Entry j is settled: its row, or skipped with its index and reason; the position is one past it.
 abbrev pub settling : ℕ → Outcome Row → Told
 settling j row = told (entryAnswer j row) (suc j)
 
@@ -66,7 +69,7 @@ leftFrom t h p = allFrom (entry (imageIn t) h) (h .count - p) p
 -- A step that no question refuses, over the opened tables.
 abbrev pub plainOver : Tables → ℕ → Outcome Layout → Told
 plainOver t p (value h) = goOn t h (leftFrom t h p)
-plainOver t p absent = told absent p
+plainOver t p (absent r) = told (absent r) p
 plainOver t p (number k) = told (number k) p
 
 -- A step of the plain walk: a refused one gives the number and stays.

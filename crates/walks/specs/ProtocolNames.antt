@@ -5,11 +5,12 @@ use mathlib.Core.List.{List, [], _∷_}
 use lib.Dec.{ltb}
 use Rattle.reads.specs.Outcome.{Outcome, value, absent, number, choose}
 use Rattle.reads.specs.Answer.{missed}
+use Rattle.reads.specs.declared.answer.Reason.{Reason}
 use Rattle.reads.specs.declared.text.Text.{Text}
 use Rattle.pointers.specs.Tables.{Tables}
 use Rattle.pointers.specs.Question.{asked}
 use Rattle.records.specs.Header.{protocolList·size, protocolList·count}
-use Rattle.records.specs.Decode.{Decode, run, done, then, else, or0, sum64, nonzero, even, readable, u64In, slot, symbol}
+use Rattle.records.specs.Decode.{Decode, run, done, then, elseFirst, sum64, nonzero, even, readable, u64In, slot, symbol}
 use Rattle.records.specs.Protocol.{decodeProtocol}
 use Rattle.walks.specs.Gather.{gather, ofValue, present}
 use Rattle.walks.specs.Handed.{unlessRefused, Handed, hands, handsBack, fromCursor}
@@ -56,16 +57,17 @@ decodeProtocolName va = then (nonzero va) (λ a. then (decodeProtocol a) (λ p. 
 abbrev pub protocolNameAt : Tables → ℕ → Outcome Text
 protocolNameAt t va = run t (decodeProtocolName va)
 
--- The name of a slot that holds va: of the protocol there if that decodes, else the slot's bind less its prefix.
-unfoldable pub decodeOrBound : ℕ → ℕ → Decode Text
-decodeOrBound a va = else (decodeProtocolName va) (symbol a)
+-- The name of the protocol whose address the slot at a holds; 0 is not tried as a protocol.
+unfoldable pub decodeProtocolNameIn : ℕ → Decode Text
+decodeProtocolNameIn a = then (slot a) decodeProtocolName
 
-abbrev pub decodedOrBound : Tables → ℕ → ℕ → Outcome Text
-decodedOrBound t a va = run t (decodeOrBound a va)
+abbrev pub protocolNameIn : Tables → ℕ → Outcome Text
+protocolNameIn t a = run t (decodeProtocolNameIn a)
 
--- The name of the slot at a; an absent slot counts as 0, which is not tried as a protocol.
+-- The name of the slot at a: of the protocol that it holds if that decodes, else the slot's bind less its prefix. Where both are absent the
+-- reason is the protocol's.
 unfoldable pub decodeNameIn : ℕ → Decode Text
-decodeNameIn a = then (or0 (slot a)) (decodeOrBound a)
+decodeNameIn a = elseFirst (decodeProtocolNameIn a) (symbol a)
 
 abbrev pub nameIn : Tables → ℕ → Outcome Text
 nameIn t a = run t (decodeNameIn a)
@@ -73,11 +75,11 @@ nameIn t a = run t (decodeNameIn a)
 abbrev pub walkAt : ℕ → ℕ → ProtocolNameWalk
 walkAt list cursor = record { list = list; cursor = cursor }
 
--- What a step reaches where no question refuses it: the name of a slot, or a slot that gives none; or it has finished. As an outcome, absent
--- is an absent list.
+-- What a step reaches where no question refuses it: the name of a slot, or a slot that gives none and why; or it has finished. As an
+-- outcome, absent is an absent list.
 pub data ReachedName : Type 0 where
   nameReached : Text → ReachedName
-  namePassed : ReachedName
+  namePassed : Reason → ReachedName
   namesFinished : ReachedName
 
 abbrev pub NameLeft : Type 0
@@ -86,7 +88,7 @@ NameLeft = Handed ReachedName ProtocolNameWalk
 -- What a slot answers by its name.
 abbrev pub slotAnswer : Outcome Text → Outcome ReachedName
 slotAnswer (value name) = value (nameReached name)
-slotAnswer absent = value namePassed
+slotAnswer (absent r) = value (namePassed r)
 slotAnswer (number k) = number k
 
 -- The walk is one slot on; a number refuses the step.
@@ -101,20 +103,20 @@ stepIn t w l =
 unfoldable pub overNames : Tables → ProtocolNameWalk → Outcome ProtocolList → NameLeft
 overNames t w list = fromCursor w (w .cursor) (λ l. l .count) (stepIn t w) list
 
--- A step of a walk: 1 to 6 and 8 are asked, then 10, then 9 and 7 as the lookups come.
+-- A step of a walk: 1 to 6 and 8 are asked, then 10, then 9, 7 and 14 as the lookups come.
 unfoldable pub nextName : Tables → ProtocolNameWalk → NameLeft
 nextName t w = unlessRefused (asked t) (handsBack w) (overNames t w (protocolListAt t (w .list)))
 
 -- Document 01's meaning of each case of the code's answers.
 abbrev pub nameAnswer : NameStep → Outcome ReachedName
 nameAnswer (step.Name name) = value (nameReached name)
-nameAnswer step.Passed = value namePassed
+nameAnswer (step.Passed r) = value (namePassed r)
 nameAnswer step.Finished = value namesFinished
 nameAnswer (step.Refused k) = number k
 
 abbrev pub namesAnswer : ProtocolNamesWalked → Outcome ReachedName
 namesAnswer (walked.Step s) = nameAnswer s
-namesAnswer walked.Absent = absent
+namesAnswer (walked.Absent r) = absent r
 
 abbrev pub nameLeft : ProtocolNameStepped → NameLeft
 nameLeft r = hands (namesAnswer (r .walked)) (r .walk)
@@ -131,7 +133,7 @@ protocolNames t va = ofValue (protocolListAt t va) (λ l. gather present (slotNa
 -- The names among answers; an absent list says none.
 abbrev pub nameSaid : ReachedName → List Text
 nameSaid (nameReached name) = name ∷ []
-nameSaid namePassed = []
+nameSaid (namePassed r) = []
 nameSaid namesFinished = []
 
 unfoldable pub namesSaid : List (Outcome ReachedName) → Outcome (List Text)

@@ -6,12 +6,13 @@ use mathlib.Core.List.{List, []}
 use lib.Dec.{eqb}
 use lib.ListN.{length, take, set}
 use Rattle.reads.specs.Outcome.{Outcome, value, absent, number, choose}
+use Rattle.reads.specs.declared.answer.Reason.{Reason}
 use Rattle.pointers.specs.Tables.{Tables}
 use Rattle.records.specs.Class.{classAt}
 use Rattle.records.specs.Category.{categoryAt}
 use Rattle.records.specs.Protocol.{protocolAt}
 use Rattle.walks.specs.Handed.{unlessRefused}
-use Rattle.walks.specs.Slots.{slotsOf, askedSlot, askedLedger, TakenSlot, address, dropped, noSlot, slotRefused, slotTaken, among, metBelow, greatest, firstMet}
+use Rattle.walks.specs.Slots.{slotsOf, askedSlot, askedLedger, TakenSlot, address, slotDropped, noSlot, slotRefused, slotTaken, among, metBelow, greatest, firstMet}
 use Rattle.records.specs.declared.class.ObjcClass.{ObjcClass}
 use Rattle.records.specs.declared.category.ObjcCategory.{ObjcCategory}
 use Rattle.records.specs.declared.protocol.ObjcProtocol.{ObjcProtocol}
@@ -52,10 +53,12 @@ metIn w ledger = take (w .used) ledger
 abbrev pub Highest : Walk → List ℕ → Type 0
 Highest w ledger = w .highest ≡ greatest (metIn w ledger)
 
--- What a step gives where no question refuses it: a record, or nothing from what it took, or there was nothing left.
+-- What a step gives where no question refuses it: a record; the reason for which the record is absent; a slot is dropped, which is no
+-- absence; or there was nothing left.
 pub data Step (A : Type 0) : Type 0 where
   found : A → Step A
-  passed : Step A
+  passed : Reason → Step A
+  dropped : Step A
   finished : Step A
 
 -- A call's answer, with the walk that it hands back and the ledger as it leaves it.
@@ -92,17 +95,17 @@ classes = record { lists = Classes; decoded = λ t a. classAt t a false; after =
 abbrev pub categories : Kind ObjcCategory
 categories = record { lists = Categories; decoded = categoryAt; after = λ c. 0; waited = categoryAt }
 
--- A record is found, and the address after it waits; one that does not decode is passed. The walk goes on, and the ledger is the new one.
--- With a number both are as given.
+-- A record is found, and the address after it waits; one that does not decode is passed with its reason. The walk goes on, and the ledger
+-- is the new one. With a number both are as given.
 abbrev pub byRecord : {A : Type 0} → Walk → List ℕ → (A → ℕ) → (ℕ → Walk) → List ℕ → Outcome A → Left A
 byRecord w ledger after on new (value a) = leaves (value (found a)) (on (after a)) new
-byRecord w ledger after on new absent = leaves (value passed) (on 0) new
+byRecord w ledger after on new (absent r) = leaves (value (passed r)) (on 0) new
 byRecord w ledger after on new (number k) = stays w ledger k
 
--- The address in a slot is decoded; a slot that is dropped is passed; with none left the walk has finished.
+-- The address in a slot is decoded, a slot may be dropped; with none left the walk has finished.
 abbrev pub bySlot : {A : Type 0} → Walk → List ℕ → (ℕ → Left A) → TakenSlot → Left A
 bySlot w ledger decode (address a) = decode a
-bySlot w ledger decode dropped = leaves (value passed) (walk (w .slot + 1) (w .used) (w .highest) 0) ledger
+bySlot w ledger decode slotDropped = leaves (value dropped) (walk (w .slot + 1) (w .used) (w .highest) 0) ledger
 bySlot w ledger decode noSlot = leaves (value finished) w ledger
 bySlot w ledger decode (slotRefused k) = stays w ledger k
 
@@ -153,7 +156,8 @@ classWalk w = walk (w .slots .slot) (w .slots .used) (w .slots .highest) (w .met
 
 abbrev pub classStep : ClassStep → Outcome (Step ObjcClass)
 classStep (class.Record c) = value (found c)
-classStep class.Passed = value passed
+classStep (class.Passed r) = value (passed r)
+classStep class.Dropped = value dropped
 classStep class.Finished = value finished
 classStep (class.Refused k) = number k
 
@@ -165,7 +169,8 @@ categoryWalk w = walk (w .slots .slot) (w .slots .used) (w .slots .highest) 0
 
 abbrev pub categoryStep : CategoryStep → Outcome (Step ObjcCategory)
 categoryStep (category.Record c) = value (found c)
-categoryStep category.Passed = value passed
+categoryStep (category.Passed r) = value (passed r)
+categoryStep category.Dropped = value dropped
 categoryStep category.Finished = value finished
 categoryStep (category.Refused k) = number k
 
@@ -177,7 +182,8 @@ protocolWalk w = walk (w .slot) 0 0 0
 
 abbrev pub protocolStep : ProtocolStep → Outcome (Step ObjcProtocol)
 protocolStep (protocol.Record p) = value (found p)
-protocolStep protocol.Passed = value passed
+protocolStep (protocol.Passed r) = value (passed r)
+protocolStep protocol.Dropped = value dropped
 protocolStep protocol.Finished = value finished
 protocolStep (protocol.Refused k) = number k
 

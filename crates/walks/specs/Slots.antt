@@ -68,13 +68,13 @@ askedLedger t slots slot used words = andThen (askedSlot t slots slot used) (λ 
 -- What the next slot comes to: the address in it; it is dropped; no slot is left; or the number of the question that refuses.
 pub data TakenSlot : Type 0 where
   address : ℕ → TakenSlot
-  dropped : TakenSlot
+  slotDropped : TakenSlot
   noSlot : TakenSlot
   slotRefused : ℕ → TakenSlot
 
 abbrev pub takenBy : Outcome ℕ → TakenSlot
 takenBy (value a) = address a
-takenBy absent = dropped
+takenBy (absent r) = slotDropped
 takenBy (number k) = slotRefused k
 
 -- Slot k.
@@ -92,8 +92,8 @@ greatest (b ∷ bs) = max b (greatest bs)
 
 -- An address met before is dropped.
 abbrev pub firstMet : (ℕ → Bool) → TakenSlot → TakenSlot
-firstMet met (address a) = choose (met a) dropped (address a)
-firstMet met dropped = dropped
+firstMet met (address a) = choose (met a) slotDropped (address a)
+firstMet met slotDropped = slotDropped
 firstMet met noSlot = noSlot
 firstMet met (slotRefused k) = slotRefused k
 
@@ -109,7 +109,7 @@ nextNew t slots slot used highest ledger =
 -- Document 01's meaning of each case of the code's answer.
 abbrev pub slotOutcome : SlotStep → TakenSlot
 slotOutcome (step.Address a) = address a
-slotOutcome step.Dropped = dropped
+slotOutcome step.Dropped = slotDropped
 slotOutcome step.Finished = noSlot
 slotOutcome (step.Refused k) = slotRefused k
 

@@ -2,6 +2,7 @@
 use Prim.Native.Nat.{ℕ, suc}
 use mathlib.Core.Option.{Option, none, some}
 use Rattle.reads.specs.Outcome.{Outcome, value, absent, number}
+use Rattle.reads.specs.declared.answer.Reason.{Reason}
 use Rattle.pointers.specs.Tables.{Tables, imageIn}
 use Rattle.pointers.specs.Question.{asked}
 use Rattle.records.specs.List.{listAt, entryAddress}
@@ -25,20 +26,20 @@ walkOf list kind cursor = record { list = list; kind = kind; cursor = cursor }
 abbrev pub moved : ListWalk → ℕ → ListWalk
 moved w cursor = walkOf (w .list) (w .kind) cursor
 
--- What a step reaches where no question refuses it: a row, or an entry whose row is skipped, with its index; or it has finished. As an
--- outcome, absent is an absent list.
+-- What a step reaches where no question refuses it: a row, or an entry whose row is skipped, with its index and why; or it has finished.
+-- As an outcome, absent is an absent list.
 pub data ReachedRow : Type 0 where
   rowReached : Row → ReachedRow
-  rowSkipped : ℕ → ReachedRow
+  rowSkipped : ℕ → Reason → ReachedRow
   rowsFinished : ReachedRow
 
 abbrev pub RowLeft : Type 0
 RowLeft = Handed ReachedRow ListWalk
 
--- What entry j answers: its row, or skipped with its index where the row is absent.
+-- What entry j answers: its row, or skipped with its index and the reason for which the row is absent.
 abbrev pub entryAnswer : ℕ → Outcome Row → Outcome ReachedRow
 entryAnswer j (value r) = value (rowReached r)
-entryAnswer j absent = value (rowSkipped j)
+entryAnswer j (absent r) = value (rowSkipped j r)
 entryAnswer j (number k) = number k
 
 abbrev pub entryRow : Tables → Layout → ℕ → Outcome ReachedRow
@@ -63,13 +64,13 @@ nextOf t w = unlessRefused (asked t) (handsBack w) (overRows t w (listAt t (w .k
 -- Document 01's meaning of each case of the code's answers.
 abbrev pub stepAnswer : ListStep → Outcome ReachedRow
 stepAnswer (step.Row r) = value (rowReached r)
-stepAnswer (step.Skipped j) = value (rowSkipped j)
+stepAnswer (step.Skipped j r) = value (rowSkipped j r)
 stepAnswer step.Finished = value rowsFinished
 stepAnswer (step.Refused k) = number k
 
 abbrev pub listAnswer : ListWalked → Outcome ReachedRow
 listAnswer (walked.Step s) = stepAnswer s
-listAnswer walked.Absent = absent
+listAnswer (walked.Absent r) = absent r
 
 abbrev pub rowLeft : ListStepped → RowLeft
 rowLeft r = hands (listAnswer (r .walked)) (r .walk)

@@ -2,6 +2,7 @@
 use pointers::question::Asked;
 use pointers::question::ask;
 use reads::answer::Missing;
+use reads::answer::Reason;
 use records::list::Entry;
 use records::list::Layout;
 use records::list::LayoutAnswer;
@@ -28,19 +29,19 @@ pub struct ListWalk {
     cursor: u32,
 }
 
-// A step's answer: the row reached, or the index of an entry whose row is skipped, or finished, or the number of the question
-// that refuses.
+// A step's answer: the row reached, or the index of an entry whose row is skipped and why, or finished, or the number of the
+// question that refuses.
 pub enum ListStep {
     Row(Row),
-    Skipped(u32),
+    Skipped(u32, Reason),
     Finished,
     Refused(u8),
 }
 
-// A list that is absent has no steps.
+// A list that is absent has no steps: why it is.
 pub enum ListWalked {
     Step(ListStep),
-    Absent,
+    Absent(Reason),
 }
 
 // The answer, with the walk to go on with.
@@ -91,8 +92,8 @@ impl ListWalk {
         ensures { λ r. ⌜ rowLeft r ≡ hands (missed m) self ⌝ }
     {
         match m {
-            Missing::Absent => ListStepped {
-                walked: ListWalked::Absent,
+            Missing::Absent(why) => ListStepped {
+                walked: ListWalked::Absent(why),
                 walk: self,
             },
             Missing::Refused(k) => self.refused(k),
@@ -131,7 +132,7 @@ impl ListWalk {
         ) {
             RowAnswer::Row(row) => self.at(ListStep::Row(row), j as u32 + 1),
             RowAnswer::Missing(m) => match m {
-                Missing::Absent => self.at(ListStep::Skipped(j as u32), j as u32 + 1),
+                Missing::Absent(why) => self.at(ListStep::Skipped(j as u32, why), j as u32 + 1),
                 Missing::Refused(k) => self.refused(k),
             },
         }

@@ -1,9 +1,10 @@
 // Protocol names: the walk over a protocol_list_t (objc-runtime-new.h; protocol.rs, protocol_name_iter).
 use pointers::question::Asked;
 use pointers::question::ask;
-use pointers::slot::slot_or_0;
+use pointers::slot::resolve_pointer;
 use pointers::slot::symbol_at;
 use reads::answer::Missing;
+use reads::answer::Reason;
 use reads::answer::Word;
 use reads::answer::checked_add;
 use reads::answer::nonzero;
@@ -12,6 +13,7 @@ use reads::place::readable;
 use reads::place::u64_in;
 use reads::text::Text;
 use reads::text::TextAnswer;
+use reads::text::text_because;
 use records::list::even_list;
 use records::protocol::ProtocolAnswer;
 use records::protocol::protocol_at;
@@ -20,7 +22,7 @@ ghost use Prim.Native.Nat.{_+_, _^_, _<_, min};
 ghost use Rattle.reads.specs.Answer.{missed, textOutcome};
 ghost use Rattle.pointers.specs.Tables.{lent};
 ghost use Rattle.walks.specs.Handed.{hands, handsBack};
-ghost use Rattle.walks.specs.ProtocolNames.{protocolListOutcome, protocolListAt, hasSlot, protocolNameAt, decodedOrBound, nameIn, walkAt, named, stepIn, overNames, nextName, nameAnswer, nameLeft};
+ghost use Rattle.walks.specs.ProtocolNames.{protocolListOutcome, protocolListAt, hasSlot, protocolNameAt, protocolNameIn, nameIn, walkAt, named, stepIn, overNames, nextName, nameAnswer, nameLeft};
 
 // A list of protocols: the address of its first slot, and the capped number of slots.
 pub struct ProtocolList {
@@ -46,10 +48,10 @@ pub struct ProtocolNameWalk {
     cursor: u64,
 }
 
-// What a step reached: a name, a slot that gives none, the end, or the number of the question that refuses.
+// What a step reached: a name, a slot that gives none and why, the end, or the number of the question that refuses.
 pub enum NameStep {
     Name(Text),
-    Passed,
+    Passed(Reason),
     Finished,
     Refused(u8),
 }
@@ -57,7 +59,7 @@ pub enum NameStep {
 // A step, or the list is absent.
 pub enum ProtocolNamesWalked {
     Step(NameStep),
-    Absent,
+    Absent(Reason),
 }
 
 // What a step says, and the walk to give to the next.
@@ -161,8 +163,8 @@ fn protocol_name_at(
     }
 }
 
-// The name of a slot that holds va: the protocol's there, else the bind of the slot less its prefix.
-fn decoded_or_bound(
+// The name of the protocol whose address a slot holds.
+fn protocol_name_in(
     image: &[u8],
     segments: &[u64],
     sections: &[u64],
@@ -171,21 +173,27 @@ fn decoded_or_bound(
     binds: &[u64],
     index: &[u32],
     slot: u64,
-    va: u64,
 ) -> TextAnswer
     ensures { λ r. let t = lent image segments sections info rebases binds index in
-        ⌜ textOutcome r ≡ decodedOrBound t slot va ⌝ }
+        ⌜ textOutcome r ≡ protocolNameIn t slot ⌝ }
 {
-    match protocol_name_at(image, segments, sections, info, rebases, binds, index, va) {
-        TextAnswer::Found(name) => TextAnswer::Found(name),
-        TextAnswer::Missing(m) => match m {
-            Missing::Absent => symbol_at(image, rebases, binds, index, slot),
-            Missing::Refused(k) => TextAnswer::Missing(Missing::Refused(k)),
-        },
+    match resolve_pointer(image, segments, rebases, index, slot) {
+        Word::Value(va) => protocol_name_at(
+            image,
+            segments,
+            sections,
+            info,
+            rebases,
+            binds,
+            index,
+            va,
+        ),
+        Word::Missing(m) => TextAnswer::Missing(m),
     }
 }
 
-// The name of a slot.
+// The name of a slot: of the protocol that it holds, else its bind's less the prefix. Where both are absent the reason is the
+// protocol's.
 fn name_in(
     image: &[u8],
     segments: &[u64],
@@ -199,19 +207,15 @@ fn name_in(
     ensures { λ r. let t = lent image segments sections info rebases binds index in
         ⌜ textOutcome r ≡ nameIn t slot ⌝ }
 {
-    match slot_or_0(image, segments, rebases, index, slot) {
-        Word::Value(va) => decoded_or_bound(
-            image,
-            segments,
-            sections,
-            info,
-            rebases,
-            binds,
-            index,
-            slot,
-            va,
-        ),
-        Word::Missing(m) => TextAnswer::Missing(m),
+    match protocol_name_in(image, segments, sections, info, rebases, binds, index, slot) {
+        TextAnswer::Found(name) => TextAnswer::Found(name),
+        TextAnswer::Missing(m) => match m {
+            Missing::Absent(why) => text_because(
+                symbol_at(image, rebases, binds, index, slot),
+                why,
+            ),
+            Missing::Refused(k) => TextAnswer::Missing(Missing::Refused(k)),
+        },
     }
 }
 
@@ -221,6 +225,13 @@ impl ProtocolNameWalk {
         ensures { λ r. ⌜ r ≡ walkAt list 0 ⌝ }
     {
         ProtocolNameWalk { list, cursor: 0 }
+    }
+
+    // The number of the slot that the next step takes.
+    pub fn cursor(self) -> u64
+        ensures { λ r. ⌜ r ≡ self .cursor ⌝ }
+    {
+        self.cursor
     }
 
     // The walk as given, with a number.
@@ -238,8 +249,8 @@ impl ProtocolNameWalk {
         ensures { λ r. ⌜ nameLeft r ≡ hands (missed m) self ⌝ }
     {
         match m {
-            Missing::Absent => ProtocolNameStepped {
-                walked: ProtocolNamesWalked::Absent,
+            Missing::Absent(why) => ProtocolNameStepped {
+                walked: ProtocolNamesWalked::Absent(why),
                 walk: self,
             },
             Missing::Refused(k) => self.refused(k),
@@ -267,7 +278,7 @@ impl ProtocolNameWalk {
         match name {
             TextAnswer::Found(text) => self.at(NameStep::Name(text), self.cursor + 1),
             TextAnswer::Missing(m) => match m {
-                Missing::Absent => self.at(NameStep::Passed, self.cursor + 1),
+                Missing::Absent(why) => self.at(NameStep::Passed(why), self.cursor + 1),
                 Missing::Refused(k) => self.refused(k),
             },
         }

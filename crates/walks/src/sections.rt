@@ -5,6 +5,7 @@ use crate::slots::SlotWalk;
 use crate::slots::next_slot;
 use pointers::question::Asked;
 use reads::answer::Missing;
+use reads::answer::Reason;
 use records::category::CategoryAnswer;
 use records::category::ObjcCategory;
 use records::category::category_at;
@@ -22,7 +23,7 @@ ghost use Rattle.reads.specs.Reference.{before, after};
 ghost use Rattle.pointers.specs.Tables.{lent};
 ghost use Rattle.walks.specs.Slots.{Room};
 ghost use Rattle.reads.specs.Outcome.{value};
-ghost use Rattle.walks.specs.Sections.{walk, atStart, passed, leaves, stays, metaOf, classes, categories, takeWaiting, nextWaiting, takeNew, stepOf, takeProtocol, protocolStepOf, classWalk, classLeft, categoryWalk, categoryLeft, protocolWalk, protocolLeft};
+ghost use Rattle.walks.specs.Sections.{walk, atStart, passed, dropped, leaves, stays, metaOf, classes, categories, takeWaiting, nextWaiting, takeNew, stepOf, takeProtocol, protocolStepOf, classWalk, classLeft, categoryWalk, categoryLeft, protocolWalk, protocolLeft};
 
 // The slots, and the address of the metaclass that waits (0: none).
 pub struct ClassWalk {
@@ -30,10 +31,12 @@ pub struct ClassWalk {
     meta: u64,
 }
 
-// A step gives a class, or nothing from what it took, or there was nothing left; or the number of the question that refuses.
+// A step gives a class, or the reason for which it is absent; a slot of 0 or an address met before is dropped, which is no absence; or there was
+// nothing left; or the number of the question that refuses.
 pub enum ClassStep {
     Record(ObjcClass),
-    Passed,
+    Passed(Reason),
+    Dropped,
     Finished,
     Refused(u8),
 }
@@ -49,10 +52,12 @@ pub struct CategoryWalk {
     slots: SlotWalk,
 }
 
-// A step gives a category, or nothing from what it took, or there was nothing left; or the number of the question that refuses.
+// A step gives a category, or the reason for which it is absent; a slot of 0 or an address met before is dropped, which is no absence; or there was
+// nothing left; or the number of the question that refuses.
 pub enum CategoryStep {
     Record(ObjcCategory),
-    Passed,
+    Passed(Reason),
+    Dropped,
     Finished,
     Refused(u8),
 }
@@ -68,10 +73,12 @@ pub struct ProtocolWalk {
     slot: u64,
 }
 
-// A step gives a protocol, or nothing from what it took, or there was nothing left; or the number of the question that refuses.
+// A step gives a protocol, or the reason for which it is absent; a slot of 0 is dropped, which is no absence; or there was
+// nothing left; or the number of the question that refuses.
 pub enum ProtocolStep {
     Record(ObjcProtocol),
-    Passed,
+    Passed(Reason),
+    Dropped,
     Finished,
     Refused(u8),
 }
@@ -113,12 +120,22 @@ impl ClassWalk {
         }
     }
 
-    // Nothing from what was taken, and no metaclass waits.
-    fn passed(slots: SlotWalk) -> ClassStepped
-        ensures { λ r. ⌜ ((l : List ℕ) → classLeft r l ≡ leaves (value passed) (walk (slots .slot) (slots .used) (slots .highest) 0) l) ⌝ }
+    // The class is absent, and no metaclass waits.
+    fn passed(slots: SlotWalk, why: Reason) -> ClassStepped
+        ensures { λ r. ⌜ ((l : List ℕ) → classLeft r l ≡ leaves (value (passed why)) (walk (slots .slot) (slots .used) (slots .highest) 0) l) ⌝ }
     {
         ClassStepped {
-            step: ClassStep::Passed,
+            step: ClassStep::Passed(why),
+            walk: ClassWalk { slots, meta: 0 },
+        }
+    }
+
+    // The slot is dropped.
+    fn dropped(slots: SlotWalk) -> ClassStepped
+        ensures { λ r. ⌜ ((l : List ℕ) → classLeft r l ≡ leaves (value dropped) (walk (slots .slot) (slots .used) (slots .highest) 0) l) ⌝ }
+    {
+        ClassStepped {
+            step: ClassStep::Dropped,
             walk: ClassWalk { slots, meta: 0 },
         }
     }
@@ -154,7 +171,7 @@ impl ClassWalk {
                 walk: ClassWalk { slots, meta: 0 },
             },
             ClassAnswer::Missing(m) => match m {
-                Missing::Absent => ClassWalk::passed(slots),
+                Missing::Absent(why) => ClassWalk::passed(slots, why),
                 Missing::Refused(k) => self.refused(k),
             },
         }
@@ -200,7 +217,7 @@ impl ClassWalk {
                 }
             }
             ClassAnswer::Missing(m) => match m {
-                Missing::Absent => ClassWalk::passed(slots.note(va, ledger)),
+                Missing::Absent(why) => ClassWalk::passed(slots.note(va, ledger), why),
                 Missing::Refused(k) => self.refused(k),
             },
         }
@@ -280,7 +297,7 @@ impl ClassWalk {
                 va,
                 ledger,
             ),
-            SlotStep::Dropped => ClassWalk::passed(slots.past()),
+            SlotStep::Dropped => ClassWalk::dropped(slots.past()),
             SlotStep::Finished => ClassStepped {
                 step: ClassStep::Finished,
                 walk: self,
@@ -310,12 +327,22 @@ impl CategoryWalk {
         }
     }
 
-    // Nothing from what was taken.
-    fn passed(slots: SlotWalk) -> CategoryStepped
-        ensures { λ r. ⌜ ((l : List ℕ) → categoryLeft r l ≡ leaves (value passed) (walk (slots .slot) (slots .used) (slots .highest) 0) l) ⌝ }
+    // The category is absent.
+    fn passed(slots: SlotWalk, why: Reason) -> CategoryStepped
+        ensures { λ r. ⌜ ((l : List ℕ) → categoryLeft r l ≡ leaves (value (passed why)) (walk (slots .slot) (slots .used) (slots .highest) 0) l) ⌝ }
     {
         CategoryStepped {
-            step: CategoryStep::Passed,
+            step: CategoryStep::Passed(why),
+            walk: CategoryWalk { slots },
+        }
+    }
+
+    // The slot is dropped.
+    fn dropped(slots: SlotWalk) -> CategoryStepped
+        ensures { λ r. ⌜ ((l : List ℕ) → categoryLeft r l ≡ leaves (value dropped) (walk (slots .slot) (slots .used) (slots .highest) 0) l) ⌝ }
+    {
+        CategoryStepped {
+            step: CategoryStep::Dropped,
             walk: CategoryWalk { slots },
         }
     }
@@ -346,7 +373,7 @@ impl CategoryWalk {
                 },
             },
             CategoryAnswer::Missing(m) => match m {
-                Missing::Absent => CategoryWalk::passed(slots.note(va, ledger)),
+                Missing::Absent(why) => CategoryWalk::passed(slots.note(va, ledger), why),
                 Missing::Refused(k) => self.refused(k),
             },
         }
@@ -390,7 +417,7 @@ impl CategoryWalk {
                 va,
                 ledger,
             ),
-            SlotStep::Dropped => CategoryWalk::passed(slots.past()),
+            SlotStep::Dropped => CategoryWalk::dropped(slots.past()),
             SlotStep::Finished => CategoryStepped {
                 step: CategoryStep::Finished,
                 walk: self,
@@ -450,8 +477,8 @@ impl ProtocolWalk {
                 walk,
             },
             ProtocolAnswer::Missing(m) => match m {
-                Missing::Absent => ProtocolStepped {
-                    step: ProtocolStep::Passed,
+                Missing::Absent(why) => ProtocolStepped {
+                    step: ProtocolStep::Passed(why),
                     walk,
                 },
                 Missing::Refused(k) => self.refused(k),
@@ -495,7 +522,7 @@ impl ProtocolWalk {
                 va,
             ),
             SlotStep::Dropped => ProtocolStepped {
-                step: ProtocolStep::Passed,
+                step: ProtocolStep::Dropped,
                 walk: self.past(),
             },
             SlotStep::Finished => ProtocolStepped {

@@ -224,7 +224,7 @@ fn take_slot(
     match address_in(image, segments, sections, info, rebases, binds, index, at) {
         Word::Value(va) => SlotStep::Address(va),
         Word::Missing(m) => match m {
-            Missing::Absent => SlotStep::Dropped,
+            Missing::Absent(_) => SlotStep::Dropped,
             Missing::Refused(k) => SlotStep::Refused(k),
         },
     }

@@ -1,5 +1,5 @@
-//! A bundle's tables, and the questions 13 and 1 to 8, computed apart: the Rust has none of them. Source: document 01,
-//! "The questions, in order" and "The program's listing".
+//! A bundle's tables, and the questions 13, 1 to 8 and 14, computed apart: the Rust has none of them. Source: document 01,
+//! "The questions, in order" and "The program's listing"; document 02, note 2.
 
 use crate::binary::{Import, MachoBinary, Rebase, Section, Segment};
 
@@ -52,10 +52,13 @@ pub fn open(bundle: &[u8]) -> Result<MachoBinary<'_>, u32> {
     if bnd.len() % 3 != 0 || bnd.len() / 3 > MOST_RECORDS {
         return Err(6);
     }
+    // 7 of every bind name, then 14 of every one.
+    if bnd.chunks(3).any(|b| b[1].checked_add(b[2]).is_none_or(|end| end > n)) {
+        return Err(7);
+    }
     let mut imports = Vec::new();
     for b in bnd.chunks(3) {
-        let end = b[1].checked_add(b[2]).filter(|&end| end <= n).ok_or(7u32)?;
-        let name = core::str::from_utf8(&image[b[1] as usize..end as usize]).map_err(|_| 7u32)?;
+        let name = core::str::from_utf8(&image[b[1] as usize..(b[1] + b[2]) as usize]).map_err(|_| 14u32)?;
         imports.push(Import { address: b[0], name, dylib: "" });
     }
 

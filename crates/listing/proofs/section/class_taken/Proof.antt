@@ -5,8 +5,11 @@ use Rattle.listing.proofs.section.class_taken.Tie as tie
 returns : tie.Need-returns
 returns c = rw (c .before .step .given .1)
 
-returns-4 : tie.Need-returns-4
-returns-4 c = rw (c .before .step2 .given .1)
+returns-2 : tie.Need-returns-2
+returns-2 c = rw (c .before .step2 .given .1)
+
+returns-5 : tie.Need-returns-5
+returns-5 c = rw (c .before .step3 .given .1)
 
 pub class-taken-spec : {M : Type 1} → statement M
 class-taken-spec =
@@ -16,7 +19,9 @@ class-taken-spec =
     (λ c. search needs)
     (λ c. search needs)
     (λ c. search needs)
+    (λ c. search needs)
     returns
+    returns-2
     (λ c. search needs)
     (λ c. search needs)
-    returns-4)
+    returns-5)

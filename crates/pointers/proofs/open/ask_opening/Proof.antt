@@ -12,18 +12,29 @@ unfolding askedOpening
 returns c =
     laws.asked-on _ _ _ _ (c .before .before .before .before .ask-tables .ensures ∙ laws.asked-any-index _ _ _ _ _ _ _ _)
     (c .before .before .enum-told .given .1)
-    (laws.after-no 7 _ _ (sym (c .before .names-fit .ensures) ∙ not-true _ (c .if1 .taken)))
+    (laws.after-no 7 _ _ (sym (c .before .names-inside .ensures) ∙ not-true _ (c .if1 .taken)))
 
 returns-2 : tie.Need-returns-2
-unfolding askedOpening askedIndex
+unfolding askedOpening
 returns-2 c =
-    laws.asked-on _ _ _ _ (c .before .before .before .before .before .ask-tables .ensures ∙ laws.asked-any-index _ _ _ _ _ _ _ _)
-    (c .before .before .before .enum-told .given .1)
-    (laws.after-yes 7 _ _ (sym (c .before .before .names-fit .ensures) ∙ not-false _ (c .before .if1 .left)) (c .ask-index .ensures))
+    let d = c .before .before in
+    laws.asked-on _ _ _ _ (d .before .before .before .before .ask-tables .ensures ∙ laws.asked-any-index _ _ _ _ _ _ _ _)
+    (d .before .before .enum-told .given .1)
+    (laws.after-yes 7 _ _ (sym (d .before .names-inside .ensures) ∙ not-false _ (d .if1 .left))
+    (laws.after-no 14 _ _ (sym (c .before .names-utf8 .ensures) ∙ not-true _ (c .if2 .taken))))
 
 returns-3 : tie.Need-returns-3
-unfolding askedOpening
+unfolding askedOpening askedIndex
 returns-3 c =
+    let d = c .before .before .before in
+    laws.asked-on _ _ _ _ (d .before .before .before .before .ask-tables .ensures ∙ laws.asked-any-index _ _ _ _ _ _ _ _)
+    (d .before .before .enum-told .given .1)
+    (laws.after-yes 7 _ _ (sym (d .before .names-inside .ensures) ∙ not-false _ (d .if1 .left))
+    (laws.after-yes 14 _ _ (sym (c .before .before .names-utf8 .ensures) ∙ not-false _ (c .before .if2 .left)) (c .ask-index .ensures)))
+
+returns-4 : tie.Need-returns-4
+unfolding askedOpening
+returns-4 c =
     laws.asked-ends _ _ _ _ (c .before .before .before .ask-tables .ensures ∙ laws.asked-any-index _ _ _ _ _ _ _ _) (c .before .k .given .1)
 
 pub ask-opening-spec : {M : Type 1} → statement M
@@ -35,6 +46,8 @@ ask-opening-spec =
     (λ c κs. search needs)
     returns
     (λ c κs. search needs)
-    (λ c. search needs)
     returns-2
-    returns-3)
+    (λ c κs. search needs)
+    (λ c. search needs)
+    returns-3
+    returns-4)

@@ -1,16 +1,27 @@
+use mathlib.Core.Path.{refl, ap, sym, _∙_}
+use Rattle.reads.specs.Answer.{missed, missingBecause, placeOutcome}
+use Rattle.reads.specs.Outcome.{because}
 use Rattle.reads.specs.Place.{readable}
-use Rattle.reads.proofs.Outcomes.{place-value, place-missing}
+use Rattle.reads.specs.declared.answer.Reason.the-variants.{Unreadable}
+use Rattle.reads.specs.declared.place.Placed.{Placed}
+use Rattle.reads.proofs.Outcomes.{missed-because, on-value, on-missing}
 use borrow.Author.Needs.{needs}
 use Rattle.reads.proofs.place.readable.Statement.{statement}
 use Rattle.reads.proofs.place.readable.Tie as tie
 
 returns : tie.Need-returns
 unfolding readable
-returns c = place-value _ _ _ _ _ (c .before .before .before .before .vm-to-file-offset-in .ensures) (c .before .before .p .given .1) (c .readable-at .ensures)
+returns c =
+    on-value (λ (w : Placed). because Unreadable (placeOutcome w)) _ (ap (because Unreadable) (c .before .before .before .before .vm-to-file-offset-in .ensures))
+    (c .before .before .p .given .1) refl (c .readable-at .ensures)
 
 returns-2 : tie.Need-returns-2
 unfolding readable
-returns-2 c = place-missing _ _ _ _ (c .before .before .before .vm-to-file-offset-in .ensures) (c .before .m .given .1)
+returns-2 c =
+    let m = c .before .before .m .given in
+    ap missed (c .because .ensures)
+    ∙ on-missing (λ (w : Placed). because Unreadable (placeOutcome w)) _ (missingBecause Unreadable (m .0 .0))
+    (ap (because Unreadable) (c .before .before .before .before .vm-to-file-offset-in .ensures)) (m .1) (sym (missed-because Unreadable (m .0 .0)))
 
 pub readable-spec : {M : Type 1} → statement M
 readable-spec =
@@ -20,5 +31,6 @@ readable-spec =
     (λ c. search needs)
     (λ c κs. search needs)
     (λ c. search needs)
+    (λ c κs. search needs)
     returns
     returns-2)

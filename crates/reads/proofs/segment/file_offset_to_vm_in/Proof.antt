@@ -1,8 +1,10 @@
 use Prim.Native.Nat.{_≤_, _-_}
-use mathlib.Core.Path.{_≡_}
+use mathlib.Core.Path.{_≡_, sym, _∙_}
 use native.Mathlib.Omega.{arith}
 use Rattle.reads.specs.Table.{records}
 use Rattle.reads.specs.Segment.{segmentWords, rows, addressOf}
+use Rattle.reads.specs.declared.answer.Reason.the-variants.{Unmapped}
+use Rattle.reads.proofs.Outcomes.{because-of}
 use Rattle.reads.proofs.SegmentRows.{rowsFrom, rows-all}
 use Rattle.reads.proofs.Lookups.{carries-is, address-ends, address-carries, address-on, address-out}
 use borrow.Author.Needs.{needs}
@@ -25,7 +27,12 @@ sub-checked-add : tie.Need-sub-checked-add Inv-loop μ-loop
 sub-checked-add c = carries-is (c .before .before .before .before .before .at .result) (c .before .before .before .before .before .before .before .before .before .args .offset) (cc)
 
 returns-2 : tie.Need-returns-2 Inv-loop μ-loop
-returns-2 c = cc (address-carries (c .before .before .before .before .before .before .before .before .before .before .args .segments .now) (c .before .before .before .before .before .before .before .before .loop .i) (omega arith) (c .before .before .before .before .before .before .at .result) (c .before .before .before .before .before .before .at .ensures) (c .before .before .before .before .before .before .before .before .before .before .args .offset) (cc) (cc))
+returns-2 c =
+    let d = c .before .before .before .before .before .before .before in
+    let a = d .before .before .before .before .args in
+    because-of (c .because .result) (c .before .checked-add .result) Unmapped _ (c .because .ensures) (c .before .checked-add .ensures)
+    ∙ sym (address-carries (a .segments .now) (d .before .before .loop .i) (omega arith) (d .at .result) (d .at .ensures) (a .offset) (cc) (cc))
+    ∙ d .before .before .loop .inv .1
 
 loop-again : tie.Need-loop-again Inv-loop μ-loop
 loop-again c = (omega arith, cc (address-on (c .before .before .before .before .before .before .before .before .args .segments .now) (c .before .before .before .before .before .before .loop .i) (omega arith) (c .before .before .before .before .at .result) (c .before .before .before .before .at .ensures) (c .before .before .before .before .before .before .before .before .args .offset) (cc) (cc)))
@@ -45,6 +52,7 @@ file-offset-to-vm-in-spec =
     returns
     (λ c κs. search needs)
     sub-checked-add
+    (λ c κs. search needs)
     (λ c κs. search needs)
     returns-2
     (λ c. search needs)

@@ -4,8 +4,8 @@ use Prim.Native.Nat.{_-_, _≤_}
 use mathlib.Core.Logic.{⊎-elim}
 use native.Mathlib.Omega.{arith}
 use lib.ListN.{length, getD}
-use Rattle.reads.proofs.Characters.{multi-inside}
-use Rattle.reads.proofs.Texts.{Left, left-start, left-zero, left-end, left-ascii, left-multi, left-malformed}
+use Rattle.reads.proofs.Characters.{pass-ahead}
+use Rattle.reads.proofs.Texts.{Left, left-start, left-zero, left-end, left-ascii, left-on, left-bad}
 use borrow.Author.Needs.{needs}
 use Rattle.reads.proofs.text.text_length.Statement.{statement}
 use Rattle.reads.proofs.text.text_length.Tie as tie
@@ -30,20 +30,24 @@ high : (c : tie.Else3 Inv-loop μ-loop)
     → 0x80 ≤ getD (c .before .before .before .before .before .before .args .s .now) (c .before .before .before .before .loop .i) 0
 high c = ⊎-elim (λ w. omega arith) (λ w. omega arith) (c .before .if1 .came)
 
-returns-2 : tie.Need-returns-2 Inv-loop μ-loop
-returns-2 c =
-    let d = c .before .before .before .before .before in
-    left-malformed (d .before .loop .inv) (d .loop-test .taken) (high (c .before .before)) (c .before .multi-length .ensures) (c .if4 .taken)
-
-add-i : tie.Need-add-i Inv-loop μ-loop
-add-i c =
-    let d = c .before .before .before .before .before in
-    omega (arith, multi-inside (d .before .before .before .args .s .now) (d .before .loop .i) (d .loop-test .taken) (c .before .multi-length .ensures))
+loop-less-2 : tie.Need-loop-less-2 Inv-loop μ-loop
+loop-less-2 c =
+    let d = c .before .before .before in
+    let g = d .before .before .before .before in
+    let ahead = pass-ahead (g .before .before .before .args .s .now) (g .before .loop .i) (g .loop-test .taken) (d .character .ensures) (c .before .j .given .0 .0) (c .before .j .given .1) in
+    omega (arith, ahead .0, ahead .1)
 
 loop-again-2 : tie.Need-loop-again-2 Inv-loop μ-loop
 loop-again-2 c =
-    let d = c .before .before .before .before .before in
-    left-multi (d .before .loop .inv) (d .loop-test .taken) (high (c .before .before)) (c .before .multi-length .ensures) (c .if4 .left)
+    let d = c .before .before .before in
+    let g = d .before .before .before .before in
+    left-on (g .before .loop .inv) (g .loop-test .taken) (high (d .before)) (d .character .ensures) (c .before .j .given .0 .0) (c .before .j .given .1)
+
+returns-2 : tie.Need-returns-2 Inv-loop μ-loop
+returns-2 c =
+    let d = c .before .before .before in
+    let g = d .before .before .before .before in
+    left-bad (g .before .loop .inv) (g .loop-test .taken) (high (d .before)) (d .character .ensures) (c .before .k .given .0 .0) (c .before .k .given .1)
 
 returns-3 : tie.Need-returns-3 Inv-loop μ-loop
 returns-3 c = left-end (c .before .loop .inv) (c .loop-test .left)
@@ -61,8 +65,9 @@ text-length-spec =
     loop-again
     returns
     (λ c κs. search needs)
-    returns-2
-    add-i
-    (λ c. omega arith)
+    (λ c. search needs)
+    loop-less-2
     loop-again-2
+    (λ c. search needs)
+    returns-2
     returns-3)

@@ -1,9 +1,8 @@
 use Prim.Native.Nat.{_+_, _-_, _/_, _≤_}
 use mathlib.Core.Bool.{true≢false}
-use mathlib.Core.Path.{_≡_, sym}
+use mathlib.Core.Path.{sym}
 use native.Mathlib.Omega.{arith}
 use Rattle.walks.proofs.SlotLaws.{among-word}
-use borrow.Author.Needs.{needs}
 use Rattle.walks.proofs.slots.found_by_halves.Statement.{statement}
 use Rattle.walks.proofs.slots.found_by_halves.Tie as tie
 

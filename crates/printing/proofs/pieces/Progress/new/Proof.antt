@@ -12,7 +12,7 @@ returns-2 : tie.Need-returns-2
 returns-2 c =
     let at-answer = c .before .before .before in
     let at-new = at-answer .before .before in
-    begun-absent (at-new .new .result) (at-new .new .ensures) _ _ (at-answer .answer .given .1) (c .enum-told2 .given .1)
+    begun-absent (at-new .new .result) (at-new .new .ensures) _ _ (at-answer .answer .given .1) _ (c .enum-told2 .given .1)
 
 returns-3 : tie.Need-returns-3
 returns-3 c =

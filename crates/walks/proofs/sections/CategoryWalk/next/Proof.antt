@@ -18,7 +18,7 @@ returns : tie.Need-returns
 returns c = step-slot categories _ _ _ refl (rw (← c .before .before .before .before .before .before .before .next-new .ensures, c .before .before .before .before .before .va .given .1) (c .before .before .take-new .ensures))
 
 returns-2 : tie.Need-returns-2
-returns-2 c = step-slot categories _ _ _ refl (rw (← c .before .before .before .before .next-new .ensures, c .before .before .enum-told .given .1) (c .passed .ensures _ ∙ rw (c .before .past .ensures)))
+returns-2 c = step-slot categories _ _ _ refl (rw (← c .before .before .before .before .next-new .ensures, c .before .before .enum-told .given .1) (c .dropped .ensures _ ∙ rw (c .before .past .ensures)))
 
 returns-3 : tie.Need-returns-3
 returns-3 c = step-slot categories _ _ _ refl (rw (← c .before .before .next-new .ensures, c .enum-told2 .given .1))

@@ -10,11 +10,11 @@ returns c = rw (← c .before .before .before .before .before .before .before .c
 
 returns-2 : tie.Need-returns-2
 unfolding takeNew
-returns-2 c = rw (← c .before .before .before .before .before .before .before .before .before .before .category-at .ensures, c .before .before .before .before .before .before .before .before .m .given .1, c .before .before .before .before .before .enum-told .given .1) (c .passed .ensures _ ∙ rw (c .before .before .before .note2 .ensures .0, c .before .before .before .note2 .ensures .1))
+returns-2 c = rw (← c .before .before .before .before .before .before .before .before .before .before .before .category-at .ensures, c .before .before .before .before .before .before .before .before .before .m .given .1, c .before .before .before .before .before .before .m2 .given .1) (c .passed .ensures _ ∙ rw (c .before .before .before .note2 .ensures .0, c .before .before .before .note2 .ensures .1))
 
 returns-3 : tie.Need-returns-3
 unfolding takeNew
-returns-3 c = rw (← c .before .before .before .before .before .before .before .category-at .ensures, c .before .before .before .before .before .m .given .1, c .before .before .m2 .given .1) (c .refused .ensures _)
+returns-3 c = rw (← c .before .before .before .before .before .before .before .category-at .ensures, c .before .before .before .before .before .m .given .1, c .before .before .m3 .given .1) (c .refused .ensures _)
 
 pub take-new-spec : {M : Type 1} → statement M
 take-new-spec =

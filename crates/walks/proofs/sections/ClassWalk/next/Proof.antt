@@ -21,7 +21,7 @@ returns-2 : tie.Need-returns-2
 returns-2 c = step-slot classes _ _ _ (c .before .before .before .before .before .before .before .before .before .before .if1 .left) (rw (← c .before .before .before .before .before .before .before .next-new .ensures, c .before .before .before .before .before .va .given .1) (c .before .before .take-new .ensures))
 
 returns-3 : tie.Need-returns-3
-returns-3 c = step-slot classes _ _ _ (c .before .before .before .before .before .before .before .if1 .left) (rw (← c .before .before .before .before .next-new .ensures, c .before .before .enum-told .given .1) (c .passed .ensures _ ∙ rw (c .before .past .ensures)))
+returns-3 c = step-slot classes _ _ _ (c .before .before .before .before .before .before .before .if1 .left) (rw (← c .before .before .before .before .next-new .ensures, c .before .before .enum-told .given .1) (c .dropped .ensures _ ∙ rw (c .before .past .ensures)))
 
 returns-4 : tie.Need-returns-4
 returns-4 c = step-slot classes _ _ _ (c .before .before .before .before .before .if1 .left) (rw (← c .before .before .next-new .ensures, c .enum-told2 .given .1))

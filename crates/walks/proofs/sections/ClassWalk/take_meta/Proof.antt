@@ -9,11 +9,11 @@ returns c = λ l. rw (← c .before .before .before .class-at .ensures, c .befor
 
 returns-2 : tie.Need-returns-2
 unfolding takeWaiting
-returns-2 c = λ l. rw (← c .before .before .before .before .before .before .class-at .ensures, c .before .before .before .before .m .given .1, c .before .enum-told .given .1) (c .passed .ensures l)
+returns-2 c = λ l. rw (← c .before .before .before .before .before .before .before .class-at .ensures, c .before .before .before .before .before .m .given .1, c .before .before .m2 .given .1) (c .passed .ensures l)
 
 returns-3 : tie.Need-returns-3
 unfolding takeWaiting
-returns-3 c = λ l. rw (← c .before .before .before .before .before .before .before .class-at .ensures, c .before .before .before .before .before .m .given .1, c .before .before .m2 .given .1) (c .refused .ensures l)
+returns-3 c = λ l. rw (← c .before .before .before .before .before .before .before .class-at .ensures, c .before .before .before .before .before .m .given .1, c .before .before .m3 .given .1) (c .refused .ensures l)
 
 pub take-meta-spec : {M : Type 1} → statement M
 take-meta-spec =

@@ -9,11 +9,11 @@ returns c = rw (← c .before .before .before .protocol-at .ensures, c .before .
 
 returns-2 : tie.Need-returns-2
 unfolding takeProtocol
-returns-2 c = rw (← c .before .before .before .before .before .protocol-at .ensures, c .before .before .before .m .given .1, c .enum-told .given .1, c .before .before .before .before .before .before .past .ensures)
+returns-2 c = rw (← c .before .before .before .before .before .before .protocol-at .ensures, c .before .before .before .before .m .given .1, c .before .m2 .given .1, c .before .before .before .before .before .before .before .past .ensures)
 
 returns-3 : tie.Need-returns-3
 unfolding takeProtocol
-returns-3 c = rw (← c .before .before .before .before .before .before .before .protocol-at .ensures, c .before .before .before .before .before .m .given .1, c .before .before .m2 .given .1) (c .refused .ensures)
+returns-3 c = rw (← c .before .before .before .before .before .before .before .protocol-at .ensures, c .before .before .before .before .before .m .given .1, c .before .before .m3 .given .1) (c .refused .ensures)
 
 pub take-spec : {M : Type 1} → statement M
 take-spec =

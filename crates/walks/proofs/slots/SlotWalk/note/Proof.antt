@@ -1,4 +1,3 @@
-use mathlib.Core.Path.{refl}
 use borrow.Author.Needs.{needs}
 use Rattle.walks.proofs.slots.SlotWalk.note.Statement.{statement}
 use Rattle.walks.proofs.slots.SlotWalk.note.Tie as tie

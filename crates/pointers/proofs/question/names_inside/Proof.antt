@@ -6,14 +6,14 @@ use borrow.Author.Needs.{needs}
 use borrow.Author.Tests.{not-true, not-false}
 use Rattle.reads.specs.Table.{records}
 use Rattle.pointers.specs.Tables.{bindWords}
-use Rattle.pointers.specs.Question.{every, bindFits, namesFit}
-use Rattle.pointers.proofs.Questions.{every-more, every-fails, bind-by}
-use Rattle.pointers.proofs.question.names_fit.Statement.{statement}
-use Rattle.pointers.proofs.question.names_fit.Tie as tie
+use Rattle.pointers.specs.Question.{every, bindInside, namesInside}
+use Rattle.pointers.proofs.Questions.{every-more, every-fails, inside-by}
+use Rattle.pointers.proofs.question.names_inside.Statement.{statement}
+use Rattle.pointers.proofs.question.names_inside.Tie as tie
 
--- The names of the first i records fit.
+-- The names of the first i records are inside the image.
 abbrev Inv-loop : tie.InvT-loop
-Inv-loop image binds i₀ i = (i ≤ records bindWords binds) × (every (bindFits image binds) i ≡ true)
+Inv-loop image binds i₀ i = (i ≤ records bindWords binds) × (every (bindInside image binds) i ≡ true)
 
 abbrev μ-loop : tie.MeasureT-loop
 μ-loop image binds i₀ i = records bindWords binds - i
@@ -23,27 +23,27 @@ unfolding every
 loop-holds c = (omega arith, refl)
 
 returns : tie.Need-returns Inv-loop μ-loop
-unfolding namesFit
+unfolding namesInside
 returns c =
     let a = c .before .before .before .before .before .before .before .args in
-    let fits = bind-by (a .image .now) (a .binds .now) _ _ (c .before .before .at .ensures) (c .before .name-fits .ensures) in
+    let inside = inside-by (a .image .now) (a .binds .now) _ _ (c .before .before .at .ensures) (c .before .name-inside .ensures) in
     every-fails _ _ _ (c .before .before .before .loop-test .taken)
-    (sym fits ∙ not-true _ (c .if1 .taken))
+    (sym inside ∙ not-true _ (c .if1 .taken))
 
 loop-again : tie.Need-loop-again Inv-loop μ-loop
 loop-again c =
     let a = c .before .before .before .before .before .before .before .args in
-    let fits = bind-by (a .image .now) (a .binds .now) _ _ (c .before .before .at .ensures) (c .before .name-fits .ensures) in
-    (omega arith, every-more _ _ (c .before .before .before .before .loop .inv .1) (sym fits ∙ not-false _ (c .if1 .left)))
+    let inside = inside-by (a .image .now) (a .binds .now) _ _ (c .before .before .at .ensures) (c .before .name-inside .ensures) in
+    (omega arith, every-more _ _ (c .before .before .before .before .loop .inv .1) (sym inside ∙ not-false _ (c .if1 .left)))
 
 returns-2 : tie.Need-returns-2 Inv-loop μ-loop
-unfolding namesFit
+unfolding namesInside
 returns-2 c =
     let past : c .before .loop .i ≡ records bindWords (c .before .before .before .before .args .binds .now) = omega arith in
     sym (rw past at (c .before .loop .inv .1))
 
-pub names-fit-spec : {M : Type 1} → statement M
-names-fit-spec =
+pub names-inside-spec : {M : Type 1} → statement M
+names-inside-spec =
     tie.close
     (tie.spec
     Inv-loop
