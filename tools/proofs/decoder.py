@@ -1,5 +1,5 @@
 #!/usr/bin/env python3
-"""decoder.py CRATE FN DEFINITION RESULT [--last TERM] [--tail] [--use LINE].. [--out CALL=OUTCOME,..] [--again] [--kept]
+"""decoder.py CRATE FN DEFINITION RESULT [--last TERM] [--tail] [--use LINE].. [--out CALL=OUTCOME,..] [--again] [--kept] [--size N] [--near]
 
 Writes the proof file of a decoder: a function that looks one thing up after the other, leaves with what is missing, and so
 follows its definition (a `Decode`, records/specs/Decode.antt). Each place of the code is reached from the one before it, by
@@ -10,7 +10,7 @@ one lemma a stage, so that the file grows with the stages and not with their squ
 FN is the function's path below proofs/, DEFINITION its definition over the start s of the function, RESULT what that
 decodes. --last proves the last return (what is returned ≡ what the rest of the definition gives; `@x` stands for the path
 to the place that binds x), --tail says that the last call's answer is returned, --again replaces a proof file, --kept reads the
-places that the last run generated. What is refused is edited by hand.
+places that the last run generated, --size is the size of a record whose fields are read near its spot, --near says that the spot is a parameter. What is refused is edited by hand.
 """
 import argparse
 import os
@@ -19,7 +19,8 @@ import subprocess
 import sys
 
 PURE = ("u32In", "u64In", "i32In")
-OUT = {"readable": "placeOutcome", "whole-category": "placeOutcome", "read-cstr": "textOutcome", "read-cstr-or-empty": "textOutcome",
+NEAR = ("first-slot", "first-slot-or-0", "field", "field-or-0", "ro-lists-at")
+OUT = {"readable": "placeOutcome", "spot-place": "placeOutcome", "whole-category": "placeOutcome", "read-cstr": "textOutcome", "read-cstr-or-empty": "textOutcome",
        "types-at": "textOutcome", "offset-at": "offsetOutcome"}
 SLICES = ("image", "segments", "sections", "info", "rebases", "binds", "index")
 
@@ -28,7 +29,7 @@ def arguments():
     ap = argparse.ArgumentParser()
     ap.add_argument("crate"); ap.add_argument("fn"); ap.add_argument("definition"); ap.add_argument("result")
     ap.add_argument("--last", default="refl"); ap.add_argument("--tail", action="store_true"); ap.add_argument("--again", action="store_true"); ap.add_argument("--kept", action="store_true")
-    ap.add_argument("--use", action="append", default=[]); ap.add_argument("--out", default="")
+    ap.add_argument("--size", default="0"); ap.add_argument("--near", action="store_true"); ap.add_argument("--use", action="append", default=[]); ap.add_argument("--out", default="")
     return ap.parse_args()
 
 
@@ -115,6 +116,7 @@ def main():
     found, k, q = {}, 0, 0
     start_of, rest_of = {}, {}
     used = set()
+    near_end = None
     for s in stages:
         k += 1
         up_to = None
@@ -156,16 +158,34 @@ def main():
         call = re.sub(r"^(.*-0)\d+$", r"\1", call)
         outcome = outs.get(call, "wordOutcome"); used.add(outcome)
         fact = f"sym ({up(call_up)} .{s['call']} .ensures) ∙ ap {outcome} ({told} .1)"
+        if call == "spot-place":
+            # the spot was looked up just before: its place is that of the bytes, and fields are then read near it
+            spot = next(d for d, (_, b) in enumerate(path) if d > s["at"] and b == "readable-spot") - s["index"]
+            is_ = f"{up(spot)} .readable-spot .ensures"
+            near = (f"near : (c : tie.{s['end']}) (reach : ℕ) → reach ≤ SIZE → Near (imageOf (start-{k} c .args .image .now) (start-{k} c .args .segments .now)) "
+                    f"(start-{k} c .args .va) ({up(spot)} .readable-spot .result) reach\n"
+                    f"near c reach h = near-placed _ _ _ reach _ ({is_}) ({fact}) h\n")
+            near_end = s["end"]
+            fact = f"sym (spot-place-readable _ _ _ (omega arith) _ ({is_})) ∙ {fact}"
         whole_at = f"whole (start-{k} c)"
         lemma = f"past (tables (start-{k} c)) ({base}) ({told} .0 .0) ({fact})"
         out.append(f"reach-{k} : (c : tie.{s['end']}) → run (tables (start-{k} c)) ({whole_at}) ≡ run (tables (start-{k} c)) (rest-{k} c)")
         out.append(f"unfolding {definition}")
         out.append(f"reach-{k} c = {lemma if not prior else prior + ' ∙ ' + lemma}\n")
+        if call == "spot-place":
+            out.append(near.replace("SIZE", a.size))
         s["outcome"] = outcome
 
     answers = []
     ends_at = {s["end"]: n + 1 for n, s in enumerate(stages)}
     for need, place in needs:
+        if near_end and re.sub(r"-requires(-\d+)?$", "", need) in NEAR:
+            step = up(next(d for d, (p, _) in enumerate(way(before, place)) if p == near_end))
+            answers.append(f"(λ c κs. near ({step}) _ (omega arith))")
+            continue
+        if a.near and re.sub(r"-requires(-\d+)?$", "", need) in NEAR:
+            answers.append(f"(λ c κs. near-less ({up(len(way(before, place)))} .pre) (omega arith))")
+            continue
         if not need.startswith("returns"):
             answers.append("(λ c κs. search needs)" if "-requires" in need else "(λ c. search needs)")
             continue
@@ -184,6 +204,9 @@ def main():
             call = next((dd, b) for dd, (p, b) in enumerate(w) if p in calls)
             s = stages[n]
             fact = f"sym ({up(call[0])} .{call[1]} .ensures) ∙ ap {s['outcome']} ({up(d)} .{m} .given .1)"
+            if s["call"] == "spot-place":
+                spot = next(dd for dd, (_, b) in enumerate(w) if b == "readable-spot")
+                fact = f"sym (spot-place-readable _ _ _ (omega arith) _ ({up(spot)} .readable-spot .ensures)) ∙ {fact}"
             base = f"whole ({step})" if n == 0 else f"rest-{n} ({step})"
             t = f"tables ({step})" if n == 0 else f"tables (start-{n} ({step}))"
             body = f"stops ({t}) ({base}) ({up(d)} .{m} .given .0 .0) ({fact})"
@@ -201,6 +224,11 @@ def main():
     own = "Rattle.records.specs" if a.crate == "records" else "Rattle.records.specs"
     laws = "Rattle.records.proofs" if a.crate == "records" else "Rattle.records.proofs"
     uses += [f"use {own}.Decode.{{Decode, run}}", f"use {laws}.Stages.{{rest, past, stops}}"] + a.use
+    if a.near:
+        uses += ["use native.Mathlib.Omega.{arith}", f"use {laws}.NearFields.{{near-less}}"]
+    if near_end:
+        uses += ["use Prim.Native.Nat.{ℕ, _≤_}", "use native.Mathlib.Omega.{arith}", "use Rattle.reads.specs.Place.{imageOf}",
+                 "use Rattle.reads.proofs.Spots.{spot-place-readable}", f"use {own}.Near.{{Near}}", f"use {laws}.NearFields.{{near-placed}}"]
     uses.append("use borrow.Author.Needs.{needs}")
     text = "\n".join(uses) + "\n" + head + f"use Rattle.{a.crate}.proofs.{a.fn}.Tie as tie\n\n" + "\n".join(out)
     text += f"\npub {name}-spec : {{M : Type 1}} → statement M\n{name}-spec =\n    tie.close\n    (tie.spec\n    " + "\n    ".join(answers) + ")\n"

@@ -51,6 +51,10 @@ unfoldable pub follow : ℕ → List ℕ → ℕ → ℕ → ℕ → List ℕ �
 follow width table heads nexts slot index =
     followFrom width table nexts slot index (records width table) (getD index (heads + chainOf slot) 0)
 
+-- No rebase stands in the chain of a slot: its head is 0.
+unfoldable pub noRebase : List ℕ → ℕ → Bool
+noRebase index slot = eqb (getD index (chainOf slot) 0) 0
+
 -- What a map holds for a slot after the first n records, numbered from 1, were inserted in order: absent, or the last that has it.
 unfoldable pub lastAmong : ℕ → List ℕ → ℕ → ℕ → Outcome ℕ
 lastAmong width table zero slot = absent NoRecord

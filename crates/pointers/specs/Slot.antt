@@ -1,15 +1,19 @@
 -- What the tables say of a slot, and pointer slots (document 01, Reading rules; mod.rs).
 use Prim.Native.Nat.{ℕ, _-_, _*_}
+use mathlib.Core.Bool.{Bool, _&&_}
 use mathlib.Core.List.{List}
-use Rattle.reads.specs.Outcome.{Outcome, value, number, Unrefused, andThen, because, orElse, orZero, sum64}
-use Rattle.reads.specs.Place.{Image, word}
+use lib.Dec.{ltb}
+use Rattle.reads.specs.Outcome.{Outcome, value, number, Unrefused, andThen, because, orElse, orZero, choose, sum64}
+use Rattle.reads.specs.Place.{Image, word, wordIn}
+use Rattle.reads.specs.Segment.{placeAt}
+use Rattle.reads.specs.declared.spot.Spot.{Spot}
 use Rattle.reads.specs.Address.{stripped}
 use Rattle.reads.specs.declared.answer.Reason.the-variants.{Unresolved}
 use Rattle.reads.specs.declared.text.Text.{Text}
 use Rattle.pointers.specs.Tables.{Tables, imageIn, rebaseWords, bindWords, chains, rebaseRecord, bindRecord}
 use Rattle.pointers.specs.Question.{question, bindInside, bindUtf8}
 use Rattle.pointers.specs.Index.{bindNexts}
-use Rattle.pointers.specs.Chain.{follow}
+use Rattle.pointers.specs.Chain.{noRebase, follow}
 use Rattle.pointers.specs.Symbol.{strippedName}
 
 -- The target of a slot's rebase.
@@ -53,6 +57,17 @@ pointerAt m rebases index va k = andThen (sum64 va k) (resolve m rebases index)
 -- The same, an absent slot counting as 0.
 unfoldable pub pointerOr0At : Image → List ℕ → List ℕ → ℕ → ℕ → Outcome ℕ
 pointerOr0At m rebases index va k = andThen (sum64 va k) (λ slot. orZero (resolve m rebases index slot))
+
+-- A slot that lies i bytes past a spot's address: where it lies in the spot's room and no rebase stands in its chain, the word there is read
+-- without a lookup. Beside the spot of readable bytes this is the slot's pointer (proofs/NearSlots.antt).
+unfoldable pub isNear : List ℕ → Spot → ℕ → ℕ → Bool
+isNear index s i slot = ltb i (s .room) && noRebase index slot
+
+unfoldable pub wordThere : Image → Spot → ℕ → ℕ
+wordThere m s i = stripped (wordIn (m .bytes) 8 (placeAt (s .offset)) i)
+
+unfoldable pub resolveNear : Image → List ℕ → List ℕ → Spot → ℕ → ℕ → Outcome ℕ
+resolveNear m rebases index s i slot = choose (isNear index s i slot) (value (wordThere m s i)) (resolve m rebases index slot)
 
 -- The same, of all that is lent.
 abbrev pub rebase : Tables → ℕ → Outcome ℕ

@@ -14,7 +14,7 @@ ghost use Rattle.reads.specs.Table.{records};
 ghost use Rattle.pointers.specs.Tables.{rebaseWords, bindWords, chains};
 ghost use Rattle.pointers.specs.Index.{chainOf, indexed, indexLength};
 ghost use Rattle.pointers.specs.IndexFold.{cleared, linked, chained};
-ghost use Rattle.pointers.specs.Chain.{follow};
+ghost use Rattle.pointers.specs.Chain.{noRebase, follow};
 
 // The heads of the chains of both tables, before the next words.
 pub const HEADS: usize = 2 * Address::CHAINS;
@@ -82,6 +82,13 @@ fn index_word(index: &[u32], i: usize) -> usize
         return index[i] as usize;
     }
     0
+}
+
+// No rebase stands in the chain of a slot.
+pub(crate) fn no_rebase(index: &[u32], slot: u64) -> bool
+    ensures { λ r. ⌜ r ≡ noRebase (before index) slot ⌝ }
+{
+    index_word(index, chain(slot)) == 0
 }
 
 // Follows the chain of a slot to its record, whose number counts from 1: 9 where a number is not below the one before it.

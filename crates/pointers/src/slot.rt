@@ -2,6 +2,7 @@
 // tables and of the index.
 use crate::index::HEADS;
 use crate::index::find;
+use crate::index::no_rebase;
 use crate::question::name_inside;
 use crate::question::name_utf8;
 use crate::symbol::strip_objc_symbol_prefix;
@@ -15,17 +16,21 @@ use reads::answer::because;
 use reads::answer::checked_add;
 use reads::answer::is_absent;
 use reads::answer::or_zero;
+use reads::place::Place;
 use reads::place::read_u64;
+use reads::place::u64_in;
+use reads::spot::Spot;
 use reads::text::TextAnswer;
 ghost use mathlib.Core.Path.{_≡_};
-ghost use Prim.Native.Nat.{_<_};
+ghost use mathlib.Core.List.{List};
+ghost use Prim.Native.Nat.{ℕ, _<_};
 ghost use Rattle.reads.specs.Reference.{before};
 ghost use Rattle.reads.specs.Outcome.{orZero};
 ghost use Rattle.reads.specs.Answer.{wordOutcome, textOutcome};
 ghost use Rattle.reads.specs.Table.{records};
-ghost use Rattle.reads.specs.Place.{lentImage};
+ghost use Rattle.reads.specs.Place.{imageOf, lentImage};
 ghost use Rattle.pointers.specs.Tables.{bindWords};
-ghost use Rattle.pointers.specs.Slot.{rebaseAt, bindName, bindAt, stored, rebasedOr, resolve, symbolOf, pointerAt, pointerOr0At};
+ghost use Rattle.pointers.specs.Slot.{rebaseAt, bindName, bindAt, stored, rebasedOr, resolve, symbolOf, pointerAt, pointerOr0At, isNear, wordThere, resolveNear};
 
 // The target of a slot's rebase.
 pub fn rebase_at(rebases: &[u64], index: &[u32], slot: u64) -> Word
@@ -149,6 +154,41 @@ pub fn pointer_or_0(
         Word::Value(slot) => or_zero(resolve_pointer(image, segments, rebases, index, slot)),
         Word::Missing(m) => Word::Missing(m),
     }
+}
+
+// The slot lies in the spot's room, i bytes past its address, and no rebase stands in the slot's chain.
+fn is_near(index: &[u32], s: Spot, i: u64, slot: u64) -> bool
+    ensures { λ r. ⌜ r ≡ isNear (before index) s i slot ⌝ }
+{
+    if s.room <= i {
+        return false;
+    }
+    no_rebase(index, slot)
+}
+
+// The word at i bytes from a spot, its low 48 bits.
+fn word_there(image: &[u8], s: Spot, i: u64) -> u64
+    ensures { λ r. ⌜ ((words : List ℕ) → r ≡ wordThere (imageOf (before image) words) s i) ⌝ }
+{
+    Address::strip(u64_in(image, Place { offset: s.offset }, i))
+}
+
+// The address in a pointer slot that lies i bytes past a spot's address: mostly without a lookup.
+pub fn resolve_near(
+    image: &[u8],
+    segments: &[u64],
+    rebases: &[u64],
+    index: &[u32],
+    s: Spot,
+    i: u64,
+    slot: u64,
+) -> Word
+    ensures { λ r. ⌜ wordOutcome r ≡ resolveNear (lentImage image segments) (before rebases) (before index) s i slot ⌝ }
+{
+    if is_near(index, s, i, slot) {
+        return Word::Value(word_there(image, s, i));
+    }
+    resolve_pointer(image, segments, rebases, index, slot)
 }
 
 // The name of a slot's bind less its prefix.

@@ -59,7 +59,7 @@ holds-same s va x l p q =
     le-same (suc va) (s .vmaddr + s .vmsize) (suc x) (s .vmaddr + s .vmsize) (λ h. ⊎-elim (λ u. omega arith) (λ u. omega arith) q) (λ h. omega arith) in
     simp (a, b)
 
-holds-not-past : (s : Segment) (va : ℕ) → s .vmaddr + s .vmsize ≤ va → holds s va ≡ false
+pub holds-not-past : (s : Segment) (va : ℕ) → s .vmaddr + s .vmsize ≤ va → holds s va ≡ false
 unfolding holds
 holds-not-past s va h = simp (le-ltb va (s .vmaddr + s .vmsize) h, and-false)
 

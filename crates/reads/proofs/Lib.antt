@@ -9,6 +9,7 @@ pub mod Lookups
 pub mod LeastAbove
 pub mod BreakSteps
 pub mod Breakpoints
+pub mod Spots
 pub mod Unrefused
 pub mod CanRead
 pub mod SegmentRooms

@@ -5,6 +5,7 @@ pub mod Answer
 pub mod Table
 pub mod Segment
 pub mod Place
+pub mod Spot
 pub mod Breaks
 pub mod Utf8
 pub mod Text

@@ -8,4 +8,5 @@ pub mod place;
 pub mod ptrauth;
 pub mod relative;
 pub mod segment;
+pub mod spot;
 pub mod text;

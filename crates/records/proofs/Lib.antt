@@ -5,6 +5,7 @@ pub mod Jumps
 pub mod Windows
 pub mod Readables
 pub mod Stages
+pub mod NearFields
 pub mod Decodes
 pub mod HubImage
 pub mod ListCases

@@ -1,6 +1,7 @@
 // Classes and their read-only records (objc-runtime-new.h, class_t and class_ro_t).
+use crate::near::field;
+use crate::near::field_or_0;
 use pointers::slot::pointer;
-use pointers::slot::pointer_or_0;
 use pointers::slot::rebase_at;
 use pointers::slot::slot_or_0;
 use pointers::slot::symbol_at;
@@ -15,6 +16,9 @@ use reads::place::Placed;
 use reads::place::read_u64;
 use reads::place::readable;
 use reads::place::u32_in;
+use reads::spot::Spot;
+use reads::spot::readable_spot;
+use reads::spot::spot_place;
 use reads::text::Text;
 use reads::text::TextAnswer;
 use reads::text::read_cstr;
@@ -22,9 +26,10 @@ use reads::text::text_because;
 ghost use mathlib.Core.Path.{_≡_};
 ghost use Rattle.reads.specs.Answer.{wordOutcome, textOutcome};
 ghost use Rattle.reads.specs.Outcome.{orZero};
-ghost use Rattle.reads.specs.Place.{lentImage};
+ghost use Rattle.reads.specs.Place.{imageOf, lentImage};
 ghost use Rattle.pointers.specs.ImageInfo.{bit};
 ghost use Rattle.pointers.specs.Tables.{lent};
+ghost use Rattle.records.specs.Near.{Near};
 ghost use Rattle.records.specs.Class.{classOutcome, classRoOutcome, bitsOf, dataAt, classAt, roListsOutcome, roListsAt, classRoAt, roOf, roDataAt, classNameAt, boundName, decodedName, classNameOf, fastFlags, isSwift};
 ghost use Rattle.records.specs.Ask.{pickedIn};
 
@@ -225,35 +230,38 @@ fn ro_lists_at(
     rebases: &[u64],
     binds: &[u64],
     index: &[u32],
+    s: Spot,
     va: u64,
 ) -> RoListsAnswer
+    requires { ⌜ Near (imageOf (now image) (now segments)) va s 72 ⌝ }
     ensures { λ r. let t = lent image segments sections info rebases binds index in
         ⌜ roListsOutcome r ≡ roListsAt t va ⌝ }
 {
-    let methods = match pointer_or_0(image, segments, rebases, index, va, BASE_METHODS) {
+    let methods = match field_or_0(image, segments, rebases, index, s, va, BASE_METHODS) {
         Word::Value(methods) => methods,
         Word::Missing(m) => return RoListsAnswer::Missing(m),
     };
-    let protocols = match pointer_or_0(image, segments, rebases, index, va, BASE_PROTOCOLS) {
+    let protocols = match field_or_0(image, segments, rebases, index, s, va, BASE_PROTOCOLS) {
         Word::Value(protocols) => protocols,
         Word::Missing(m) => return RoListsAnswer::Missing(m),
     };
-    let ivars = match pointer_or_0(image, segments, rebases, index, va, IVARS) {
+    let ivars = match field_or_0(image, segments, rebases, index, s, va, IVARS) {
         Word::Value(ivars) => ivars,
         Word::Missing(m) => return RoListsAnswer::Missing(m),
     };
-    let weak_ivar_layout = match pointer_or_0(
+    let weak_ivar_layout = match field_or_0(
         image,
         segments,
         rebases,
         index,
+        s,
         va,
         WEAK_IVAR_LAYOUT,
     ) {
         Word::Value(weak_ivar_layout) => weak_ivar_layout,
         Word::Missing(m) => return RoListsAnswer::Missing(m),
     };
-    let properties = match pointer_or_0(image, segments, rebases, index, va, BASE_PROPERTIES) {
+    let properties = match field_or_0(image, segments, rebases, index, s, va, BASE_PROPERTIES) {
         Word::Value(properties) => properties,
         Word::Missing(m) => return RoListsAnswer::Missing(m),
     };
@@ -280,19 +288,30 @@ pub fn class_ro_at(
     ensures { λ r. let t = lent image segments sections info rebases binds index in
         ⌜ classRoOutcome r ≡ classRoAt t va ⌝ }
 {
-    let p = match readable(image, segments, va, ClassRo::SIZE) {
+    let s = readable_spot(image, segments, va, ClassRo::SIZE);
+    let p = match spot_place(s) {
         Placed::At(p) => p,
         Placed::Missing(m) => return ClassRoAnswer::Missing(m),
     };
-    let ivar_layout = match pointer_or_0(image, segments, rebases, index, va, IVAR_LAYOUT) {
+    let ivar_layout = match field_or_0(image, segments, rebases, index, s, va, IVAR_LAYOUT) {
         Word::Value(ivar_layout) => ivar_layout,
         Word::Missing(m) => return ClassRoAnswer::Missing(m),
     };
-    let name_va = match pointer(image, segments, rebases, index, va, NAME) {
+    let name_va = match field(image, segments, rebases, index, s, va, NAME) {
         Word::Value(name_va) => name_va,
         Word::Missing(m) => return ClassRoAnswer::Missing(m),
     };
-    let lists = match ro_lists_at(image, segments, sections, info, rebases, binds, index, va) {
+    let lists = match ro_lists_at(
+        image,
+        segments,
+        sections,
+        info,
+        rebases,
+        binds,
+        index,
+        s,
+        va,
+    ) {
         RoListsAnswer::Lists(lists) => lists,
         RoListsAnswer::Missing(m) => return ClassRoAnswer::Missing(m),
     };

@@ -1,13 +1,15 @@
 // Rows of ivar lists (objc-runtime-new.h, ivar_t).
-use pointers::slot::pointer;
-use pointers::slot::pointer_or_0;
-use pointers::slot::slot_or_0;
+use crate::near::field;
+use crate::near::field_or_0;
+use crate::near::first_slot_or_0;
 use reads::answer::Missing;
 use reads::answer::Word;
 use reads::answer::nonzero;
 use reads::place::Placed;
 use reads::place::readable;
 use reads::place::u32_in;
+use reads::spot::readable_spot;
+use reads::spot::spot_place;
 use reads::text::Text;
 use reads::text::TextAnswer;
 use reads::text::read_cstr;
@@ -151,19 +153,20 @@ pub(crate) fn ivar_at(
     ensures { λ r. let t = lent image segments sections info rebases binds index in
         ⌜ ivarOutcome r ≡ ivarAt t va ⌝ }
 {
-    let p = match readable(image, segments, va, Ivar::SIZE) {
+    let s = readable_spot(image, segments, va, Ivar::SIZE);
+    let p = match spot_place(s) {
         Placed::At(p) => p,
         Placed::Missing(m) => return IvarAnswer::Missing(m),
     };
-    let place = match slot_or_0(image, segments, rebases, index, va) {
+    let place = match first_slot_or_0(image, segments, rebases, index, s, va) {
         Word::Value(place) => place,
         Word::Missing(m) => return IvarAnswer::Missing(m),
     };
-    let name_va = match pointer(image, segments, rebases, index, va, Ivar::NAME) {
+    let name_va = match field(image, segments, rebases, index, s, va, Ivar::NAME) {
         Word::Value(name_va) => name_va,
         Word::Missing(m) => return IvarAnswer::Missing(m),
     };
-    let type_va = match pointer_or_0(image, segments, rebases, index, va, Ivar::TYPE) {
+    let type_va = match field_or_0(image, segments, rebases, index, s, va, Ivar::TYPE) {
         Word::Value(type_va) => type_va,
         Word::Missing(m) => return IvarAnswer::Missing(m),
     };

@@ -5,6 +5,7 @@ pub mod class;
 pub mod ivar;
 pub mod list;
 pub mod method;
+mod near;
 pub mod property;
 pub mod protocol;
 pub mod row;

@@ -1,6 +1,7 @@
 // Rows of method lists (objc-runtime-new.h, method_t and method_t::small).
-use pointers::slot::pointer;
-use pointers::slot::pointer_or_0;
+use crate::near::field;
+use crate::near::field_or_0;
+use crate::near::first_slot;
 use pointers::slot::resolve_pointer;
 use reads::address::Address;
 use reads::answer::Missing;
@@ -13,6 +14,8 @@ use reads::place::u32_in;
 use reads::relative::i32_in;
 use reads::relative::relative_pointer;
 use reads::relative::signed;
+use reads::spot::readable_spot;
+use reads::spot::spot_place;
 use reads::text::Text;
 use reads::text::TextAnswer;
 use reads::text::read_cstr;
@@ -104,19 +107,20 @@ pub(crate) fn legacy_method_at(
     ensures { λ r. let t = lent image segments sections info rebases binds index in
         ⌜ methodOutcome r ≡ legacyMethodAt t va ⌝ }
 {
-    let _p = match readable(image, segments, va, Method::SIZE) {
+    let s = readable_spot(image, segments, va, Method::SIZE);
+    let _p = match spot_place(s) {
         Placed::At(p) => p,
         Placed::Missing(m) => return MethodAnswer::Missing(m),
     };
-    let name_va = match resolve_pointer(image, segments, rebases, index, va) {
+    let name_va = match first_slot(image, segments, rebases, index, s, va) {
         Word::Value(name_va) => name_va,
         Word::Missing(m) => return MethodAnswer::Missing(m),
     };
-    let types_va = match pointer(image, segments, rebases, index, va, Method::TYPES) {
+    let types_va = match field(image, segments, rebases, index, s, va, Method::TYPES) {
         Word::Value(types_va) => types_va,
         Word::Missing(m) => return MethodAnswer::Missing(m),
     };
-    let imp_va = match pointer_or_0(image, segments, rebases, index, va, Method::IMP) {
+    let imp_va = match field_or_0(image, segments, rebases, index, s, va, Method::IMP) {
         Word::Value(imp_va) => imp_va,
         Word::Missing(m) => return MethodAnswer::Missing(m),
     };

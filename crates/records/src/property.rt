@@ -1,10 +1,11 @@
 // Rows of property lists (objc-runtime-new.h, property_t).
-use pointers::slot::pointer_or_0;
-use pointers::slot::resolve_pointer;
+use crate::near::field_or_0;
+use crate::near::first_slot;
 use reads::answer::Missing;
 use reads::answer::Word;
 use reads::place::Placed;
-use reads::place::readable;
+use reads::spot::readable_spot;
+use reads::spot::spot_place;
 use reads::text::Text;
 use reads::text::TextAnswer;
 use reads::text::read_cstr;
@@ -45,19 +46,21 @@ pub(crate) fn property_at(
     ensures { λ r. let t = lent image segments sections info rebases binds index in
         ⌜ propertyOutcome r ≡ propertyAt t va ⌝ }
 {
-    let _p = match readable(image, segments, va, Property::SIZE) {
+    let s = readable_spot(image, segments, va, Property::SIZE);
+    let _p = match spot_place(s) {
         Placed::At(p) => p,
         Placed::Missing(m) => return PropertyAnswer::Missing(m),
     };
-    let name_va = match resolve_pointer(image, segments, rebases, index, va) {
+    let name_va = match first_slot(image, segments, rebases, index, s, va) {
         Word::Value(name_va) => name_va,
         Word::Missing(m) => return PropertyAnswer::Missing(m),
     };
-    let attributes_va = match pointer_or_0(
+    let attributes_va = match field_or_0(
         image,
         segments,
         rebases,
         index,
+        s,
         va,
         Property::ATTRIBUTES,
     ) {

@@ -1,12 +1,18 @@
 use mathlib.Core.Path.{_≡_, sym, ap, _∙_}
 use Rattle.reads.specs.Answer.{placeOutcome, textOutcome, wordOutcome}
-use Rattle.pointers.specs.Tables.{Tables, tablesOf}
 use Rattle.pointers.specs.Bytes.{u32In}
+use Rattle.pointers.specs.Tables.{Tables, tablesOf}
 use Rattle.records.specs.Decode.{Decode, run}
 use Rattle.records.proofs.Stages.{rest, past, stops}
 use Rattle.records.specs.Header.{ivar·alignmentRaw, ivar·ownSize}
 use Rattle.records.specs.Row.{offsetOutcome, decodeIvar}
 use Rattle.records.specs.declared.ivar.Ivar.{Ivar}
+use Prim.Native.Nat.{ℕ, _≤_}
+use native.Mathlib.Omega.{arith}
+use Rattle.reads.specs.Place.{imageOf}
+use Rattle.reads.proofs.Spots.{spot-place-readable}
+use Rattle.records.specs.Near.{Near}
+use Rattle.records.proofs.NearFields.{near-placed}
 use borrow.Author.Needs.{needs}
 use Rattle.records.proofs.ivar.ivar_at.Statement.{statement}
 use Rattle.records.proofs.ivar.ivar_at.Tie as tie
@@ -18,19 +24,22 @@ tables s = tablesOf (s .args .image .now) (s .args .segments .now) (s .args .sec
 abbrev whole : tie.Start → Decode Ivar
 whole s = decodeIvar (s .args .va)
 
--- Past readable.
+-- Past spot-place.
 abbrev start-1 : tie.After-known-told → tie.Start
-start-1 c = c .before .before .before .before .before .before .before .before .before .before .before
+start-1 c = c .before .before .before .before .before .before .before .before .before .before .before .before
 
 abbrev rest-1 : tie.After-known-told → Decode Ivar
 unfolding decodeIvar
-rest-1 c = rest (whole (c .before .before .before .before .before .before .before .before .before .before .before)) (c .before .p .given .0 .0)
+rest-1 c = rest (whole (c .before .before .before .before .before .before .before .before .before .before .before .before)) (c .before .p .given .0 .0)
 
 reach-1 : (c : tie.After-known-told) → run (tables (start-1 c)) (whole (start-1 c)) ≡ run (tables (start-1 c)) (rest-1 c)
 unfolding decodeIvar
-reach-1 c = past (tables (start-1 c)) (whole (c .before .before .before .before .before .before .before .before .before .before .before)) (c .before .p .given .0 .0) (sym (c .before .before .before .readable .ensures) ∙ ap placeOutcome (c .before .p .given .1))
+reach-1 c = past (tables (start-1 c)) (whole (c .before .before .before .before .before .before .before .before .before .before .before .before)) (c .before .p .given .0 .0) (sym (spot-place-readable _ _ _ (omega arith) _ (c .before .before .before .before .readable-spot .ensures)) ∙ sym (c .before .before .before .spot-place .ensures) ∙ ap placeOutcome (c .before .p .given .1))
 
--- Past slot-or-0.
+near : (c : tie.After-known-told) (reach : ℕ) → reach ≤ 32 → Near (imageOf (start-1 c .args .image .now) (start-1 c .args .segments .now)) (start-1 c .args .va) (c .before .before .before .before .readable-spot .result) reach
+near c reach h = near-placed _ _ _ reach _ (c .before .before .before .before .readable-spot .ensures) (sym (c .before .before .before .spot-place .ensures) ∙ ap placeOutcome (c .before .p .given .1)) h
+
+-- Past first-slot-or-0.
 abbrev start-2 : tie.After-known-told3 → tie.Start
 start-2 c = start-1 (c .before .before .before .before)
 
@@ -40,9 +49,9 @@ rest-2 c = rest (rest-1 (c .before .before .before .before)) (c .before .place .
 
 reach-2 : (c : tie.After-known-told3) → run (tables (start-2 c)) (whole (start-2 c)) ≡ run (tables (start-2 c)) (rest-2 c)
 unfolding decodeIvar
-reach-2 c = reach-1 (c .before .before .before .before) ∙ past (tables (start-2 c)) (rest-1 (c .before .before .before .before)) (c .before .place .given .0 .0) (sym (c .before .before .before .slot-or-0 .ensures) ∙ ap wordOutcome (c .before .place .given .1))
+reach-2 c = reach-1 (c .before .before .before .before) ∙ past (tables (start-2 c)) (rest-1 (c .before .before .before .before)) (c .before .place .given .0 .0) (sym (c .before .before .before .first-slot-or-0 .ensures) ∙ ap wordOutcome (c .before .place .given .1))
 
--- Past pointer.
+-- Past field.
 abbrev start-3 : tie.After-known-told5 → tie.Start
 start-3 c = start-2 (c .before .before .before .before)
 
@@ -52,9 +61,9 @@ rest-3 c = rest (rest-2 (c .before .before .before .before)) (c .before .name-va
 
 reach-3 : (c : tie.After-known-told5) → run (tables (start-3 c)) (whole (start-3 c)) ≡ run (tables (start-3 c)) (rest-3 c)
 unfolding decodeIvar
-reach-3 c = reach-2 (c .before .before .before .before) ∙ past (tables (start-3 c)) (rest-2 (c .before .before .before .before)) (c .before .name-va .given .0 .0) (sym (c .before .before .before .pointer .ensures) ∙ ap wordOutcome (c .before .name-va .given .1))
+reach-3 c = reach-2 (c .before .before .before .before) ∙ past (tables (start-3 c)) (rest-2 (c .before .before .before .before)) (c .before .name-va .given .0 .0) (sym (c .before .before .before .field .ensures) ∙ ap wordOutcome (c .before .name-va .given .1))
 
--- Past pointer-or-0.
+-- Past field-or-0.
 abbrev start-4 : tie.After-known-told7 → tie.Start
 start-4 c = start-3 (c .before .before .before .before)
 
@@ -64,7 +73,7 @@ rest-4 c = rest (rest (rest (rest-3 (c .before .before .before .before)) (c .bef
 
 reach-4 : (c : tie.After-known-told7) → run (tables (start-4 c)) (whole (start-4 c)) ≡ run (tables (start-4 c)) (rest-4 c)
 unfolding decodeIvar
-reach-4 c = reach-3 (c .before .before .before .before) ∙ past (tables (start-4 c)) (rest-3 (c .before .before .before .before)) (c .before .type-va .given .0 .0) (sym (c .before .before .before .pointer-or-0 .ensures) ∙ ap wordOutcome (c .before .type-va .given .1))
+reach-4 c = reach-3 (c .before .before .before .before) ∙ past (tables (start-4 c)) (rest-3 (c .before .before .before .before)) (c .before .type-va .given .0 .0) (sym (c .before .before .before .field-or-0 .ensures) ∙ ap wordOutcome (c .before .type-va .given .1))
 
 -- Past read-cstr.
 abbrev start-5 : tie.After-known-told9 → tie.Start
@@ -104,19 +113,19 @@ reach-7 c = reach-6 (c .before .before .before .before) ∙ past (tables (start-
 
 returns : tie.Need-returns
 unfolding decodeIvar
-returns c = stops (tables (c .before .before .before .before .before .before .before .before .before .before .before)) (whole (c .before .before .before .before .before .before .before .before .before .before .before)) (c .before .m .given .0 .0) (sym (c .before .before .before .readable .ensures) ∙ ap placeOutcome (c .before .m .given .1))
+returns c = stops (tables (c .before .before .before .before .before .before .before .before .before .before .before .before)) (whole (c .before .before .before .before .before .before .before .before .before .before .before .before)) (c .before .m .given .0 .0) (sym (spot-place-readable _ _ _ (omega arith) _ (c .before .before .before .before .readable-spot .ensures)) ∙ sym (c .before .before .before .spot-place .ensures) ∙ ap placeOutcome (c .before .m .given .1))
 
 returns-2 : tie.Need-returns-2
 unfolding decodeIvar
-returns-2 c = stops (tables (start-1 (c .before .before .before .before))) (rest-1 (c .before .before .before .before)) (c .before .m2 .given .0 .0) (sym (c .before .before .before .slot-or-0 .ensures) ∙ ap wordOutcome (c .before .m2 .given .1)) ∙ sym (reach-1 (c .before .before .before .before))
+returns-2 c = stops (tables (start-1 (c .before .before .before .before))) (rest-1 (c .before .before .before .before)) (c .before .m2 .given .0 .0) (sym (c .before .before .before .first-slot-or-0 .ensures) ∙ ap wordOutcome (c .before .m2 .given .1)) ∙ sym (reach-1 (c .before .before .before .before))
 
 returns-3 : tie.Need-returns-3
 unfolding decodeIvar
-returns-3 c = stops (tables (start-2 (c .before .before .before .before))) (rest-2 (c .before .before .before .before)) (c .before .m3 .given .0 .0) (sym (c .before .before .before .pointer .ensures) ∙ ap wordOutcome (c .before .m3 .given .1)) ∙ sym (reach-2 (c .before .before .before .before))
+returns-3 c = stops (tables (start-2 (c .before .before .before .before))) (rest-2 (c .before .before .before .before)) (c .before .m3 .given .0 .0) (sym (c .before .before .before .field .ensures) ∙ ap wordOutcome (c .before .m3 .given .1)) ∙ sym (reach-2 (c .before .before .before .before))
 
 returns-4 : tie.Need-returns-4
 unfolding decodeIvar
-returns-4 c = stops (tables (start-3 (c .before .before .before .before))) (rest-3 (c .before .before .before .before)) (c .before .m4 .given .0 .0) (sym (c .before .before .before .pointer-or-0 .ensures) ∙ ap wordOutcome (c .before .m4 .given .1)) ∙ sym (reach-3 (c .before .before .before .before))
+returns-4 c = stops (tables (start-3 (c .before .before .before .before))) (rest-3 (c .before .before .before .before)) (c .before .m4 .given .0 .0) (sym (c .before .before .before .field-or-0 .ensures) ∙ ap wordOutcome (c .before .m4 .given .1)) ∙ sym (reach-3 (c .before .before .before .before))
 
 returns-5 : tie.Need-returns-5
 unfolding decodeIvar
@@ -139,18 +148,19 @@ ivar-at-spec =
     tie.close
     (tie.spec
     (λ c κs. search needs)
+    (λ c κs. search needs)
     (λ c. search needs)
     (λ c. search needs)
     returns
-    (λ c κs. search needs)
+    (λ c κs. near (c) _ (omega arith))
     (λ c. search needs)
     (λ c. search needs)
     returns-2
-    (λ c κs. search needs)
+    (λ c κs. near (c .before .before .before .before) _ (omega arith))
     (λ c. search needs)
     (λ c. search needs)
     returns-3
-    (λ c κs. search needs)
+    (λ c κs. near (c .before .before .before .before .before .before .before .before) _ (omega arith))
     (λ c. search needs)
     (λ c. search needs)
     returns-4

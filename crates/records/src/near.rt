@@ -1,0 +1,82 @@
+// Pointer fields of a record or row whose bytes can be read, from the spot of its address.
+use pointers::slot::resolve_near;
+use reads::answer::Word;
+use reads::answer::checked_add;
+use reads::answer::or_zero;
+use reads::spot::Spot;
+ghost use mathlib.Core.Path.{_≡_};
+ghost use Prim.Native.Nat.{_+_};
+ghost use Rattle.reads.specs.Reference.{before};
+ghost use Rattle.reads.specs.Answer.{wordOutcome};
+ghost use Rattle.reads.specs.Outcome.{orZero};
+ghost use Rattle.reads.specs.Place.{imageOf, lentImage};
+ghost use Rattle.pointers.specs.Slot.{resolve, pointerAt, pointerOr0At};
+ghost use Rattle.records.specs.Near.{Near};
+
+// The pointer in the first field.
+pub(crate) fn first_slot(
+    image: &[u8],
+    segments: &[u64],
+    rebases: &[u64],
+    index: &[u32],
+    s: Spot,
+    va: u64,
+) -> Word
+    requires { ⌜ Near (imageOf (now image) (now segments)) va s 8 ⌝ }
+    ensures { λ r. ⌜ wordOutcome r ≡ resolve (lentImage image segments) (before rebases) (before index) va ⌝ }
+{
+    resolve_near(image, segments, rebases, index, s, 0, va)
+}
+
+// The same, an absent slot counting as 0.
+pub(crate) fn first_slot_or_0(
+    image: &[u8],
+    segments: &[u64],
+    rebases: &[u64],
+    index: &[u32],
+    s: Spot,
+    va: u64,
+) -> Word
+    requires { ⌜ Near (imageOf (now image) (now segments)) va s 8 ⌝ }
+    ensures { λ r. ⌜ wordOutcome r ≡ orZero (resolve (lentImage image segments) (before rebases) (before index) va) ⌝ }
+{
+    or_zero(first_slot(image, segments, rebases, index, s, va))
+}
+
+// The pointer in the field at va + k.
+pub(crate) fn field(
+    image: &[u8],
+    segments: &[u64],
+    rebases: &[u64],
+    index: &[u32],
+    s: Spot,
+    va: u64,
+    k: u64,
+) -> Word
+    requires { ⌜ Near (imageOf (now image) (now segments)) va s (k + 8) ⌝ }
+    ensures { λ r. ⌜ wordOutcome r ≡ pointerAt (lentImage image segments) (before rebases) (before index) va k ⌝ }
+{
+    match checked_add(va, k) {
+        Word::Value(slot) => resolve_near(image, segments, rebases, index, s, k, slot),
+        Word::Missing(m) => Word::Missing(m),
+    }
+}
+
+// The same, an absent slot counting as 0.
+pub(crate) fn field_or_0(
+    image: &[u8],
+    segments: &[u64],
+    rebases: &[u64],
+    index: &[u32],
+    s: Spot,
+    va: u64,
+    k: u64,
+) -> Word
+    requires { ⌜ Near (imageOf (now image) (now segments)) va s (k + 8) ⌝ }
+    ensures { λ r. ⌜ wordOutcome r ≡ pointerOr0At (lentImage image segments) (before rebases) (before index) va k ⌝ }
+{
+    match checked_add(va, k) {
+        Word::Value(slot) => or_zero(resolve_near(image, segments, rebases, index, s, k, slot)),
+        Word::Missing(m) => Word::Missing(m),
+    }
+}
