@@ -390,7 +390,7 @@ module _ (before : List ℕ) where
 
     pub node-opened : Opened (node before)
     unfolding opening openedIndex imageInfo le choose
-    node-opened = record { indexBefore = before; info = infoOf 0 0; accepted = rw accepts; left = rw accepts }
+    node-opened = record { indexBefore = before; gave = infoOf 0 0; accepted = rw accepts; left = rw accepts }
 
     -- The steps of the listing, with any ledger that has a word, say the twelve lines and settle the six entries.
     pub node-steps-say : (l : List ℕ) → 1 ≤ length l → Lists (node before) l twelve-lines six-events

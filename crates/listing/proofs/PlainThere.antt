@@ -103,7 +103,7 @@ module _ (t : Tables) (o : Opened t) where
       there-then _ records-there (λ records. there-then _ (lines-there records) (λ lines. there-then _ (events-there 0 records) (λ events. is-there _)))
 
   -- Line I is what opening gave.
-  pub opened-version : versionAndFlags (t .info) ≡ o .info
+  pub opened-version : versionAndFlags (t .info) ≡ o .gave
   unfolding imageInfo
   opened-version =
       let room = opened-room t o .infoBytes in

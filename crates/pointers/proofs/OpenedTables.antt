@@ -58,18 +58,18 @@ module _ (t : Tables) (o : Opened t) where
   pub opened-accepted : Accepted (withIndex t (o .indexBefore))
   unfolding opening
   opened-accepted =
-      let came = then-came (askedOpening (withIndex t (o .indexBefore))) _ (o .info) (o .accepted) in
+      let came = then-came (askedOpening (withIndex t (o .indexBefore))) _ (o .gave) (o .accepted) in
       accepted-parts (withIndex t (o .indexBefore)) tt (came .1)
 
   pub opened-index : t .index ≡ indexed (t .rebases) (t .binds) (o .indexBefore)
   unfolding opening openedIndex
   opened-index =
-      let came = then-came (askedOpening (withIndex t (o .indexBefore))) _ (o .info) (o .accepted) in
+      let came = then-came (askedOpening (withIndex t (o .indexBefore))) _ (o .gave) (o .accepted) in
       o .left ∙ rw (came .1)
 
-  pub opened-info : imageInfo (t .info) ≡ value (o .info)
+  pub opened-info : imageInfo (t .info) ≡ value (o .gave)
   unfolding opening
-  opened-info = then-came (askedOpening (withIndex t (o .indexBefore))) _ (o .info) (o .accepted) .2
+  opened-info = then-came (askedOpening (withIndex t (o .indexBefore))) _ (o .gave) (o .accepted) .2
 
   room-before : indexLength (t .rebases) (t .binds) ≤ length (o .indexBefore)
   room-before = asked-index (withIndex t (o .indexBefore)) tt (opened-accepted .indexPass)

@@ -33,6 +33,6 @@ openedIndex t = leftBy (askedOpening t) (indexed (t .rebases) (t .binds) (t .ind
 -- t is what opening accepted, with the index as opening left it; `indexBefore` is what it held.
 pub record Opened (t : Tables) : Type 0 where
   pub indexBefore : List ℕ
-  pub info : ImageInfo
-  pub accepted : opening (withIndex t indexBefore) ≡ value info
+  pub gave : ImageInfo
+  pub accepted : opening (withIndex t indexBefore) ≡ value gave
   pub left : t .index ≡ openedIndex (withIndex t indexBefore)

@@ -1,7 +1,7 @@
 // Symbol names of binds without the linker's prefix (mod.rs, strip_objc_symbol_prefix).
+use reads::order::least;
 use reads::text::Text;
 ghost use mathlib.Core.Path.{_≡_};
-ghost use Prim.Native.Nat.{min};
 ghost use Rattle.reads.specs.Reference.{before};
 ghost use Rattle.pointers.specs.Symbol.{starts, fitting, prefixes, strippedName};
 
@@ -47,15 +47,6 @@ fn prefix_length(s: &[u8]) -> usize
         k += 1;
     }
     0
-}
-
-fn least(a: u64, b: u64) -> u64
-    ensures { λ r. ⌜ r ≡ min a b ⌝ }
-{
-    if a < b {
-        return a;
-    }
-    b
 }
 
 // A name of the image less the first of the prefixes that it starts with; what lies past the image's end matches none.

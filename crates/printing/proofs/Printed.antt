@@ -68,12 +68,12 @@ module _ (t : Tables) (o : Opened t) (short : length (t .image) ≤ 32768) (l : 
   room : (first second : ℕ) → first < 5 → second < 5 → slotCount (t .sections) first second ≤ length l
   room first second a b = omega (arith, pair-slots t o first second a b)
 
-  listing-comes : toCome t (begun (value (o .info)) l) ≡ listingText (t .image) (plainListing t)
+  listing-comes : toCome t (begun (value (o .gave)) l) ≡ listingText (t .image) (plainListing t)
   listing-comes =
       let lines = there-known (listing-there t o) in
       let events = there-known (plain-events-there t o) in
       let rest = whole-rest t o l (room 0 1 (omega arith) (omega arith)) (room 2 3 (omega arith) (omega arith)) (lines .known) (events .known) (lines .is) (events .is) in
-      come-step t (begun (value (o .info)) l) (begun-sound (value (o .info)) l)
+      come-step t (begun (value (o .gave)) l) (begun-sound (value (o .gave)) l)
       ∙ rest-comes t rest start-words
       ∙ ap (listingText (t .image)) (sym (lines .is))
 
@@ -132,7 +132,7 @@ module _ (bytes : List ℕ) (c : Counts) (a : Accepted bytes c) (more index l : 
     opened-comes : toCome read (begun (value info) l) ≡ openedText tablesSaid (value info)
     opened-comes =
         ap (λ (t : Tables). toCome t (begun (value info) l)) read-said
-        ∙ listing-comes tablesSaid (record { indexBefore = zeros; info = info; accepted = e; left = refl }) (image-length bytes c a) l long
+        ∙ listing-comes tablesSaid (record { indexBefore = zeros; gave = info; accepted = e; left = refl }) (image-length bytes c a) l long
 
   accepted-comes : toCome read (begun (opening (tablesIn bytes c wordsRead index)) l) ≡ openedText tablesSaid (opening (bundled bytes c zeros))
   accepted-comes = rw opens-same (go (opening (bundled bytes c zeros)) refl)

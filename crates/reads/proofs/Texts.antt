@@ -66,12 +66,12 @@ follow-text (r ∷ w) (b ∷ s) at a = go (eqb b 0) refl (follow-text w s (suc a
 
 -- Past n bytes of s its text goes on as the text there.
 record PastN (s : List ℕ) (n : ℕ) : Type 0 where
-  rest : drop n (text s) ≡ text (drop n s)
+  dropped : drop n (text s) ≡ text (drop n s)
   long : length (text s) ≡ n + length (text (drop n s))
 
 past : (w : List Range) (s : List ℕ) (at j : ℕ) → all aboveZero w ≡ true → follow at w s ≡ step.On j → PastN s (length w)
 unfolding follow choose
-past [] s at j a f = record { rest = refl; long = omega arith }
+past [] s at j a f = record { dropped = refl; long = omega arith }
 past (r ∷ w) [] at j a f = let z : _≡_ {A = ℕ} 0 1 = cc in absurd (omega arith)
 past (r ∷ w) (b ∷ s) at j a f = go (inside r b) refl f (both-true (aboveZero r) (all aboveZero w) a) (past w s (suc at) j)
   where
@@ -81,7 +81,7 @@ past (r ∷ w) (b ∷ s) at j a f = go (inside r b) refl f (both-true (aboveZero
     go true i q above ih =
         let m = ih (above .1) q in
         let e = text-next b s (above-zero-inside r b (above .0) i) in
-        record { rest = ap (drop (suc (length w))) e ∙ m .rest; long = omega (arith, ap length e, m .long) }
+        record { dropped = ap (drop (suc (length w))) e ∙ m .dropped; long = omega (arith, ap length e, m .long) }
     go false i q above ih = let z : _≡_ {A = ℕ} 0 1 = cc in absurd (omega arith)
 
 -- The character of more than one byte in front of s, at offset `at`: the text's is the list's, and past it the text goes on as the
@@ -108,7 +108,7 @@ module _ (b : ℕ) (s : List ℕ) (at : ℕ) (a : 0x80 ≤ b) where
           let m = past w s (suc at) j (begun-above-zero b w q) f in
           let n : j - at ≡ suc (length w) = omega (arith, follow-on w s (suc at) j f .is) in
           rw n
-          record { rest = ap (drop (suc (length w))) text-high ∙ m .rest; long = omega (arith, m .long, ap length text-high) }
+          record { dropped = ap (drop (suc (length w))) text-high ∙ m .dropped; long = omega (arith, m .long, ap length text-high) }
 
 -- In a pass over s, at i
 -- What is left of the text at i decides the verdict on the text, and is as long less i.
@@ -163,7 +163,7 @@ module _ {s : List ℕ} {i : ℕ} (l : Left s i) where
           let d : drop (j - i) (getD s i 0 ∷ drop (i + 1) s) ≡ drop j s =
           ap (drop (j - i)) (sym (here s i h)) ∙ drop-drop (j - i) i s ∙ ap (λ (x : ℕ). drop x s) n in
           let t : drop (j - i) (getD s i 0 ∷ text (drop (i + 1) s)) ≡ text (drop j s) =
-          ap (drop (j - i)) (sym (text-high (getD s i 0) (drop (i + 1) s) i a)) ∙ m .rest ∙ ap text d in
+          ap (drop (j - i)) (sym (text-high (getD s i 0) (drop (i + 1) s) i a)) ∙ m .dropped ∙ ap text d in
           record {
             long = omega (arith, l .long, m .long, pass-ahead s i h e j q .0, ap (λ (x : List ℕ). length (text x)) (here s i h), ap (λ (x : List ℕ). length (text x)) d);
             judged =

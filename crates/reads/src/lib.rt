@@ -4,6 +4,7 @@ pub mod address;
 pub mod answer;
 pub mod breaks;
 pub mod leb128;
+pub mod order;
 pub mod place;
 pub mod ptrauth;
 pub mod relative;

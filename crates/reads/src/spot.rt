@@ -1,12 +1,14 @@
 // Spots: the place of an address together with its room, so that what lies near it is read without another lookup.
 use crate::answer::Missing;
 use crate::answer::Reason;
+use crate::order::greatest;
+use crate::order::least;
 use crate::place::Place;
 use crate::place::Placed;
 use crate::segment::Segment;
 ghost use mathlib.Core.Path.{_≡_};
 ghost use mathlib.Core.Bool.{true, false};
-ghost use Prim.Native.Nat.{_<_, _^_, min, max};
+ghost use Prim.Native.Nat.{_<_, _^_};
 ghost use Rattle.reads.specs.Reference.{before};
 ghost use Rattle.reads.specs.Answer.{placeOutcome};
 ghost use Rattle.reads.specs.Place.{lentImage};
@@ -25,24 +27,6 @@ fn nowhere() -> Spot
     ensures { λ r. ⌜ r ≡ nowhere ⌝ }
 {
     Spot { offset: 0, room: 0 }
-}
-
-fn lesser(a: u64, b: u64) -> u64
-    ensures { λ r. ⌜ r ≡ min a b ⌝ }
-{
-    if a < b {
-        return a;
-    }
-    b
-}
-
-fn greater(a: u64, b: u64) -> u64
-    ensures { λ r. ⌜ r ≡ max a b ⌝ }
-{
-    if a < b {
-        return b;
-    }
-    a
 }
 
 // How far an address lies past the segment's first one, modulo 2^64.
@@ -76,10 +60,10 @@ fn spot_at(s: Segment, far: u64, va: u64, d: u64) -> Spot
     if Segment::MAX - s.fileoff < d {
         return nowhere();
     }
-    let last = lesser(s.filesize, s.vmsize) - d - 1;
+    let last = least(s.filesize, s.vmsize) - d - 1;
     Spot {
         offset: s.fileoff + d,
-        room: lesser(last, Segment::MAX - far) + 1,
+        room: least(last, Segment::MAX - far) + 1,
     }
 }
 
@@ -98,7 +82,7 @@ fn spot_in(segments: &[u64], va: u64) -> Spot
         if holds_at(s, va, d) {
             return spot_at(s, far, va, d);
         }
-        far = greater(far, d);
+        far = greatest(far, d);
         i += 1;
     }
     nowhere()

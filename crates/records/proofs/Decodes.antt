@@ -40,7 +40,7 @@ module _ (t : Tables) (o : Opened t) where
   answer-unrefused (pointerOr0 va k) = pointer-or-0-unrefused t o va k
   answer-unrefused (string va) = text-in-unrefused (imageIn t) va
   answer-unrefused (symbol a) = symbol-unrefused t o a
-  answer-unrefused info = rw (opened-info t o) (is-value (o .info))
+  answer-unrefused info = rw (opened-info t o) (is-value (o .gave))
 
   pub unrefused : {A : Type 0} (d : Decode A) → Unrefused (run t d)
   unrefused (made a) = is-value a

@@ -98,7 +98,7 @@ unfolding opening openedIndex imageInfo choose le
 hub-opened =
     record {
       indexBefore = filled 0;
-      info = infoOf 0 0;
+      gave = infoOf 0 0;
       accepted = rw accepted-hub;
       left = rw accepted-hub;
     }

@@ -85,7 +85,7 @@ module _ (before : List ℕ) where
 
     opened : Opened (namesTables before)
     unfolding opening openedIndex imageInfo le choose
-    opened = record { indexBefore = before; info = infoOf 0 0; accepted = rw accepts; left = rw accepts }
+    opened = record { indexBefore = before; gave = infoOf 0 0; accepted = rw accepts; left = rw accepts }
 
     pub name-answers : answersOf (nextName (namesTables before)) 4 (walkAt 0x1000 0)
         ≡ value (nameReached (textOf 123 9)) ∷ value (namePassed NullAddress) ∷ value (nameReached (textOf 104 1)) ∷ value namesFinished ∷ []

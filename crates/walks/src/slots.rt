@@ -6,6 +6,7 @@ use pointers::slot::slot_or_0;
 use reads::answer::Missing;
 use reads::answer::Word;
 use reads::answer::nonzero;
+use reads::order::greatest;
 use reads::relative::slot_address;
 ghost use mathlib.Core.Path.{_≡_};
 ghost use mathlib.Core.Bool.{true};
@@ -266,16 +267,6 @@ pub(crate) fn next_slot(
     }
 }
 
-// The higher of two addresses.
-fn higher(a: u64, b: u64) -> u64
-    ensures { λ r. ⌜ r ≡ max a b ⌝ }
-{
-    if a < b {
-        return b;
-    }
-    a
-}
-
 impl SlotWalk {
     // Before the first slot.
     pub(crate) fn new() -> SlotWalk
@@ -386,7 +377,7 @@ impl SlotWalk {
         SlotWalk {
             slot: self.slot + 1,
             used: self.used + 1,
-            highest: higher(self.highest, va),
+            highest: greatest(self.highest, va),
         }
     }
 }

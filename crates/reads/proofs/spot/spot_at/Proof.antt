@@ -13,16 +13,16 @@ returns-2 : tie.Need-returns-2
 returns-2 c = c .nowhere2 .ensures ∙ spot-over _ _ _ (c .before .before .before .before .before .args .d) (search needs) (search needs) (search needs) (omega arith)
 
 sub-last : tie.Need-sub-last
-sub-last c = omega (arith, c .lesser .ensures, held-inside _ 0 _ _ (c .before .before .before .before .before .pre .0) (c .before .before .before .before .before .pre .1))
+sub-last c = omega (arith, c .least .ensures, held-inside _ 0 _ _ (c .before .before .before .before .before .pre .0) (c .before .before .before .before .before .pre .1))
 
 sub-last-2 : tie.Need-sub-last-2
-sub-last-2 c = omega (arith, c .lesser .ensures, held-inside _ 0 _ _ (c .before .before .before .before .before .pre .0) (c .before .before .before .before .before .pre .1))
+sub-last-2 c = omega (arith, c .least .ensures, held-inside _ 0 _ _ (c .before .before .before .before .before .pre .0) (c .before .before .before .before .before .pre .1))
 
 returns-3 : tie.Need-returns-3
 returns-3 c =
     let d = c .before .before .before .before .before .before .before .args .d in
-    rw (c .lesser2 .ensures)
-    (spot-there _ _ _ d (search needs) (search needs) _ (search needs) (omega arith) (omega arith) (ap (λ (x : ℕ). x - d - 1) (c .before .before .lesser .ensures)))
+    rw (c .least2 .ensures)
+    (spot-there _ _ _ d (search needs) (search needs) _ (search needs) (omega arith) (omega arith) (ap (λ (x : ℕ). x - d - 1) (c .before .before .least .ensures)))
 
 pub spot-at-spec : {M : Type 1} → statement M
 spot-at-spec =

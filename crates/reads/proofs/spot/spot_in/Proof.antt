@@ -48,7 +48,7 @@ loop-again c =
     let e = sym (c .before .before .before .before .before .ends .ensures) ∙ c .before .before .before .before .if1 .left in
     let h = sym (c .before .before .holds-at .ensures) ∙ c .before .if2 .left in (
       omega arith,
-      rw (c .greater .ensures, c .before .before .before .distance .ensures)
+      rw (c .greatest .ensures, c .before .before .before .distance .ensures)
           (sym (spot-on (l .before .before .args .segments .now) (l .loop .i) (omega arith) _ (c .before .before .before .before .before .before .at .ensures) (l .loop .far) (l .before .before .args .va) e h)
           ∙ l .loop .inv .1),
     )

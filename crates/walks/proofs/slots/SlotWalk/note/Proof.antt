@@ -3,7 +3,7 @@ use Rattle.walks.proofs.slots.SlotWalk.note.Statement.{statement}
 use Rattle.walks.proofs.slots.SlotWalk.note.Tie as tie
 
 returns : tie.Need-returns
-returns c = (rw (c .higher .ensures), search needs)
+returns c = (rw (c .greatest .ensures), search needs)
 
 pub note-spec : {M : Type 1} → statement M
 note-spec =
