@@ -223,6 +223,9 @@ module _ {z : Bool} {s : List ℕ} {i : ℕ} (l : Left z s [] i) {b : ByteRead} 
   read-is : byteAfter s i .read ≡ b .read
   read-is = ap (λ (x : ByteRead). x .read) (sym e)
 
+  pub byte-inside : 0 < b .byte → i < length s
+  byte-inside h = stands-inside s i (λ z. omega (arith, byte-is))
+
   -- An ASCII byte is a character.
   pub left-ascii : i < length s → Counts z (b .byte) → b .byte < 0x80 → Left z s [] (b .read)
   unfolding choose

@@ -15,7 +15,7 @@ use Rattle.reads.specs.Place.{Image}
 use Rattle.reads.specs.declared.place.Place.{Place}
 use Rattle.reads.specs.Answer.{missed}
 use Rattle.reads.specs.Utf8.{judge, verdict, isGood, utf8}
-use Rattle.reads.specs.Text.{text, scanned, scanOf, ifGood, textOfScan, textLength, textAt, textIn, readAt, lengthPlusOne, fixedLength}
+use Rattle.reads.specs.Text.{text, scanned, scanOf, ifGood, textOfScan, textLength, textAt, textIn, readAt, orNone, lengthPlusOne, fixedLength}
 use Rattle.reads.specs.Pass.{byteAfter, brokenAt}
 use Rattle.reads.specs.declared.text.ByteRead.{ByteRead}
 use Rattle.reads.specs.declared.text.Scan.{Scan}
@@ -71,13 +71,15 @@ module _ {s : List ℕ} {k : ℕ} {b : ByteRead} (l : Ahead s k b) where
       let r : b .read ≡ min (suc (b .at)) (length s) = ap (λ (x : ByteRead). x .read) (l .is) ∙ read-of-all s (b .at) (l .within) in
       ap (λ (x : ℕ). record { len = b .at; read = x; verdict = Bad k }) r ∙ ap (λ (x : ℕ). scanned s x (Bad k)) n
 
-pub scan-good : {s : List ℕ} {i : ℕ} → Left true s [] i → getD s i 0 ≡ 0 → record { len = i; read = byteAfter s i .read; verdict = Good } ≡ scanOf s
+-- A pass that came to the end of the text, and one that did not find it UTF-8.
+pub scan-good : {s : List ℕ} {i : ℕ} {b : ByteRead} → Left true s [] i → b ≡ byteAfter s i → b .byte ≡ 0
+    → record { len = b .at; read = b .read; verdict = Good } ≡ scanOf s
 unfolding judge
-scan-good {s} {i} l z =
-    let e = ends-there s i z in
+scan-good {s} {i} {b} l q z =
+    let e = ends-there s i (sym (ap (λ (x : ByteRead). x .byte) q) ∙ z) in
     let n : i ≡ length (text s) = omega (arith, l .long, ap length e) in
     let v : Good ≡ verdict (text s) = ap (judge i []) (sym e) ∙ l .judged in
-    rw (read-of-all s i (l .inside), n, v)
+    ap (λ (x : ByteRead). record { len = x .at; read = x .read; verdict = Good }) q ∙ rw (read-of-all s i (l .inside), n, v)
 
 pub scan-broken : {s : List ℕ} {k : ℕ} → BadAt true s k → brokenAt s k ≡ scanOf s
 scan-broken {s} {k} b = rw (b .long, b .judged)
@@ -92,9 +94,14 @@ module _ (offset : ℕ) (c : Scan) where
   scan-missed k e = ap (λ (v : Verdict). andThen (ifGood v (c .len)) (λ n. value (textOf offset n))) (sym e)
 
 module _ (bytes : List ℕ) (offset : ℕ) where
-  pub text-beyond : length bytes < offset → absent PastEnd ≡ textAt bytes offset
-  unfolding textAt choose
-  text-beyond h = simp (lt-leb offset (length bytes) h)
+  module _ (h : length bytes < offset) where
+    pub text-beyond : absent PastEnd ≡ textAt bytes offset
+    unfolding textAt choose
+    text-beyond = simp (lt-leb offset (length bytes) h)
+
+    pub read-beyond : 0 ≡ readAt bytes offset
+    unfolding readAt text
+    read-beyond = let k : length bytes ≤ offset = omega arith in rw (drop-of-length-le bytes k)
 
   -- Within the image, by the scan of the rest of it.
   module _ (h : offset ≤ length bytes) {c : Scan} (e : c ≡ scanOf (take (length bytes - offset) (drop offset bytes))) where
@@ -112,14 +119,27 @@ module _ (bytes : List ℕ) (offset : ℕ) where
     unfolding readAt
     read-scanned = ap (λ (x : Scan). x .read) scan-rest
 
+pub none-read : (m : Missing) → 0 ≡ orNone (missed m)
+none-read (Absent r) = refl
+none-read (Refused k) = refl
+
 pub length-plus-one-missed : (m : Missing) → 0 ≡ lengthPlusOne (missed m)
 unfolding lengthPlusOne
 length-plus-one-missed (Absent r) = refl
 length-plus-one-missed (Refused k) = refl
 
-pub fixed-length : (s : List ℕ) (n : ℕ) (v : Verdict) → v ≡ verdict (text s) → n ≡ choose (isGood v) (length (text s)) 0 → n ≡ fixedLength s
-unfolding fixedLength utf8
-fixed-length s n v e q = rw (← e) q
+module _ (s : List ℕ) {c : Scan} (e : c ≡ scanOf s) where
+  fixed-by : choose (isGood (c .verdict)) (c .len) 0 ≡ fixedLength s
+  unfolding fixedLength utf8
+  fixed-by = ap (λ (x : Scan). choose (isGood (x .verdict)) (x .len) 0) e
+
+  pub fixed-good : c .verdict ≡ Good → c .len ≡ fixedLength s
+  unfolding choose
+  fixed-good v = ap (λ (x : Verdict). choose (isGood x) (c .len) 0) (sym v) ∙ fixed-by
+
+  pub fixed-bad : (k : ℕ) → c .verdict ≡ Bad k → 0 ≡ fixedLength s
+  unfolding choose
+  fixed-bad k v = ap (λ (x : Verdict). choose (isGood x) (c .len) 0) (sym v) ∙ fixed-by
 
 -- A text lies in the image
 text-short : (s : List ℕ) → length (text s) ≤ length s

@@ -1,57 +1,75 @@
+-- `reads::text::scan_text` meets its contract. The invariant: what is left of the text decides the verdict, and is as long less what was
+-- read.
+use Prim.Native.Nat.{_-_, _≤_}
+use mathlib.Core.Path.{ap, _∙_}
+use mathlib.Core.Logic.{⊎-elim}
+use mathlib.Core.Bool.{true}
+use mathlib.Core.List.{[]}
+use native.Mathlib.Omega.{arith}
+use lib.ListN.{length}
+use borrow.Author.Tests.{not-true, not-false}
+use Rattle.reads.proofs.Passes.{Left, Stands, left-start, byte-inside, read-there, left-ascii, left-character, stands-ahead}
+use Rattle.reads.proofs.Texts.{scan-good, scan-broken}
 use borrow.Author.Needs.{needs}
 use Rattle.reads.proofs.text.scan_text.Statement.{statement}
 use Rattle.reads.proofs.text.scan_text.Tie as tie
-use Rattle.reads.proofs.text.scan_text.Reads as reads
-use Rattle.reads.proofs.text.scan_text.Lts as lts
-use Rattle.reads.proofs.text.broken.Reads as broken-reads
-use Rattle.reads.proofs.text.character.Reads as character-reads
-use Rattle.reads.proofs.text.read_byte.Reads as read-byte-reads
 
 abbrev Inv-loop : tie.InvT-loop
-Inv-loop s read₀ read = ?
+Inv-loop s read₀ read = Left true s [] read
 
 abbrev μ-loop : tie.MeasureT-loop
-μ-loop s read₀ read = ?
+μ-loop s read₀ read = length s - read
 
--- src/text.rt:186:5
 loop-holds : tie.Need-loop-holds Inv-loop μ-loop
-loop-holds c = search needs
+loop-holds c = left-start true (c .before .args .s .now)
 
--- src/text.rt:187:13
-read-byte-requires : tie.Need-read-byte-requires Inv-loop μ-loop
-read-byte-requires c κs = search needs
-
--- src/text.rt:186:5
 loop-less : tie.Need-loop-less Inv-loop μ-loop
-loop-less c = search needs
+loop-less c =
+    let d = c .before .before .before .before in
+    let l = d .before .loop in
+    let h = byte-inside (l .inv) (d .read-byte .ensures) (c .before .before .if1 .taken) in
+    omega (arith, h, ap (λ b. b .read) (d .read-byte .ensures) ∙ read-there (d .before .before .before .args .s .now) (l .read) h)
 
--- src/text.rt:186:5
 loop-again : tie.Need-loop-again Inv-loop μ-loop
-loop-again c = search needs
+loop-again c =
+    let d = c .before .before .before .before in
+    let l = d .before .loop .inv in
+    left-ascii l (d .read-byte .ensures) (byte-inside l (d .read-byte .ensures) (c .before .before .if1 .taken)) (λ z. omega arith) (c .if2 .taken)
 
--- src/text.rt:196:13
 returns : tie.Need-returns Inv-loop μ-loop
-returns c = search needs
+returns c =
+    let d = c .before .before .before .before in
+    scan-good (d .before .loop .inv) (d .read-byte .ensures) (c .if3 .taken)
 
--- src/text.rt:198:13
-character-requires : tie.Need-character-requires Inv-loop μ-loop
-character-requires c κs = search needs
+-- Past the tests the byte is neither zero nor ASCII.
+high : (c : tie.Else3 Inv-loop μ-loop) → 0x80 ≤ c .before .before .before .before .read-byte .result .byte
+high c = ⊎-elim (λ w. omega arith) (λ w. omega arith) (c .before .before .if1 .came)
 
--- src/text.rt:201:13
+stands : (c : tie.After-character Inv-loop μ-loop)
+    → Stands true (c .before .before .before .before .before .before .before .before .args .s .now) (c .before .before .before .before .before .before .loop .read)
+    [] (c .character .result)
+stands c =
+    let d = c .before .before .before .before .before in
+    left-character (d .before .loop .inv) (d .read-byte .ensures) (high (c .before)) (c .character .ensures)
+
 broken-requires : tie.Need-broken-requires Inv-loop μ-loop
-broken-requires c κs = search needs
+broken-requires c κs = let t = stands (c .before .before .before) in (t .within, t .is)
 
--- src/text.rt:201:13
 returns-2 : tie.Need-returns-2 Inv-loop μ-loop
-returns-2 c = search needs
+returns-2 c =
+    let t = stands (c .before .before .before .before) in
+    c .broken .ensures ∙ scan-broken (t .bad (not-true _ (c .before .if4 .taken)))
 
--- src/text.rt:186:5
 loop-less-2 : tie.Need-loop-less-2 Inv-loop μ-loop
-loop-less-2 c = search needs
+loop-less-2 c =
+    let d = c .before .before .before in
+    let g = d .before .before .before .before .before in
+    let h = byte-inside (g .before .loop .inv) (g .read-byte .ensures) (omega (arith, high (d .before))) in
+    let ahead = stands-ahead h (stands d) in
+    omega (arith, ahead .0, ahead .1)
 
--- src/text.rt:186:5
 loop-again-2 : tie.Need-loop-again-2 Inv-loop μ-loop
-loop-again-2 c = search needs
+loop-again-2 c = stands (c .before .before .before) .on (not-false _ (c .if4 .left))
 
 pub scan-text-spec : {M : Type 1} → statement M
 scan-text-spec =
@@ -60,11 +78,11 @@ scan-text-spec =
     Inv-loop
     μ-loop
     loop-holds
-    read-byte-requires
+    (λ c κs. search needs)
     loop-less
     loop-again
     returns
-    character-requires
+    (λ c κs. search needs)
     broken-requires
     returns-2
     loop-less-2
