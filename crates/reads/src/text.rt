@@ -10,7 +10,7 @@ ghost use mathlib.Core.Path.{_≡_};
 ghost use Prim.Native.Nat.{_≤_};
 ghost use lib.ListN.{length};
 ghost use Rattle.reads.specs.Reference.{before};
-ghost use Rattle.reads.specs.Answer.{wordOutcome, textOutcome};
+ghost use Rattle.reads.specs.Answer.{textOutcome};
 ghost use Rattle.reads.specs.Outcome.{because, orEmpty};
 ghost use Rattle.reads.specs.Utf8.{_to_, tail, verdict, utf8};
 ghost use Rattle.reads.specs.Pass.{byteAfter, due, follow, character, brokenAt};
@@ -90,9 +90,17 @@ fn read_byte(s: &[u8], read: usize) -> ByteRead
     ensures { λ r. ⌜ r ≡ byteAfter (before s) read ⌝ }
 {
     if s.len() <= read {
-        return ByteRead { at: read, byte: 0, read };
+        return ByteRead {
+            at: read,
+            byte: 0,
+            read,
+        };
     }
-    ByteRead { at: read, byte: s[read], read: read + 1 }
+    ByteRead {
+        at: read,
+        byte: s[read],
+        read: read + 1,
+    }
 }
 
 // The byte after `last`, which continues the character if it lies between lo and hi.
@@ -101,9 +109,15 @@ fn due(s: &[u8], last: ByteRead, lo: u8, hi: u8) -> Step
 {
     let b = read_byte(s, last.read);
     if b.byte < lo {
-        return Step { fits: false, last: b };
+        return Step {
+            fits: false,
+            last: b,
+        };
     }
-    Step { fits: b.byte <= hi, last: b }
+    Step {
+        fits: b.byte <= hi,
+        last: b,
+    }
 }
 
 // The same where the character went on so far, and that byte is of UTF8-tail.
@@ -131,7 +145,10 @@ fn character(s: &[u8], first: ByteRead) -> Step
         0xF0 => tail(s, tail(s, due(s, first, 0x90, 0xBF))),
         0xF1..=0xF3 => tail(s, tail(s, due(s, first, 0x80, 0xBF))),
         0xF4 => tail(s, tail(s, due(s, first, 0x80, 0x8F))),
-        _ => Step { fits: false, last: first },
+        _ => Step {
+            fits: false,
+            last: first,
+        },
     }
 }
 
@@ -175,7 +192,11 @@ fn broken(s: &[u8], bad: ByteRead) -> Scan
     while 0 < b.byte {
         b = read_byte(s, b.read);
     }
-    Scan { len: b.at as u64, read: b.read as u64, verdict: Verdict::Bad(bad.at as u64) }
+    Scan {
+        len: b.at as u64,
+        read: b.read as u64,
+        verdict: Verdict::Bad(bad.at as u64),
+    }
 }
 
 // The text in front of s, in one pass. A zero byte inside a character, or the end there, is no UTF8-tail.
@@ -193,7 +214,11 @@ pub fn scan_text(s: &[u8]) -> Scan
             }
         }
         if b.byte == 0 {
-            return Scan { len: b.at as u64, read: b.read as u64, verdict: Verdict::Good };
+            return Scan {
+                len: b.at as u64,
+                read: b.read as u64,
+                verdict: Verdict::Good,
+            };
         }
         let step = character(s, b);
         let last = step.last;
@@ -210,7 +235,10 @@ fn text_of_scan(offset: u64, scan: Scan) -> TextAnswer
 {
     let verdict = scan.verdict;
     match verdict {
-        Verdict::Good => TextAnswer::Found(Text { offset, len: scan.len }),
+        Verdict::Good => TextAnswer::Found(Text {
+            offset,
+            len: scan.len,
+        }),
         Verdict::Bad(k) => TextAnswer::Missing(Missing::Absent(Reason::NotUtf8(k))),
     }
 }
@@ -220,10 +248,16 @@ pub fn read_cstr_at(image: &[u8], offset: u64) -> CstrRead
     ensures { λ r. ⌜ (textOutcome (r .text) ≡ textAt (before image) offset) × (r .read ≡ readAt (before image) offset) ⌝ }
 {
     if (image.len() as u64) < offset {
-        return CstrRead { text: TextAnswer::Missing(Missing::Absent(Reason::PastEnd)), read: 0 };
+        return CstrRead {
+            text: TextAnswer::Missing(Missing::Absent(Reason::PastEnd)),
+            read: 0,
+        };
     }
     let scan = scan_text(&image[offset as usize..image.len()]);
-    CstrRead { text: text_of_scan(offset, scan), read: scan.read }
+    CstrRead {
+        text: text_of_scan(offset, scan),
+        read: scan.read,
+    }
 }
 
 // The text at an address, and how many bytes were read: absent at 0 and where nothing is mapped, and then none.
@@ -233,9 +267,15 @@ pub fn read_cstr_counted(image: &[u8], segments: &[u64], va: u64) -> CstrRead
     match nonzero(va) {
         Word::Value(a) => match vm_to_file_offset_in(segments, a) {
             Placed::At(p) => read_cstr_at(image, p.offset),
-            Placed::Missing(m) => CstrRead { text: TextAnswer::Missing(m), read: 0 },
+            Placed::Missing(m) => CstrRead {
+                text: TextAnswer::Missing(m),
+                read: 0,
+            },
         },
-        Word::Missing(m) => CstrRead { text: TextAnswer::Missing(m), read: 0 },
+        Word::Missing(m) => CstrRead {
+            text: TextAnswer::Missing(m),
+            read: 0,
+        },
     }
 }
 

@@ -21,11 +21,11 @@ loop-holds c = ahead-start (c .before .pre .0) (c .before .pre .1)
 loop-less : tie.Need-loop-less Inv-loop μ-loop
 loop-less c =
     let l = c .before .before .before .loop .inv in
-    let next = ahead-on l (c .before .if1 .taken) (c .read-byte .ensures) in
-    omega (arith, ap (λ b. b .at) (c .read-byte .ensures), read-next l (c .before .if1 .taken), next .within)
+    let next = ahead-on l (omega arith) (c .read-byte .ensures) in
+    omega (arith, ap (λ b. b .at) (c .read-byte .ensures), read-next l (omega arith), next .within)
 
 loop-again : tie.Need-loop-again Inv-loop μ-loop
-loop-again c = ahead-on (c .before .before .before .loop .inv) (c .before .if1 .taken) (c .read-byte .ensures)
+loop-again c = ahead-on (c .before .before .before .loop .inv) (omega arith) (c .read-byte .ensures)
 
 returns : tie.Need-returns Inv-loop μ-loop
 returns c = ahead-ends (c .before .before .loop .inv) (omega arith)

@@ -14,11 +14,10 @@ returns c =
     let d = c .before .before .before .before in
     let g = d .before .before .before .before in
     let p = c .before .before .p .given .1 in
-    let a = d .before .before .a .given .1 in
-    (
+    let a = d .before .before .a .given .1 in (
       word-value _ _ _ _ _ (g .nonzero .ensures) a (place-value _ _ _ _ _ (d .vm-to-file-offset-in .ensures) p (c .read-cstr-at .ensures .0)),
       ap orNone
-      (word-value _ _ _ _ _ (g .nonzero .ensures) a (place-value _ _ _ _ _ (d .vm-to-file-offset-in .ensures) p (ap value (c .read-cstr-at .ensures .1)))),
+          (word-value _ _ _ _ _ (g .nonzero .ensures) a (place-value _ _ _ _ _ (d .vm-to-file-offset-in .ensures) p (ap value (c .read-cstr-at .ensures .1)))),
     )
 
 returns-2 : tie.Need-returns-2
@@ -27,11 +26,10 @@ returns-2 c =
     let d = c .before .before .before in
     let g = d .before .before .before .before in
     let m = c .before .m .given in
-    let a = d .before .before .a .given .1 in
-    (
+    let a = d .before .before .a .given .1 in (
       word-value _ _ _ _ _ (g .nonzero .ensures) a (place-missing _ _ _ _ (d .vm-to-file-offset-in .ensures) (m .1)),
       none-read (m .0 .0)
-      ∙ ap orNone (word-value _ _ _ _ _ (g .nonzero .ensures) a (place-missing _ _ _ _ (d .vm-to-file-offset-in .ensures) (m .1))),
+          ∙ ap orNone (word-value _ _ _ _ _ (g .nonzero .ensures) a (place-missing _ _ _ _ (d .vm-to-file-offset-in .ensures) (m .1))),
     )
 
 returns-3 : tie.Need-returns-3
