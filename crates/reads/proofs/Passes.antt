@@ -16,8 +16,7 @@ use Rattle.reads.specs.Text.{text}
 use Rattle.reads.specs.Pass.{byteAfter, due, follow, followAll, followRow, character}
 use Rattle.reads.specs.declared.text.ByteRead.{ByteRead}
 use Rattle.reads.specs.declared.text.Step.{Step}
-use Rattle.reads.specs.declared.text.Verdict.{Verdict}
-use Rattle.reads.specs.declared.text.Verdict.the-variants.{Good, Bad}
+use Rattle.reads.specs.declared.text.Verdict.the-variants.{Bad}
 use Rattle.reads.proofs.Tests.{both-true}
 use Rattle.reads.proofs.Rows.{all, begun-all, inside-between, inside-under, inside-over, multi-row, multi-under, multi-over}
 
@@ -48,7 +47,7 @@ abbrev pub upTo : Bool → List ℕ → List ℕ
 upTo true s = text s
 upTo false s = s
 
--- The byte there goes on what is judged.
+-- A byte of what is judged.
 abbrev pub Counts : Bool → ℕ → Type 0
 Counts true b = b ≡ 0 → ⊥
 Counts false b = Unit {0}
@@ -64,62 +63,56 @@ up-to-next false b s n = refl
 
 -- A pass over s that has read i bytes, w being due: what is left decides the verdict, and is as long less i.
 pub record Left (z : Bool) (s : List ℕ) (w : List Range) (i : ℕ) : Type 0 where
-  pub inside : i ≤ length s
+  pub within : i ≤ length s
   pub long : i + length (upTo z (drop i s)) ≡ length (upTo z s)
   pub judged : judge i w (upTo z (drop i s)) ≡ verdict (upTo z s)
 
 -- A pass over s whose first bad byte stands at k.
-pub record BadAt (z : Bool) (s : List ℕ) (k : ℕ) : Type 0 where
-  pub inside : k ≤ length s
+pub record FoundBad (z : Bool) (s : List ℕ) (k : ℕ) : Type 0 where
+  pub within : k ≤ length s
   pub long : k + length (upTo z (drop k s)) ≡ length (upTo z s)
   pub judged : Bad k ≡ verdict (upTo z s)
 
 pub left-start : (z : Bool) (s : List ℕ) → Left z s [] 0
-left-start z s = record { inside = omega arith; long = omega arith; judged = refl }
+left-start z s = record { within = omega arith; long = omega arith; judged = refl }
 
--- At offset i, by the byte b that stands there.
+-- At offset i, by the byte that stands there.
 module _ {z : Bool} {s : List ℕ} {w : List Range} {i : ℕ} (l : Left z s w i) where
   module _ (h : i < length s) (n : Counts z (getD s i 0)) where
-    there : upTo z (drop i s) ≡ getD s i 0 ∷ upTo z (drop (suc i) s)
-    there = ap (upTo z) (drop-cons s i 0 h) ∙ up-to-next z (getD s i 0) (drop (suc i) s) n
+    next-judged : upTo z (drop i s) ≡ getD s i 0 ∷ upTo z (drop (suc i) s)
+    next-judged = ap (upTo z) (drop-cons s i 0 h) ∙ up-to-next z (getD s i 0) (drop (suc i) s) n
 
-    judged-there : goOn (dueAfter w (getD s i 0)) (Bad i) (λ v. judge (suc i) v (upTo z (drop (suc i) s))) ≡ verdict (upTo z s)
+    by-due : (o : Option (List Range)) → dueAfter w (getD s i 0) ≡ o
+        → goOn o (Bad i) (λ v. judge (suc i) v (upTo z (drop (suc i) s))) ≡ verdict (upTo z s)
     unfolding judge
-    judged-there = ap (judge i w) (sym there) ∙ l .judged
+    by-due o e =
+        ap (λ (q : Option (List Range)). goOn q (Bad i) (λ v. judge (suc i) v (upTo z (drop (suc i) s)))) (sym e)
+        ∙ ap (judge i w) (sym next-judged) ∙ l .judged
 
     pub left-on : (v : List Range) → dueAfter w (getD s i 0) ≡ some v → Left z s v (byteAfter s i .read)
     left-on v e =
         subst (Left z s v) (sym (read-there s i h))
-        record {
-          inside = omega arith;
-          long = omega (arith, l .long, ap length there);
-          judged = ap (λ (o : Option (List Range)). goOn o (Bad i) (λ v. judge (suc i) v (upTo z (drop (suc i) s)))) (sym e) ∙ judged-there;
-        }
+        record { within = h; long = omega (arith, l .long, ap length next-judged); judged = by-due (some v) e }
 
-    pub left-bad : dueAfter w (getD s i 0) ≡ none → BadAt z s i
-    left-bad e =
-        record {
-          inside = l .inside;
-          long = l .long;
-          judged = ap (λ (o : Option (List Range)). goOn o (Bad i) (λ v. judge (suc i) v (upTo z (drop (suc i) s)))) (sym e) ∙ judged-there;
-        }
+    pub left-bad : dueAfter w (getD s i 0) ≡ none → FoundBad z s i
+    left-bad e = record { within = l .within; long = l .long; judged = by-due none e }
 
 -- A byte that is not the one due is bad, and so is a zero byte that ends the text, and the end.
-misfit-front : (z : Bool) (i : ℕ) (r : Range) (w : List Range) (b : ℕ) (s : List ℕ) → inside r b ≡ false → judge i (r ∷ w) (upTo z (b ∷ s)) ≡ Bad i
+judge-misfit-front : (z : Bool) (i : ℕ) (r : Range) (w : List Range) (b : ℕ) (s : List ℕ) → inside r b ≡ false → judge i (r ∷ w) (upTo z (b ∷ s)) ≡ Bad i
 unfolding judge text choose
-misfit-front false i r w b s e = simp e
-misfit-front true i r w b s e = go (eqb b 0)
+judge-misfit-front false i r w b s e = simp e
+judge-misfit-front true i r w b s e = go (eqb b 0)
   where
     go : (x : Bool) → judge i (r ∷ w) (choose x [] (b ∷ text s)) ≡ Bad i
     go true = refl
     go false = simp e
 
-misfit : (z : Bool) (s : List ℕ) (i : ℕ) (r : Range) (w : List Range) → inside r (getD s i 0) ≡ false → judge i (r ∷ w) (upTo z (drop i s)) ≡ Bad i
+judge-misfit : (z : Bool) (s : List ℕ) (i : ℕ) (r : Range) (w : List Range) → inside r (getD s i 0) ≡ false → judge i (r ∷ w) (upTo z (drop i s)) ≡ Bad i
 unfolding judge
-misfit z s i r w e =
+judge-misfit z s i r w e =
     elim (decLe (length s) i) [
       | yes h ↦ ap (λ (l : List ℕ). judge i (r ∷ w) (upTo z l)) (drop-of-length-le s h) ∙ ap (judge i (r ∷ w)) (up-to-none z)
-      | no f ↦ ap (λ (l : List ℕ). judge i (r ∷ w) (upTo z l)) (drop-cons s i 0 (omega arith)) ∙ misfit-front z i r w (getD s i 0) (drop (suc i) s) e
+      | no f ↦ ap (λ (l : List ℕ). judge i (r ∷ w) (upTo z l)) (drop-cons s i 0 (omega arith)) ∙ judge-misfit-front z i r w (getD s i 0) (drop (suc i) s) e
     ]
 
 -- A range without the zero byte.
@@ -141,24 +134,27 @@ counts false b n = tt
 -- byte is the first bad one.
 pub record Stands (z : Bool) (s : List ℕ) (i : ℕ) (w : List Range) (p : Step) : Type 0 where
   pub is : p .last ≡ byteAfter s (p .last .at)
-  pub from : i ≤ p .last .at
+  pub ahead : i ≤ p .last .at
   pub within : p .last .at ≤ length s
   pub on : p .fits ≡ true → Left z s w (p .last .read)
-  pub bad : p .fits ≡ false → BadAt z s (p .last .at)
+  pub bad : p .fits ≡ false → FoundBad z s (p .last .at)
 
 module _ {z : Bool} {s : List ℕ} {i : ℕ} where
+  stands-read : {w : List Range} {p : Step} → Stands z s i w p → p .last .read ≡ min (suc (p .last .at)) (length s)
+  stands-read {p = p} t = ap (λ (b : ByteRead). b .read) (t .is) ∙ read-of-all s (p .last .at) (t .within)
+
   stands-due : (r : Range) (w : List Range) (last : ByteRead) → aboveZero r ≡ true → i ≤ last .read → Left z s (r ∷ w) (last .read)
       → Stands z s i w (due s last r)
   unfolding choose
   stands-due r w last a f l =
       record {
         is = refl;
-        from = f;
-        within = l .inside;
+        ahead = f;
+        within = l .within;
         on = λ e.
             let n = above-zero-inside r (getD s (last .read) 0) a e in
             left-on l (stands-inside s (last .read) n) (counts z (getD s (last .read) 0) n) w (simp e);
-        bad = λ e. record { inside = l .inside; long = l .long; judged = sym (misfit z s (last .read) r w e) ∙ l .judged };
+        bad = λ e. record { within = l .within; long = l .long; judged = sym (judge-misfit z s (last .read) r w e) ∙ l .judged };
       }
 
   stands-follow : (r : Range) (w : List Range) (p : Step) → aboveZero r ≡ true → Stands z s i (r ∷ w) p → Stands z s i w (follow s p r)
@@ -166,16 +162,18 @@ module _ {z : Bool} {s : List ℕ} {i : ℕ} where
   stands-follow r w p a t = go (p .fits) refl
     where
       go : (x : Bool) → p .fits ≡ x → Stands z s i w (choose x (due s (p .last) r) p)
-      go true e =
-          let n : p .last .read ≡ min (suc (p .last .at)) (length s) = ap (λ (b : ByteRead). b .read) (t .is) ∙ read-of-all s (p .last .at) (t .within) in
-          stands-due r w (p .last) a (omega (arith, t .from, t .within, n)) (t .on e)
-      go false e = record { is = t .is; from = t .from; within = t .within; on = λ q. absurd (true≢false (sym q ∙ e)); bad = t .bad }
+      go true e = stands-due r w (p .last) a (omega (arith, t .ahead, t .within, stands-read t)) (t .on e)
+      go false e = record { is = t .is; ahead = t .ahead; within = t .within; on = λ q. absurd (true≢false (sym q ∙ e)); bad = t .bad }
 
   stands-all : (w : List Range) (p : Step) → all aboveZero w ≡ true → Stands z s i w p → Stands z s i [] (followAll s p w)
   stands-all [] p a t = t
   stands-all (r ∷ w) p a t =
       let above = both-true (aboveZero r) (all aboveZero w) a in
       stands-all w (follow s p r) (above .1) (stands-follow r w p (above .0) t)
+
+  -- Behind a character the count is higher, and at most all bytes are read.
+  pub stands-ahead : {w : List Range} {p : Step} → i < length s → Stands z s i w p → (i < p .last .read) × (p .last .read ≤ length s)
+  stands-ahead h t = (omega (arith, t .ahead, t .within, stands-read t), omega (arith, stands-read t))
 
 -- The character whose first byte stands at i and is not ASCII.
 module _ {z : Bool} {s : List ℕ} {i : ℕ} (l : Left z s [] i) (h : 0x80 ≤ getD s i 0) where
@@ -200,8 +198,8 @@ module _ {z : Bool} {s : List ℕ} {i : ℕ} (l : Left z s [] i) (h : 0x80 ≤ g
       go none q =
           record {
             is = refl;
-            from = omega arith;
-            within = l .inside;
+            ahead = omega arith;
+            within = l .within;
             on = λ e. absurd (true≢false (sym e));
             bad = λ e. left-bad l first-inside first-there (after-first ∙ q);
           }
@@ -209,8 +207,8 @@ module _ {z : Bool} {s : List ℕ} {i : ℕ} (l : Left z s [] i) (h : 0x80 ≤ g
           stands-all w (record { fits = true; last = byteAfter s i }) (begun-all aboveZero multi (getD s i 0) w refl q)
           record {
             is = refl;
-            from = omega arith;
-            within = l .inside;
+            ahead = omega arith;
+            within = l .within;
             on = λ e. left-on l first-inside first-there w (after-first ∙ q);
             bad = λ e. absurd (true≢false e);
           }
@@ -236,12 +234,6 @@ module _ {z : Bool} {s : List ℕ} {i : ℕ} (l : Left z s [] i) {b : ByteRead} 
 
   pub left-character : {p : Step} → 0x80 ≤ b .byte → p ≡ character s b → Stands z s i [] p
   left-character {p} h q = subst (Stands z s i []) (sym (q ∙ ap (character s) e)) (stands-character l (omega (arith, byte-is)))
-
--- Behind a character the count is higher, and at most all bytes are read.
-pub stands-ahead : {z : Bool} {s : List ℕ} {i : ℕ} {w : List Range} {p : Step} → i < length s → Stands z s i w p → (i < p .last .read) × (p .last .read ≤ length s)
-stands-ahead {s = s} {p = p} h t =
-    let n : p .last .read ≡ min (suc (p .last .at)) (length s) = ap (λ (b : ByteRead). b .read) (t .is) ∙ read-of-all s (p .last .at) (t .within) in
-    (omega (arith, n, t .from, t .within), omega (arith, n))
 
 -- The code's steps are those of the definitions
 module _ (s : List ℕ) (i : ℕ) where

@@ -25,7 +25,7 @@ use Rattle.reads.specs.declared.text.Verdict.the-variants.{Good, Bad}
 use Rattle.reads.specs.declared.answer.Reason.the-variants.{PastEnd, NotUtf8}
 use Rattle.reads.specs.declared.answer.Missing.{Missing}
 use Rattle.reads.specs.declared.answer.Missing.the-variants.{Absent, Refused}
-use Rattle.reads.proofs.Passes.{text-zero, text-next, stands-inside, read-there, read-of-all, Left, BadAt}
+use Rattle.reads.proofs.Passes.{text-zero, text-next, stands-inside, read-there, read-of-all, Left, FoundBad}
 
 -- The end of a pass over s
 -- The text ends at i: a zero byte stands there, or nothing.
@@ -49,17 +49,17 @@ ahead-start h e = record { is = e; within = h; long = refl }
 module _ {s : List ℕ} {k : ℕ} {b : ByteRead} (l : Ahead s k b) where
   -- Where it is no zero byte, the text goes on behind it.
   module _ (h : 0 < b .byte) where
-    byte-there : getD s (b .at) 0 ≡ 0 → ⊥
-    byte-there z = omega (arith, ap (λ (x : ByteRead). x .byte) (l .is))
+    not-zero-there : getD s (b .at) 0 ≡ 0 → ⊥
+    not-zero-there z = omega (arith, ap (λ (x : ByteRead). x .byte) (l .is))
 
     pub read-next : b .read ≡ suc (b .at)
-    read-next = ap (λ (x : ByteRead). x .read) (l .is) ∙ read-there s (b .at) (stands-inside s (b .at) byte-there)
+    read-next = ap (λ (x : ByteRead). x .read) (l .is) ∙ read-there s (b .at) (stands-inside s (b .at) not-zero-there)
 
     pub ahead-on : {c : ByteRead} → c ≡ byteAfter s (b .read) → Ahead s k c
     ahead-on e =
-        let h = stands-inside s (b .at) byte-there in
+        let h = stands-inside s (b .at) not-zero-there in
         let goes : text (drop (b .at) s) ≡ getD s (b .at) 0 ∷ text (drop (suc (b .at)) s) =
-        ap text (drop-cons s (b .at) 0 h) ∙ text-next (getD s (b .at) 0) (drop (suc (b .at)) s) byte-there in
+        ap text (drop-cons s (b .at) 0 h) ∙ text-next (getD s (b .at) 0) (drop (suc (b .at)) s) not-zero-there in
         subst (Ahead s k) (sym (e ∙ ap (byteAfter s) read-next))
         record { is = refl; within = h; long = omega (arith, l .long, ap length goes) }
 
@@ -79,9 +79,9 @@ scan-good {s} {i} {b} l q z =
     let e = ends-there s i (sym (ap (λ (x : ByteRead). x .byte) q) ∙ z) in
     let n : i ≡ length (text s) = omega (arith, l .long, ap length e) in
     let v : Good ≡ verdict (text s) = ap (judge i []) (sym e) ∙ l .judged in
-    ap (λ (x : ByteRead). record { len = x .at; read = x .read; verdict = Good }) q ∙ rw (read-of-all s i (l .inside), n, v)
+    ap (λ (x : ByteRead). record { len = x .at; read = x .read; verdict = Good }) q ∙ rw (read-of-all s i (l .within), n, v)
 
-pub scan-broken : {s : List ℕ} {k : ℕ} → BadAt true s k → brokenAt s k ≡ scanOf s
+pub scan-broken : {s : List ℕ} {k : ℕ} → FoundBad true s k → brokenAt s k ≡ scanOf s
 scan-broken {s} {k} b = rw (b .long, b .judged)
 
 -- What the answers come to
@@ -105,11 +105,11 @@ module _ (bytes : List ℕ) (offset : ℕ) where
 
   -- Within the image, by the scan of the rest of it.
   module _ (h : offset ≤ length bytes) {c : Scan} (e : c ≡ scanOf (take (length bytes - offset) (drop offset bytes))) where
-    rest : take (length bytes - offset) (drop offset bytes) ≡ drop offset bytes
-    rest = take-all (length bytes - offset) (drop offset bytes) (omega (arith, length-drop offset bytes))
+    all-taken : take (length bytes - offset) (drop offset bytes) ≡ drop offset bytes
+    all-taken = take-all (length bytes - offset) (drop offset bytes) (omega (arith, length-drop offset bytes))
 
     scan-rest : c ≡ scanOf (drop offset bytes)
-    scan-rest = e ∙ ap scanOf rest
+    scan-rest = e ∙ ap scanOf all-taken
 
     pub text-scanned : textOfScan offset c ≡ textAt bytes offset
     unfolding textAt textLength choose

@@ -1,10 +1,10 @@
 -- `reads::text::utf8_verdict` meets its contract. The invariant: what is left decides the verdict.
 use Prim.Native.Nat.{_-_}
-use mathlib.Core.Path.{_≡_, refl, ap, sym, _∙_}
+use mathlib.Core.Path.{ap, sym, _∙_}
 use mathlib.Core.Bool.{false}
 use mathlib.Core.List.{[]}
 use native.Mathlib.Omega.{arith}
-use lib.ListN.{length, drop, drop-of-length-le}
+use lib.ListN.{length, drop-of-length-le}
 use borrow.Author.Tests.{not-true, not-false}
 use Rattle.reads.specs.Utf8.{judge, verdict}
 use Rattle.reads.proofs.Passes.{Left, Stands, left-start, left-ascii, left-character, read-there, stands-ahead}
