@@ -163,7 +163,9 @@ pub fn utf8_verdict(s: &[u8]) -> Verdict
             read = b.read;
             continue;
         }
-        let step = character(s, b);
+        // A copy: what is handed to a call lies in memory, and b is to stay in registers.
+        let first = b;
+        let step = character(s, first);
         let last = step.last;
         if !step.fits {
             return Verdict::Bad(last.at as u64);
@@ -220,7 +222,8 @@ pub fn scan_text(s: &[u8]) -> Scan
                 verdict: Verdict::Good,
             };
         }
-        let step = character(s, b);
+        let first = b;
+        let step = character(s, first);
         let last = step.last;
         if !step.fits {
             return broken(s, last);
