@@ -11,7 +11,7 @@ use lib.ListN.{length, getD, drop, drop-of-length-le, List·getD-eq-default}
 use lib.Seq.{drop-cons}
 use borrow.Author.Tests.{leb-true, ltb-true, lt-ltb, le-ltb, le-leb, eq-eqb, ne-eqb}
 use Rattle.reads.specs.Outcome.{choose}
-use Rattle.reads.specs.Utf8.{Range, _to_, inside, multi, begun, dueAfter, goOn, judge, verdict}
+use Rattle.reads.specs.Utf8.{Range, _to_, inside, tail, multi, begun, dueAfter, goOn, judge, verdict}
 use Rattle.reads.specs.Text.{text}
 use Rattle.reads.specs.Pass.{byteAfter, due, follow, followAll, followRow, character}
 use Rattle.reads.specs.declared.text.ByteRead.{ByteRead}
@@ -268,9 +268,25 @@ module _ (s : List ℕ) (first : ByteRead) where
   unfolding character
   by-row o e = ap (followRow s first) (sym e)
 
-  pub character-row : (k lo hi : ℕ) {w : List Range} → getD multi k [] ≡ (lo to hi) ∷ w → lo ≤ first .byte → first .byte ≤ hi
-      → followAll s (record { fits = true; last = first }) w ≡ character s first
-  character-row k lo hi {w} e a b = by-row (some w) (multi-row k lo hi (first .byte) e a b)
+  -- The k-th row of the grammar: what is due after the byte between lo and hi, of which q, t and u are the first, second and third.
+  module _ (k lo hi : ℕ) (a : lo ≤ first .byte) (b : first .byte ≤ hi) where
+    of-row : (w : List Range) → getD multi k [] ≡ (lo to hi) ∷ w → followAll s (record { fits = true; last = first }) w ≡ character s first
+    of-row w e = by-row (some w) (multi-row k lo hi (first .byte) e a b)
+
+    module _ {r : Range} {q : Step} (d : q ≡ due s first r) where
+      pub one-due : getD multi k [] ≡ (lo to hi) ∷ r ∷ [] → q ≡ character s first
+      unfolding choose
+      one-due e = d ∙ of-row (r ∷ []) e
+
+      module _ {t : Step} (f : t ≡ follow s q tail) where
+        pub two-due : getD multi k [] ≡ (lo to hi) ∷ r ∷ tail ∷ [] → t ≡ character s first
+        unfolding choose
+        two-due e = f ∙ ap (λ (p : Step). follow s p tail) d ∙ of-row (r ∷ tail ∷ []) e
+
+        pub three-due : {u : Step} → u ≡ follow s t tail → getD multi k [] ≡ (lo to hi) ∷ r ∷ tail ∷ tail ∷ [] → u ≡ character s first
+        unfolding choose
+        three-due g e =
+            g ∙ ap (λ (p : Step). follow s p tail) (f ∙ ap (λ (p : Step). follow s p tail) d) ∙ of-row (r ∷ tail ∷ tail ∷ []) e
 
   pub character-under : first .byte < 0xC2 → record { fits = false; last = first } ≡ character s first
   character-under b = by-row none (multi-under (first .byte) b)

@@ -55,6 +55,7 @@ textIn m va = andThen (nonzero va) (λ a. andThen (lookup (rows (m .words)) a) (
 unfoldable pub readAt : List ℕ → ℕ → ℕ
 readAt bytes offset = let c = scanOf (drop offset bytes) in c .read
 
+-- A count, 0 where there is nothing to count.
 abbrev pub orNone : Outcome ℕ → ℕ
 orNone (value n) = n
 orNone (absent r) = 0

@@ -1,80 +1,50 @@
 -- `reads::text::character` meets its contract: each arm is the row of the grammar of that number.
-use mathlib.Core.Path.{refl, ap, _∙_}
+use mathlib.Core.Path.{refl}
 use native.Mathlib.Omega.{arith}
-use Rattle.reads.specs.Outcome.{choose}
-use Rattle.reads.specs.Utf8.{tail}
-use Rattle.reads.specs.Pass.{follow}
-use Rattle.reads.specs.declared.text.Step.{Step}
-use Rattle.reads.proofs.Passes.{character-row, character-under, character-over}
+use Rattle.reads.proofs.Passes.{one-due, two-due, three-due, character-under, character-over}
 use borrow.Author.Needs.{needs}
 use Rattle.reads.proofs.text.character.Statement.{statement}
 use Rattle.reads.proofs.text.character.Tie as tie
 
 returns : tie.Need-returns
-unfolding choose
 returns c =
     let a = c .before .before .before .before .args in
-    c .tail .ensures
-    ∙ ap (λ (p : Step). follow (a .s .now) p tail) (c .before .due .ensures)
-    ∙ character-row (a .s .now) (a .first) 1 0xE0 0xE0 refl (omega arith) (omega arith)
+    two-due (a .s .now) (a .first) 1 0xE0 0xE0 (omega arith) (omega arith) (c .before .due .ensures) (c .tail .ensures) refl
 
 returns-2 : tie.Need-returns-2
-unfolding choose
 returns-2 c =
     let a = c .before .before .before .before .args in
-    c .tail2 .ensures
-    ∙ ap (λ (p : Step). follow (a .s .now) p tail) (c .before .due2 .ensures)
-    ∙ character-row (a .s .now) (a .first) 3 0xED 0xED refl (omega arith) (omega arith)
+    two-due (a .s .now) (a .first) 3 0xED 0xED (omega arith) (omega arith) (c .before .due2 .ensures) (c .tail2 .ensures) refl
 
 returns-3 : tie.Need-returns-3
-unfolding choose
 returns-3 c =
     let a = c .before .before .before .before .before .args in
-    c .tail4 .ensures
-    ∙ ap (λ (p : Step). follow (a .s .now) p tail) (c .before .tail3 .ensures)
-    ∙ ap (λ (p : Step). follow (a .s .now) (follow (a .s .now) p tail) tail) (c .before .before .due3 .ensures)
-    ∙ character-row (a .s .now) (a .first) 5 0xF0 0xF0 refl (omega arith) (omega arith)
+    three-due (a .s .now) (a .first) 5 0xF0 0xF0 (omega arith) (omega arith) (c .before .before .due3 .ensures) (c .before .tail3 .ensures) (c .tail4 .ensures) refl
 
 returns-4 : tie.Need-returns-4
-unfolding choose
 returns-4 c =
     let a = c .before .before .before .before .before .args in
-    c .tail6 .ensures
-    ∙ ap (λ (p : Step). follow (a .s .now) p tail) (c .before .tail5 .ensures)
-    ∙ ap (λ (p : Step). follow (a .s .now) (follow (a .s .now) p tail) tail) (c .before .before .due4 .ensures)
-    ∙ character-row (a .s .now) (a .first) 7 0xF4 0xF4 refl (omega arith) (omega arith)
+    three-due (a .s .now) (a .first) 7 0xF4 0xF4 (omega arith) (omega arith) (c .before .before .due4 .ensures) (c .before .tail5 .ensures) (c .tail6 .ensures) refl
 
 returns-5 : tie.Need-returns-5
-unfolding choose
 returns-5 c =
     let a = c .before .before .before .before .before .args in
-    c .due5 .ensures
-    ∙ character-row (a .s .now) (a .first) 0 0xC2 0xDF refl (omega arith) (omega arith)
+    one-due (a .s .now) (a .first) 0 0xC2 0xDF (omega arith) (omega arith) (c .due5 .ensures) refl
 
 returns-6 : tie.Need-returns-6
-unfolding choose
 returns-6 c =
     let a = c .before .before .before .before .before .before .before .args in
-    c .tail7 .ensures
-    ∙ ap (λ (p : Step). follow (a .s .now) p tail) (c .before .due6 .ensures)
-    ∙ character-row (a .s .now) (a .first) 2 0xE1 0xEC refl (omega arith) (omega arith)
+    two-due (a .s .now) (a .first) 2 0xE1 0xEC (omega arith) (omega arith) (c .before .due6 .ensures) (c .tail7 .ensures) refl
 
 returns-7 : tie.Need-returns-7
-unfolding choose
 returns-7 c =
     let a = c .before .before .before .before .before .before .before .before .args in
-    c .tail8 .ensures
-    ∙ ap (λ (p : Step). follow (a .s .now) p tail) (c .before .due7 .ensures)
-    ∙ character-row (a .s .now) (a .first) 4 0xEE 0xEF refl (omega arith) (omega arith)
+    two-due (a .s .now) (a .first) 4 0xEE 0xEF (omega arith) (omega arith) (c .before .due7 .ensures) (c .tail8 .ensures) refl
 
 returns-8 : tie.Need-returns-8
-unfolding choose
 returns-8 c =
     let a = c .before .before .before .before .before .before .before .before .before .before .args in
-    c .tail10 .ensures
-    ∙ ap (λ (p : Step). follow (a .s .now) p tail) (c .before .tail9 .ensures)
-    ∙ ap (λ (p : Step). follow (a .s .now) (follow (a .s .now) p tail) tail) (c .before .before .due8 .ensures)
-    ∙ character-row (a .s .now) (a .first) 6 0xF1 0xF3 refl (omega arith) (omega arith)
+    three-due (a .s .now) (a .first) 6 0xF1 0xF3 (omega arith) (omega arith) (c .before .before .due8 .ensures) (c .before .tail9 .ensures) (c .tail10 .ensures) refl
 
 returns-9 : tie.Need-returns-9
 returns-9 c = let a = c .before .before .before .args in character-under (a .s .now) (a .first) (omega arith)
