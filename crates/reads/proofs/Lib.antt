@@ -15,7 +15,7 @@ pub mod CanRead
 pub mod SegmentRooms
 pub mod Rows
 pub mod Grammar
-pub mod Characters
+pub mod Passes
 pub mod Texts
 pub mod FirstBad
 pub mod TwosLaws

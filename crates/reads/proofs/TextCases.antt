@@ -2,11 +2,13 @@
 use Prim.Native.Nat.{ℕ}
 use mathlib.Core.Path.{_≡_, refl}
 use mathlib.Core.List.{List, [], _∷_}
-use Rattle.reads.specs.Outcome.{value, absent, choose, textOf}
+use Rattle.reads.specs.Outcome.{value, absent, choose, sum64, nonzero, textOf}
+use Rattle.reads.specs.Segment.{rows, ends, holds, placed, lookup}
+use Rattle.reads.specs.Place.{Image, imageOf}
 use Rattle.reads.specs.Utf8.{judge, verdict, utf8}
 use Rattle.reads.specs.declared.answer.Reason.the-variants.{PastEnd, NotUtf8}
 use Rattle.reads.specs.declared.text.Verdict.the-variants.{Bad}
-use Rattle.reads.specs.Text.{text, textLength, textAt, fixedLength}
+use Rattle.reads.specs.Text.{text, textLength, textAt, readAt, readIn, fixedLength}
 
 -- "\0Hub\0x": the text at 1 is "Hub", at 5 "x" runs to the image's end, at 6 it is empty, and above 6 it is absent.
 abbrev hub : List ℕ
@@ -53,6 +55,69 @@ cut-by-zero = refl
 first-bad : verdict (0x41 ∷ 0xED ∷ 0xA0 ∷ 0x80 ∷ []) ≡ Bad 2
 unfolding judge choose
 first-bad = refl
+
+-- How many bytes are read (document 02, note 4): the text's and its zero byte; those of "x", which no zero byte ends; the zero byte of an
+-- empty text; none at the image's end, and none above it.
+count-with-zero : readAt hub 1 ≡ 4
+unfolding readAt text choose
+count-with-zero = refl
+
+count-without-zero : readAt hub 5 ≡ 1
+unfolding readAt text choose
+count-without-zero = refl
+
+count-of-empty : readAt hub 0 ≡ 1
+unfolding readAt text choose
+count-of-empty = refl
+
+count-at-the-end : readAt hub 6 ≡ 0
+unfolding readAt text
+count-at-the-end = refl
+
+count-beyond : readAt hub 7 ≡ 0
+unfolding readAt text
+count-beyond = refl
+
+-- "a", a byte that no text holds, "b", a zero byte, "c": all of a malformed text is read, and its zero byte; without that, to the end.
+abbrev malformed : List ℕ
+malformed = 0x61 ∷ 0xFF ∷ 0x62 ∷ 0x00 ∷ 0x63 ∷ []
+
+malformed-with-zero : (textAt malformed 0 ≡ absent (NotUtf8 1)) × (readAt malformed 0 ≡ 4)
+unfolding textAt textLength readAt text judge choose
+malformed-with-zero = (refl, refl)
+
+malformed-without-zero : (textAt (0x61 ∷ 0xFF ∷ 0x62 ∷ []) 0 ≡ absent (NotUtf8 1)) × (readAt (0x61 ∷ 0xFF ∷ 0x62 ∷ []) 0 ≡ 3)
+unfolding textAt textLength readAt text judge choose
+malformed-without-zero = (refl, refl)
+
+-- A character that the zero byte cuts, and one that the image's end cuts.
+count-cut-by-zero : readAt (0xE2 ∷ 0x89 ∷ 0x00 ∷ 0xA2 ∷ []) 0 ≡ 3
+unfolding readAt text choose
+count-cut-by-zero = refl
+
+count-cut-by-the-end : readAt (0xE2 ∷ 0x89 ∷ []) 0 ≡ 2
+unfolding readAt text choose
+count-cut-by-the-end = refl
+
+-- The same bytes, mapped to 0x1000 with room for eight: an address of a text, 0, one that is not mapped, and one past the image's end.
+abbrev mapped : Image
+mapped = imageOf malformed (0x1000 ∷ 8 ∷ 0 ∷ 8 ∷ [])
+
+count-in : readIn mapped 0x1002 ≡ 2
+unfolding readIn readAt text nonzero lookup rows ends holds placed sum64 choose
+count-in = refl
+
+count-at-address-zero : readIn mapped 0 ≡ 0
+unfolding readIn nonzero choose
+count-at-address-zero = refl
+
+count-not-mapped : readIn mapped 0x2000 ≡ 0
+unfolding readIn nonzero lookup rows ends holds placed sum64 choose
+count-not-mapped = refl
+
+count-past-the-end : readIn mapped 0x1006 ≡ 0
+unfolding readIn readAt text nonzero lookup rows ends holds placed sum64 choose
+count-past-the-end = refl
 
 -- segname "__TEXT" in 16 bytes, and 16 bytes that are not UTF-8.
 segname : fixedLength (0x5F ∷ 0x5F ∷ 0x54 ∷ 0x45 ∷ 0x58 ∷ 0x54 ∷ 0 ∷ 0 ∷ 0 ∷ 0 ∷ 0 ∷ 0 ∷ 0 ∷ 0 ∷ 0 ∷ 0 ∷ []) ≡ 6

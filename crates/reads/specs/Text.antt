@@ -1,5 +1,5 @@
--- Texts in the image (document 01, Reading rules, third point; document 02, note 2; util.rs, read_cstr_at and cstr_from_fixed).
-use Prim.Native.Nat.{ℕ, _+_}
+-- Texts in the image (document 01, Reading rules, third point; document 02, notes 2 and 4; util.rs, read_cstr_at and cstr_from_fixed).
+use Prim.Native.Nat.{ℕ, suc, _+_, min}
 use mathlib.Core.List.{List, [], _∷_}
 use lib.Dec.{leb, eqb}
 use lib.ListN.{length, drop}
@@ -8,6 +8,7 @@ use Rattle.reads.specs.Segment.{rows, lookup}
 use Rattle.reads.specs.Place.{Image}
 use Rattle.reads.specs.Utf8.{verdict, utf8}
 use Rattle.reads.specs.declared.answer.Reason.the-variants.{PastEnd, NotUtf8}
+use Rattle.reads.specs.declared.text.Scan.{Scan}
 use Rattle.reads.specs.declared.text.Text.{Text}
 use Rattle.reads.specs.declared.text.Verdict.{Verdict}
 use Rattle.reads.specs.declared.text.Verdict.the-variants.{Good, Bad}
@@ -17,22 +18,29 @@ unfoldable pub text : List ℕ → List ℕ
 text [] = []
 text (b ∷ s) = choose (eqb b 0) [] (b ∷ text s)
 
--- What is found of the text in front of s: its length, and whether it is UTF-8.
-pub record Scan : Type 0 where
-  pub len : ℕ
-  pub verdict : Verdict
+-- What a pass over the text in front of s finds, which has n bytes: these and its zero byte, if there is one, are read (note 4).
+abbrev pub scanned : List ℕ → ℕ → Verdict → Scan
+scanned s n v = record { len = n; read = min (suc n) (length s); verdict = v }
 
 abbrev pub scanOf : List ℕ → Scan
-scanOf s = record { len = length (text s); verdict = verdict (text s) }
+scanOf s = scanned s (length (text s)) (verdict (text s))
 
 -- A length, absent unless UTF-8.
 abbrev pub ifGood : Verdict → ℕ → Outcome ℕ
 ifGood Good n = value n
 ifGood (Bad k) n = absent (NotUtf8 k)
 
+-- The length of a text that was scanned, or why it is missing.
+abbrev pub lengthOfScan : Scan → Outcome ℕ
+lengthOfScan c = ifGood (c .verdict) (c .len)
+
+-- That text, which begins at an offset.
+abbrev pub textOfScan : ℕ → Scan → Outcome Text
+textOfScan offset c = andThen (lengthOfScan c) (λ n. value (textOf offset n))
+
 -- The length of the text in front of s, absent unless UTF-8.
 unfoldable pub textLength : List ℕ → Outcome ℕ
-textLength s = let c = scanOf s in ifGood (c .verdict) (c .len)
+textLength s = lengthOfScan (scanOf s)
 
 -- The text at an offset: absent above the image's length, else the text there, which at that length is empty.
 unfoldable pub textAt : List ℕ → ℕ → Outcome Text
@@ -42,6 +50,20 @@ textAt bytes offset =
 -- The text at an address: absent at 0 and where nothing is mapped.
 unfoldable pub textIn : Image → ℕ → Outcome Text
 textIn m va = andThen (nonzero va) (λ a. andThen (lookup (rows (m .words)) a) (λ p. textAt (m .bytes) (p .offset)))
+
+-- How many bytes a read of the text at an offset reads: none where it lies at the image's end or above.
+unfoldable pub readAt : List ℕ → ℕ → ℕ
+readAt bytes offset = let c = scanOf (drop offset bytes) in c .read
+
+-- A count, 0 where there is nothing to count.
+abbrev pub orNone : Outcome ℕ → ℕ
+orNone (value n) = n
+orNone (absent r) = 0
+orNone (number k) = 0
+
+-- How many a read of the text at an address reads: none at 0 and where nothing is mapped.
+unfoldable pub readIn : Image → ℕ → ℕ
+readIn m va = orNone (andThen (nonzero va) (λ a. andThen (lookup (rows (m .words)) a) (λ p. value (readAt (m .bytes) (p .offset)))))
 
 -- One more than the length of a text that is there, else 0: an answer in one number, for callers in C.
 unfoldable pub lengthPlusOne : Outcome Text → ℕ

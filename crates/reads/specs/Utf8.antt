@@ -5,10 +5,8 @@ use mathlib.Core.Bool.{Bool, true, false, _&&_}
 use mathlib.Core.List.{List, [], _∷_, _++_, List·Memᴰ}
 use mathlib.Core.Option.{Option, none, some}
 use lib.Dec.{leb}
-use lib.ListN.{length, take, drop}
+use lib.ListN.{length, take}
 use Rattle.reads.specs.Outcome.{choose}
-use Rattle.reads.specs.declared.text.Step.{Step}
-use Rattle.reads.specs.declared.text.Step.the-variants as step
 use Rattle.reads.specs.declared.text.Verdict.{Verdict}
 use Rattle.reads.specs.declared.text.Verdict.the-variants.{Good, Bad}
 
@@ -116,23 +114,3 @@ isGood (Bad k) = false
 -- UTF8-octets, as a test; proofs/Grammar.antt shows that it accepts exactly `Octets`.
 unfoldable pub utf8 : List ℕ → Bool
 utf8 s = isGood (verdict s)
-
--- A byte stands in front of s, and lies in the range.
-abbrev pub begins : Range → List ℕ → Bool
-begins r [] = false
-begins r (b ∷ s) = inside r b
-
--- A character of which w are due in front of s, at offset `at`: on past them, or bad at the first byte that is not the one due.
-unfoldable pub follow : ℕ → List Range → List ℕ → Step
-follow at [] s = step.On at
-follow at (r ∷ w) s = choose (begins r s) (follow (suc at) w (drop 1 s)) (step.Bad at)
-
--- The same past its first byte, at offset `at`, by what is due after that.
-abbrev pub followRow : ℕ → Option (List Range) → List ℕ → Step
-followRow at none s = step.Bad at
-followRow at (some w) s = follow (suc at) w s
-
--- The character of more than one octet in front of s, at offset `at`.
-unfoldable pub character : ℕ → List ℕ → Step
-character at [] = step.Bad at
-character at (b ∷ s) = followRow at (begun multi b) s

@@ -1,4 +1,5 @@
-// Texts in the image: UTF-8 up to a zero byte, or to the end.
+// Texts in the image: UTF-8 up to a zero byte, or to the end. A text is read in one pass: every byte of it is read by `read_byte`, once,
+// which raises the count of the bytes read.
 use crate::answer::Missing;
 use crate::answer::Reason;
 use crate::answer::Word;
@@ -6,15 +7,15 @@ use crate::answer::nonzero;
 use crate::place::Placed;
 use crate::segment::vm_to_file_offset_in;
 ghost use mathlib.Core.Path.{_≡_};
-ghost use mathlib.Core.List.{_∷_};
-ghost use Prim.Native.Nat.{_≤_, _<_};
-ghost use lib.ListN.{length, drop, replicate};
+ghost use Prim.Native.Nat.{_≤_};
+ghost use lib.ListN.{length};
 ghost use Rattle.reads.specs.Reference.{before};
-ghost use Rattle.reads.specs.Answer.{wordOutcome, textOutcome};
+ghost use Rattle.reads.specs.Answer.{textOutcome};
 ghost use Rattle.reads.specs.Outcome.{because, orEmpty};
-ghost use Rattle.reads.specs.Utf8.{_to_, tail, verdict, utf8, begins, follow, character};
+ghost use Rattle.reads.specs.Utf8.{_to_, tail, verdict, utf8};
+ghost use Rattle.reads.specs.Pass.{byteAfter, due, follow, character, brokenAt};
 ghost use Rattle.reads.specs.Place.{lentImage};
-ghost use Rattle.reads.specs.Text.{textLength, textAt, textIn, fixedLength, lengthPlusOne};
+ghost use Rattle.reads.specs.Text.{scanOf, textOfScan, textAt, readAt, textIn, readIn, fixedLength, lengthPlusOne};
 
 // A text: a part of the image.
 pub struct Text {
@@ -35,10 +36,30 @@ pub enum Verdict {
     Bad(u64),
 }
 
-// Past a character: on at an offset, or bad at the offset of the first byte that does not continue it.
-enum Step {
-    On(usize),
-    Bad(usize),
+// What one pass over a text finds: its length, how many bytes were read for it, and whether it is UTF-8.
+pub struct Scan {
+    pub len: u64,
+    pub read: u64,
+    pub verdict: Verdict,
+}
+
+// A text or none, and how many bytes were read for it: the count is raised at each byte.
+pub struct CstrRead {
+    pub text: TextAnswer,
+    pub read: u64,
+}
+
+// A byte, its offset, and the count of the bytes read with it. Where no byte is left 0 stands for it, and the count is not raised.
+struct ByteRead {
+    at: usize,
+    byte: u8,
+    read: usize,
+}
+
+// A character so far: its last byte read, and whether that is one that continues it.
+struct Step {
+    fits: bool,
+    last: ByteRead,
 }
 
 // An absent text counts as the text at offset 0 of length 0.
@@ -64,56 +85,70 @@ pub fn text_because(t: TextAnswer, why: Reason) -> TextAnswer
     }
 }
 
-// A byte stands at i, and lies between lo and hi.
-fn within(s: &[u8], i: usize, lo: u8, hi: u8) -> bool
-    ensures { λ r. ⌜ r ≡ begins (lo to hi) (drop i (before s)) ⌝ }
+// The byte after `read` bytes of s that were read, and the count raised by it: the one place where a byte of a text is read.
+fn read_byte(s: &[u8], read: usize) -> ByteRead
+    ensures { λ r. ⌜ r ≡ byteAfter (before s) read ⌝ }
 {
-    if s.len() <= i {
-        return false;
+    if s.len() <= read {
+        return ByteRead {
+            at: read,
+            byte: 0,
+            read,
+        };
     }
-    let b = s[i];
-    if b < lo {
-        return false;
+    ByteRead {
+        at: read,
+        byte: s[read],
+        read: read + 1,
     }
-    b <= hi
 }
 
-// Past the bytes of a character that are due from `from` on: one between lo and hi, and n of UTF8-tail.
-fn follow(s: &[u8], from: usize, lo: u8, hi: u8, n: usize) -> Step
-    requires { ⌜ n ≤ 2 ⌝ }
-    ensures { λ r. ⌜ r ≡ follow from (lo to hi ∷ replicate n tail) (drop from (before s)) ⌝ }
+// The byte after `last`, which continues the character if it lies between lo and hi.
+fn due(s: &[u8], last: ByteRead, lo: u8, hi: u8) -> Step
+    ensures { λ r. ⌜ r ≡ due (before s) last (lo to hi) ⌝ }
 {
-    if !within(s, from, lo, hi) {
-        return Step::Bad(from);
+    let b = read_byte(s, last.read);
+    if b.byte < lo {
+        return Step {
+            fits: false,
+            last: b,
+        };
     }
-    let mut i = from + 1;
-    let mut left = n;
-    while 0 < left {
-        if !within(s, i, 0x80, 0xBF) {
-            return Step::Bad(i);
-        }
-        i += 1;
-        left -= 1;
+    Step {
+        fits: b.byte <= hi,
+        last: b,
     }
-    Step::On(i)
 }
 
-// Past the character of more than one byte at i: a line for each row of the grammar.
-fn character(s: &[u8], i: usize) -> Step
-    requires { ⌜ i < length (now s) ⌝ }
-    ensures { λ r. ⌜ r ≡ character i (drop i (before s)) ⌝ }
+// The same where the character went on so far, and that byte is of UTF8-tail.
+fn tail(s: &[u8], step: Step) -> Step
+    ensures { λ r. ⌜ r ≡ follow (before s) step tail ⌝ }
 {
-    let second = i + 1;
-    match s[i] {
-        0xC2..=0xDF => follow(s, second, 0x80, 0xBF, 0),
-        0xE0 => follow(s, second, 0xA0, 0xBF, 1),
-        0xE1..=0xEC => follow(s, second, 0x80, 0xBF, 1),
-        0xED => follow(s, second, 0x80, 0x9F, 1),
-        0xEE..=0xEF => follow(s, second, 0x80, 0xBF, 1),
-        0xF0 => follow(s, second, 0x90, 0xBF, 2),
-        0xF1..=0xF3 => follow(s, second, 0x80, 0xBF, 2),
-        0xF4 => follow(s, second, 0x80, 0x8F, 2),
-        _ => Step::Bad(i),
+    if !step.fits {
+        return step;
+    }
+    let last = step.last;
+    due(s, last, 0x80, 0xBF)
+}
+
+// The character of more than one byte that begins with `first`: a line for each row of the grammar.
+fn character(s: &[u8], first: ByteRead) -> Step
+    ensures { λ r. ⌜ r ≡ character (before s) first ⌝ }
+{
+    let b = first.byte;
+    match b {
+        0xC2..=0xDF => due(s, first, 0x80, 0xBF),
+        0xE0 => tail(s, due(s, first, 0xA0, 0xBF)),
+        0xE1..=0xEC => tail(s, due(s, first, 0x80, 0xBF)),
+        0xED => tail(s, due(s, first, 0x80, 0x9F)),
+        0xEE..=0xEF => tail(s, due(s, first, 0x80, 0xBF)),
+        0xF0 => tail(s, tail(s, due(s, first, 0x90, 0xBF))),
+        0xF1..=0xF3 => tail(s, tail(s, due(s, first, 0x80, 0xBF))),
+        0xF4 => tail(s, tail(s, due(s, first, 0x80, 0x8F))),
+        _ => Step {
+            fits: false,
+            last: first,
+        },
     }
 }
 
@@ -121,20 +156,21 @@ fn character(s: &[u8], i: usize) -> Step
 pub fn utf8_verdict(s: &[u8]) -> Verdict
     ensures { λ r. ⌜ r ≡ verdict (before s) ⌝ }
 {
-    let mut i = 0;
-    while i < s.len() {
-        if s[i] < 0x80 {
-            i += 1;
+    let mut read = 0;
+    while read < s.len() {
+        let b = read_byte(s, read);
+        if b.byte < 0x80 {
+            read = b.read;
             continue;
         }
-        match character(s, i) {
-            Step::On(j) => {
-                i = j;
-            }
-            Step::Bad(k) => {
-                return Verdict::Bad(k as u64);
-            }
+        // A copy: what is handed to a call lies in memory, and b is to stay in registers.
+        let first = b;
+        let step = character(s, first);
+        let last = step.last;
+        if !step.fits {
+            return Verdict::Bad(last.at as u64);
         }
+        read = last.read;
     }
     Verdict::Good
 }
@@ -149,60 +185,109 @@ pub fn utf8(s: &[u8]) -> bool
     }
 }
 
-// The length of the text in front of s, in one pass. A zero byte inside a character is no UTF8-tail, so such a text is absent.
-pub fn text_length(s: &[u8]) -> Word
-    ensures { λ r. ⌜ wordOutcome r ≡ textLength (before s) ⌝ }
+// A text whose byte `bad` no well-formed text continues with: the pass goes on to its end.
+fn broken(s: &[u8], bad: ByteRead) -> Scan
+    requires { ⌜ (bad .at ≤ length (now s)) × (bad ≡ byteAfter (now s) (bad .at)) ⌝ }
+    ensures { λ r. ⌜ r ≡ brokenAt (before s) (bad .at) ⌝ }
 {
-    let mut i = 0;
-    while i < s.len() {
-        let b = s[i];
-        let next = i + 1;
+    let mut b = bad;
+    while 0 < b.byte {
+        b = read_byte(s, b.read);
+    }
+    Scan {
+        len: b.at as u64,
+        read: b.read as u64,
+        verdict: Verdict::Bad(bad.at as u64),
+    }
+}
+
+// The text in front of s, in one pass. A zero byte inside a character, or the end there, is no UTF8-tail.
+pub fn scan_text(s: &[u8]) -> Scan
+    ensures { λ r. ⌜ r ≡ scanOf (before s) ⌝ }
+{
+    let mut read = 0;
+    loop {
+        let b = read_byte(s, read);
         // Both tests are one signed compare of the byte, which is all that most names cost.
-        if 0 < b {
-            if b < 0x80 {
-                i = next;
+        if 0 < b.byte {
+            if b.byte < 0x80 {
+                read = b.read;
                 continue;
             }
         }
-        if b == 0 {
-            return Word::Value(i as u64);
+        if b.byte == 0 {
+            return Scan {
+                len: b.at as u64,
+                read: b.read as u64,
+                verdict: Verdict::Good,
+            };
         }
-        match character(s, i) {
-            Step::On(j) => {
-                i = j;
-            }
-            Step::Bad(k) => {
-                return Word::Missing(Missing::Absent(Reason::NotUtf8(k as u64)));
-            }
+        let first = b;
+        let step = character(s, first);
+        let last = step.last;
+        if !step.fits {
+            return broken(s, last);
         }
+        read = last.read;
     }
-    Word::Value(i as u64)
 }
 
-// The text at an offset of the image.
-pub fn read_cstr_at(image: &[u8], offset: u64) -> TextAnswer
-    ensures { λ r. ⌜ textOutcome r ≡ textAt (before image) offset ⌝ }
+// The text that a scan from an offset found, or why it is missing.
+fn text_of_scan(offset: u64, scan: Scan) -> TextAnswer
+    ensures { λ r. ⌜ textOutcome r ≡ textOfScan offset scan ⌝ }
+{
+    let verdict = scan.verdict;
+    match verdict {
+        Verdict::Good => TextAnswer::Found(Text {
+            offset,
+            len: scan.len,
+        }),
+        Verdict::Bad(k) => TextAnswer::Missing(Missing::Absent(Reason::NotUtf8(k))),
+    }
+}
+
+// The text at an offset of the image, and how many bytes were read.
+pub fn read_cstr_at(image: &[u8], offset: u64) -> CstrRead
+    ensures { λ r. ⌜ (textOutcome (r .text) ≡ textAt (before image) offset) × (r .read ≡ readAt (before image) offset) ⌝ }
 {
     if (image.len() as u64) < offset {
-        return TextAnswer::Missing(Missing::Absent(Reason::PastEnd));
+        return CstrRead {
+            text: TextAnswer::Missing(Missing::Absent(Reason::PastEnd)),
+            read: 0,
+        };
     }
-    match text_length(&image[offset as usize..image.len()]) {
-        Word::Value(len) => TextAnswer::Found(Text { offset, len }),
-        Word::Missing(m) => TextAnswer::Missing(m),
+    let scan = scan_text(&image[offset as usize..image.len()]);
+    CstrRead {
+        text: text_of_scan(offset, scan),
+        read: scan.read,
     }
 }
 
-// The text at an address: absent at 0 and where nothing is mapped.
-pub fn read_cstr(image: &[u8], segments: &[u64], va: u64) -> TextAnswer
-    ensures { λ r. ⌜ textOutcome r ≡ textIn (lentImage image segments) va ⌝ }
+// The text at an address, and how many bytes were read: absent at 0 and where nothing is mapped, and then none.
+pub fn read_cstr_counted(image: &[u8], segments: &[u64], va: u64) -> CstrRead
+    ensures { λ r. let m = lentImage image segments in ⌜ (textOutcome (r .text) ≡ textIn m va) × (r .read ≡ readIn m va) ⌝ }
 {
     match nonzero(va) {
         Word::Value(a) => match vm_to_file_offset_in(segments, a) {
             Placed::At(p) => read_cstr_at(image, p.offset),
-            Placed::Missing(m) => TextAnswer::Missing(m),
+            Placed::Missing(m) => CstrRead {
+                text: TextAnswer::Missing(m),
+                read: 0,
+            },
         },
-        Word::Missing(m) => TextAnswer::Missing(m),
+        Word::Missing(m) => CstrRead {
+            text: TextAnswer::Missing(m),
+            read: 0,
+        },
     }
+}
+
+// The same without the count.
+pub fn read_cstr(image: &[u8], segments: &[u64], va: u64) -> TextAnswer
+    ensures { λ r. ⌜ textOutcome r ≡ textIn (lentImage image segments) va ⌝ }
+{
+    let r = read_cstr_counted(image, segments, va);
+    r.text
 }
 
 // The same, an absent text counting as the empty one.
@@ -216,9 +301,11 @@ pub fn read_cstr_or_empty(image: &[u8], segments: &[u64], va: u64) -> TextAnswer
 pub fn cstr_from_fixed(bytes: &[u8; 16]) -> u64
     ensures { λ r. ⌜ r ≡ fixedLength (before bytes) ⌝ }
 {
-    match text_length(bytes) {
-        Word::Value(len) => len,
-        Word::Missing(_) => 0,
+    let scan = scan_text(bytes);
+    let verdict = scan.verdict;
+    match verdict {
+        Verdict::Good => scan.len,
+        Verdict::Bad(_) => 0,
     }
 }
 
@@ -227,7 +314,9 @@ pub fn cstr_from_fixed(bytes: &[u8; 16]) -> u64
 pub extern "C" fn reads_cstr_length_plus_one(image: &[u8], offset: u64) -> u64
     ensures { λ r. ⌜ r ≡ lengthPlusOne (textAt (before image) offset) ⌝ }
 {
-    match read_cstr_at(image, offset) {
+    let r = read_cstr_at(image, offset);
+    let t = r.text;
+    match t {
         TextAnswer::Found(t) => t.len + 1,
         TextAnswer::Missing(_) => 0,
     }

@@ -1,21 +1,14 @@
--- `reads::text::cstr_from_fixed` meets its contract, by what `text_length` says of the field.
-use mathlib.Core.Path.{ap, sym, _∙_}
-use Rattle.reads.specs.Answer.{wordOutcome}
-use Rattle.reads.proofs.Texts.{fixed-found, fixed-missed}
+-- `reads::text::cstr_from_fixed` meets its contract, by the scan of the field.
+use Rattle.reads.proofs.Texts.{fixed-good, fixed-bad}
 use borrow.Author.Needs.{needs}
 use Rattle.reads.proofs.text.cstr_from_fixed.Statement.{statement}
 use Rattle.reads.proofs.text.cstr_from_fixed.Tie as tie
 
 returns : tie.Need-returns
-returns c =
-    fixed-found (c .before .before .before .before .before .args .bytes .now) (c .before .len .given .0 .0)
-    (sym (ap wordOutcome (c .before .len .given .1)) ∙ c .before .before .before .text-length .ensures)
+returns c = fixed-good (c .before .before .before .before .args .bytes .now) (c .before .before .scan-text .ensures) (c .enum-told .given .1)
 
 returns-2 : tie.Need-returns-2
-returns-2 c =
-    fixed-missed (c .before .before .before .before .args .bytes .now) (c .enum-told .given .0 .0)
-    (sym (ap wordOutcome (c .enum-told .given .1)) ∙ c .before .before .text-length .ensures)
+returns-2 c = fixed-bad (c .before .before .before .before .args .bytes .now) (c .before .before .scan-text .ensures) (c .enum-told2 .given .0 .0) (c .enum-told2 .given .1)
 
 pub cstr-from-fixed-spec : {M : Type 1} → statement M
-cstr-from-fixed-spec =
-    tie.close (tie.spec (λ c κs. search needs) (λ c. search needs) (λ c. search needs) returns returns-2)
+cstr-from-fixed-spec = tie.close (tie.spec (λ c κs. search needs) (λ c. search needs) (λ c. search needs) returns returns-2)

@@ -13,16 +13,16 @@ add-result c =
     let d = c .before .before .before .before in
     let a = d .before .before .args in
     let t = c .before .before .t .given in
-    omega (arith, text-inside (a .image .now) (a .offset) (t .0 .0) (sym (ap textOutcome (t .1)) ∙ d .read-cstr-at .ensures), d .before .before .good .0)
+    omega (arith, text-inside (a .image .now) (a .offset) (t .0 .0) (sym (ap textOutcome (t .1)) ∙ d .read-cstr-at .ensures .0), d .before .before .good .0)
 
 returns : tie.Need-returns
 unfolding lengthPlusOne
-returns c = ap lengthPlusOne (sym (ap textOutcome (c .before .before .t .given .1)) ∙ c .before .before .before .before .read-cstr-at .ensures)
+returns c = ap lengthPlusOne (sym (ap textOutcome (c .before .before .t .given .1)) ∙ c .before .before .before .before .read-cstr-at .ensures .0)
 
 returns-2 : tie.Need-returns-2
 returns-2 c =
     let m = c .enum-told .given in
-    length-plus-one-missed (m .0 .0) ∙ ap lengthPlusOne (sym (ap textOutcome (m .1)) ∙ c .before .before .read-cstr-at .ensures)
+    length-plus-one-missed (m .0 .0) ∙ ap lengthPlusOne (sym (ap textOutcome (m .1)) ∙ c .before .before .read-cstr-at .ensures .0)
 
 pub reads-cstr-length-plus-one-spec : {M : Type 1} → statement M
 reads-cstr-length-plus-one-spec =

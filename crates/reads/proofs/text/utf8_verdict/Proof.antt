@@ -1,53 +1,61 @@
 -- `reads::text::utf8_verdict` meets its contract. The invariant: what is left decides the verdict.
 use Prim.Native.Nat.{_-_}
-use mathlib.Core.Path.{_≡_, refl, ap, sym, _∙_}
+use mathlib.Core.Path.{ap, sym, _∙_}
+use mathlib.Core.Bool.{false}
 use mathlib.Core.List.{[]}
 use native.Mathlib.Omega.{arith}
-use lib.ListN.{length, drop, drop-of-length-le}
+use lib.ListN.{length, drop-of-length-le}
+use borrow.Author.Tests.{not-true, not-false}
 use Rattle.reads.specs.Utf8.{judge, verdict}
-use Rattle.reads.proofs.Characters.{pass-ascii, pass-ahead, pass-on, pass-bad}
+use Rattle.reads.proofs.Passes.{Left, Stands, left-start, left-ascii, left-character, read-there, stands-ahead}
 use borrow.Author.Needs.{needs}
 use Rattle.reads.proofs.text.utf8_verdict.Statement.{statement}
 use Rattle.reads.proofs.text.utf8_verdict.Tie as tie
 
 abbrev Inv-loop : tie.InvT-loop
-Inv-loop s i₀ i = judge i [] (drop i s) ≡ verdict s
+Inv-loop s read₀ read = Left false s [] read
 
 abbrev μ-loop : tie.MeasureT-loop
-μ-loop s i₀ i = length s - i
+μ-loop s read₀ read = length s - read
 
 loop-holds : tie.Need-loop-holds Inv-loop μ-loop
-loop-holds c = refl
+loop-holds c = left-start false (c .before .args .s .now)
+
+loop-less : tie.Need-loop-less Inv-loop μ-loop
+loop-less c =
+    let d = c .before .before in
+    let g = d .before in
+    let n = ap (λ b. b .read) (d .read-byte .ensures) ∙ read-there (g .before .before .before .args .s .now) (g .before .loop .read) (g .loop-test .taken) in
+    omega (arith, n)
 
 loop-again : tie.Need-loop-again Inv-loop μ-loop
 loop-again c =
-    let l = c .before .before .before .loop in
-    pass-ascii (c .before .before .before .before .before .args .s .now) (l .i) (c .before .before .loop-test .taken) (c .if1 .taken) ∙ l .inv
+    let d = c .before .before in
+    left-ascii (d .before .before .loop .inv) (d .read-byte .ensures) (d .before .loop-test .taken) tt (c .if1 .taken)
+
+-- Behind the tests stands a character of more than one byte.
+stands : (c : tie.After-character Inv-loop μ-loop)
+    → Stands false (c .before .before .before .before .before .before .before .args .s .now) (c .before .before .before .before .before .loop .read) []
+    (c .character .result)
+stands c =
+    let d = c .before .before .before in
+    left-character (d .before .before .loop .inv) (d .read-byte .ensures) (c .before .if1 .left) (c .character .ensures)
+
+returns : tie.Need-returns Inv-loop μ-loop
+returns c = stands (c .before .before .before) .bad (not-true _ (c .if2 .taken)) .judged
 
 loop-less-2 : tie.Need-loop-less-2 Inv-loop μ-loop
 loop-less-2 c =
     let d = c .before .before .before in
-    let g = d .before .before .before in
-    let ahead = pass-ahead (g .before .before .before .args .s .now) (g .before .loop .i) (g .loop-test .taken) (d .character .ensures) (c .before .j .given .0 .0) (c .before .j .given .1) in
+    let ahead = stands-ahead (d .before .before .before .before .loop-test .taken) (stands d) in
     omega (arith, ahead .0, ahead .1)
 
 loop-again-2 : tie.Need-loop-again-2 Inv-loop μ-loop
-loop-again-2 c =
-    let d = c .before .before .before in
-    let g = d .before .before .before in
-    pass-on (g .before .before .before .args .s .now) (g .before .loop .i) (g .loop-test .taken) (d .character .ensures) (d .before .if1 .left) (c .before .j .given .0 .0) (c .before .j .given .1)
-    ∙ g .before .loop .inv
-
-returns : tie.Need-returns Inv-loop μ-loop
-returns c =
-    let d = c .before .before .before in
-    let g = d .before .before .before in
-    pass-bad (g .before .before .before .args .s .now) (g .before .loop .i) (g .loop-test .taken) (d .character .ensures) (d .before .if1 .left) (c .before .k .given .0 .0) (c .before .k .given .1)
-    ∙ g .before .loop .inv
+loop-again-2 c = stands (c .before .before .before) .on (not-false _ (c .if2 .left))
 
 returns-2 : tie.Need-returns-2 Inv-loop μ-loop
 unfolding judge
-returns-2 c = ap (judge (c .before .loop .i) []) (sym (drop-of-length-le (c .before .before .before .args .s .now) (c .loop-test .left))) ∙ c .before .loop .inv
+returns-2 c = ap (judge (c .before .loop .read) []) (sym (drop-of-length-le (c .before .before .before .args .s .now) (c .loop-test .left))) ∙ c .before .loop .inv .judged
 
 pub utf8-verdict-spec : {M : Type 1} → statement M
 utf8-verdict-spec =
@@ -56,14 +64,11 @@ utf8-verdict-spec =
     Inv-loop
     μ-loop
     loop-holds
-    (λ c. search needs)
-    (λ c. search needs)
-    (λ c. search needs)
+    (λ c κs. search needs)
+    loop-less
     loop-again
     (λ c κs. search needs)
-    (λ c. search needs)
+    returns
     loop-less-2
     loop-again-2
-    (λ c. search needs)
-    returns
     returns-2)
