@@ -1,2 +1,4 @@
 -- The definitions that the contracts of attributes cite.
 pub mod Attributes
+pub mod Property
+pub mod Pass

@@ -2,8 +2,8 @@ use Prim.Native.Nat.{_/_, _*_}
 use native.Mathlib.Omega.{arith}
 use Rattle.reads.proofs.Tests.{le-same}
 use Rattle.attributes.specs.Attributes.{itemsFit}
-use Rattle.attributes.proofs.items.items_fit.Statement.{statement}
-use Rattle.attributes.proofs.items.items_fit.Tie as tie
+use Rattle.attributes.proofs.pass.items_fit.Statement.{statement}
+use Rattle.attributes.proofs.pass.items_fit.Tie as tie
 
 returns : tie.Need-returns
 unfolding itemsFit

@@ -2,8 +2,8 @@ use borrow.Author.Tests.{lt-ltb, le-ltb}
 use Rattle.reads.specs.Outcome.{choose}
 use Rattle.attributes.specs.Attributes.{itemOf}
 use borrow.Author.Needs.{needs}
-use Rattle.attributes.proofs.items.item_of.Statement.{statement}
-use Rattle.attributes.proofs.items.item_of.Tie as tie
+use Rattle.attributes.proofs.pass.item_of.Statement.{statement}
+use Rattle.attributes.proofs.pass.item_of.Tie as tie
 
 returns : tie.Need-returns
 unfolding itemOf choose

@@ -2,8 +2,8 @@ use Prim.Native.Nat.{_-_}
 use lib.ListN.{length}
 use Rattle.attributes.proofs.ValueEnds.{Reached, reached-start, reached-end, reached-comma, reached-quote, reached-quoted, reached-other}
 use borrow.Author.Needs.{needs}
-use Rattle.attributes.proofs.items.value_end.Statement.{statement}
-use Rattle.attributes.proofs.items.value_end.Tie as tie
+use Rattle.attributes.proofs.pass.value_end.Statement.{statement}
+use Rattle.attributes.proofs.pass.value_end.Tie as tie
 
 abbrev Inv-loop : tie.InvT-loop
 Inv-loop text start quoted₀ i₀ quoted i = Reached text start i quoted
