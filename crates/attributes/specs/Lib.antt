@@ -2,3 +2,5 @@
 pub mod Attributes
 pub mod Property
 pub mod Pass
+pub mod Written
+pub mod Puts

@@ -2,3 +2,4 @@
 pub mod items;
 mod pass;
 pub mod property;
+pub mod written;
