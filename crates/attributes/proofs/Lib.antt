@@ -7,5 +7,8 @@ pub mod Puts
 pub mod Rows
 pub mod PutParts
 pub mod WrittenAnswers
+pub mod Parts
+pub mod Gathers
+pub mod RoundTrip
 pub mod AttributeAnswers
 pub mod AttributeCases

@@ -4,3 +4,4 @@ pub mod Property
 pub mod Pass
 pub mod Written
 pub mod Puts
+pub mod RoundTrip
