@@ -10,6 +10,7 @@ use lib.ListN.{length}
 use lib.Seq.{append-snoc}
 use borrow.Author.Tests.{eq-eqb, ne-eqb, eqb-false, le-leb, not-true, not-false}
 use Rattle.reads.specs.Outcome.{choose}
+use Rattle.reads.proofs.Rows.{all}
 use Rattle.reads.proofs.Tests.{both-true, choose-true, choose-false, by-choose}
 use Rattle.attributes.specs.Attributes.{items}
 use Rattle.attributes.specs.Property.{letters, among, unknowns, firstValue, declared}
@@ -18,19 +19,19 @@ use Rattle.attributes.specs.RoundTrip.{Each, Shaped}
 use Rattle.attributes.specs.declared.items.Item.{Item}
 use Rattle.attributes.specs.declared.property.Attribute.the-variants.{Given, Nothing}
 
-pub firstPart : ℕ → List Part → Option (List ℕ)
+unfoldable pub firstPart : ℕ → List Part → Option (List ℕ)
 firstPart letter [] = none
 firstPart letter (p ∷ ps) = choose (eqb (p .key) letter) (some (p .value)) (firstPart letter ps)
 
-firstParts : List ℕ → List Part → List (Option (List ℕ))
+unfoldable pub firstParts : List ℕ → List Part → List (Option (List ℕ))
 firstParts [] ps = []
 firstParts (l ∷ ls) ps = firstPart l ps ∷ firstParts ls ps
 
-pub unknownParts : List Part → List Part
+unfoldable pub unknownParts : List Part → List Part
 unknownParts [] = []
 unknownParts (p ∷ ps) = choose (among letters (p .key)) (unknownParts ps) (p ∷ unknownParts ps)
 
-pub gathered : List Part → Declaration
+unfoldable pub gathered : List Part → Declaration
 gathered ps = record { front = firstParts frontLetters ps; unknown = unknownParts ps; variable = firstPart 0x56 ps }
 
 -- The property that a text declares is gathered from its parts.
@@ -139,13 +140,7 @@ firsts-given (l ∷ ls) (some v ∷ vs) ps qs d e a b =
     (none-of-both ls ps (p ∷ []) (a .1) (none-of-one ls p (not-true (among ls l) (t .0)))) (b .1) in
     rw here (ap (λ (r : List (Option (List ℕ))). some v ∷ r) (ap (firstParts ls) (sym (append-snoc ps p (given ls vs ++ qs))) ∙ more))
 
--- Every one of these letters passes a test.
-all : (ℕ → Bool) → List ℕ → Bool
-all test [] = true
-all test (l ∷ ls) = test l && all test ls
-
 none-of-given : (ls ks : List ℕ) (vs : List (Option (List ℕ))) → all (λ l. not (among ks l)) ls ≡ true → NoneOf ls (given ks vs)
-unfolding all
 none-of-given [] ks vs e = tt
 none-of-given (l ∷ ls) ks vs e =
     let b = both-true (not (among ks l)) (all (λ x. not (among ks x)) ls) e in
@@ -164,7 +159,6 @@ none-unknown l (p ∷ ps) e u =
     choose-false (some (p .value)) (firstPart l ps) other ∙ none-unknown l ps e (u .1)
 
 none-of-unknown : (ls : List ℕ) (ps : List Part) → all (among letters) ls ≡ true → Unknown ps → NoneOf ls ps
-unfolding all
 none-of-unknown [] ps e u = tt
 none-of-unknown (l ∷ ls) ps e u =
     let b = both-true (among letters l) (all (among letters) ls) e in
@@ -181,7 +175,7 @@ unknown-both (p ∷ ps) qs = go (among letters (p .key)) (unknown-both ps qs)
     go false e = unfold choose in ap (λ (r : List Part). p ∷ r) e
 
 unknown-given : (ls : List ℕ) (vs : List (Option (List ℕ))) → all (among letters) ls ≡ true → unknownParts (given ls vs) ≡ []
-unfolding unknownParts given all
+unfolding unknownParts given
 unknown-given [] vs e = refl
 unknown-given (l ∷ ls) [] e = refl
 unknown-given (l ∷ ls) (none ∷ vs) e = unknown-given ls vs (both-true (among letters l) (all (among letters) ls) e .1)
@@ -207,18 +201,18 @@ module _ (d : Declaration) (s : Shaped d) where
   front-again =
       firsts-given frontLetters (d .front) [] (d .unknown ++ back) (unfold distinct among in refl) (s .front) (none-of-none frontLetters)
       (none-of-both frontLetters (d .unknown) back
-      (none-of-unknown frontLetters (d .unknown) (unfold all among in refl) (s .unknown))
-      (none-of-given frontLetters backLetters (d .variable ∷ []) (unfold all among in refl)))
+      (none-of-unknown frontLetters (d .unknown) (unfold among in refl) (s .unknown))
+      (none-of-given frontLetters backLetters (d .variable ∷ []) (unfold among in refl)))
 
   unknown-again : unknownParts (front ++ (d .unknown ++ back)) ≡ d .unknown
   unfolding front back
   unknown-again =
       unknown-both front (d .unknown ++ back)
       ∙ rw (
-        unknown-given frontLetters (d .front) (unfold all among in refl),
+        unknown-given frontLetters (d .front) (unfold among in refl),
         unknown-both (d .unknown) back,
         unknown-all (d .unknown) (s .unknown),
-        unknown-given backLetters (d .variable ∷ []) (unfold all among in refl),
+        unknown-given backLetters (d .variable ∷ []) (unfold among in refl),
         append-nil (d .unknown),
       )
 
@@ -229,8 +223,8 @@ module _ (d : Declaration) (s : Shaped d) where
       (sym (append-assoc front (d .unknown) back) ∙ ap (λ (r : List Part). (front ++ d .unknown) ++ r) (sym (append-nil back)))
       ∙ firsts-given backLetters (d .variable ∷ []) (front ++ d .unknown) [] (unfold distinct among in refl) refl
       (none-of-both backLetters front (d .unknown)
-      (none-of-given backLetters frontLetters (d .front) (unfold all among in refl))
-      (none-of-unknown backLetters (d .unknown) (unfold all among in refl) (s .unknown)))
+      (none-of-given backLetters frontLetters (d .front) (unfold among in refl))
+      (none-of-unknown backLetters (d .unknown) (unfold among in refl) (s .unknown)))
       (none-of-none backLetters)
 
   pub gathered-in-order : gathered (inOrder d) ≡ d

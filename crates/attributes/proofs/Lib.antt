@@ -10,5 +10,8 @@ pub mod WrittenAnswers
 pub mod Parts
 pub mod Gathers
 pub mod RoundTrip
+pub mod Utf8Cuts
+pub mod WrittenUtf8
+pub mod DecodedAgain
 pub mod AttributeAnswers
 pub mod AttributeCases

@@ -16,7 +16,7 @@ use Rattle.attributes.specs.RoundTrip.{Closed, Each}
 use Rattle.attributes.specs.declared.items.Item.{Item}
 use Rattle.attributes.proofs.ValueEnds.{first-hit, first-miss}
 
-pub partsFrom : ℕ → List ℕ → List Part
+unfoldable pub partsFrom : ℕ → List ℕ → List Part
 partsFrom zero s = []
 partsFrom (suc n) [] = []
 partsFrom (suc n) (key ∷ s) =

@@ -8,6 +8,7 @@ use native.Mathlib.Omega.{arith}
 use lib.Dec.{ltb}
 use lib.ListN.{length}
 use borrow.Author.Tests.{ltb-true}
+use Rattle.reads.proofs.Rows.{all}
 use Rattle.reads.proofs.Tests.{both-true}
 use Rattle.attributes.specs.Attributes.{items}
 use Rattle.attributes.specs.Written.{Part, Declaration, frontLetters, backLetters, partOf, declaration, given, inOrder, written}
@@ -15,21 +16,17 @@ use Rattle.attributes.specs.RoundTrip.{Each, Writable, Shaped}
 use Rattle.attributes.proofs.Parts.{parts-of, parts-joined}
 use Rattle.attributes.proofs.Gathers.{gathered, declaration-gathered, gathered-in-order, gathered-shaped}
 
-each-both : (P : Part → Type 0) (ps qs : List Part) → Each P ps → Each P qs → Each P (ps ++ qs)
+pub each-both : (P : Part → Type 0) (ps qs : List Part) → Each P ps → Each P qs → Each P (ps ++ qs)
 each-both P [] qs a b = b
 each-both P (p ∷ ps) qs a b = (a .0, each-both P ps qs (a .1) b)
 
-allAscii : List ℕ → Bool
-allAscii [] = true
-allAscii (l ∷ ls) = ltb l 0x80 && allAscii ls
-
-ascii-given : (ls : List ℕ) (vs : List (Option (List ℕ))) → allAscii ls ≡ true → Each (λ p. p .key < 0x80) (given ls vs)
-unfolding given allAscii
+ascii-given : (ls : List ℕ) (vs : List (Option (List ℕ))) → all (λ l. ltb l 0x80) ls ≡ true → Each (λ p. p .key < 0x80) (given ls vs)
+unfolding given
 ascii-given [] vs e = tt
 ascii-given (l ∷ ls) [] e = tt
-ascii-given (l ∷ ls) (none ∷ vs) e = ascii-given ls vs (both-true (ltb l 0x80) (allAscii ls) e .1)
+ascii-given (l ∷ ls) (none ∷ vs) e = ascii-given ls vs (both-true (ltb l 0x80) (all (λ x. ltb x 0x80) ls) e .1)
 ascii-given (l ∷ ls) (some v ∷ vs) e =
-    let b = both-true (ltb l 0x80) (allAscii ls) e in
+    let b = both-true (ltb l 0x80) (all (λ x. ltb x 0x80) ls) e in
     (ltb-true l 0x80 (b .0), ascii-given ls vs (b .1))
 
 -- Where the unknown letters are ASCII, all are.
@@ -37,8 +34,8 @@ pub ascii-in-order : (d : Declaration) → Each (λ p. p .key < 0x80) (d .unknow
 unfolding inOrder
 ascii-in-order d a =
     each-both _ (given frontLetters (d .front)) (d .unknown ++ given backLetters (d .variable ∷ []))
-    (ascii-given frontLetters (d .front) (unfold allAscii in refl))
-    (each-both _ (d .unknown) (given backLetters (d .variable ∷ [])) a (ascii-given backLetters (d .variable ∷ []) (unfold allAscii in refl)))
+    (ascii-given frontLetters (d .front) refl)
+    (each-both _ (d .unknown) (given backLetters (d .variable ∷ [])) a (ascii-given backLetters (d .variable ∷ []) refl))
 
 pub round-trip : (d : Declaration) → Shaped d → Writable d → declaration (written d) ≡ d
 unfolding written
