@@ -15,3 +15,4 @@ pub mod WrittenUtf8
 pub mod DecodedAgain
 pub mod AttributeAnswers
 pub mod AttributeCases
+pub mod PropertyCases
