@@ -53,9 +53,11 @@ bytes-from : (n at : ℕ) (s : List ℕ) → ((k : ℕ) → getD s k 0 < 0x100) 
 unfolding itemsFrom itemOf
 bytes-from zero at s b = tt
 bytes-from (suc n) at [] b = tt
-bytes-from (suc n) at (key ∷ s) b =
-    (b 0, bytes-from n (at + 1 + valueLength s + 1) (drop (valueLength s + 1) s)
-    (λ k. rw (getD-drop (valueLength s + 1) s k 0) (b (suc (valueLength s + 1 + k)))))
+bytes-from (suc n) at (key ∷ s) b = (
+  b 0,
+  bytes-from n (at + 1 + valueLength s + 1) (drop (valueLength s + 1) s)
+      (λ k. rw (getD-drop (valueLength s + 1) s k 0) (b (suc (valueLength s + 1 + k)))),
+)
 
 bytes-unknown : (is : List Item) → Bytes is → Bytes (unknowns is)
 unfolding unknowns

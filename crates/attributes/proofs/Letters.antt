@@ -31,6 +31,7 @@ past-nine : (k : ℕ) → 5 ≤ k → k < 11 → (k ≡ 5 → ⊥) → (k ≡ 6 
 past-nine k h l a b c d e = omega arith
 
 pub last-of-eleven : (k : ℕ) → k < 11
-    → (((((((((Unit {0} × (k ≡ 0 → ⊥)) × (k ≡ 1 → ⊥)) × (k ≡ 2 → ⊥)) × (k ≡ 3 → ⊥)) × (k ≡ 4 → ⊥)) × (k ≡ 5 → ⊥)) × (k ≡ 6 → ⊥)) × (k ≡ 7 → ⊥)) × (k ≡ 8 → ⊥)) × (k ≡ 9 → ⊥)
+    → (((((((((Unit {0} × (k ≡ 0 → ⊥)) × (k ≡ 1 → ⊥)) × (k ≡ 2 → ⊥)) × (k ≡ 3 → ⊥)) × (k ≡ 4 → ⊥)) × (k ≡ 5 → ⊥)) × (k ≡ 6 → ⊥))
+    × (k ≡ 7 → ⊥)) × (k ≡ 8 → ⊥)) × (k ≡ 9 → ⊥)
     → k ≡ 10
 last-of-eleven k h ((((((((((_, a), b), c), d), e), f), g), i), j), l) = past-nine k (past-four k a b c d e) h f g i j l

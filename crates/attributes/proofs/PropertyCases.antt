@@ -23,8 +23,8 @@ abbrev at : ℕ → ℕ → Attribute
 at k n = Given (valueOf k n)
 
 -- What is given of T R C & N D W P G S t V, and how many letters are unknown.
-abbrev property : Attribute → Attribute → Attribute → Attribute → Attribute → Attribute → Attribute → Attribute → Attribute → Attribute → Attribute → Attribute
-    → ℕ → Declared
+abbrev property : Attribute → Attribute → Attribute → Attribute → Attribute → Attribute
+    → Attribute → Attribute → Attribute → Attribute → Attribute → Attribute → ℕ → Declared
 property type readonly copy retain nonatomic dynamic weak collectable getter setter old variable n =
     record {
       «type_encoding» = type;
@@ -115,7 +115,8 @@ text-refused : writtenOf (ascii "R,x1") (property o (at 1 0) o o o o o o o o o o
 unfolding writtenOf writtenText written inOrder given joined following declarationIn bytesOf itemsIn question choose
 text-refused = refl
 
-text-left : writtenLeft (ascii "R,x1") (property o (at 1 0) o o o o o o o o o o 1) (0x78 ∷ 3 ∷ 1 ∷ []) (9 ∷ 9 ∷ 9 ∷ 9 ∷ 9 ∷ []) ≡ 0x52 ∷ 0x2C ∷ 0x78 ∷ 0x31 ∷ 9 ∷ []
+text-left : writtenLeft (ascii "R,x1") (property o (at 1 0) o o o o o o o o o o 1) (0x78 ∷ 3 ∷ 1 ∷ []) (9 ∷ 9 ∷ 9 ∷ 9 ∷ 9 ∷ [])
+    ≡ 0x52 ∷ 0x2C ∷ 0x78 ∷ 0x31 ∷ 9 ∷ []
 unfolding writtenLeft writtenOf writtenText written inOrder given joined following declarationIn bytesOf itemsIn question choose
 text-left = refl
 

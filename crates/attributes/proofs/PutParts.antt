@@ -67,8 +67,8 @@ module _ (text : List ℕ) (d : Declared) {old : List ℕ} where
       let letter : getD frontLetters k 0 ≡ getD letters k 0 = sym (List·getD-append frontLetters backLetters 0 k h) in
       let given-here : getD values k none ≡ bytesGiven text a = rw e (List·getD-map (bytesGiven text) (frontOf d) k Nothing) in
       let one : given (take (k + 1) frontLetters) (take (k + 1) values)
-          ≡ given (take k frontLetters) (take k values) ++ given (getD letters k 0 ∷ []) (bytesGiven text a ∷ []) =
-          rw (← letter, ← given-here, add-one) (given-more frontLetters values k h h) in
+      ≡ given (take k frontLetters) (take k values) ++ given (getD letters k 0 ∷ []) (bytesGiven text a ∷ []) =
+      rw (← letter, ← given-here, add-one) (given-more frontLetters values k h h) in
       (omega arith, rw one (put-parts (given (take k frontLetters) (take k values)) _ small (omega arith) (f .1) p))
 
   pub fronted-end : {k at : ℕ} {out : List ℕ} → 11 ≤ k → Fronted text d old k at out

@@ -156,6 +156,7 @@ unfolding partsFrom
 parts-utf8 zero s e = tt
 parts-utf8 (suc n) [] e = tt
 parts-utf8 (suc n) (key ∷ s) e =
-    let c = cut key s e in
-    (λ h. rw (choose-true (take (valueLength s) s) [] (lt-ltb key 0x80 h)) (sym (accepts-ascii key (take (valueLength s) s) h) ∙ c .0),
-    parts-utf8 n (drop (valueLength s + 1) s) (c .1))
+    let c = cut key s e in (
+      λ h. rw (choose-true (take (valueLength s) s) [] (lt-ltb key 0x80 h)) (sym (accepts-ascii key (take (valueLength s) s) h) ∙ c .0),
+      parts-utf8 n (drop (valueLength s + 1) s) (c .1),
+    )

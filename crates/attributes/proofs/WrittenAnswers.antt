@@ -55,7 +55,8 @@ module _ (text : List ℕ) (d : Declared) (rows : List ℕ) where
         let same = ap length unchanged in
         let size : len ≡ length t = omega (arith, p .ends) in
         let fits : length t ≤ length out = omega arith in
-        let nought : 0 + length t ≡ length t = omega arith in
-        (ap value size ∙ sym (written-value (length out) fits),
-        rw unchanged at (q .holds) (omega arith) ∙ sets-eq t out 0 (omega arith) ∙ ap (λ (n : ℕ). t ++ drop n out) nought
-        ∙ sym (value-left out fits))
+        let nought : 0 + length t ≡ length t = omega arith in (
+          ap value size ∙ sym (written-value (length out) fits),
+          rw unchanged at (q .holds) (omega arith) ∙ sets-eq t out 0 (omega arith) ∙ ap (λ (n : ℕ). t ++ drop n out) nought
+              ∙ sym (value-left out fits),
+        )

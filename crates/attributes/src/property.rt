@@ -1,10 +1,10 @@
 // The property that an attribute string declares, by the letters of Apple's "Declared Properties".
+use crate::items::Value;
 use crate::pass::Which;
 use crate::pass::count_items;
 use crate::pass::first_value;
 use crate::pass::items_fit;
 use crate::pass::write_items;
-use crate::items::Value;
 use reads::answer::Missing;
 use reads::answer::Reason;
 use reads::text::Verdict;

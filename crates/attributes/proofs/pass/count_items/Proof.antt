@@ -1,3 +1,4 @@
+-- The invariant: `count` is the number of chosen items before i.
 use Prim.Native.Nat.{_-_}
 use native.Mathlib.Omega.{arith}
 use lib.ListN.{length}
@@ -5,10 +6,6 @@ use Rattle.attributes.proofs.Passes.{Counted, counted-start, counted-on
 use borrow.Author.Needs.{needs}
 use Rattle.attributes.proofs.pass.count_items.Statement.{statement}
 use Rattle.attributes.proofs.pass.count_items.Tie as tie
-use Rattle.attributes.proofs.pass.count_items.Reads as reads
-use Rattle.attributes.proofs.pass.count_items.Lts as lts
-use Rattle.attributes.proofs.pass.item_at.Reads as item-at-reads
-use Rattle.attributes.proofs.pass.wanted.Reads as wanted-reads
 
 abbrev Inv-loop : tie.InvT-loop
 Inv-loop text which count₀ i₀ count i = Counted text which i count
@@ -19,26 +16,27 @@ abbrev μ-loop : tie.MeasureT-loop
 loop-holds : tie.Need-loop-holds Inv-loop μ-loop
 loop-holds c = counted-start (c .before .args .text .now) (c .before .args .which)
 
-item-at-requires : tie.Need-item-at-requires Inv-loop μ-loop
-item-at-requires c κs = search needs
-
-wanted-requires : tie.Need-wanted-requires Inv-loop μ-loop
-wanted-requires c κs = search needs
-
 loop-less : tie.Need-loop-less Inv-loop μ-loop
 loop-less c = omega (arith, c .before .before .before .item-at .ensures .on)
 
 loop-again : tie.Need-loop-again Inv-loop μ-loop
-loop-again c = counted-none (c .before .before .before .before .before .loop .inv) (c .before .before .before .item-at .ensures) (c .before .wanted .ensures) (c .if1 .taken)
+loop-again c =
+    let l = c .before .before .before .before .before .loop in
+    counted-none (l .inv) (c .before .before .before .item-at .ensures) (c .before .wanted .ensures) (c .if1 .taken)
 
 add-count : tie.Need-add-count Inv-loop μ-loop
-add-count c = omega (arith, c .before .before .before .before .before .loop .inv .few, c .before .before .before .before .before .before .before .good .0)
+add-count c =
+    let l = c .before .before .before .before .before .loop in
+    let good = c .before .before .before .before .before .before .before .good in
+    omega (arith, l .inv .few, good .0)
 
 loop-less-2 : tie.Need-loop-less-2 Inv-loop μ-loop
 loop-less-2 c = omega (arith, c .before .before .before .item-at .ensures .on)
 
 loop-again-2 : tie.Need-loop-again-2 Inv-loop μ-loop
-loop-again-2 c = counted-one (c .before .before .before .before .before .loop .inv) (c .before .before .before .item-at .ensures) (c .before .wanted .ensures) (c .if1 .left)
+loop-again-2 c =
+    let l = c .before .before .before .before .before .loop in
+    counted-one (l .inv) (c .before .before .before .item-at .ensures) (c .before .wanted .ensures) (c .if1 .left)
 
 returns : tie.Need-returns Inv-loop μ-loop
 returns c = counted-end (c .before .loop .inv) (c .loop-test .left)
@@ -50,8 +48,8 @@ count-items-spec =
     Inv-loop
     μ-loop
     loop-holds
-    item-at-requires
-    wanted-requires
+    (λ c κs. search needs)
+    (λ c κs. search needs)
     loop-less
     loop-again
     add-count

@@ -1,6 +1,7 @@
+-- The invariant: the value that is looked for is the first among the items from i on.
 use Prim.Native.Nat.{_-_}
+use mathlib.Core.Path.{_≡_, ap, sym, _∙_}
 use native.Mathlib.Omega.{arith}
-use mathlib.Core.Path.{_≡_, refl, ap, sym, _∙_}
 use lib.ListN.{length}
 use Rattle.attributes.specs.Attributes.{items}
 use Rattle.attributes.specs.Property.{firstValue}
@@ -9,9 +10,6 @@ use Rattle.attributes.proofs.AttributeItems.{items-start, value-found, 
 use borrow.Author.Needs.{needs}
 use Rattle.attributes.proofs.pass.first_value.Statement.{statement}
 use Rattle.attributes.proofs.pass.first_value.Tie as tie
-use Rattle.attributes.proofs.pass.first_value.Reads as reads
-use Rattle.attributes.proofs.pass.first_value.Lts as lts
-use Rattle.attributes.proofs.pass.item_at.Reads as item-at-reads
 
 abbrev Inv-loop : tie.InvT-loop
 Inv-loop text letter least i₀ i = firstValue letter least (itemsAt text i) ≡ firstValue letter least (items text)
@@ -22,26 +20,36 @@ abbrev μ-loop : tie.MeasureT-loop
 loop-holds : tie.Need-loop-holds Inv-loop μ-loop
 loop-holds c = ap (firstValue (c .before .args .letter) (c .before .args .least)) (items-start (c .before .args .text .now))
 
-item-at-requires : tie.Need-item-at-requires Inv-loop μ-loop
-item-at-requires c κs = search needs
-
 loop-less : tie.Need-loop-less Inv-loop μ-loop
 loop-less c = omega (arith, c .before .before .before .before .item-at .ensures .on)
 
 loop-again : tie.Need-loop-again Inv-loop μ-loop
-loop-again c = sym (value-of-other (c .before .before .before .before .item-at .ensures) (c .before .before .before .before .before .before .before .before .args .letter) (c .before .before .before .before .before .before .before .before .args .least) (c .if1 .taken)) ∙ c .before .before .before .before .before .before .loop .inv
+loop-again c =
+    let l = c .before .before .before .before .before .before .loop in
+    let a = c .before .before .before .before .before .before .before .before .args in
+    sym (value-of-other (c .before .before .before .before .item-at .ensures) (a .letter) (a .least) (c .if1 .taken)) ∙ l .inv
 
 loop-less-2 : tie.Need-loop-less-2 Inv-loop μ-loop
 loop-less-2 c = omega (arith, c .before .before .before .before .before .before .item-at .ensures .on)
 
 loop-again-2 : tie.Need-loop-again-2 Inv-loop μ-loop
-loop-again-2 c = sym (value-too-short (c .before .before .before .before .before .before .item-at .ensures) (c .before .before .before .before .before .before .before .before .before .before .args .letter) (c .before .before .before .before .before .before .before .before .before .before .args .least) (omega arith) (c .if2 .taken)) ∙ c .before .before .before .before .before .before .before .before .loop .inv
+loop-again-2 c =
+    let step = c .before .before .before .before .before .before .item-at in
+    let l = c .before .before .before .before .before .before .before .before .loop in
+    let a = c .before .before .before .before .before .before .before .before .before .before .args in
+    sym (value-too-short (step .ensures) (a .letter) (a .least) (omega arith) (c .if2 .taken)) ∙ l .inv
 
 returns : tie.Need-returns Inv-loop μ-loop
-returns c = sym (value-found (c .before .before .before .before .before .before .item-at .ensures) (c .before .before .before .before .before .before .before .before .before .before .args .letter) (c .before .before .before .before .before .before .before .before .before .before .args .least) (omega arith) (c .if2 .left)) ∙ c .before .before .before .before .before .before .before .before .loop .inv
+returns c =
+    let step = c .before .before .before .before .before .before .item-at in
+    let l = c .before .before .before .before .before .before .before .before .loop in
+    let a = c .before .before .before .before .before .before .before .before .before .before .args in
+    sym (value-found (step .ensures) (a .letter) (a .least) (omega arith) (c .if2 .left)) ∙ l .inv
 
 returns-2 : tie.Need-returns-2 Inv-loop μ-loop
-returns-2 c = sym (value-none (c .before .before .before .args .text .now) (c .before .loop .i) (c .loop-test .left) (c .before .before .before .args .letter) (c .before .before .before .args .least)) ∙ c .before .loop .inv
+returns-2 c =
+    let a = c .before .before .before .args in
+    sym (value-none (a .text .now) (c .before .loop .i) (c .loop-test .left) (a .letter) (a .least)) ∙ c .before .loop .inv
 
 pub first-value-spec : {M : Type 1} → statement M
 first-value-spec =
@@ -50,7 +58,7 @@ first-value-spec =
     Inv-loop
     μ-loop
     loop-holds
-    item-at-requires
+    (λ c κs. search needs)
     loop-less
     loop-again
     loop-less-2

@@ -15,16 +15,21 @@ loop-holds : tie.Need-loop-holds Inv-loop μ-loop
 loop-holds c = reached-start (c .args .text .now) (c .args .start) (c .pre)
 
 returns : tie.Need-returns Inv-loop μ-loop
-returns c = reached-comma (c .before .before .before .before .before .loop .inv) (c .before .before .before .before .loop-test .taken) (c .before .if2 .taken) (c .if3 .taken)
+returns c =
+    let l = c .before .before .before .before .before .loop in
+    reached-comma (l .inv) (c .before .before .before .before .loop-test .taken) (c .before .if2 .taken) (c .if3 .taken)
 
 loop-again : tie.Need-loop-again Inv-loop μ-loop
 loop-again c = reached-quote (c .before .before .before .loop .inv) (c .before .before .loop-test .taken) (c .if1 .taken)
 
 loop-again-2 : tie.Need-loop-again-2 Inv-loop μ-loop
-loop-again-2 c = reached-quoted (c .before .before .before .before .before .loop .inv) (c .before .before .before .before .loop-test .taken) (c .before .if2 .taken) (c .if3 .left)
+loop-again-2 c =
+    let l = c .before .before .before .before .before .loop in
+    reached-quoted (l .inv) (c .before .before .before .before .loop-test .taken) (c .before .if2 .taken) (c .if3 .left)
 
 loop-again-3 : tie.Need-loop-again-3 Inv-loop μ-loop
-loop-again-3 c = reached-other (c .before .before .before .before .loop .inv) (c .before .before .before .loop-test .taken) (c .before .if1 .left) (c .if2 .left)
+loop-again-3 c =
+    reached-other (c .before .before .before .before .loop .inv) (c .before .before .before .loop-test .taken) (c .before .if1 .left) (c .if2 .left)
 
 returns-2 : tie.Need-returns-2 Inv-loop μ-loop
 returns-2 c = reached-end (c .before .loop .inv) (c .loop-test .left)

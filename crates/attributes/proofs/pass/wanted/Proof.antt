@@ -4,18 +4,6 @@ use Rattle.attributes.specs.declared.pass.Which.{Which}
 use borrow.Author.Needs.{needs}
 use Rattle.attributes.proofs.pass.wanted.Statement.{statement}
 use Rattle.attributes.proofs.pass.wanted.Tie as tie
-use Rattle.attributes.proofs.pass.wanted.Reads as reads
-use Rattle.attributes.proofs.pass.wanted.Lts as lts
-use Rattle.attributes.proofs.pass.is_unknown.Reads as is-unknown-reads
-
-enum-told : tie.Need-enum-told
-enum-told c = search needs
-
-enum-told-2 : tie.Need-enum-told-2
-enum-told-2 c = search needs
-
-is-unknown-requires : tie.Need-is-unknown-requires
-is-unknown-requires c κs = search needs
 
 returns : tie.Need-returns
 returns c = sym (ap (λ (w : Which). wanted w (c .before .before .args .letter)) (c .enum-told .given .1))
@@ -24,4 +12,4 @@ returns-2 : tie.Need-returns-2
 returns-2 c = c .is-unknown .ensures ∙ sym (ap (λ (w : Which). wanted w (c .before .before .before .args .letter)) (c .before .enum-told2 .given .1))
 
 pub wanted-spec : {M : Type 1} → statement M
-wanted-spec = tie.close (tie.spec enum-told enum-told-2 is-unknown-requires returns returns-2)
+wanted-spec = tie.close (tie.spec (λ c. search needs) (λ c. search needs) (λ c κs. search needs) returns returns-2)

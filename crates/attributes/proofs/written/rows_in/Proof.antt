@@ -1,10 +1,7 @@
 use native.Mathlib.Omega.{arith}
 use Rattle.attributes.proofs.Rows.{length-items-in}
-use borrow.Author.Needs.{needs}
 use Rattle.attributes.proofs.written.rows_in.Statement.{statement}
 use Rattle.attributes.proofs.written.rows_in.Tie as tie
-use Rattle.attributes.proofs.written.rows_in.Reads as reads
-use Rattle.attributes.proofs.written.rows_in.Lts as lts
 
 returns : tie.Need-returns
 returns c = omega (arith, length-items-in (c .before .args .count) (c .before .args .rows .now))
