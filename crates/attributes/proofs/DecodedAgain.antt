@@ -3,27 +3,26 @@
 use Prim.Native.Nat.{ℕ, zero, suc, _+_, _*_, _%_, _≤_, _<_}
 use mathlib.Core.Path.{_≡_, refl, ap, sym, subst, _∙_}
 use mathlib.Core.Bool.{Bool, true, false}
-use mathlib.Core.List.{List, [], _∷_, _++_, map}
+use mathlib.Core.List.{List, [], _∷_, _++_}
 use native.Mathlib.Omega.{arith}
 use lib.Dec.{leb}
 use lib.ListN.{length, getD, take, drop, length-map}
 use lib.Seq.{getD-drop, take-at}
 use borrow.Author.Tests.{leb-true, le-leb}
-use Rattle.reads.specs.Outcome.{Outcome, value, number, absent, andThen, choose}
+use Rattle.reads.specs.Outcome.{value, number, andThen, choose}
 use Rattle.reads.specs.Utf8.{verdict}
 use Rattle.reads.specs.declared.text.Verdict.{Verdict}
 use Rattle.reads.specs.declared.text.Verdict.the-variants.{Good, Bad}
 use Rattle.reads.proofs.Tests.{by-choose}
-use Rattle.pointers.specs.Open.{leftBy}
 use Rattle.pointers.specs.Question.{question}
 use Rattle.attributes.specs.Attributes.{valueLength, itemOf, itemsFrom, items, itemsFit, ifUtf8, handedOut, words, filled}
-use Rattle.attributes.specs.Property.{letters, among, unknowns, declared, declaredOf, unknownLeft}
-use Rattle.attributes.specs.Written.{Part, Declaration, partOf, declarationIn, declaration, written, itemsIn, writtenText, writtenOf, writtenLeft}
+use Rattle.attributes.specs.Property.{letters, unknowns, declared, declaredOf, unknownLeft}
+use Rattle.attributes.specs.Written.{Declaration, partOf, declarationIn, declaration, written, itemsIn, writtenText, writtenOf, writtenLeft}
 use Rattle.attributes.specs.RoundTrip.{Writable, decodedAs, writtenBy, Rewritten, DecodesTo}
 use Rattle.attributes.specs.declared.items.Item.{Item}
 use Rattle.attributes.specs.declared.property.Declared.{Declared}
 use Rattle.attributes.proofs.AttributeAnswers.{handed-value}
-use Rattle.attributes.proofs.WrittenAnswers.{written-value, value-left}
+use Rattle.attributes.proofs.WrittenAnswers.{value-left}
 use Rattle.attributes.proofs.RoundTrip.{text-round-trip}
 use Rattle.attributes.proofs.Utf8Cuts.{accepts-bytes}
 use Rattle.attributes.proofs.WrittenUtf8.{good-accepts, written-utf8}

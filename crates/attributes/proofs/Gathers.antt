@@ -5,19 +5,19 @@ use mathlib.Core.Bool.{Bool, true, false, not, _&&_, _||_, true≢false}
 use mathlib.Core.List.{List, [], _∷_, _++_, map, append-assoc, append-nil}
 use mathlib.Core.Option.{Option, none, some, Option·none-ne-some}
 use native.Mathlib.Omega.{arith}
-use lib.Dec.{eqb, leb}
+use lib.Dec.{eqb}
 use lib.ListN.{length}
 use lib.Seq.{append-snoc}
-use borrow.Author.Tests.{eq-eqb, ne-eqb, eqb-false, le-leb, not-true, not-false}
+use borrow.Author.Tests.{eq-eqb, ne-eqb, eqb-false, le-leb, not-true}
 use Rattle.reads.specs.Outcome.{choose}
 use Rattle.reads.proofs.Rows.{all}
 use Rattle.reads.proofs.Tests.{both-true, choose-true, choose-false, by-choose}
 use Rattle.attributes.specs.Attributes.{items}
 use Rattle.attributes.specs.Property.{letters, among, unknowns, firstValue, declared}
-use Rattle.attributes.specs.Written.{Part, Declaration, frontLetters, backLetters, bytesOf, bytesGiven, partOf, frontOf, declarationIn, declaration, given, inOrder}
+use Rattle.attributes.specs.Written.{Part, Declaration, frontLetters, backLetters, bytesOf, bytesGiven, partOf, declarationIn, declaration, given, inOrder}
 use Rattle.attributes.specs.RoundTrip.{Each, Shaped}
 use Rattle.attributes.specs.declared.items.Item.{Item}
-use Rattle.attributes.specs.declared.property.Attribute.the-variants.{Given, Nothing}
+use Rattle.attributes.specs.declared.property.Attribute.the-variants.{Given}
 
 unfoldable pub firstPart : ℕ → List Part → Option (List ℕ)
 firstPart letter [] = none

@@ -1,19 +1,18 @@
 -- The parts of a text, its items with their values as bytes; of parts that are joined they are these parts.
-use Prim.Native.Nat.{ℕ, zero, suc, _+_, _%_, _≤_, _<_}
-use mathlib.Core.Path.{_≡_, refl, ap, sym, _∙_}
+use Prim.Native.Nat.{ℕ, zero, suc, _+_, _≤_, _<_}
+use mathlib.Core.Path.{_≡_, refl, ap, _∙_}
 use mathlib.Core.Bool.{Bool, true, false}
-use mathlib.Core.List.{List, [], _∷_, _++_, map, append-nil}
+use mathlib.Core.List.{List, [], _∷_, _++_, map}
 use native.Mathlib.Omega.{arith}
 use lib.Dec.{eqb, ltb}
-use lib.ListN.{length, getD, take, drop, length-append, length-drop, List·getD-append}
-use lib.Seq.{drop-drop, take-append-le, take-append-seam, drop-append-add, getD-append-seam, drop-length}
-use borrow.Author.Tests.{lt-ltb, eq-eqb, eqb-true, eqb-false}
+use lib.ListN.{length, take, drop, length-append, length-drop, List·getD-append}
+use lib.Seq.{drop-drop, take-append-le, take-append-seam, drop-append-add, getD-append-seam}
+use borrow.Author.Tests.{lt-ltb, eqb-true, eqb-false}
 use Rattle.reads.specs.Outcome.{choose}
 use Rattle.reads.proofs.Tests.{choose-true}
-use Rattle.attributes.specs.Attributes.{quotes, splits, first, valueLength, itemOf, itemsFrom, items}
+use Rattle.attributes.specs.Attributes.{splits, first, valueLength, itemOf, itemsFrom, items}
 use Rattle.attributes.specs.Written.{Part, bytesOf, partOf, following, joined}
 use Rattle.attributes.specs.RoundTrip.{Closed, Each}
-use Rattle.attributes.specs.declared.items.Item.{Item}
 use Rattle.attributes.proofs.ValueEnds.{first-hit, first-miss}
 
 unfoldable pub partsFrom : ℕ → List ℕ → List Part

@@ -1,8 +1,8 @@
 -- Worked cases of declared properties, computed from the definitions.
 use Prim.Native.Nat.{ℕ}
 use mathlib.Core.Path.{_≡_, refl}
-use mathlib.Core.List.{List, [], _∷_}
-use Rattle.reads.specs.Outcome.{Outcome, value, absent, number, choose}
+use mathlib.Core.List.{[], _∷_}
+use Rattle.reads.specs.Outcome.{value, absent, number, choose}
 use Rattle.reads.specs.Utf8.{judge, verdict}
 use Rattle.reads.specs.declared.answer.Reason.the-variants.{NotUtf8}
 use Rattle.reads.specs.declared.text.Verdict.the-variants.{Bad}

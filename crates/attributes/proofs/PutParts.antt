@@ -1,6 +1,6 @@
 -- The parts of a declared property put into a buffer: an item, a letter that may be given, the front letters, the rows.
-use Prim.Native.Nat.{ℕ, zero, suc, _+_, _≤_, _<_, _^_, min}
-use mathlib.Core.Path.{_≡_, refl, ap, sym, _∙_}
+use Prim.Native.Nat.{ℕ, zero, suc, _+_, _≤_, _<_, _^_}
+use mathlib.Core.Path.{_≡_, refl, ap, sym}
 use mathlib.Core.List.{List, [], _∷_, _++_, map, append-assoc, map-append}
 use mathlib.Core.Option.{Option, none, some}
 use native.Mathlib.Omega.{arith}
@@ -8,7 +8,7 @@ use native.Mathlib.Numerals.{add-one}
 use lib.ListN.{length, getD, take, List·getD-append, List·getD-map}
 use lib.Seq.{take-suc, take-all}
 use Rattle.attributes.specs.Property.{letters}
-use Rattle.attributes.specs.Written.{Part, bytesOf, bytesGiven, partOf, frontLetters, backLetters, frontOf, declarationIn, given, inOrder, joined, written, itemsIn, writtenText}
+use Rattle.attributes.specs.Written.{Part, bytesGiven, partOf, frontLetters, backLetters, frontOf, declarationIn, given, inOrder, joined, written, itemsIn, writtenText}
 use Rattle.attributes.specs.Puts.{Put, commaAt, behind, itemAt}
 use Rattle.attributes.specs.declared.items.Item.{Item}
 use Rattle.attributes.specs.declared.items.Value.{Value}

@@ -4,7 +4,7 @@ use mathlib.Core.Path.{_≡_, refl, ap, sym, _∙_}
 use mathlib.Core.List.{List, [], _∷_, _++_, append-assoc, append-nil}
 use native.Mathlib.Omega.{arith}
 use native.Mathlib.Numerals.{add-one}
-use lib.ListN.{length, getD, set, take, drop, length-append, length-take, length-drop, length-set, drop-of-length-le}
+use lib.ListN.{length, getD, set, drop, length-append, length-drop, length-set, drop-of-length-le}
 use lib.Seq.{take-all, take-nil, drop-cons, getD-take, getD-drop, sets, length-sets, length-take-le}
 use Rattle.attributes.specs.Attributes.{valueOf}
 use Rattle.attributes.specs.Written.{Part, bytesOf, following, joined}

@@ -1,7 +1,7 @@
 -- UTF-8 text is UTF-8 on both sides of an ASCII byte, and the parts of a text are UTF-8.
 use Prim.Native.Nat.{ℕ, zero, suc, _+_, _%_, _≤_, _<_}
 use mathlib.Core.Path.{_≡_, refl, ap, sym, _∙_}
-use mathlib.Core.Bool.{Bool, true, false, _&&_, false≢true, true≢false}
+use mathlib.Core.Bool.{Bool, true, false, _&&_, false≢true}
 use mathlib.Core.List.{List, [], _∷_, _++_}
 use mathlib.Core.Option.{Option, none, some, Option·some-injective, Option·none-ne-some}
 use native.Mathlib.Omega.{arith}
@@ -11,12 +11,11 @@ use lib.ListN.{length, getD, take, drop, drop-of-length-le}
 use lib.Seq.{split-at, take-all}
 use borrow.Author.Tests.{leb-true, leb-false, ltb-true, ltb-false, lt-ltb, eqb-true}
 use Rattle.reads.specs.Outcome.{choose}
-use Rattle.reads.specs.Utf8.{Range, _to_, inside, multi, chars, begun, dueAfter}
-use Rattle.reads.proofs.Tests.{both-true, by-choose, choose-true}
-use Rattle.reads.proofs.Rows.{inside-between, inside-under, inside-over, multi-over, all, begun-all}
+use Rattle.reads.specs.Utf8.{Range, _to_, inside, multi, begun, dueAfter}
+use Rattle.reads.proofs.Tests.{both-true, choose-true}
+use Rattle.reads.proofs.Rows.{inside-between, inside-over, multi-over, all, begun-all}
 use Rattle.reads.proofs.Grammar.{onward, accepts}
 use Rattle.attributes.specs.Attributes.{quotes, splits, first, valueLength}
-use Rattle.attributes.specs.Written.{Part}
 use Rattle.attributes.specs.RoundTrip.{Each}
 use Rattle.attributes.proofs.ValueEnds.{first-hit, first-miss}
 use Rattle.attributes.proofs.Parts.{partsFrom}

@@ -2,7 +2,7 @@
 use Prim.Native.Nat.{ℕ, _<_}
 use mathlib.Core.Path.{_≡_, refl, ap, sym, subst, _∙_}
 use mathlib.Core.Bool.{Bool, true, false, false≢true}
-use mathlib.Core.List.{List, [], _∷_, _++_, map}
+use mathlib.Core.List.{List, [], _∷_, _++_}
 use mathlib.Core.Option.{Option, none, some, Option·some-injective, Option·none-ne-some}
 use native.Mathlib.Omega.{arith}
 use lib.Dec.{eqb}
@@ -14,9 +14,8 @@ use Rattle.reads.specs.declared.text.Verdict.{Verdict}
 use Rattle.reads.specs.declared.text.Verdict.the-variants.{Good, Bad}
 use Rattle.reads.proofs.Tests.{by-choose}
 use Rattle.reads.proofs.Grammar.{accepts, utf8-accepts}
-use Rattle.attributes.specs.Attributes.{items}
-use Rattle.attributes.specs.Property.{letters, among}
-use Rattle.attributes.specs.Written.{Part, Declaration, frontLetters, backLetters, partOf, declaration, given, inOrder, following, joined, written}
+use Rattle.attributes.specs.Property.{letters}
+use Rattle.attributes.specs.Written.{Part, Declaration, frontLetters, backLetters, declaration, given, inOrder, following, joined, written}
 use Rattle.attributes.specs.RoundTrip.{Each}
 use Rattle.attributes.proofs.Parts.{partsFrom, parts-of}
 use Rattle.attributes.proofs.Gathers.{firstPart, firstParts, unknownParts, gathered, declaration-gathered}
