@@ -7,7 +7,7 @@ use Rattle.reads.specs.Utf8.{judge}
 use Rattle.reads.specs.declared.answer.Reason.the-variants.{NotUtf8}
 use Rattle.pointers.specs.Question.{question}
 use Rattle.pointers.specs.Symbol.{ascii}
-use Rattle.attributes.specs.Attributes.{quotes, splits, first, valueLength, valueOf, itemOf, itemsFrom, items, isType, typeAmong, attributes, itemsFit, attributesOf, words, filled, itemsLeft}
+use Rattle.attributes.specs.Attributes.{handedOut, quotes, splits, first, valueLength, valueOf, itemOf, itemsFrom, items, isType, typeAmong, attributes, itemsFit, attributesOf, words, filled, itemsLeft}
 use Rattle.attributes.specs.declared.items.Attributes.{Attributes}
 
 abbrev told : List ℕ → List ℕ
@@ -22,12 +22,12 @@ unfolding words items itemsFrom itemOf valueLength first splits quotes choose
 name = refl
 
 name-found : attributesOf (ascii "T@\"NSString\",C,N,V_name") 12 ≡ found 4 1 11
-unfolding attributesOf attributes typeAmong isType items itemsFrom itemOf valueLength first splits quotes itemsFit question judge choose
+unfolding attributesOf handedOut attributes typeAmong isType items itemsFrom itemOf valueLength first splits quotes itemsFit question judge choose
 name-found = refl
 
 -- Four items want twelve words.
 name-refused : attributesOf (ascii "T@\"NSString\",C,N,V_name") 11 ≡ number 12
-unfolding attributesOf items itemsFrom itemOf valueLength first splits quotes itemsFit question judge choose
+unfolding attributesOf handedOut items itemsFrom itemOf valueLength first splits quotes itemsFit question judge choose
 name-refused = refl
 
 -- The key is not tested: the second item has key `,` and value `R`.
@@ -64,28 +64,28 @@ unfolding words items itemsFrom itemOf valueLength first splits quotes choose
 last-comma = refl
 
 empty : attributesOf [] 0 ≡ found 0 0 0
-unfolding attributesOf attributes typeAmong items itemsFrom itemsFit question judge choose
+unfolding attributesOf handedOut attributes typeAmong items itemsFrom itemsFit question judge choose
 empty = refl
 
 -- The type is the first T value that is not empty, and (0, 0) without one.
 first-type : attributesOf (ascii "T,Ti,Tj") 9 ≡ found 3 3 1
-unfolding attributesOf attributes typeAmong isType items itemsFrom itemOf valueLength first splits quotes itemsFit question judge choose
+unfolding attributesOf handedOut attributes typeAmong isType items itemsFrom itemOf valueLength first splits quotes itemsFit question judge choose
 first-type = refl
 
 no-type : attributesOf (ascii "T,N") 6 ≡ found 2 0 0
-unfolding attributesOf attributes typeAmong isType items itemsFrom itemOf valueLength first splits quotes itemsFit question judge choose
+unfolding attributesOf handedOut attributes typeAmong isType items itemsFrom itemOf valueLength first splits quotes itemsFit question judge choose
 no-type = refl
 
 -- Bytes that are not UTF-8 are absent, with the first bad offset, though the item would not fit either.
 not-utf8 : attributesOf (0x54 ∷ 0xFF ∷ []) 0 ≡ absent (NotUtf8 1)
-unfolding attributesOf judge choose
+unfolding attributesOf handedOut judge choose
 not-utf8 = refl
 
 -- The word behind the items stays; of a buffer that is too short every word does.
 seventh-word : itemsLeft (ascii "T,,R") (9 ∷ 9 ∷ 9 ∷ 9 ∷ 9 ∷ 9 ∷ 9 ∷ []) ≡ 0x54 ∷ 1 ∷ 0 ∷ 0x2C ∷ 3 ∷ 1 ∷ 9 ∷ []
-unfolding itemsLeft filled words attributesOf attributes typeAmong isType items itemsFrom itemOf valueLength first splits quotes itemsFit question judge choose
+unfolding itemsLeft filled words attributesOf handedOut attributes typeAmong isType items itemsFrom itemOf valueLength first splits quotes itemsFit question judge choose
 seventh-word = refl
 
 too-short : itemsLeft (ascii "T,,R") (9 ∷ 9 ∷ 9 ∷ 9 ∷ 9 ∷ []) ≡ 9 ∷ 9 ∷ 9 ∷ 9 ∷ 9 ∷ []
-unfolding itemsLeft filled words attributesOf attributes typeAmong isType items itemsFrom itemOf valueLength first splits quotes itemsFit question judge choose
+unfolding itemsLeft filled words attributesOf handedOut attributes typeAmong isType items itemsFrom itemOf valueLength first splits quotes itemsFit question judge choose
 too-short = refl

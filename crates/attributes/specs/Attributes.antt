@@ -71,10 +71,6 @@ unfoldable pub typeAmong : List Item → Value
 typeAmong [] = valueOf 0 0
 typeAmong (i ∷ is) = choose (isType i) (i .value) (typeAmong is)
 
--- The type with one item more, where `found` is that of the items before it, of length 0 if there is none.
-unfoldable pub typeOr : Value → Item → Value
-typeOr found i = choose (eqb (found .len) 0 && isType i) (i .value) found
-
 -- How many items a text has, and its type.
 unfoldable pub attributes : List ℕ → Attributes
 attributes text = record { count = length (items text); «type_encoding» = typeAmong (items text) }
@@ -83,14 +79,17 @@ attributes text = record { count = length (items text); «type_encoding» = type
 unfoldable pub itemsFit : ℕ → ℕ → Bool
 itemsFit count room = leb (3 * count) room
 
--- What parse_attributes gives, of a text and the words of the lent buffer: absent unless UTF-8, then question 12.
-abbrev pub ifUtf8 : Verdict → Outcome Attributes → Outcome Attributes
+abbrev pub ifUtf8 : {A : Type 0} → Verdict → Outcome A → Outcome A
 ifUtf8 Good o = o
 ifUtf8 (Bad k) o = absent (NotUtf8 k)
 
+-- What comes back where items of a text are handed out into a buffer of `room` words: absent unless UTF-8, then question 12.
+unfoldable pub handedOut : {A : Type 0} → List ℕ → List Item → ℕ → A → Outcome A
+handedOut text is room a = ifUtf8 (verdict text) (andThen (question 12 (itemsFit (length is) room)) (λ _. value a))
+
+-- What parse_attributes gives, of a text and the words of the lent buffer.
 unfoldable pub attributesOf : List ℕ → ℕ → Outcome Attributes
-attributesOf text room =
-    ifUtf8 (verdict text) (andThen (question 12 (itemsFit (length (items text)) room)) (λ _. value (attributes text)))
+attributesOf text room = handedOut text (items text) room (attributes text)
 
 -- The words of items: key, value start, length.
 unfoldable pub words : List Item → List ℕ

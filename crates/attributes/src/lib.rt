@@ -1,2 +1,5 @@
-// Property attribute text (property.rs, parse_attributes).
+// Property attribute strings: their items (property.rs of the Rust), the property that they declare, and the text of that.
 pub mod items;
+mod pass;
+pub mod property;
+pub mod written;
