@@ -2,17 +2,16 @@
 use Prim.Native.Nat.{ℕ, _+_, _*_, _/_, _%_, _^_, _<_}
 use mathlib.Core.Path.{_≡_, sym, ap, _∙_}
 use lib.Arith.{digits-div, digits-mod}
-use Rattle.walks.specs.Sections.{Walk, classWalk, categoryWalk, protocolWalk}
+use Rattle.walks.specs.Sections.{Walk}
 use Rattle.walks.specs.Slots.{slotWalk}
 use Rattle.walks.specs.declared.sections.CategoryWalk.{CategoryWalk}
 use Rattle.walks.specs.declared.sections.ClassWalk.{ClassWalk}
 use Rattle.walks.specs.declared.sections.ProtocolWalk.{ProtocolWalk}
-use Rattle.listing.specs.Listing.{State}
+use Rattle.listing.specs.Listing.{SectionWalk, State}
 use Rattle.listing.specs.ListingAnswer.{sectionWalkOf, stateOf}
 use Rattle.listing.specs.declared.at.At.{At}
 use Rattle.listing.specs.declared.listing.Listing.{Listing}
 use Rattle.listing.specs.declared.section.Section.{Section}
-use Rattle.listing.specs.declared.section.Section.the-variants as aSection
 
 -- Each walk, back from its state.
 abbrev classBack : Walk → ClassWalk
@@ -24,25 +23,12 @@ protocolBack w = record { slot = w .slot }
 abbrev categoryBack : Walk → CategoryWalk
 categoryBack w = record { slots = slotWalk (w .slot) (w .used) (w .highest) }
 
-class-walk-same : (v w : ClassWalk) → classWalk v ≡ classWalk w → v ≡ w
-class-walk-same v w e = ap classBack e
-
-protocol-walk-same : (v w : ProtocolWalk) → protocolWalk v ≡ protocolWalk w → v ≡ w
-protocol-walk-same v w e = ap protocolBack e
-
-category-walk-same : (v w : CategoryWalk) → categoryWalk v ≡ categoryWalk w → v ≡ w
-category-walk-same v w e = ap categoryBack e
+abbrev sectionBack : SectionWalk → Section
+sectionBack x =
+    record { stage = x .stage; classes = classBack (x .classesAt); protocols = protocolBack (x .protocolsAt); categories = categoryBack (x .categoriesAt) }
 
 section-same : (x y : Section) → sectionWalkOf x ≡ sectionWalkOf y → x ≡ y
-section-same (aSection.Classes v) (aSection.Classes w) e = ap aSection.Classes (class-walk-same v w (cc))
-section-same (aSection.Classes v) (aSection.Protocols w) e = cc
-section-same (aSection.Classes v) (aSection.Categories w) e = cc
-section-same (aSection.Protocols v) (aSection.Classes w) e = cc
-section-same (aSection.Protocols v) (aSection.Protocols w) e = ap aSection.Protocols (protocol-walk-same v w (cc))
-section-same (aSection.Protocols v) (aSection.Categories w) e = cc
-section-same (aSection.Categories v) (aSection.Classes w) e = cc
-section-same (aSection.Categories v) (aSection.Protocols w) e = cc
-section-same (aSection.Categories v) (aSection.Categories w) e = ap aSection.Categories (category-walk-same v w (cc))
+section-same x y e = ap sectionBack e
 
 abbrev listingOf : At → Section → ℕ → ℕ → ℕ → Listing
 listingOf place section records high low = record { at = place; section = section; records = records; «settled_high» = high; «settled_low» = low }

@@ -1,5 +1,5 @@
 -- Each step of the listing after which it goes on leaves less, so a listing ends.
-use Prim.Native.Nat.{ℕ, suc, _+_, _-_, _*_, _^_, _<_, _≤_}
+use Prim.Native.Nat.{ℕ, zero, suc, _+_, _-_, _*_, _^_, _<_, _≤_}
 use mathlib.Core.Bool.{true, false}
 use mathlib.Core.Path.{_≡_, refl, sym, ap, subst}
 use mathlib.Core.List.{List, [], _∷_}
@@ -23,7 +23,7 @@ use Rattle.walks.specs.declared.protocol_names.ProtocolNameWalk.{ProtocolNameWa
 use Rattle.walks.proofs.Moves.{RowMoves, row-step-moved, NameMoves, name-step-moved, Further, past-slot, past-waiting, SectionMoves, section-step-moved, protocol-step-moved}
 use Rattle.listing.specs.PlainListing.{Field, rowList, nameList, nameOrNone}
 use Rattle.listing.specs.Listing as listing
-use Rattle.listing.specs.Listing.{ownerFields, atFirst, enter, SectionWalk, classes, protocols, categories, State, asRecord, onward, sectionStep, afterSection, bySection, onSection, recordStep, byRo, byRow, byName, listStep, stepAt, listingStep}
+use Rattle.listing.specs.Listing.{ownerFields, atFirst, enter, SectionWalk, walks, State, asRecord, onward, sectionStep, afterSection, bySection, onSection, recordStep, byRo, byRow, byName, listStep, stepAt, listingStep}
 use Rattle.listing.specs.declared.at.At.{At}
 use Rattle.listing.specs.declared.at.At.the-variants as place
 use Rattle.listing.specs.declared.at.FieldWalk.{FieldWalk}
@@ -135,22 +135,25 @@ module _ {A : Type 0} (s : State) (h : placeLeft (s .at) ≡ 1) (f : A → Recor
   walk-falls (number k) b = record { falls = λ e g. never e }
 
 module _ (s : State) (l : List ℕ) where
-  section-falls : (t : Tables) (x : SectionWalk) → placeLeft (s .at) ≡ 1 → s .section ≡ x → Falls s (onSection s (sectionStep t l x))
-  section-falls t (classes w) h e =
-      let x = stepOf sections.classes t w l in
-      walk-falls s h aRecord.Class classes (2 * 2 ^ 70) (λ v. refl) (λ v. refl) w (x .walk) e (x .ledger)
+  stage-falls : (t : Tables) (n : ℕ) (c p k : Walk) → placeLeft (s .at) ≡ 1 → s .section ≡ walks n c p k → Falls s (onSection s (sectionStep t l (walks n c p k)))
+  stage-falls t zero c p k h e =
+      let x = stepOf sections.classes t c l in
+      walk-falls s h aRecord.Class (λ v. walks 0 v p k) (2 * 2 ^ 70) (λ v. refl) (λ v. refl) c (x .walk) e (x .ledger)
       (λ b. record { falls = λ g i. lighter _ s (rw e (omega (arith, walk-few atStart))) (omega arith) })
-      (x .answer) (section-step-moved sections.classes t w l .moves)
-  section-falls t (protocols w) h e =
-      let x = protocolStepOf t w [] in
-      walk-falls s h aRecord.Protocol protocols (2 ^ 70) (λ v. refl) (λ v. refl) w (x .walk) e l
+      (x .answer) (section-step-moved sections.classes t c l .moves)
+  stage-falls t (suc zero) c p k h e =
+      let x = protocolStepOf t p [] in
+      walk-falls s h aRecord.Protocol (λ v. walks 1 c v k) (2 ^ 70) (λ v. refl) (λ v. refl) p (x .walk) e l
       (λ b. record { falls = λ g i. lighter _ s (rw e (omega (arith, walk-few atStart))) (omega arith) })
-      (x .answer) (protocol-step-moved t w [] .moves)
-  section-falls t (categories w) h e =
-      let x = stepOf sections.categories t w l in
-      walk-falls s h aRecord.Category categories 0 (λ v. omega arith) (λ v. refl) w (x .walk) e (x .ledger)
+      (x .answer) (protocol-step-moved t p [] .moves)
+  stage-falls t (suc (suc n)) c p k h e =
+      let x = stepOf sections.categories t k l in
+      walk-falls s h aRecord.Category (λ v. walks (suc (suc n)) c p v) 0 (λ v. omega arith) (λ v. refl) k (x .walk) e (x .ledger)
       (λ b. record { falls = λ g i. nearer _ s (rw (e, b)) (omega (arith, h)) })
-      (x .answer) (section-step-moved sections.categories t w l .moves)
+      (x .answer) (section-step-moved sections.categories t k l .moves)
+
+  section-falls : (t : Tables) (x : SectionWalk) → placeLeft (s .at) ≡ 1 → s .section ≡ x → Falls s (onSection s (sectionStep t l x))
+  section-falls t x = stage-falls t (x .stage) (x .classesAt) (x .protocolsAt) (x .categoriesAt)
 
   at-falls : (t : Tables) (a : At) → s .at ≡ a → Falls s (stepAt t s l a)
   unfolding stepAt
@@ -158,7 +161,7 @@ module _ (s : State) (l : List ℕ) where
   at-falls t place.Section e = section-falls t (s .section) (ap placeLeft e) refl
   at-falls t (place.Record x) e = record-falls s l (ap placeLeft e) t x
   at-falls t (place.Ro c) e = ro-falls s l (ap placeLeft e) (guarded t (roOf t c))
-  at-falls t (place.List x) e = list-falls s l (x .owner) (x .list) t (x .walk) (ap placeLeft e)
+  at-falls t (place.List n x) e = list-falls s l (x .owner) n t (x .walk) (ap placeLeft e)
   at-falls t place.End e = onward-falls s l (asked t) _ (λ u. record { falls = λ g i. never g })
 
 -- A step after which the listing goes on leaves less, where what it counts up fits its words.

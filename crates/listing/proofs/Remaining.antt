@@ -1,12 +1,12 @@
 -- What is left of a listing: a number that each step leaves less of, until the listing has ended or a question refuses it. The weights
 -- leave room for the parts below them: an address of a slot, a cursor and the lists of a record.
-use Prim.Native.Nat.{ℕ, suc, _+_, _-_, _*_, _^_, _<_}
+use Prim.Native.Nat.{ℕ, zero, suc, _+_, _-_, _*_, _^_, _<_}
 use mathlib.Core.Bool.{Bool, true, false}
 use lib.Dec.{eqb}
 use lib.ListN.{length}
 use Rattle.reads.specs.Outcome.{Outcome, value, absent, number, choose}
 use Rattle.walks.specs.Sections.{Walk}
-use Rattle.listing.specs.Listing.{ownerFields, SectionWalk, classes, protocols, categories, State, Answer, says, lacks, nothing, ended}
+use Rattle.listing.specs.Listing.{ownerFields, SectionWalk, State, Answer, says, lacks, nothing, ended}
 use Rattle.listing.specs.declared.at.At.{At}
 use Rattle.listing.specs.declared.at.At.the-variants as place
 use Rattle.listing.specs.declared.at.FieldWalk.{FieldWalk}
@@ -16,10 +16,13 @@ use Rattle.listing.specs.declared.at.FieldWalk.the-variants as fieldWalk
 unfoldable pub walkLeft : Walk → ℕ
 walkLeft w = 2 * (2 ^ 64 - w .slot) + choose (eqb (w .waiting) 0) 0 1
 
+abbrev pub stageWeight : SectionWalk → ℕ → ℕ
+stageWeight x zero = 2 * 2 ^ 70 + walkLeft (x .classesAt)
+stageWeight x (suc zero) = 2 ^ 70 + walkLeft (x .protocolsAt)
+stageWeight x (suc (suc n)) = walkLeft (x .categoriesAt)
+
 abbrev pub sectionWeight : SectionWalk → ℕ
-sectionWeight (classes w) = 2 * 2 ^ 70 + walkLeft w
-sectionWeight (protocols w) = 2 ^ 70 + walkLeft w
-sectionWeight (categories w) = walkLeft w
+sectionWeight x = stageWeight x (x .stage)
 
 -- The entries of a list from its cursor on, and the lists after it.
 abbrev pub listLeft : ℕ → ℕ → ℕ
@@ -34,7 +37,7 @@ placeLeft place.Info = 2
 placeLeft place.Section = 1
 placeLeft (place.Record x) = 2 ^ 71
 placeLeft (place.Ro c) = 2 ^ 70
-placeLeft (place.List x) = listLeft (cursorIn (x .walk)) (length (ownerFields (x .owner)) - suc (x .list))
+placeLeft (place.List n x) = listLeft (cursorIn (x .walk)) (length (ownerFields (x .owner)) - suc n)
 placeLeft place.End = 0
 
 unfoldable pub remaining : State → ℕ
@@ -50,17 +53,20 @@ goesOn (absent r) = false
 goesOn (number k) = false
 
 -- The numbers that a state counts up fit their words.
+abbrev pub slotIn : SectionWalk → ℕ → ℕ
+slotIn x zero = x .classesAt .slot
+slotIn x (suc zero) = x .protocolsAt .slot
+slotIn x (suc (suc n)) = x .categoriesAt .slot
+
 abbrev pub slotOf : SectionWalk → ℕ
-slotOf (classes w) = w .slot
-slotOf (protocols w) = w .slot
-slotOf (categories w) = w .slot
+slotOf x = slotIn x (x .stage)
 
 abbrev pub cursorOf : At → ℕ
 cursorOf place.Info = 0
 cursorOf place.Section = 0
 cursorOf (place.Record x) = 0
 cursorOf (place.Ro c) = 0
-cursorOf (place.List x) = cursorIn (x .walk)
+cursorOf (place.List n x) = cursorIn (x .walk)
 cursorOf place.End = 0
 
 pub record InWords (s : State) : Type 0 where

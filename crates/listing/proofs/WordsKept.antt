@@ -1,6 +1,6 @@
 -- The numbers that a listing's state counts up fit their words after each step that goes on, whatever the tables hold: a slot is below the
 -- slots of sections that fit the image, and the address of an entry or of a protocol slot is one of 64 bits.
-use Prim.Native.Nat.{ℕ, suc, _+_, _^_, _≤_, _<_}
+use Prim.Native.Nat.{ℕ, zero, suc, _+_, _^_, _≤_, _<_}
 use mathlib.Core.Path.{_≡_, refl, sym}
 use mathlib.Core.Bool.{true}
 use mathlib.Core.List.{List, [], _∷_}
@@ -43,7 +43,7 @@ use Rattle.walks.proofs.SlotLaws.{pair-length, section-length, slot-room, Answe
 use Rattle.walks.proofs.Steps.{found-fits}
 use Rattle.listing.specs.PlainListing.{Field, rowList, nameList, nameOrNone}
 use Rattle.listing.specs.Listing as steps
-use Rattle.listing.specs.Listing.{ownerFields, atFirst, enter, SectionWalk, classes, protocols, categories, State, onward, asRecord, sectionStep, afterSection, bySection, onSection, recordStep, byRo, byRow, byName, listStep, stepAt, listingStep}
+use Rattle.listing.specs.Listing.{ownerFields, atFirst, enter, SectionWalk, walks, State, onward, asRecord, sectionStep, afterSection, bySection, onSection, recordStep, byRo, byRow, byName, listStep, stepAt, listingStep}
 use Rattle.listing.specs.declared.at.At.{At}
 use Rattle.listing.specs.declared.at.At.the-variants as place
 use Rattle.listing.specs.declared.at.FieldWalk.{FieldWalk}
@@ -235,9 +235,12 @@ module _ (s : State) (l : List ℕ) (h : InWords s) where
 
   -- After the last record of a section the next begins at its first slot, or E is said and the section stays.
   after-keeps : (m : List ℕ) (x : SectionWalk) → slotOf x < 2 ^ 64 → Keeps (afterSection s m x)
-  after-keeps m (classes w) low = record { keeps = λ e. record { slot = omega arith; cursor = omega arith } }
-  after-keeps m (protocols w) low = record { keeps = λ e. record { slot = omega arith; cursor = omega arith } }
-  after-keeps m (categories w) low = record { keeps = λ e. record { slot = low; cursor = omega arith } }
+  after-keeps m x = go (x .stage) (x .classesAt) (x .protocolsAt) (x .categoriesAt)
+    where
+      go : (n : ℕ) (c p k : Walk) → slotOf (walks n c p k) < 2 ^ 64 → Keeps (afterSection s m (walks n c p k))
+      go zero c p k low = record { keeps = λ e. record { slot = omega arith; cursor = omega arith } }
+      go (suc zero) c p k low = record { keeps = λ e. record { slot = omega arith; cursor = omega arith } }
+      go (suc (suc n)) c p k low = record { keeps = λ e. record { slot = low; cursor = omega arith } }
 
   section-keeps : {A : Type 0} (f : A → Record) (m : List ℕ) (x : SectionWalk) → slotOf x < 2 ^ 64 → (o : Outcome (Step A))
       → Keeps (onward s m (asRecord f o) (bySection s m x))
@@ -249,18 +252,21 @@ module _ (s : State) (l : List ℕ) (h : InWords s) where
   section-keeps f m x low (number k) = record { keeps = never }
 
   walk-keeps : (t : Tables) (x : SectionWalk) → s .section ≡ x → Keeps (onSection s (sectionStep t l x))
-  walk-keeps t (classes w) e =
-      let low : w .slot < 2 ^ 64 = rw e at (h .slot) in
-      let x = stepOf sections.classes t w l in
-      section-keeps aRecord.Class (x .ledger) (classes (x .walk)) (step-low sections.classes t w l low) (x .answer)
-  walk-keeps t (protocols w) e =
-      let low : w .slot < 2 ^ 64 = rw e at (h .slot) in
-      let x = protocolStepOf t w [] in
-      section-keeps aRecord.Protocol l (protocols (x .walk)) (protocol-low t w [] low) (x .answer)
-  walk-keeps t (categories w) e =
-      let low : w .slot < 2 ^ 64 = rw e at (h .slot) in
-      let x = stepOf sections.categories t w l in
-      section-keeps aRecord.Category (x .ledger) (categories (x .walk)) (step-low sections.categories t w l low) (x .answer)
+  walk-keeps t x = go (x .stage) (x .classesAt) (x .protocolsAt) (x .categoriesAt)
+    where
+      go : (n : ℕ) (c p k : Walk) → s .section ≡ walks n c p k → Keeps (onSection s (sectionStep t l (walks n c p k)))
+      go zero c p k e =
+          let low : c .slot < 2 ^ 64 = rw e at (h .slot) in
+          let x = stepOf sections.classes t c l in
+          section-keeps aRecord.Class (x .ledger) (walks 0 (x .walk) p k) (step-low sections.classes t c l low) (x .answer)
+      go (suc zero) c p k e =
+          let low : p .slot < 2 ^ 64 = rw e at (h .slot) in
+          let x = protocolStepOf t p [] in
+          section-keeps aRecord.Protocol l (walks 1 c (x .walk) k) (protocol-low t p [] low) (x .answer)
+      go (suc (suc n)) c p k e =
+          let low : k .slot < 2 ^ 64 = rw e at (h .slot) in
+          let x = stepOf sections.categories t k l in
+          section-keeps aRecord.Category (x .ledger) (walks (suc (suc n)) c p (x .walk)) (step-low sections.categories t k l low) (x .answer)
 
   at-keeps : (t : Tables) (a : At) → Keeps (stepAt t s l a)
   unfolding stepAt
@@ -268,7 +274,7 @@ module _ (s : State) (l : List ℕ) (h : InWords s) where
   at-keeps t place.Section = walk-keeps t (s .section) refl
   at-keeps t (place.Record x) = record-keeps t x
   at-keeps t (place.Ro c) = ro-keeps (guarded t (roOf t c))
-  at-keeps t (place.List x) = list-keeps (x .owner) (x .list) t (x .walk)
+  at-keeps t (place.List n x) = list-keeps (x .owner) n t (x .walk)
   at-keeps t place.End = onward-keeps (asked t) _ (λ u. record { keeps = never })
 
 pub words-kept : (t : Tables) (s : State) (l : List ℕ) → InWords s → goesOn (listingStep t s l .answer) ≡ true → InWords (listingStep t s l .state)

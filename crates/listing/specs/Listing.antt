@@ -1,6 +1,6 @@
 -- The listing, step by step (document 01, "The program's listing" and Steps): its state, and what a step says, hands back and leaves in the
 -- ledger.
-use Prim.Native.Nat.{ℕ, suc, _+_, _%_, _^_}
+use Prim.Native.Nat.{ℕ, zero, suc, _+_, _%_, _^_}
 use mathlib.Core.List.{List, [], _∷_}
 use lib.Dec.{eqb}
 use lib.ListN.{drop}
@@ -43,7 +43,7 @@ ownerFields (anOwner.Category c) = categoryFields c
 
 -- In list n of a record, with a walk over it.
 abbrev pub inList : Owner → ℕ → FieldWalk → At
-inList o n w = place.List (record { owner = o; list = n; walk = w })
+inList o n w = place.List n (record { walk = w; owner = o })
 
 -- At the start of list n, which a field names.
 abbrev pub atField : Owner → ℕ → Field → At
@@ -59,11 +59,38 @@ atFirst o n (f ∷ fs) = atField o n f
 abbrev pub enter : Owner → ℕ → At
 enter o n = atFirst o n (drop n (ownerFields o))
 
--- The section walk under way: first classes, then protocols, then categories.
-pub data SectionWalk : Type 0 where
-  classes : Walk → SectionWalk
-  protocols : Walk → SectionWalk
-  categories : Walk → SectionWalk
+-- Which section walk is under way, first classes (0), then protocols (1), then categories; and where each of them stands.
+pub record SectionWalk : Type 0 where
+  pub stage : ℕ
+  pub classesAt : Walk
+  pub protocolsAt : Walk
+  pub categoriesAt : Walk
+
+abbrev pub walks : ℕ → Walk → Walk → Walk → SectionWalk
+walks n c p k = record { stage = n; classesAt = c; protocolsAt = p; categoriesAt = k }
+
+-- A stage with every walk at its start; one of the walks elsewhere.
+abbrev pub stageStart : ℕ → SectionWalk
+stageStart n = walks n atStart atStart atStart
+
+abbrev pub withClasses : SectionWalk → Walk → SectionWalk
+withClasses x w = walks (x .stage) w (x .protocolsAt) (x .categoriesAt)
+
+abbrev pub withProtocols : SectionWalk → Walk → SectionWalk
+withProtocols x w = walks (x .stage) (x .classesAt) w (x .categoriesAt)
+
+abbrev pub withCategories : SectionWalk → Walk → SectionWalk
+withCategories x w = walks (x .stage) (x .classesAt) (x .protocolsAt) w
+
+-- One walk under way, the others at their starts.
+abbrev pub classes : Walk → SectionWalk
+classes w = withClasses (stageStart 0) w
+
+abbrev pub protocols : Walk → SectionWalk
+protocols w = withProtocols (stageStart 1) w
+
+abbrev pub categories : Walk → SectionWalk
+categories w = withCategories (stageStart 2) w
 
 -- Where the listing stands, the records so far, and the entries settled so far.
 pub record State : Type 0 where
@@ -150,21 +177,36 @@ sectionLeaves f section answer w l = record { answer = asRecord f answer; sectio
 abbrev pub stepLeft : {A : Type 0} → (A → Record) → (Walk → SectionWalk) → sections.Left A → SectionLeft
 stepLeft f section x = sectionLeaves f section (x .answer) (x .walk) (x .ledger)
 
--- The protocol walk looks at no ledger.
-abbrev pub protocolStepLeft : List ℕ → sections.Left ObjcProtocol → SectionLeft
-protocolStepLeft l x = sectionLeaves aRecord.Protocol protocols (x .answer) (x .walk) l
+-- A step of each walk. The protocol walk looks at no ledger.
+abbrev pub classesStep : Tables → List ℕ → SectionWalk → SectionLeft
+classesStep t l x = stepLeft aRecord.Class (withClasses x) (stepOf sections.classes t (x .classesAt) l)
 
--- A step of the section walk under way.
+abbrev pub protocolsStep : Tables → List ℕ → SectionWalk → SectionLeft
+protocolsStep t l x =
+    let y = protocolStepOf t (x .protocolsAt) [] in
+    sectionLeaves aRecord.Protocol (withProtocols x) (y .answer) (y .walk) l
+
+abbrev pub categoriesStep : Tables → List ℕ → SectionWalk → SectionLeft
+categoriesStep t l x = stepLeft aRecord.Category (withCategories x) (stepOf sections.categories t (x .categoriesAt) l)
+
+-- A step of the walk under way.
+abbrev pub stepInStage : Tables → List ℕ → SectionWalk → ℕ → SectionLeft
+stepInStage t l x zero = classesStep t l x
+stepInStage t l x (suc zero) = protocolsStep t l x
+stepInStage t l x (suc (suc n)) = categoriesStep t l x
+
 abbrev pub sectionStep : Tables → List ℕ → SectionWalk → SectionLeft
-sectionStep t l (classes w) = stepLeft aRecord.Class classes (stepOf sections.classes t w l)
-sectionStep t l (protocols w) = protocolStepLeft l (protocolStepOf t w [])
-sectionStep t l (categories w) = stepLeft aRecord.Category categories (stepOf sections.categories t w l)
+sectionStep t l x = stepInStage t l x (x .stage)
 
--- After the last record of a section the next section comes; after the last of all, E with the records and the entries settled.
+-- After the last record of a section the next section comes, from its start; after the last of all, E with the records and the entries
+-- settled.
+abbrev pub afterStage : State → List ℕ → SectionWalk → ℕ → Left
+afterStage s l x zero = leaves (value nothing) (inSection s place.Section (stageStart 1)) l
+afterStage s l x (suc zero) = leaves (value nothing) (inSection s place.Section (stageStart 2)) l
+afterStage s l x (suc (suc n)) = leaves (value (says (endLine (s .records) (s .settled)))) (inSection s place.End x) l
+
 abbrev pub afterSection : State → List ℕ → SectionWalk → Left
-afterSection s l (classes w) = leaves (value nothing) (inSection s place.Section (protocols atStart)) l
-afterSection s l (protocols w) = leaves (value nothing) (inSection s place.Section (categories atStart)) l
-afterSection s l (categories w) = leaves (value (says (endLine (s .records) (s .settled)))) (inSection s place.End (categories w)) l
+afterSection s l x = afterStage s l x (x .stage)
 
 -- The line of a record that the section gave comes in the next step: with the number of a lookup that the line needs, the ledger is then as
 -- it was given.
@@ -239,7 +281,7 @@ stepAt t s l place.Info = infoStep t s l
 stepAt t s l place.Section = onSection s (sectionStep t l (s .section))
 stepAt t s l (place.Record x) = recordStep t s l x
 stepAt t s l (place.Ro c) = byRo s l (guarded t (roOf t c))
-stepAt t s l (place.List x) = listStep t s l (x .owner) (x .list) (x .walk)
+stepAt t s l (place.List n x) = listStep t s l (x .owner) n (x .walk)
 stepAt t s l place.End = onward s l (asked t) (λ _. leaves (value ended) s l)
 
 -- A step of the listing.

@@ -3,7 +3,7 @@ use Prim.Native.Nat.{ℕ, _+_, _*_, _^_}
 use mathlib.Core.List.{List}
 use Rattle.reads.specs.Outcome.{Outcome, value, number}
 use Rattle.walks.specs.Sections.{Step, found, passed, dropped, finished, classWalk, categoryWalk, protocolWalk}
-use Rattle.listing.specs.Listing.{SectionWalk, classes, protocols, categories, SectionLeft, State, state, Answer, says, lacks, nothing, ended, Left, leaves}
+use Rattle.listing.specs.Listing.{SectionWalk, walks, SectionLeft, State, state, Answer, says, lacks, nothing, ended, Left, leaves}
 use Rattle.listing.specs.declared.at.Record.{Record}
 use Rattle.listing.specs.declared.line.Named.{Named}
 use Rattle.listing.specs.declared.listing.Listed.{Listed}
@@ -13,15 +13,12 @@ use Rattle.listing.specs.declared.listing.NameAnswer.the-variants as nam
 use Rattle.listing.specs.declared.listing.Said.{Said}
 use Rattle.listing.specs.declared.listing.Said.the-variants as said
 use Rattle.listing.specs.declared.section.Section.{Section}
-use Rattle.listing.specs.declared.section.Section.the-variants as aSection
 use Rattle.listing.specs.declared.section.SectionStepped.{SectionStepped}
 use Rattle.listing.specs.declared.section.Taken.{Taken}
 use Rattle.listing.specs.declared.section.Taken.the-variants as taken
 
 abbrev pub sectionWalkOf : Section → SectionWalk
-sectionWalkOf (aSection.Classes w) = classes (classWalk w)
-sectionWalkOf (aSection.Protocols w) = protocols (protocolWalk w)
-sectionWalkOf (aSection.Categories w) = categories (categoryWalk w)
+sectionWalkOf s = walks (s .stage) (classWalk (s .classes)) (protocolWalk (s .protocols)) (categoryWalk (s .categories))
 
 abbrev pub takenOf : Taken → Outcome (Step Record)
 takenOf (taken.Record x) = value (found x)

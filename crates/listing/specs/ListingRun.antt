@@ -40,7 +40,7 @@ eventsAt t r place.Info = value []
 eventsAt t r place.Section = value []
 eventsAt t r (place.Record x) = value []
 eventsAt t r (place.Ro c) = value []
-eventsAt t r (place.List x) = settledOver t (r - 1) (x .list) (x .walk)
+eventsAt t r (place.List n x) = settledOver t (r - 1) n (x .walk)
 eventsAt t r place.End = value []
 
 abbrev pub eventsIn : Tables → State → Outcome (List Event)

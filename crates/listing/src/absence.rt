@@ -3,14 +3,14 @@ use reads::answer::Reason;
 
 // An entry of the record's list of that number whose row is skipped.
 pub struct SkippedEntry {
-    pub list: u8,
+    pub list: u16,
     pub index: u32,
     pub why: Reason,
 }
 
 // A slot of the record's list of protocol names of that number that gives no name.
 pub struct UnnamedSlot {
-    pub list: u8,
+    pub list: u16,
     pub slot: u64,
     pub why: Reason,
 }

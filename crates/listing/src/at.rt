@@ -32,49 +32,53 @@ pub enum FieldWalk {
     Names(ProtocolNameWalk),
 }
 
-// A list of a record: the record, the list's number, and the walk over it.
+// A list of a record: the walk over it, and the record.
 pub struct ListAt {
-    pub(crate) owner: Owner,
-    pub(crate) list: u8,
     pub(crate) walk: FieldWalk,
+    pub(crate) owner: Owner,
 }
 
 // What the next step does: the line of the image info; a step of the section walk; the line of a record that the section gave; the line
-// of a class's class_ro; a step over a list; nothing, after the last line.
+// of a class's class_ro; a step over the record's list of that number; nothing, after the last line. The number has 16 bits: it parts the
+// seven bytes between the case and the words after it, which would be copied by themselves at each step (docs/PERFORMANCE.md).
 pub enum At {
     Info,
     Section,
     Record(Record),
     Ro(ObjcClass),
-    List(ListAt),
+    List(u16, ListAt),
     End,
 }
 
 impl Owner {
     // The start of list n, a list of rows.
-    fn row_list(self, n: u8, kind: ListKind, list: u64) -> At
+    fn row_list(self, n: u16, kind: ListKind, list: u64) -> At
         ensures { λ r. ⌜ r ≡ atField self n (rowList kind list) ⌝ }
     {
-        At::List(ListAt {
-            owner: self,
-            list: n,
-            walk: FieldWalk::Rows(ListWalk::new(list, kind)),
-        })
+        At::List(
+            n,
+            ListAt {
+                walk: FieldWalk::Rows(ListWalk::new(list, kind)),
+                owner: self,
+            },
+        )
     }
 
     // The start of list n, a list of protocol names.
-    fn name_list(self, n: u8, list: u64) -> At
+    fn name_list(self, n: u16, list: u64) -> At
         ensures { λ r. ⌜ r ≡ atField self n (nameList list) ⌝ }
     {
-        At::List(ListAt {
-            owner: self,
-            list: n,
-            walk: FieldWalk::Names(ProtocolNameWalk::new(list)),
-        })
+        At::List(
+            n,
+            ListAt {
+                walk: FieldWalk::Names(ProtocolNameWalk::new(list)),
+                owner: self,
+            },
+        )
     }
 
     // List n of a class: methods, ivars, properties, protocols.
-    fn class_list(self, ro: ClassRo, n: u8) -> At
+    fn class_list(self, ro: ClassRo, n: u16) -> At
         ensures { λ r. ⌜ r ≡ atFirst self n (drop n (roFields ro)) ⌝ }
     {
         match n {
@@ -87,7 +91,7 @@ impl Owner {
     }
 
     // List n of a protocol: as stored, with class properties sixth and protocols last.
-    fn protocol_list(self, protocol: ObjcProtocol, n: u8) -> At
+    fn protocol_list(self, protocol: ObjcProtocol, n: u16) -> At
         ensures { λ r. ⌜ r ≡ atFirst self n (drop n (protocolFields protocol)) ⌝ }
     {
         match n {
@@ -103,7 +107,7 @@ impl Owner {
     }
 
     // List n of a category: methods, class methods, protocols, properties, class properties.
-    fn category_list(self, category: ObjcCategory, n: u8) -> At
+    fn category_list(self, category: ObjcCategory, n: u16) -> At
         ensures { λ r. ⌜ r ≡ atFirst self n (drop n (categoryFields category)) ⌝ }
     {
         match n {
@@ -117,7 +121,7 @@ impl Owner {
     }
 
     // The start of list n; the section goes on where the record has no such list.
-    pub(crate) fn enter(self, n: u8) -> At
+    pub(crate) fn enter(self, n: u16) -> At
         ensures { λ r. ⌜ r ≡ enter self n ⌝ }
     {
         match self {
@@ -128,10 +132,10 @@ impl Owner {
     }
 
     // The most lists of a record.
-    const MOST_LISTS: u8 = 7;
+    const MOST_LISTS: u16 = 7;
 
     // The start of the list after list n.
-    pub(crate) fn enter_after(self, n: u8) -> At
+    pub(crate) fn enter_after(self, n: u16) -> At
         ensures { λ r. ⌜ r ≡ enter self (suc n) ⌝ }
     {
         if n < Owner::MOST_LISTS {

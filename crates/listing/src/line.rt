@@ -27,13 +27,13 @@ pub struct CategoryLine {
 
 // m, v or p: a row of the record's list of that number.
 pub struct RowLine {
-    pub list: u8,
+    pub list: u16,
     pub row: Row,
 }
 
 // q: a protocol name of the record's list of that number.
 pub struct NameLine {
-    pub list: u8,
+    pub list: u16,
     pub name: Text,
 }
 

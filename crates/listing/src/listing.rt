@@ -34,9 +34,6 @@ use walks::list_walk::ListWalked;
 use walks::protocol_names::NameStep;
 use walks::protocol_names::ProtocolNameStepped;
 use walks::protocol_names::ProtocolNamesWalked;
-use walks::sections::CategoryWalk;
-use walks::sections::ClassWalk;
-use walks::sections::ProtocolWalk;
 ghost use mathlib.Core.Path.{_≡_};
 ghost use mathlib.Core.List.{List};
 ghost use Prim.Native.Nat.{ℕ, suc};
@@ -122,7 +119,7 @@ impl Listing {
     {
         Listing {
             at: At::Info,
-            section: Section::Classes(ClassWalk::new()),
+            section: Section::at_stage(Section::CLASSES),
             records: 0,
             settled_high: 0,
             settled_low: 0,
@@ -292,18 +289,19 @@ impl Listing {
     fn after_section(self, section: Section) -> Listed
         ensures { λ r. ⌜ ((l : List ℕ) → leftOf r l ≡ afterSection (stateOf self) l (sectionWalkOf section)) ⌝ }
     {
-        match section {
-            Section::Classes(_) => {
-                let first = ProtocolWalk::new();
-                let listing = self.in_section(At::Section, Section::Protocols(first));
+        let stage = section.stage;
+        match stage {
+            Section::CLASSES => {
+                let first = Section::at_stage(Section::PROTOCOLS);
+                let listing = self.in_section(At::Section, first);
                 listing.nothing()
             }
-            Section::Protocols(_) => {
-                let first = CategoryWalk::new();
-                let listing = self.in_section(At::Section, Section::Categories(first));
+            Section::PROTOCOLS => {
+                let first = Section::at_stage(Section::CATEGORIES);
+                let listing = self.in_section(At::Section, first);
                 listing.nothing()
             }
-            Section::Categories(_) => {
+            _ => {
                 let end = self.end();
                 let listing = self.in_section(At::End, section);
                 listing.says(end)
@@ -484,7 +482,7 @@ impl Listing {
     }
 
     // The list after list n of a record.
-    fn next_list(self, owner: Owner, n: u8) -> Listed
+    fn next_list(self, owner: Owner, n: u16) -> Listed
         ensures { λ r. ⌜ ((l : List ℕ) → leftOf r l ≡ leaves (value nothing) (goTo (stateOf self) (enter owner (suc n))) l) ⌝ }
     {
         let lists = owner.enter_after(n);
@@ -493,16 +491,18 @@ impl Listing {
     }
 
     // m, v or p, or an entry that is skipped: each is settled. After the last the next list comes.
-    fn row_said(self, owner: Owner, list: u8, stepped: ListStepped) -> Listed
+    fn row_said(self, owner: Owner, list: u16, stepped: ListStepped) -> Listed
         ensures { λ r. ⌜ ((l : List ℕ) → leftOf r l ≡ afterRow (stateOf self) l owner list (rowLeft stepped)) ⌝ }
     {
         let walked = stepped.walked;
         let after = stepped.walk;
-        let at = At::List(ListAt {
-            owner,
+        let at = At::List(
             list,
-            walk: FieldWalk::Rows(after),
-        });
+            ListAt {
+                walk: FieldWalk::Rows(after),
+                owner,
+            },
+        );
         match walked {
             ListWalked::Step(step) => match step {
                 ListStep::Row(row) => {
@@ -521,16 +521,18 @@ impl Listing {
     }
 
     // q, or slot number `slot`, that gives no name. After the last the next list comes.
-    fn name_said(self, owner: Owner, list: u8, slot: u64, stepped: ProtocolNameStepped) -> Listed
+    fn name_said(self, owner: Owner, list: u16, slot: u64, stepped: ProtocolNameStepped) -> Listed
         ensures { λ r. ⌜ ((l : List ℕ) → leftOf r l ≡ afterName (stateOf self) l owner list slot (nameLeft stepped)) ⌝ }
     {
         let walked = stepped.walked;
         let after = stepped.walk;
-        let at = At::List(ListAt {
-            owner,
+        let at = At::List(
             list,
-            walk: FieldWalk::Names(after),
-        });
+            ListAt {
+                walk: FieldWalk::Names(after),
+                owner,
+            },
+        );
         match walked {
             ProtocolNamesWalked::Step(step) => match step {
                 NameStep::Name(name) => {
@@ -548,7 +550,7 @@ impl Listing {
         }
     }
 
-    // A step over a list of a record.
+    // A step over list n of a record.
     fn list_step(
         self,
         image: &[u8],
@@ -558,22 +560,23 @@ impl Listing {
         rebases: &[u64],
         binds: &[u64],
         index: &[u32],
+        n: u16,
         at: ListAt,
     ) -> Listed
         ensures { λ r. let t = lent image segments sections info rebases binds index in
-            ⌜ ((l : List ℕ) → leftOf r l ≡ listStep t (stateOf self) l (at .owner) (at .list) (at .walk)) ⌝ }
+            ⌜ ((l : List ℕ) → leftOf r l ≡ listStep t (stateOf self) l (at .owner) n (at .walk)) ⌝ }
     {
         let owner = at.owner;
         let walk = at.walk;
         match walk {
             FieldWalk::Rows(rows) => {
                 let stepped = rows.next(image, segments, sections, info, rebases, binds, index);
-                self.row_said(owner, at.list, stepped)
+                self.row_said(owner, n, stepped)
             }
             FieldWalk::Names(names) => {
                 let slot = names.cursor();
                 let stepped = names.next(image, segments, sections, info, rebases, binds, index);
-                self.name_said(owner, at.list, slot, stepped)
+                self.name_said(owner, n, slot, stepped)
             }
         }
     }
@@ -650,7 +653,7 @@ impl Listing {
                 let answer = class.ro(image, segments, sections, info, rebases, binds, index);
                 self.ro_said(answer)
             }
-            At::List(list) => self.list_step(
+            At::List(n, list) => self.list_step(
                 image,
                 segments,
                 sections,
@@ -658,6 +661,7 @@ impl Listing {
                 rebases,
                 binds,
                 index,
+                n,
                 list,
             ),
             At::End => self.ended(image, segments, sections, info, rebases, binds, index),

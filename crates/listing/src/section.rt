@@ -14,14 +14,16 @@ ghost use Rattle.reads.specs.Reference.{before, after};
 ghost use Rattle.pointers.specs.Tables.{lent};
 ghost use Rattle.walks.specs.Sections.{classWalk, categoryWalk, protocolWalk, classStep, categoryStep, protocolStep};
 ghost use Rattle.listing.specs.declared.at.Record.the-variants as aRecord;
-ghost use Rattle.listing.specs.Listing.{classes, protocols, categories, asRecord, sectionStep};
+ghost use Rattle.listing.specs.Listing.{stageStart, withClasses, withProtocols, withCategories, asRecord, classesStep, protocolsStep, categoriesStep, sectionStep};
 ghost use Rattle.listing.specs.ListingAnswer.{sectionWalkOf, takenOf, sectionLeftOf};
 
-// The section walk under way.
-pub enum Section {
-    Classes(ClassWalk),
-    Protocols(ProtocolWalk),
-    Categories(CategoryWalk),
+// The section walks side by side, and which is under way: 0, 1, and from 2 on the last. The others stand at their starts, or where a state
+// that no step handed back has them. The stage is a word, so that no hole stands before the walks (docs/PERFORMANCE.md).
+pub struct Section {
+    pub(crate) stage: u64,
+    classes: ClassWalk,
+    protocols: ProtocolWalk,
+    categories: CategoryWalk,
 }
 
 // What a step of a section walk gives: a record, or the reason for which it is absent; a slot is dropped; there was nothing left; or the
@@ -79,96 +81,160 @@ fn category_taken(step: CategoryStep) -> Taken
     }
 }
 
-// A step of the class walk.
-fn class_step(
-    image: &[u8],
-    segments: &[u64],
-    sections: &[u64],
-    info: &[u8],
-    rebases: &[u64],
-    binds: &[u64],
-    index: &[u32],
-    walk: ClassWalk,
-    ledger: &mut [u64],
-) -> SectionStepped
-    ensures { λ r. let t = lent image segments sections info rebases binds index in
-        ⌜ sectionLeftOf r (after ledger) ≡ sectionStep t (before ledger) (classes (classWalk walk)) ⌝ }
-{
-    let stepped = walk.next(
-        image,
-        segments,
-        sections,
-        info,
-        rebases,
-        binds,
-        index,
-        ledger,
-    );
-    let step = stepped.step;
-    let after = stepped.walk;
-    SectionStepped {
-        taken: class_taken(step),
-        section: Section::Classes(after),
-    }
-}
-
-// A step of the protocol walk.
-fn protocol_step(
-    image: &[u8],
-    segments: &[u64],
-    sections: &[u64],
-    info: &[u8],
-    rebases: &[u64],
-    binds: &[u64],
-    index: &[u32],
-    walk: ProtocolWalk,
-) -> SectionStepped
-    ensures { λ r. let t = lent image segments sections info rebases binds index in
-        ⌜ ((l : List ℕ) → sectionLeftOf r l ≡ sectionStep t l (protocols (protocolWalk walk))) ⌝ }
-{
-    let stepped = walk.next(image, segments, sections, info, rebases, binds, index);
-    let step = stepped.step;
-    let after = stepped.walk;
-    SectionStepped {
-        taken: protocol_taken(step),
-        section: Section::Protocols(after),
-    }
-}
-
-// A step of the category walk.
-fn category_step(
-    image: &[u8],
-    segments: &[u64],
-    sections: &[u64],
-    info: &[u8],
-    rebases: &[u64],
-    binds: &[u64],
-    index: &[u32],
-    walk: CategoryWalk,
-    ledger: &mut [u64],
-) -> SectionStepped
-    ensures { λ r. let t = lent image segments sections info rebases binds index in
-        ⌜ sectionLeftOf r (after ledger) ≡ sectionStep t (before ledger) (categories (categoryWalk walk)) ⌝ }
-{
-    let stepped = walk.next(
-        image,
-        segments,
-        sections,
-        info,
-        rebases,
-        binds,
-        index,
-        ledger,
-    );
-    let step = stepped.step;
-    let after = stepped.walk;
-    SectionStepped {
-        taken: category_taken(step),
-        section: Section::Categories(after),
-    }
-}
-
 impl Section {
+    // The stages.
+    pub(crate) const CLASSES: u64 = 0;
+
+    pub(crate) const PROTOCOLS: u64 = 1;
+
+    pub(crate) const CATEGORIES: u64 = 2;
+
+    // A stage, with every walk before its first slot.
+    pub(crate) fn at_stage(stage: u64) -> Section
+        ensures { λ r. ⌜ sectionWalkOf r ≡ stageStart stage ⌝ }
+    {
+        Section {
+            stage,
+            classes: ClassWalk::new(),
+            protocols: ProtocolWalk::new(),
+            categories: CategoryWalk::new(),
+        }
+    }
+
+    // The class walk stands elsewhere.
+    fn with_classes(self, classes: ClassWalk) -> Section
+        ensures { λ r. ⌜ sectionWalkOf r ≡ withClasses (sectionWalkOf self) (classWalk classes) ⌝ }
+    {
+        let protocols = self.protocols;
+        let categories = self.categories;
+        Section {
+            stage: self.stage,
+            classes,
+            protocols,
+            categories,
+        }
+    }
+
+    // The protocol walk stands elsewhere.
+    fn with_protocols(self, protocols: ProtocolWalk) -> Section
+        ensures { λ r. ⌜ sectionWalkOf r ≡ withProtocols (sectionWalkOf self) (protocolWalk protocols) ⌝ }
+    {
+        let classes = self.classes;
+        let categories = self.categories;
+        Section {
+            stage: self.stage,
+            classes,
+            protocols,
+            categories,
+        }
+    }
+
+    // The category walk stands elsewhere.
+    fn with_categories(self, categories: CategoryWalk) -> Section
+        ensures { λ r. ⌜ sectionWalkOf r ≡ withCategories (sectionWalkOf self) (categoryWalk categories) ⌝ }
+    {
+        let classes = self.classes;
+        let protocols = self.protocols;
+        Section {
+            stage: self.stage,
+            classes,
+            protocols,
+            categories,
+        }
+    }
+
+    // A step of the class walk.
+    fn class_step(
+        self,
+        image: &[u8],
+        segments: &[u64],
+        sections: &[u64],
+        info: &[u8],
+        rebases: &[u64],
+        binds: &[u64],
+        index: &[u32],
+        ledger: &mut [u64],
+    ) -> SectionStepped
+        ensures { λ r. let t = lent image segments sections info rebases binds index in
+            ⌜ sectionLeftOf r (after ledger) ≡ classesStep t (before ledger) (sectionWalkOf self) ⌝ }
+    {
+        let walk = self.classes;
+        let stepped = walk.next(
+            image,
+            segments,
+            sections,
+            info,
+            rebases,
+            binds,
+            index,
+            ledger,
+        );
+        let step = stepped.step;
+        let after = stepped.walk;
+        SectionStepped {
+            taken: class_taken(step),
+            section: self.with_classes(after),
+        }
+    }
+
+    // A step of the protocol walk.
+    fn protocol_step(
+        self,
+        image: &[u8],
+        segments: &[u64],
+        sections: &[u64],
+        info: &[u8],
+        rebases: &[u64],
+        binds: &[u64],
+        index: &[u32],
+    ) -> SectionStepped
+        ensures { λ r. let t = lent image segments sections info rebases binds index in
+            ⌜ ((l : List ℕ) → sectionLeftOf r l ≡ protocolsStep t l (sectionWalkOf self)) ⌝ }
+    {
+        let walk = self.protocols;
+        let stepped = walk.next(image, segments, sections, info, rebases, binds, index);
+        let step = stepped.step;
+        let after = stepped.walk;
+        SectionStepped {
+            taken: protocol_taken(step),
+            section: self.with_protocols(after),
+        }
+    }
+
+    // A step of the category walk.
+    fn category_step(
+        self,
+        image: &[u8],
+        segments: &[u64],
+        sections: &[u64],
+        info: &[u8],
+        rebases: &[u64],
+        binds: &[u64],
+        index: &[u32],
+        ledger: &mut [u64],
+    ) -> SectionStepped
+        ensures { λ r. let t = lent image segments sections info rebases binds index in
+            ⌜ sectionLeftOf r (after ledger) ≡ categoriesStep t (before ledger) (sectionWalkOf self) ⌝ }
+    {
+        let walk = self.categories;
+        let stepped = walk.next(
+            image,
+            segments,
+            sections,
+            info,
+            rebases,
+            binds,
+            index,
+            ledger,
+        );
+        let step = stepped.step;
+        let after = stepped.walk;
+        SectionStepped {
+            taken: category_taken(step),
+            section: self.with_categories(after),
+        }
+    }
+
     // A step of the section walk under way. The protocol walk looks at no ledger.
     pub(crate) fn next(
         self,
@@ -184,8 +250,9 @@ impl Section {
         ensures { λ r. let t = lent image segments sections info rebases binds index in
             ⌜ sectionLeftOf r (after ledger) ≡ sectionStep t (before ledger) (sectionWalkOf self) ⌝ }
     {
-        match self {
-            Section::Classes(walk) => class_step(
+        let stage = self.stage;
+        match stage {
+            Section::CLASSES => self.class_step(
                 image,
                 segments,
                 sections,
@@ -193,10 +260,9 @@ impl Section {
                 rebases,
                 binds,
                 index,
-                walk,
                 ledger,
             ),
-            Section::Protocols(walk) => protocol_step(
+            Section::PROTOCOLS => self.protocol_step(
                 image,
                 segments,
                 sections,
@@ -204,9 +270,8 @@ impl Section {
                 rebases,
                 binds,
                 index,
-                walk,
             ),
-            Section::Categories(walk) => category_step(
+            _ => self.category_step(
                 image,
                 segments,
                 sections,
@@ -214,7 +279,6 @@ impl Section {
                 rebases,
                 binds,
                 index,
-                walk,
                 ledger,
             ),
         }

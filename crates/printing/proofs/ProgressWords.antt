@@ -1,5 +1,5 @@
 -- The numbers that a progress of the code counts up fit their words: each part of its type says so.
-use Prim.Native.Nat.{ℕ, _^_, _<_}
+use Prim.Native.Nat.{ℕ, zero, suc, _^_, _<_}
 use mathlib.Core.List.{List}
 use native.Mathlib.Omega.{arith}
 use mir.Val.{Val}
@@ -8,7 +8,7 @@ use Rattle.listing.proofs.at.At as at-type
 use Rattle.printing.proofs.pieces.Progress as progress-type
 use Rattle.listing.proofs.section.Section as section-type
 use Rattle.listing.specs.ListingAnswer.{sectionWalkOf, stateOf}
-use Rattle.listing.proofs.Remaining.{slotOf, cursorIn, cursorOf, InWords}
+use Rattle.listing.proofs.Remaining.{slotIn, slotOf, cursorIn, cursorOf, InWords}
 use Rattle.listing.specs.declared.at.At.{At}
 use Rattle.listing.specs.declared.at.At.the-variants as at
 use Rattle.listing.specs.declared.at.FieldWalk.{FieldWalk}
@@ -18,12 +18,14 @@ use Rattle.printing.specs.Pieces.{standingOf}
 use Rattle.printing.specs.declared.pieces.Progress.{Progress}
 use Rattle.printing.proofs.Comes.{Sound}
 use Rattle.listing.specs.declared.section.Section.{Section}
-use Rattle.listing.specs.declared.section.Section.the-variants as section
 
 section-in-words : (s : Section) (vs : List Val) → Is section-type.the-row s vs → slotOf (sectionWalkOf s) < 2 ^ 64
-section-in-words (section.Classes w) vs p = omega (arith, p)
-section-in-words (section.Protocols w) vs p = omega (arith, p)
-section-in-words (section.Categories w) vs p = omega (arith, p)
+section-in-words s vs p = go (s .stage)
+  where
+    go : (n : ℕ) → slotIn (sectionWalkOf s) n < 2 ^ 64
+    go zero = omega (arith, p)
+    go (suc zero) = omega (arith, p)
+    go (suc (suc n)) = omega (arith, p)
 
 field-in-words : (w : FieldWalk) (vs : List Val) → Is field-type.the-row w vs → cursorIn w < 2 ^ 64
 field-in-words (fieldWalk.Rows w) vs p = omega (arith, p)
@@ -34,7 +36,7 @@ at-in-words at.Info vs p = omega arith
 at-in-words at.Section vs p = omega arith
 at-in-words (at.Record x) vs p = omega arith
 at-in-words (at.Ro c) vs p = omega arith
-at-in-words (at.List x) vs p = field-in-words (x .walk) _ (p .1 .1 .1 .1 .0 .1 .1 .1 .1 .0)
+at-in-words (at.List n x) vs p = field-in-words (x .walk) _ (p .1 .1 .1 .1 .1 .0 .1 .1 .0)
 at-in-words at.End vs p = omega arith
 
 pub in-words : (p : Progress) (vs : List Val) → Is progress-type.the-row p vs → InWords (stateOf (p .listing))

@@ -219,7 +219,7 @@ fn category(image: &[u8], line: CategoryLine, out: &mut [u8], w: Window) -> Wind
 }
 
 // m: list number, selector, types, imp, kind.
-fn method(image: &[u8], list: u8, m: Method, out: &mut [u8], w: Window) -> Window
+fn method(image: &[u8], list: u16, m: Method, out: &mut [u8], w: Window) -> Window
     ensures { λ r. ⌜ buffer (after out) r ≡ putAll (buffer (before out) w) (methodText (before image) list m) ⌝ }
 {
     let selector = m.selector;
@@ -233,7 +233,7 @@ fn method(image: &[u8], list: u8, m: Method, out: &mut [u8], w: Window) -> Windo
 }
 
 // v: list number, name, type, offset, size, alignment, aligned.
-fn ivar(image: &[u8], list: u8, v: Ivar, out: &mut [u8], w: Window) -> Window
+fn ivar(image: &[u8], list: u16, v: Ivar, out: &mut [u8], w: Window) -> Window
     ensures { λ r. ⌜ buffer (after out) r ≡ putAll (buffer (before out) w) (ivarText (before image) list v) ⌝ }
 {
     let name = v.name;
@@ -250,7 +250,7 @@ fn ivar(image: &[u8], list: u8, v: Ivar, out: &mut [u8], w: Window) -> Window
 }
 
 // p: list number, name, attributes.
-fn property(image: &[u8], list: u8, p: Property, out: &mut [u8], w: Window) -> Window
+fn property(image: &[u8], list: u16, p: Property, out: &mut [u8], w: Window) -> Window
     ensures { λ r. ⌜ buffer (after out) r ≡ putAll (buffer (before out) w) (propertyText (before image) list p) ⌝ }
 {
     let name = p.name;

@@ -197,7 +197,7 @@ fn fuzz(libs: &[Face], rounds: u64, seed: u64) {
     };
     let (mut steps, mut answers, mut refused) = (0u64, std::collections::BTreeMap::new(), 0u64);
     for round in 0..rounds {
-        let shape = Shape { classes: 1 + (next() % 12) as usize, rebased: next() % 2 == 0, legacy: [0, 50, 100][(next() % 3) as usize], shuffled: next() % 4 == 0 };
+        let shape = Shape { classes: 1 + (next() % 12) as usize, rebased: next() % 2 == 0, legacy: [0, 50, 100][(next() % 3) as usize], shuffled: next() % 4 == 0, nonlazy: 50 };
         let mut t = generate(shape);
         let some = |next: &mut dyn FnMut() -> u64, t: &Tables| {
             let s = &t.segments;
@@ -314,6 +314,7 @@ fn main() {
         rebased: !has("plain"),
         legacy: number("legacy", 50),
         shuffled: has("shuffled"),
+        nonlazy: number("nonlazy", 50).max(1) as usize,
     };
     let (runs, only) = (number("runs", 5), number("only", 0));
     if number("fuzz", 0) > 0 {

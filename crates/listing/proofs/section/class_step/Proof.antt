@@ -1,9 +1,0 @@
-use borrow.Author.Needs.{needs}
-use Rattle.listing.proofs.section.class_step.Statement.{statement}
-use Rattle.listing.proofs.section.class_step.Tie as tie
-
-returns : tie.Need-returns
-returns c = rw (c .class-taken .ensures, ← c .before .before .before .before .next .ensures)
-
-pub class-step-spec : {M : Type 1} → statement M
-class-step-spec = tie.close (tie.spec (λ c κs. search needs) (λ c κs. search needs) (λ c. search needs) returns)
