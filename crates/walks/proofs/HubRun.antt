@@ -21,7 +21,7 @@ use Rattle.pointers.specs.Chain.{followFrom, follow, lastAmong}
 use Rattle.pointers.specs.Index.{chainOf, indexed}
 use Rattle.pointers.specs.ImageInfo.{infoOf, imageInfo, bit}
 use Rattle.pointers.specs.Open.{askedOpening, opening, openedIndex, Opened}
-use Rattle.pointers.specs.Question.{question, imageFits, wholeRows, sectionFits, every, sectionTable, infoWhole, nameInside, nameUtf8, namesInside, namesUtf8, indexFits, askedTables, askedIndex, asked}
+use Rattle.pointers.specs.Question.{question, imageFits, wholeRows, sectionFits, every, sectionTable, infoWhole, nameInside, nameUtf8, namesInside, namesUtf8, indexFits, askedTables, askedIndex, askedLent}
 use Rattle.pointers.specs.Slot.{rebaseAt, bindName, bindAt, symbolOf, stored, resolve, pointerAt, pointerOr0At, rebase, slot, pointer, pointerOr0}
 use Rattle.pointers.specs.Symbol.{starts, fitting, strippedName}
 use Rattle.pointers.proofs.OpenedTables.{opened-follow-rebase, opened-follow-bind}
@@ -151,11 +151,11 @@ abbrev pub broken : Tables
 broken = tables 4294967295 (filled 7)
 
 refused-8 : (p : ℕ) → refusal unindexed Methods 0x1070 p ≡ number 8
-unfolding refusal asked askedIndex indexFits question choose
+unfolding refusal askedLent askedIndex indexFits question choose
 refused-8 p = rw (asked-hub 4294967295 [])
 
 refused-10 : refusal uncounted Methods 0x1070 1 ≡ number 10
-unfolding refusal asked decodeList evenList entrySize methodRows bit nonzero readable readableAt lookup rows ends holds placed sum64 wordIn le question choose counted
+unfolding refusal askedLent decodeList evenList entrySize methodRows bit nonzero readable readableAt lookup rows ends holds placed sum64 wordIn le question choose counted
 refused-10 = rw (asked-hub 0 (filled 0), index-room 0 0)
 
 head-7 : (c : ℕ) → c < 8193 → getD (filled 7) c 0 ≡ 7
@@ -187,7 +187,7 @@ unfolding decodeList
 broken-methods = hub-methods
 
 refused-9 : refusal broken Methods 0x1070 1 ≡ number 9
-unfolding refusal asked question choose
+unfolding refusal askedLent question choose
 refused-9 = rw (asked-hub 4294967295 (filled 7), index-room 4294967295 7, broken-methods) (rw (found-1, row-9))
 
 -- The first step stands at 1, whatever its row.
