@@ -10,7 +10,7 @@ use Rattle.reads.specs.Outcome.{Outcome, value, absent, choose, sum64, nonzero,
 use Rattle.reads.specs.Place.{part, le, readableAt, readable, word, wordIn}
 use Rattle.reads.specs.Address.{stripped}
 use Rattle.reads.specs.Segment.{rows, ends, holds, placeAt, placed, lookup}
-use Rattle.reads.specs.Text.{text, textLength, textAt, textIn}
+use Rattle.reads.specs.Text.{text, textAt, textIn}
 use Rattle.reads.specs.Utf8.{judge, utf8}
 use Rattle.reads.specs.declared.answer.Reason.the-variants.{Unmapped, ShortEntry}
 use Rattle.pointers.specs.Chain.{followFrom, follow}
@@ -150,7 +150,7 @@ edge-cases =
     ∷ []
 
 edges-hold : AllHold edge-cases
-unfolding decodeList evenList entrySize methodRows bit nonzero readable readableAt lookup rows ends holds placed sum64 wordIn le choose alignmentOf alignedOf decodeOffset decodeIvar resolve rebaseAt follow followFrom stored stripped word pointerAt pointerOr0At textIn textAt textLength text utf8 judge
+unfolding decodeList evenList entrySize methodRows bit nonzero readable readableAt lookup rows ends holds placed sum64 wordIn le choose alignmentOf alignedOf decodeOffset decodeIvar resolve rebaseAt follow followFrom stored stripped word pointerAt pointerOr0At textIn textAt text utf8 judge
 edges-hold = (refl, (refl, (refl, (refl, (refl, (refl, (refl, (refl, (refl, tt)))))))))
 
 abbrev pub cases : List Case

@@ -12,7 +12,7 @@ use Rattle.reads.specs.Place.{part, le, readableAt, readable, word, wordIn}
 use Rattle.reads.specs.Address.{stripped, dataArm64e, data64, mapped, pickedWide, picked}
 use Rattle.reads.specs.Relative.{slotAddress}
 use Rattle.reads.specs.Segment.{rows, ends, holds, placed, lookup}
-use Rattle.reads.specs.Text.{text, textLength, textAt, textIn}
+use Rattle.reads.specs.Text.{text, textAt, textIn}
 use Rattle.reads.specs.Utf8.{judge, utf8}
 use Rattle.reads.specs.declared.text.Text.{Text}
 use Rattle.reads.specs.declared.answer.Reason.the-variants.{NullAddress, NoRecord}
@@ -236,11 +236,11 @@ module _ (before : List ℕ) where
   category-addresses = simp no-rebase
 
   the-protocol : protocolAt (node before) 0x10E0 ≡ value walks-protocol
-  unfolding decodeProtocol decodeProtocolLists decodeClassProperties pointerAt pointerOr0At wordIn textIn textAt textLength text utf8 judge resolve readable readableAt lookup rows ends holds placed sum64 stored word stripped le nonzero choose node-bytes
+  unfolding decodeProtocol decodeProtocolLists decodeClassProperties pointerAt pointerOr0At wordIn textIn textAt text utf8 judge resolve readable readableAt lookup rows ends holds placed sum64 stored word stripped le nonzero choose node-bytes
   the-protocol = simp no-rebase
 
   the-category : categoryAt (node before) 0x1128 ≡ value extra-category
-  unfolding decodeCategory decodeCategoryOf decodeCategoryLists decodeCategoryProperties imageInfo bit pointerOr0At textIn textAt textLength text utf8 judge resolve readable readableAt lookup rows ends holds placed sum64 stored word stripped le nonzero choose node-bytes
+  unfolding decodeCategory decodeCategoryOf decodeCategoryLists decodeCategoryProperties imageInfo bit pointerOr0At textIn textAt text utf8 judge resolve readable readableAt lookup rows ends holds placed sum64 stored word stripped le nonzero choose node-bytes
   the-category = simp no-rebase
 
   the-classes : plainClasses (node before) ≡ value (node-class ∷ meta-class ∷ [])
@@ -264,11 +264,11 @@ module _ (before : List ℕ) where
 
   -- Their names and class_ros.
   node-ro-there : roOf (node before) node-class ≡ value node-ro
-  unfolding decodeRoOf decodeClassRo decodeRoLists picked pickedWide mapped dataArm64e data64 pointerAt pointerOr0At wordIn textIn textAt textLength text utf8 judge resolve readable readableAt lookup rows ends holds placed sum64 stored word stripped le nonzero choose node-bytes
+  unfolding decodeRoOf decodeClassRo decodeRoLists picked pickedWide mapped dataArm64e data64 pointerAt pointerOr0At wordIn textIn textAt text utf8 judge resolve readable readableAt lookup rows ends holds placed sum64 stored word stripped le nonzero choose node-bytes
   node-ro-there = simp no-rebase
 
   meta-ro-there : roOf (node before) meta-class ≡ value meta-ro
-  unfolding decodeRoOf decodeClassRo decodeRoLists picked pickedWide mapped dataArm64e data64 pointerAt pointerOr0At wordIn textIn textAt textLength text utf8 judge resolve readable readableAt lookup rows ends holds placed sum64 stored word stripped le nonzero choose node-bytes
+  unfolding decodeRoOf decodeClassRo decodeRoLists picked pickedWide mapped dataArm64e data64 pointerAt pointerOr0At wordIn textIn textAt text utf8 judge resolve readable readableAt lookup rows ends holds placed sum64 stored word stripped le nonzero choose node-bytes
   meta-ro-there = simp no-rebase
 
   node-superclass : superclassName (node before) node-class ≡ absent NullAddress
@@ -280,7 +280,7 @@ module _ (before : List ℕ) where
   meta-superclass = rw (no-bind 0x1030)
 
   category-class : categoryClassName (node before) extra-category ≡ value (textOf 0x1B8 4)
-  unfolding decodeClassNameOf decodeNonzeroClassName decodeClassName decodeRoData pickedIn picked pickedWide mapped dataArm64e data64 pointerAt textIn textAt textLength text utf8 judge resolve readable readableAt lookup rows ends holds placed sum64 stored word stripped le nonzero choose node-bytes
+  unfolding decodeClassNameOf decodeNonzeroClassName decodeClassName decodeRoData pickedIn picked pickedWide mapped dataArm64e data64 pointerAt textIn textAt text utf8 judge resolve readable readableAt lookup rows ends holds placed sum64 stored word stripped le nonzero choose node-bytes
   category-class = simp no-rebase
 
   -- The lists.
@@ -293,11 +293,11 @@ module _ (before : List ℕ) where
   both-readable = refl
 
   first-row : rowAt (node before) Legacy 0x1160 ≡ value go-row
-  unfolding decodeRow decodeLegacyMethod legacyImp pointerAt pointerOr0At textIn textAt textLength text utf8 judge resolve readable readableAt lookup rows ends holds placed sum64 stored word stripped le nonzero choose node-bytes
+  unfolding decodeRow decodeLegacyMethod legacyImp pointerAt pointerOr0At textIn textAt text utf8 judge resolve readable readableAt lookup rows ends holds placed sum64 stored word stripped le nonzero choose node-bytes
   first-row = simp no-rebase
 
   second-row : rowAt (node before) Legacy 0x1178 ≡ absent NullAddress
-  unfolding decodeRow decodeLegacyMethod legacyImp pointerAt pointerOr0At textIn textAt textLength text utf8 judge resolve readable readableAt lookup rows ends holds placed sum64 stored word stripped le nonzero choose node-bytes
+  unfolding decodeRow decodeLegacyMethod legacyImp pointerAt pointerOr0At textIn textAt text utf8 judge resolve readable readableAt lookup rows ends holds placed sum64 stored word stripped le nonzero choose node-bytes
   second-row = simp no-rebase
 
   one-name : protocolListAt (node before) 0x1190 ≡ value (record { base = 0x1198; count = 1 })
@@ -305,7 +305,7 @@ module _ (before : List ℕ) where
   one-name = refl
 
   its-slots : slotNames (node before) (record { base = 0x1198; count = 1 }) 0 1 ≡ value (textOf 0x1BD 5) ∷ []
-  unfolding slotNames hasSlot decodeNameIn decodeProtocolNameIn decodeProtocolName decodeProtocol decodeProtocolLists decodeClassProperties pointerAt pointerOr0At wordIn textIn textAt textLength text utf8 judge resolve readable readableAt lookup rows ends holds placed sum64 stored word stripped le nonzero choose node-bytes
+  unfolding slotNames hasSlot decodeNameIn decodeProtocolNameIn decodeProtocolName decodeProtocol decodeProtocolLists decodeClassProperties pointerAt pointerOr0At wordIn textIn textAt text utf8 judge resolve readable readableAt lookup rows ends holds placed sum64 stored word stripped le nonzero choose node-bytes
   its-slots = simp no-rebase
 
   -- The lines and the settling steps of a field that names the list, and of one that names none.

@@ -428,6 +428,7 @@ impl Listing {
                     rebases,
                     binds,
                     index,
+                    setting,
                 );
                 self.class_said(class, name)
             }
@@ -454,6 +455,7 @@ impl Listing {
                     rebases,
                     binds,
                     index,
+                    setting,
                 );
                 self.category_said(category, name)
             }
@@ -650,7 +652,7 @@ impl Listing {
                 found,
             ),
             At::Ro(class) => {
-                let answer = class.ro(image, segments, sections, info, rebases, binds, index);
+                let answer = class.ro(image, segments, sections, info, rebases, binds, index, setting);
                 self.ro_said(answer)
             }
             At::List(n, list) => self.list_step(

@@ -38,7 +38,7 @@ module _ (t : Tables) (o : Opened t) where
   answer-unrefused (rebase a) = rebase-unrefused t o a
   answer-unrefused (pointer va k) = pointer-unrefused t o va k
   answer-unrefused (pointerOr0 va k) = pointer-or-0-unrefused t o va k
-  answer-unrefused (string va) = text-in-unrefused (imageIn t) va
+  answer-unrefused (string va) = text-in-unrefused (t .setting .reading) (imageIn t) va
   answer-unrefused (symbol a) = symbol-unrefused t o a
   answer-unrefused info = rw (opened-info t o) (is-value (o .gave))
 
@@ -88,7 +88,7 @@ module _ (t : Tables) where
   answer-numbers (rebase a) = rebase-numbers t a
   answer-numbers (pointer va k) = pointer-numbers t va k
   answer-numbers (pointerOr0 va k) = pointer-or-0-numbers t va k
-  answer-numbers (string va) = lookups.unrefused (text-in-unrefused (imageIn t) va)
+  answer-numbers (string va) = lookups.unrefused (text-in-unrefused (t .setting .reading) (imageIn t) va)
   answer-numbers (symbol a) = symbol-numbers t a
   answer-numbers info = lookups.unrefused (info-unrefused (t .info))
 

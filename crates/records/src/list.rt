@@ -2,6 +2,7 @@
 use crate::ivar::Ivar;
 use crate::method::Method;
 use crate::property::Property;
+use pointers::setting::Setting;
 use reads::answer::Missing;
 use reads::answer::Reason;
 use reads::answer::Word;
@@ -20,7 +21,7 @@ ghost use Rattle.reads.specs.Answer.{wordOutcome};
 ghost use Rattle.reads.specs.Breaks.{canRead};
 ghost use Rattle.reads.specs.Outcome.{value, choose};
 ghost use Rattle.reads.specs.Place.{imageOf, lentImage};
-ghost use Rattle.pointers.specs.Tables.{lent};
+ghost use Rattle.pointers.specs.Tables.{lent, under};
 ghost use Rattle.records.specs.Ask.{evenList, entrySize};
 ghost use Rattle.records.specs.List.{layoutOutcome, least, methodRows, rowsOf, sizeOf, mustBeEven, listAt};
 ghost use Rattle.records.specs.Search.{entryOf, firstReadable, searchBudget};
@@ -171,10 +172,11 @@ pub fn list_at(
     rebases: &[u64],
     binds: &[u64],
     index: &[u32],
+    setting: Setting,
     kind: ListKind,
     va: u64,
 ) -> LayoutAnswer
-    ensures { λ r. let t = lent image segments sections info rebases binds index in
+    ensures { λ r. let t = under setting (lent image segments sections info rebases binds index) in
         ⌜ layoutOutcome r ≡ listAt t kind va ⌝ }
 {
     match nonzero(va) {

@@ -13,7 +13,7 @@ use Rattle.reads.specs.Breaks.{canRead}
 use Rattle.reads.specs.Place.{le, readableAt, readable, word, wordIn}
 use Rattle.reads.specs.Address.{stripped, dataArm64e, data64, mapped, pickedWide, picked}
 use Rattle.reads.specs.Segment.{rows, ends, holds, placed, lookup}
-use Rattle.reads.specs.Text.{text, textLength, textAt, textIn}
+use Rattle.reads.specs.Text.{text, textAt, textIn}
 use Rattle.reads.specs.Utf8.{judge, utf8}
 use Rattle.reads.specs.declared.answer.Reason.the-variants.{Unmapped, Unresolved, NoRecord}
 use Rattle.pointers.specs.Tables.{Tables, tablesOf}
@@ -130,7 +130,7 @@ abbrev pub up : Row
 up = row.Method (methodOf (textOf 0x94 2) (textOf 0x97 1) (At 0x2000) kind.Legacy)
 
 pub row-0 : rowAt hub Legacy 0x1078 ≡ value up
-unfolding decodeRow decodeLegacyMethod legacyImp readable readableAt lookup rows ends holds placed sum64 stored word stripped le textIn textAt textLength text utf8 judge nonzero choose counted up
+unfolding decodeRow decodeLegacyMethod legacyImp readable readableAt lookup rows ends holds placed sum64 stored word stripped le textIn textAt text utf8 judge nonzero choose counted up
 row-0 =
     rw (slot-stored 0x1078, pointer-stored 0x1078 8 0x1080 0x1097 refl refl, pointer-or-0-stored 0x1078 16 0x1088 0x2000 refl refl)
 
@@ -266,7 +266,7 @@ pub hub-ro : classRoAt hub 0x1028
       «weak_ivar_layout_address» = 0;
       properties = 0;
     })
-unfolding decodeClassRo decodeRoLists readable readableAt lookup rows ends holds placed sum64 stored word wordIn stripped le textIn textAt textLength text utf8 judge nonzero choose counted
+unfolding decodeClassRo decodeRoLists readable readableAt lookup rows ends holds placed sum64 stored word wordIn stripped le textIn textAt text utf8 judge nonzero choose counted
 hub-ro =
     rw (
       pointer-or-0-stored 0x1028 16 0x1038 0 refl refl,
@@ -288,5 +288,5 @@ hub-superclass = rw (opened-follow-bind hub hub-opened 0x1008, question-yes 7 (n
 
 -- Where a class decodes, its name goes before the bind: here were the class its own superclass.
 pub decoded-before-bind : classNameOf hub 0x1000 0x1000 ≡ value (textOf 0x90 3)
-unfolding decodeClassNameOf decodeNonzeroClassName decodeClassName decodeRoData pickedIn picked pickedWide mapped dataArm64e readable readableAt lookup rows ends holds placed sum64 stored word stripped le textIn textAt textLength text utf8 judge nonzero choose counted
+unfolding decodeClassNameOf decodeNonzeroClassName decodeClassName decodeRoData pickedIn picked pickedWide mapped dataArm64e readable readableAt lookup rows ends holds placed sum64 stored word stripped le textIn textAt text utf8 judge nonzero choose counted
 decoded-before-bind = rw (no-rebase 0x1020, pointer-stored 0x1028 24 0x1040 0x1090 refl refl)

@@ -8,7 +8,7 @@ use Rattle.reads.specs.Outcome.{value, absent, number, choose, sum64, nonzero, 
 use Rattle.reads.specs.Segment.{rows, ends, holds, placed, lookup}
 use Rattle.reads.specs.Place.{le, readableAt, readable, word, wordIn}
 use Rattle.reads.specs.Address.{stripped}
-use Rattle.reads.specs.Text.{text, textLength, textAt, textIn}
+use Rattle.reads.specs.Text.{text, textAt, textIn}
 use Rattle.reads.specs.Utf8.{judge, utf8}
 use Rattle.reads.specs.declared.answer.Reason.the-variants.{NullAddress, NoRecord}
 use Rattle.pointers.specs.Tables.{Tables, tablesOf, withIndex}
@@ -62,7 +62,7 @@ module _ (before : List ℕ) where
   name-empty = simp (names-unrebased, bind-last-wins [] namesBinds before)
 
   name-decoded : nameIn (namesTables before) 0x1018 ≡ value (textOf 104 1)
-  unfolding decodeNameIn decodeProtocolNameIn decodeProtocolName decodeProtocol decodeProtocolLists decodeClassProperties pointerAt pointerOr0At resolve stored word wordIn readable lookup rows ends holds placed sum64 readableAt le stripped nonzero choose textIn textAt textLength text utf8 judge
+  unfolding decodeNameIn decodeProtocolNameIn decodeProtocolName decodeProtocol decodeProtocolLists decodeClassProperties pointerAt pointerOr0At resolve stored word wordIn readable lookup rows ends holds placed sum64 readableAt le stripped nonzero choose textIn textAt text utf8 judge
   name-decoded = simp names-unrebased
 
   list-there : protocolListAt (namesTables before) 0x1000 ≡ value (record { base = 0x1008; count = 3 })

@@ -127,6 +127,7 @@ impl ListWalk {
             rebases,
             binds,
             index,
+            setting,
             kind,
             va,
         ) {
@@ -197,6 +198,7 @@ impl ListWalk {
             rebases,
             binds,
             index,
+            setting,
             kind,
             list,
         ) {

@@ -1,6 +1,7 @@
 // Protocol names: the walk over a protocol_list_t (objc-runtime-new.h; protocol.rs, protocol_name_iter).
 use pointers::question::Asked;
 use pointers::question::ask;
+use pointers::setting::Setting;
 use pointers::slot::resolve_pointer;
 use pointers::slot::symbol_at;
 use reads::answer::Missing;
@@ -20,7 +21,7 @@ use records::protocol::protocol_at;
 ghost use mathlib.Core.Path.{_≡_};
 ghost use Prim.Native.Nat.{_+_, _^_, _<_, min};
 ghost use Rattle.reads.specs.Answer.{missed, textOutcome};
-ghost use Rattle.pointers.specs.Tables.{lent};
+ghost use Rattle.pointers.specs.Tables.{lent, under};
 ghost use Rattle.walks.specs.Handed.{hands, handsBack};
 ghost use Rattle.walks.specs.ProtocolNames.{protocolListOutcome, protocolListAt, hasSlot, protocolNameAt, protocolNameIn, nameIn, walkAt, named, stepIn, overNames, nextName, nameAnswer, nameLeft};
 
@@ -90,9 +91,10 @@ fn protocol_list_at(
     rebases: &[u64],
     binds: &[u64],
     index: &[u32],
+    setting: Setting,
     va: u64,
 ) -> ProtocolListAnswer
-    ensures { λ r. let t = lent image segments sections info rebases binds index in
+    ensures { λ r. let t = under setting (lent image segments sections info rebases binds index) in
         ⌜ protocolListOutcome r ≡ protocolListAt t va ⌝ }
 {
     match nonzero(va) {
@@ -136,9 +138,10 @@ fn protocol_name_at(
     rebases: &[u64],
     binds: &[u64],
     index: &[u32],
+    setting: Setting,
     va: u64,
 ) -> TextAnswer
-    ensures { λ r. let t = lent image segments sections info rebases binds index in
+    ensures { λ r. let t = under setting (lent image segments sections info rebases binds index) in
         ⌜ textOutcome r ≡ protocolNameAt t va ⌝ }
 {
     let proto_va = match nonzero(va) {
@@ -153,6 +156,7 @@ fn protocol_name_at(
         rebases,
         binds,
         index,
+        setting,
         proto_va,
     ) {
         ProtocolAnswer::Protocol(p) => {
@@ -172,9 +176,10 @@ fn protocol_name_in(
     rebases: &[u64],
     binds: &[u64],
     index: &[u32],
+    setting: Setting,
     slot: u64,
 ) -> TextAnswer
-    ensures { λ r. let t = lent image segments sections info rebases binds index in
+    ensures { λ r. let t = under setting (lent image segments sections info rebases binds index) in
         ⌜ textOutcome r ≡ protocolNameIn t slot ⌝ }
 {
     match resolve_pointer(image, segments, rebases, index, slot) {
@@ -186,6 +191,7 @@ fn protocol_name_in(
             rebases,
             binds,
             index,
+            setting,
             va,
         ),
         Word::Missing(m) => TextAnswer::Missing(m),
@@ -202,12 +208,13 @@ fn name_in(
     rebases: &[u64],
     binds: &[u64],
     index: &[u32],
+    setting: Setting,
     slot: u64,
 ) -> TextAnswer
-    ensures { λ r. let t = lent image segments sections info rebases binds index in
+    ensures { λ r. let t = under setting (lent image segments sections info rebases binds index) in
         ⌜ textOutcome r ≡ nameIn t slot ⌝ }
 {
-    match protocol_name_in(image, segments, sections, info, rebases, binds, index, slot) {
+    match protocol_name_in(image, segments, sections, info, rebases, binds, index, setting, slot) {
         TextAnswer::Found(name) => TextAnswer::Found(name),
         TextAnswer::Missing(m) => match m {
             Missing::Absent(why) => text_because(
@@ -301,7 +308,7 @@ impl ProtocolNameWalk {
     {
         if has_slot(list, self.cursor) {
             let slot = list.base + 8 * self.cursor;
-            let name = name_in(image, segments, sections, info, rebases, binds, index, slot);
+            let name = name_in(image, segments, sections, info, rebases, binds, index, setting, slot);
             return self.named(name);
         }
         self.at(NameStep::Finished, list.count)
@@ -322,7 +329,7 @@ impl ProtocolNameWalk {
             ⌜ nameLeft r ≡ overNames t self (protocolListAt t (self .list)) ⌝ }
     {
         let list = self.list;
-        match protocol_list_at(image, segments, sections, info, rebases, binds, index, list) {
+        match protocol_list_at(image, segments, sections, info, rebases, binds, index, setting, list) {
             ProtocolListAnswer::List(list) => {
                 if list.count < self.cursor {
                     return self.refused(10);

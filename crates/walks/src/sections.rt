@@ -163,6 +163,7 @@ impl ClassWalk {
             rebases,
             binds,
             index,
+            setting,
             self.meta,
             true,
         ) {
@@ -203,6 +204,7 @@ impl ClassWalk {
             rebases,
             binds,
             index,
+            setting,
             va,
             false,
         ) {
@@ -247,6 +249,7 @@ impl ClassWalk {
             rebases,
             binds,
             index,
+            setting,
             Lists::Classes,
             len,
         ) {
@@ -283,6 +286,7 @@ impl ClassWalk {
             rebases,
             binds,
             index,
+            setting,
             Lists::Classes,
             ledger,
         ) {
@@ -365,7 +369,7 @@ impl CategoryWalk {
             ⌜ categoryLeft r (after ledger) ≡ takeNew categories t (categoryWalk self) (before ledger) va ⌝ }
     {
         let slots = self.slots;
-        match category_at(image, segments, sections, info, rebases, binds, index, va) {
+        match category_at(image, segments, sections, info, rebases, binds, index, setting, va) {
             CategoryAnswer::Category(category) => CategoryStepped {
                 step: CategoryStep::Record(category),
                 walk: CategoryWalk {
@@ -403,6 +407,7 @@ impl CategoryWalk {
             rebases,
             binds,
             index,
+            setting,
             Lists::Categories,
             ledger,
         ) {
@@ -471,7 +476,7 @@ impl ProtocolWalk {
             ⌜ protocolLeft r ≡ takeProtocol t (protocolWalk self) [] va ⌝ }
     {
         let walk = self.past();
-        match protocol_at(image, segments, sections, info, rebases, binds, index, va) {
+        match protocol_at(image, segments, sections, info, rebases, binds, index, setting, va) {
             ProtocolAnswer::Protocol(protocol) => ProtocolStepped {
                 step: ProtocolStep::Record(protocol),
                 walk,
@@ -508,6 +513,7 @@ impl ProtocolWalk {
             rebases,
             binds,
             index,
+            setting,
             Lists::Protocols,
             self.slot,
         ) {
