@@ -16,7 +16,7 @@ use Rattle.reads.specs.Segment.{rows, ends, holds, placed, lookup}
 use Rattle.reads.specs.Text.{text, textAt, textIn}
 use Rattle.reads.specs.Utf8.{judge, utf8}
 use Rattle.reads.specs.declared.answer.Reason.the-variants.{Unmapped, Unresolved, NoRecord}
-use Rattle.pointers.specs.Tables.{Tables, tablesOf}
+use Rattle.pointers.specs.Tables.{Tables, tablesOf, readingNew}
 use Rattle.pointers.specs.Chain.{followFrom, follow, lastAmong}
 use Rattle.pointers.specs.Index.{chainOf, indexed}
 use Rattle.pointers.specs.ImageInfo.{infoOf, imageInfo, bit}
@@ -201,14 +201,14 @@ abbrev pub loans : List Tables
 loans = hub ∷ later
 
 last-run : (p : ℕ) → Loans hub Methods 0x1070 (hub ∷ []) p
-last-run p = loan-opened loans-end
+last-run p = loan-opened refl loans-end
 
 later-run : Loans hub Methods 0x1070 later 1
-later-run = loan-refused 8 (refused-8 1) (loan-refused 10 refused-10 (loan-refused 9 refused-9 (loan-opened {p = 1} (last-run _))))
+later-run = loan-refused 8 (refused-8 1) (loan-refused 10 refused-10 (loan-refused 9 refused-9 (loan-opened {p = 1} refl (last-run _))))
 
 -- The hypothesis of the whole claim: each loan is the opened tables or is refused where the walk stands.
 pub hub-run : Loans hub Methods 0x1070 loans 0
-hub-run = loan-opened {loans = later} {p = 0} (rw first-step later-run)
+hub-run = loan-opened {loans = later} {p = 0} refl (rw first-step later-run)
 
 unrefused : (p : ℕ) → p ≤ 4294967295 → refusal hub Methods 0x1070 p ≡ value tt
 unrefused p l = opened-unrefused hub hub-opened Methods 0x1070 p (rw hub-methods l)
@@ -227,18 +227,18 @@ hub-told =
     settles-each-once hub hub-opened Methods 0x1070 hub-list hub-methods loans hub-run
     ∙ rw (hub-two, unrefused 0 (omega arith), row-0, refused-8 1, refused-10, refused-9, unrefused 1 (omega arith), row-1, unrefused 2 (omega arith))
 
-pub hub-steps : steps loans (walkOf 0x1070 Methods 0)
-    ≡ hands (value (rowReached up)) (walkOf 0x1070 Methods 1)
-    ∷ handsBack (walkOf 0x1070 Methods 1) 8
-    ∷ handsBack (walkOf 0x1070 Methods 1) 10
-    ∷ handsBack (walkOf 0x1070 Methods 1) 9
-    ∷ hands (value (rowSkipped 1 Unmapped)) (walkOf 0x1070 Methods 2)
-    ∷ hands (value rowsFinished) (walkOf 0x1070 Methods 4294967295)
+pub hub-steps : steps loans (walkOf readingNew 0x1070 Methods 0)
+    ≡ hands (value (rowReached up)) (walkOf readingNew 0x1070 Methods 1)
+    ∷ handsBack (walkOf readingNew 0x1070 Methods 1) 8
+    ∷ handsBack (walkOf readingNew 0x1070 Methods 1) 10
+    ∷ handsBack (walkOf readingNew 0x1070 Methods 1) 9
+    ∷ hands (value (rowSkipped 1 Unmapped)) (walkOf readingNew 0x1070 Methods 2)
+    ∷ hands (value rowsFinished) (walkOf readingNew 0x1070 Methods 4294967295)
     ∷ []
-hub-steps = whole-claim hub hub-opened Methods 0x1070 loans hub-run ∙ ap (shownAll Methods 0x1070) hub-told
+hub-steps = whole-claim hub hub-opened Methods 0x1070 loans hub-run ∙ ap (shownAll readingNew Methods 0x1070) hub-told
 
 -- The same list with nothing refused, by the theorem of one walk: its row, the entry that is skipped, and then finished.
-pub hub-answers : (n : ℕ) → answersOf (nextOf hub) (2 + n) (walkOf 0x1070 Methods 0) ≡ value (rowReached up) ∷ value (rowSkipped 1 Unmapped) ∷ replicate n (value rowsFinished)
+pub hub-answers : (n : ℕ) → answersOf (nextOf hub) (2 + n) (walkOf readingNew 0x1070 Methods 0) ≡ value (rowReached up) ∷ value (rowSkipped 1 Unmapped) ∷ replicate n (value rowsFinished)
 hub-answers n =
     let answers = walk-meets-each-readable-once hub hub-opened Methods 0x1070 hub-list hub-methods n in
     rw (hub-two, row-0, row-1) at answers

@@ -11,7 +11,7 @@ use Rattle.reads.specs.Address.{stripped}
 use Rattle.reads.specs.Text.{text, textAt, textIn}
 use Rattle.reads.specs.Utf8.{judge, utf8}
 use Rattle.reads.specs.declared.answer.Reason.the-variants.{NullAddress, NoRecord}
-use Rattle.pointers.specs.Tables.{Tables, tablesOf, withIndex}
+use Rattle.pointers.specs.Tables.{Tables, tablesOf, withIndex, readingNew}
 use Rattle.pointers.specs.Question.{question, imageFits, wholeRows, every, sectionFits, sectionTable, infoWhole, nameInside, nameUtf8, indexFits, askedTables, askedIndex, namesInside, namesUtf8}
 use Rattle.pointers.specs.ImageInfo.{imageInfo, infoOf}
 use Rattle.pointers.specs.Index.{indexed}
@@ -87,7 +87,7 @@ module _ (before : List ℕ) where
     unfolding opening openedIndex imageInfo le choose
     opened = record { indexBefore = before; gave = infoOf 0 0; accepted = rw accepts; left = rw accepts }
 
-    pub name-answers : answersOf (nextName (namesTables before)) 4 (walkAt 0x1000 0)
+    pub name-answers : answersOf (nextName (namesTables before)) 4 (walkAt readingNew 0x1000 0)
         ≡ value (nameReached (textOf 123 9)) ∷ value (namePassed NullAddress) ∷ value (nameReached (textOf 104 1)) ∷ value namesFinished ∷ []
     name-answers = simp names-in-slots at (slots-said-then-finished (namesTables before) opened 0x1000 (record { base = 0x1008; count = 3 }) list-there 1)
 

@@ -2,8 +2,8 @@ use mathlib.Core.Path.{sym}
 use borrow.Author.Tests.{eq-eqb, ne-eqb}
 use Rattle.reads.proofs.Tests.{choose-true, choose-false}
 use Rattle.walks.specs.Sections.{metaOf}
-use Rattle.walks.proofs.sections.meta_of.Statement.{statement}
-use Rattle.walks.proofs.sections.meta_of.Tie as tie
+use Rattle.walks.proofs.section_slots.meta_of.Statement.{statement}
+use Rattle.walks.proofs.section_slots.meta_of.Tie as tie
 
 returns : tie.Need-returns
 unfolding metaOf

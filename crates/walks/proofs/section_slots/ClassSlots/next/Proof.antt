@@ -5,8 +5,8 @@ use Rattle.walks.specs.declared.slots.Lists.the-variants.{Classes}
 use Rattle.walks.proofs.SlotLaws.{new-room}
 use Rattle.walks.proofs.SectionLaws.{step-waiting, step-slot}
 use borrow.Author.Needs.{needs}
-use Rattle.walks.proofs.sections.ClassWalk.next.Statement.{statement}
-use Rattle.walks.proofs.sections.ClassWalk.next.Tie as tie
+use Rattle.walks.proofs.section_slots.ClassSlots.next.Statement.{statement}
+use Rattle.walks.proofs.section_slots.ClassSlots.next.Tie as tie
 
 returns : tie.Need-returns
 returns c = step-waiting classes _ _ _ (c .before .if1 .taken) (c .next-meta .ensures _ refl)

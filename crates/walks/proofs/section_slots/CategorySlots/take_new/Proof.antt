@@ -1,8 +1,8 @@
 use mathlib.Core.Path.{_∙_}
 use Rattle.walks.specs.Sections.{takeNew}
 use borrow.Author.Needs.{needs}
-use Rattle.walks.proofs.sections.CategoryWalk.take_new.Statement.{statement}
-use Rattle.walks.proofs.sections.CategoryWalk.take_new.Tie as tie
+use Rattle.walks.proofs.section_slots.CategorySlots.take_new.Statement.{statement}
+use Rattle.walks.proofs.section_slots.CategorySlots.take_new.Tie as tie
 
 returns : tie.Need-returns
 unfolding takeNew

@@ -1,7 +1,7 @@
 use Rattle.walks.specs.Sections.{takeProtocol}
 use borrow.Author.Needs.{needs}
-use Rattle.walks.proofs.sections.ProtocolWalk.take.Statement.{statement}
-use Rattle.walks.proofs.sections.ProtocolWalk.take.Tie as tie
+use Rattle.walks.proofs.section_slots.ProtocolSlots.take.Statement.{statement}
+use Rattle.walks.proofs.section_slots.ProtocolSlots.take.Tie as tie
 
 returns : tie.Need-returns
 unfolding takeProtocol

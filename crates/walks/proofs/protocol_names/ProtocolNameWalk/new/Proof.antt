@@ -1,9 +1,7 @@
 use borrow.Author.Needs.{needs}
-use Rattle.walks.proofs.sections.ClassWalk.new.Statement.{statement}
-use Rattle.walks.proofs.sections.ClassWalk.new.Tie as tie
+use Rattle.walks.proofs.protocol_names.ProtocolNameWalk.new.Statement.{statement}
+use Rattle.walks.proofs.protocol_names.ProtocolNameWalk.new.Tie as tie
 
--- src/sections.rt:100:20
--- src/sections.rt:96:5
 returns : tie.Need-returns
 returns c = rw (c .new .ensures)
 

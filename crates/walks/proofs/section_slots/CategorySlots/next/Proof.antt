@@ -5,8 +5,8 @@ use Rattle.walks.specs.declared.slots.Lists.the-variants.{Categories}
 use Rattle.walks.proofs.SlotLaws.{new-room}
 use Rattle.walks.proofs.SectionLaws.{step-slot}
 use borrow.Author.Needs.{needs}
-use Rattle.walks.proofs.sections.CategoryWalk.next.Statement.{statement}
-use Rattle.walks.proofs.sections.CategoryWalk.next.Tie as tie
+use Rattle.walks.proofs.section_slots.CategorySlots.next.Statement.{statement}
+use Rattle.walks.proofs.section_slots.CategorySlots.next.Tie as tie
 
 take-new-requires : tie.Need-take-new-requires
 take-new-requires c κs = new-room _ Categories _ _ (c .before .before .before .before .next-new .ensures) (c .before .before .va .given .1) refl (λ j. omega (arith, c .before .before .before .before .before .before .before .before .before .before .before .before .shared-slice-known3 .given j))

@@ -3,8 +3,8 @@ use Rattle.walks.proofs.Steps.{outcome-told}
 use Rattle.walks.specs.Sections.{classes}
 use Rattle.walks.proofs.SectionLaws.{waiting-on, waiting-no}
 use borrow.Author.Needs.{needs}
-use Rattle.walks.proofs.sections.ClassWalk.next_meta.Statement.{statement}
-use Rattle.walks.proofs.sections.ClassWalk.next_meta.Tie as tie
+use Rattle.walks.proofs.section_slots.ClassSlots.next_meta.Statement.{statement}
+use Rattle.walks.proofs.section_slots.ClassSlots.next_meta.Tie as tie
 
 returns : tie.Need-returns
 returns c = λ l e. waiting-on classes _ _ l (rw e (outcome-told askedOutcome (c .before .before .before .ask-ledger .ensures) (c .before .enum-told .given .1))) (c .take-meta .ensures l)

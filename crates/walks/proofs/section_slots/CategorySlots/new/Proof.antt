@@ -1,6 +1,6 @@
 use borrow.Author.Needs.{needs}
-use Rattle.walks.proofs.sections.CategoryWalk.new.Statement.{statement}
-use Rattle.walks.proofs.sections.CategoryWalk.new.Tie as tie
+use Rattle.walks.proofs.section_slots.CategorySlots.new.Statement.{statement}
+use Rattle.walks.proofs.section_slots.CategorySlots.new.Tie as tie
 
 -- src/sections.rt:308:20
 -- src/sections.rt:304:5

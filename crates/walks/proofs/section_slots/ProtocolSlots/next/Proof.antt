@@ -4,8 +4,8 @@ use Rattle.walks.specs.declared.slots.Lists.the-variants.{Protocols}
 use Rattle.walks.proofs.SlotLaws.{next-room}
 use Rattle.walks.proofs.SectionLaws.{protocol-step}
 use borrow.Author.Needs.{needs}
-use Rattle.walks.proofs.sections.ProtocolWalk.next.Statement.{statement}
-use Rattle.walks.proofs.sections.ProtocolWalk.next.Tie as tie
+use Rattle.walks.proofs.section_slots.ProtocolSlots.next.Statement.{statement}
+use Rattle.walks.proofs.section_slots.ProtocolSlots.next.Tie as tie
 
 take-requires : tie.Need-take-requires
 take-requires c κs = next-room _ Protocols _ (c .before .before .before .next-slot .ensures) (c .before .va .given .1) refl (λ j. omega (arith, c .before .before .before .before .before .before .before .before .shared-slice-known3 .given j))

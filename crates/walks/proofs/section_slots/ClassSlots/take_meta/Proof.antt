@@ -1,7 +1,7 @@
 use Rattle.walks.specs.Sections.{takeWaiting}
 use borrow.Author.Needs.{needs}
-use Rattle.walks.proofs.sections.ClassWalk.take_meta.Statement.{statement}
-use Rattle.walks.proofs.sections.ClassWalk.take_meta.Tie as tie
+use Rattle.walks.proofs.section_slots.ClassSlots.take_meta.Statement.{statement}
+use Rattle.walks.proofs.section_slots.ClassSlots.take_meta.Tie as tie
 
 returns : tie.Need-returns
 unfolding takeWaiting
