@@ -20,7 +20,7 @@ use Rattle.walks.specs.Sections.{atStart, Kind, stepBy, stepOf}
 use Rattle.walks.specs.Slots.{slotsOf, slotCount, ledgerFits}
 use Rattle.walks.proofs.Gathers.{there-known}
 use Rattle.walks.proofs.SlotLaws.{classes-count, categories-count, slot-fits, ask-11}
-use Rattle.listing.specs.PlainListing.{versionAndFlags, endLine, plainRecords, linesOf, Event, eventsFrom, plainEvents, plainListing, recordLineCount}
+use Rattle.listing.specs.PlainListing.{versionAndFlags, infoLine, endLine, plainRecords, linesOf, Event, eventsFrom, plainEvents, plainListing, recordLineCount}
 use Rattle.listing.specs.Listing.{classes, categories, State, state, start, leaves, says, stepAt, listingStep}
 use Rattle.listing.specs.ListingRun.{eventsAt, answerAt, GivesNoNumber, Lists, ListsWhole}
 use Rattle.listing.specs.declared.at.At.the-variants as place
@@ -46,23 +46,23 @@ module _ (t : Tables) (o : Opened t) (l : List ℕ) where
       (lt-leb (length (slotsOf (k .lists) (t .sections))) (length m) h))
 
   -- The first step is the line of the image info, the second the first of the class walk.
-  classes-short : length l < slotCount (t .sections) 0 1 → (n : ℕ) × (answerAt t n start l ≡ number 11)
+  classes-short : length l < slotCount (t .sections) 0 1 → (n : ℕ) × (answerAt t n (start (t .setting)) l ≡ number 11)
   unfolding stepAt eventsAt
   classes-short h =
-      let info = line.Info (versionAndFlags (t .info)) in
-      let first : listingStep t start l ≡ leaves (value (says info)) (state place.Section (classes atStart) 0 0) l = rw (opened-asked t o) in
-      let refused : Short (state place.Section (classes atStart) 0 0) l = rw (short-walk sections.classes l (rw (classes-count (t .sections)) h)) in
-      let run : Steps t Short start l (info ∷ []) [] = saying first refl (over refused refl) in
+      let info = infoLine (versionAndFlags (t .info)) (t .setting) in
+      let first : listingStep t (start (t .setting)) l ≡ leaves (value (says info)) (state (t .setting) place.Section (classes (t .setting) atStart) 0 0) l = rw (opened-asked t o) in
+      let refused : Short (state (t .setting) place.Section (classes (t .setting) atStart) 0 0) l = rw (short-walk sections.classes l (rw (classes-count (t .sections)) h)) in
+      let run : Steps t Short (start (t .setting)) l (info ∷ []) [] = saying first refl (over refused refl) in
       comes-to t (λ s m e. e) run
 
   -- With room for the classes the steps come to the first of the category walk, with a ledger as long.
-  categories-short : slotCount (t .sections) 0 1 ≤ length l → length l < slotCount (t .sections) 2 3 → (n : ℕ) × (answerAt t n start l ≡ number 11)
+  categories-short : slotCount (t .sections) 0 1 ≤ length l → length l < slotCount (t .sections) 2 3 → (n : ℕ) × (answerAt t n (start (t .setting)) l ≡ number 11)
   unfolding stepAt eventsAt
   categories-short room h =
       comes-to t (λ s m e. e)
       (to-categories t o l room Short [] [] (λ m g. over (rw (short-walk sections.categories m (rw (g, categories-count (t .sections)) h))) refl))
 
-  module _ (none : GivesNoNumber t l) where
+  module _ (none : GivesNoNumber (t .setting) t l) where
     class-room : slotCount (t .sections) 0 1 ≤ length l
     class-room = go (leb (slotCount (t .sections) 0 1) (length l)) refl
       where
@@ -82,11 +82,11 @@ module _ (t : Tables) (o : Opened t) (l : List ℕ) where
     no-number-room = (class-room, category-room)
 
     -- D3e.
-    pub whole-listing : (zs : List Line) (gs : List Event) → plainListing t ≡ value zs → plainEvents t ≡ value gs → Lists t l zs gs
+    pub whole-listing : (zs : List Line) (gs : List Event) → plainListing t ≡ value zs → plainEvents t ≡ value gs → Lists (t .setting) t l zs gs
     whole-listing zs gs a b = lists-with-room t o l class-room category-room zs gs a b
 
     -- Demand 3, whole.
-    pub demand-3-listing : ListsWhole t l
+    pub demand-3-listing : ListsWhole (t .setting) t l
     unfolding plainListing
     demand-3-listing =
         let all = there-known (listing-there t o) in
@@ -95,10 +95,10 @@ module _ (t : Tables) (o : Opened t) (l : List ℕ) where
         let events = then-came (eventsFrom t 0 (recorded .0)) _ (all .known) (lines .2) in
         let settling : plainEvents t ≡ value (events .0) = events-of t (recorded .0) (recorded .1) ∙ events .1 in
         let said : plainListing t
-        ≡ value ((line.Info (versionAndFlags (t .info)) ∷ lines .0) ++ (endLine (length (recorded .0)) (length (events .0)) ∷ [])) = all .is ∙ sym (events .2) in
+        ≡ value ((infoLine (versionAndFlags (t .info)) (t .setting) ∷ lines .0) ++ (endLine (length (recorded .0)) (length (events .0)) ∷ [])) = all .is ∙ sym (events .2) in
         record {
           recordsListed = recorded .0;
-          linesBefore = line.Info (versionAndFlags (t .info)) ∷ lines .0;
+          linesBefore = infoLine (versionAndFlags (t .info)) (t .setting) ∷ lines .0;
           events = events .0;
           plainRecorded = recorded .1;
           plainLines = said;
