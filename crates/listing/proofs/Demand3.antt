@@ -1,4 +1,4 @@
--- Demand 3 of the listing, over tables that opening accepted, with the index as opening left it. Where no step gives a number the ledger has
+-- Demand 3 of the listing, over tables that opening accepted, with the index as opening left it, under either reading. Where no step gives a number the ledger has
 -- a word for each slot of the two sections of classes and of those of categories: one too short is refused by 11 in the first step of that
 -- walk (no-number-room). So under that alone the listing is whole (whole-listing, D3e; demand-3-listing, all of it in one statement).
 use Prim.Native.Nat.{ℕ, _≤_, _<_}
@@ -12,8 +12,9 @@ use borrow.Author.Tests.{leb-true, leb-false, lt-leb}
 use Rattle.reads.specs.Outcome.{value, number}
 use Rattle.reads.proofs.Outcomes.{then-came}
 use Rattle.pointers.specs.Open.{Opened}
-use Rattle.pointers.specs.Tables.{Tables}
-use Rattle.pointers.proofs.OpenedTables.{opened-asked}
+use Rattle.pointers.specs.Tables.{Tables, under}
+use Rattle.pointers.specs.declared.setting.Setting.{Setting}
+use Rattle.pointers.proofs.OpenedTables.{opened-asked, opened-under}
 use Rattle.walks.specs.Gather.{gather}
 use Rattle.walks.specs.Sections as sections
 use Rattle.walks.specs.Sections.{atStart, Kind, stepBy, stepOf}
@@ -28,6 +29,7 @@ use Rattle.listing.specs.declared.line.Line.{Line}
 use Rattle.listing.specs.declared.line.Line.the-variants as line
 use Rattle.listing.proofs.Bounds.{settled-few}
 use Rattle.listing.proofs.Events.{events-of}
+use Rattle.listing.proofs.LoanSettings.{loan-lists, loan-numberless}
 use Rattle.listing.proofs.PlainThere.{listing-there}
 use Rattle.listing.proofs.RecordLines.{records-are-record-lines}
 use Rattle.listing.proofs.Rest.{Steps, over, saying, comes-to}
@@ -85,10 +87,10 @@ module _ (t : Tables) (o : Opened t) (l : List ℕ) where
     pub whole-listing : (zs : List Line) (gs : List Event) → plainListing t ≡ value zs → plainEvents t ≡ value gs → Lists (t .setting) t l zs gs
     whole-listing zs gs a b = lists-with-room t o l class-room category-room zs gs a b
 
-    -- Demand 3, whole.
-    pub demand-3-listing : ListsWhole (t .setting) t l
+    -- Demand 3, whole, of a listing under the setting of the tables.
+    lists-whole : ListsWhole (t .setting) t l
     unfolding plainListing
-    demand-3-listing =
+    lists-whole =
         let all = there-known (listing-there t o) in
         let recorded = then-came (plainRecords t) _ (all .known) (all .is) in
         let lines = then-came (gather (linesOf t) (recorded .0)) _ (all .known) (recorded .2) in
@@ -107,3 +109,19 @@ module _ (t : Tables) (o : Opened t) (l : List ℕ) where
           recordLines = unfold recordLineCount in records-are-record-lines t (recorded .0) (lines .0) (lines .1);
           bound = settled-few t o (recorded .0) (events .0) (recorded .1) settling;
         }
+
+-- Demand 3, whole, of a listing that began under any setting, whatever the setting of what is lent.
+pub demand-3-listing : (u : Setting) (t : Tables) → Opened t → (l : List ℕ) → GivesNoNumber u t l → ListsWhole u t l
+demand-3-listing u t o l none =
+    let whole = lists-whole (under u t) (opened-under u o) l (loan-numberless u t u l none) in
+    record {
+      recordsListed = whole .recordsListed;
+      linesBefore = whole .linesBefore;
+      events = whole .events;
+      plainRecorded = whole .plainRecorded;
+      plainLines = whole .plainLines;
+      plainSettling = whole .plainSettling;
+      steps = loan-lists u t (whole .steps);
+      recordLines = whole .recordLines;
+      bound = whole .bound;
+    }
