@@ -1,0 +1,6 @@
+-- Laws over the definitions of encodings.
+pub mod ByteLaws
+pub mod Levels
+pub mod Choices
+pub mod Steps
+pub mod Rows

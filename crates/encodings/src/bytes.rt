@@ -45,7 +45,8 @@ pub fn in_name(byte: u8) -> bool
     ensures { λ r. ⌜ r ≡ nameByte byte ⌝ }
 {
     match byte {
-        b'"' | b'(' | b')' | b'=' | b'[' | b']' | b'{' | b'}' => false,
+        b'=' | b'"' | b'[' | b'{' | b'(' => false,
+        b']' | b'}' | b')' => false,
         _ => true,
     }
 }
