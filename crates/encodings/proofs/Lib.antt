@@ -4,3 +4,5 @@ pub mod Levels
 pub mod Choices
 pub mod Steps
 pub mod Rows
+pub mod States
+pub mod Sound
