@@ -6,3 +6,4 @@ pub mod Steps
 pub mod Rows
 pub mod States
 pub mod Sound
+pub mod Complete
