@@ -7,3 +7,4 @@ pub mod Rows
 pub mod States
 pub mod Sound
 pub mod Complete
+pub mod Depth

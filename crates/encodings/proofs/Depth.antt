@@ -1,0 +1,326 @@
+-- What the machine says of a text in the grammar's words: a reading; a level beyond the limit, opened by a text that with it still
+-- begins one of the grammar; or a text outside the grammar.
+use Prim.Native.Nat.{ℕ, suc, _+_, _≤_, _<_}
+use Prim.Native.Char.{code}
+use mathlib.Core.Path.{_≡_, refl, ap, sym, _∙_}
+use mathlib.Core.Bool.{Bool, true, false}
+use mathlib.Core.Logic.{_⊎_, inl, inr}
+use mathlib.Core.List.{List, [], _∷_, _++_, append-assoc}
+use native.Mathlib.Omega.{arith}
+use borrow.Author.Tests.{ltb-true, ltb-false, lt-ltb, eq-eqb}
+use lib.Dec.{eqb, ltb}
+use Rattle.reads.specs.Outcome.{Outcome, value, absent, number, andThen, choose}
+use Rattle.reads.specs.declared.answer.Reason.{Reason}
+use Rattle.reads.proofs.Tests.{by-choose, choose-true, choose-false}
+use Rattle.encodings.specs.Grammar.{Composite, structure, union, closer, Encoding, basic, object, instance, bitField, qualified, pointer, array, opaque, defined, nothing, _then_, Types, none, plain, framed, among, digitByte, quotedByte, nestingTypes, Reading, Deeper}
+use Rattle.encodings.specs.Machine.{classOf, Open, qualifying, pointing, inArray, inComposite, wanted, counting, counted, naming, named, quoting, sizing, sized, atSign, ended, offset, State, at, outside, tooDeep, depth, within, begin, after, step, outermost, finish, run, parse}
+use Rattle.encodings.specs.declared.bytes.Class.{Class}
+use Rattle.encodings.specs.declared.bytes.Class.the-variants.{Basic, Qualifier, Object, BitField, Pointer, Array, Structure, Union, Other}
+use Rattle.encodings.proofs.States.{spellState, Good, Keeps}
+use Rattle.encodings.proofs.Sound.{step-keeps, first-good, sound}
+use Rattle.encodings.proofs.Complete.{Closing, closing, closing-bracket, no-quoted, close-name, moves, complete}
+
+-- A value, outside and tooDeep are apart.
+value-outside : (ts : Types) → _≡_ {A = Outcome Types} (value ts) outside → ⊥
+value-outside ts q = let z : _≡_ {A = ℕ} 0 1 = cc in absurd (omega arith)
+
+value-deep : (ts : Types) → _≡_ {A = Outcome Types} (value ts) tooDeep → ⊥
+value-deep ts q = let z : _≡_ {A = ℕ} 0 1 = cc in absurd (omega arith)
+
+outside-deep : _≡_ {A = Outcome Types} outside tooDeep → ⊥
+outside-deep q = let z : _≡_ {A = ℕ} 0 1 = cc in absurd (omega arith)
+
+-- ---- Each state can be brought to an end
+
+abbrev Ends : ℕ → State → Type 0
+Ends l x = (s : List ℕ) × (ts : Types) × (run l s x ≡ value ts)
+
+class-c : classOf (code "c") ≡ Basic
+unfolding classOf among choose
+class-c = refl
+
+zero-digit : digitByte (code "0") ≡ true
+unfolding digitByte
+zero-digit = refl
+
+c-no-digit : digitByte (code "c") ≡ false
+unfolding digitByte
+c-no-digit = refl
+
+module _ (l : ℕ) where
+  first : (b : ℕ) (x y : State) → step l x b (classOf b) ≡ value y → Ends l y → Ends l x
+  first b x y e w = (b ∷ w .0, w .1, moves l b (w .0) x y e ∙ w .2)
+
+  ends : (ts : Types) (os : List Open) (e : Encoding) (x : State) → finish x ≡ outermost ts os e
+      → ((b : ℕ) → Closing b → step l x b (classOf b) ≡ after l ts os e b (classOf b)) → Ends l x
+  unfolding run
+  ends ts [] e x f g = ([], plain ts e, f)
+  ends ts (qualifying q ∷ os) e x f g = ends ts os (qualified q e) x f g
+  ends ts (pointing ∷ os) e x f g = ends ts os (pointer e) x f g
+  ends ts (inArray d ds ∷ os) e x f g =
+      first (code "]") x (at ts (ended (array d ds e)) os) (g (code "]") closing-bracket ∙ choose-true _ _ refl)
+      (ends ts os (array d ds e) (at ts (ended (array d ds e)) os) refl (λ b h. refl))
+  ends ts (inComposite k n fs ∷ os) e x f g =
+      first (closer k) x (at ts (ended (defined k n (fs then e))) os)
+      (g (closer k) (closing k) ∙ choose-true _ _ (eq-eqb (closer k) (closer k) refl))
+      (ends ts os (defined k n (fs then e)) (at ts (ended (defined k n (fs then e))) os) refl (λ b h. refl))
+
+  ended-ends : (ts : Types) (e : Encoding) (os : List Open) → Ends l (at ts (ended e) os)
+  ended-ends ts e os = ends ts os e (at ts (ended e) os) refl (λ b h. refl)
+
+  sized-ends : (ts : Types) (d : ℕ) (ds : List ℕ) (os : List Open) → Ends l (at ts (sized d ds) os)
+  sized-ends ts d ds os = ends ts os (bitField d ds) (at ts (sized d ds) os) refl (λ b h. choose-false _ _ (h .digit))
+
+  counted-ends : (ts : Types) (d : ℕ) (ds : List ℕ) (os : List Open) → Ends l (at ts (counted d ds) os)
+  counted-ends ts d ds os =
+      first (code "c") (at ts (counted d ds) os) (at ts (ended (basic (code "c"))) (inArray d ds ∷ os))
+      (choose-false _ _ c-no-digit ∙ ap (λ (c : Class). begin l ts (inArray d ds ∷ os) (code "c") c) class-c)
+      (ended-ends ts (basic (code "c")) (inArray d ds ∷ os))
+
+  live : (x : State) → Ends l x
+  unfolding run
+  live (at ts wanted os) =
+      first (code "c") (at ts wanted os) (at ts (ended (basic (code "c"))) os) (ap (λ (c : Class). begin l ts os (code "c") c) class-c)
+      (ended-ends ts (basic (code "c")) os)
+  live (at ts counting os) = first (code "0") (at ts counting os) (at ts (counted (code "0") []) os) (choose-true _ _ zero-digit) (counted-ends ts (code "0") [] os)
+  live (at ts (counted d ds) os) = counted-ends ts d ds os
+  live (at ts (naming k n) os) =
+      first (closer k) (at ts (naming k n) os) (at ts (ended (opaque k n)) os) (close-name l ts k n os) (ended-ends ts (opaque k n) os)
+  live (at ts (named k n) os) =
+      first (closer k) (at ts (named k n) os) (at ts (ended (defined k n nothing)) os) (choose-true _ _ (eq-eqb (closer k) (closer k) refl))
+      (ended-ends ts (defined k n nothing) os)
+  live (at ts (quoting n) os) =
+      first (code "\"") (at ts (quoting n) os) (at ts (ended (instance n)) os) (choose-false _ _ no-quoted) (ended-ends ts (instance n) os)
+  live (at ts sizing os) = first (code "0") (at ts sizing os) (at ts (sized (code "0") []) os) (choose-true _ _ zero-digit) (sized-ends ts (code "0") [] os)
+  live (at ts (sized d ds) os) = sized-ends ts d ds os
+  live (at ts atSign os) = ends ts os object (at ts atSign os) refl (λ b h. choose-true _ _ (h .quoted))
+  live (at ts (ended e) os) = ended-ends ts e os
+  live (at ts (offset e d ds) os) = ([], framed ts e d ds, refl)
+
+-- ---- A greater limit: what goes on goes on alike, what is outside stays so, and what was too deep goes on
+
+abbrev Grows : Outcome State → Outcome State → Type 0
+Grows (value x) o = o ≡ value x
+Grows (absent r) o = o ≡ absent r
+Grows (number k) o = (k ≡ 17) × (y : State) × (o ≡ value y)
+
+by-both : (P : Outcome State → Outcome State → Type 0) {t : Bool} {a b c d : Outcome State} → (t ≡ true → P a c) → (t ≡ false → P b d)
+    → P (choose t a b) (choose t c d)
+unfolding choose
+by-both P {t = true} f g = f refl
+by-both P {t = false} f g = g refl
+
+module _ (l m : ℕ) (more : l < m) where
+  within-grows : (os : List Open) (x : State) → depth os ≤ l → Grows (within l os x) (within m os x)
+  within-grows os x v =
+      by-choose (λ o. Grows o (within m os x))
+      (λ h. choose-true _ _ (lt-ltb (depth os) m (omega arith)))
+      (λ h. (refl, x, choose-true _ _ (lt-ltb (depth os) m (omega arith))))
+
+  begin-grows : (ts : Types) (os : List Open) → depth os ≤ l → (b : ℕ) (c : Class) → Grows (begin l ts os b c) (begin m ts os b c)
+  begin-grows ts os v b Basic = refl
+  begin-grows ts os v b Qualifier = refl
+  begin-grows ts os v b Object = refl
+  begin-grows ts os v b BitField = refl
+  begin-grows ts os v b Pointer = within-grows os (at ts wanted (pointing ∷ os)) v
+  begin-grows ts os v b Array = within-grows os (at ts counting os) v
+  begin-grows ts os v b Structure = within-grows os (at ts (naming structure []) os) v
+  begin-grows ts os v b Union = within-grows os (at ts (naming union []) os) v
+  begin-grows ts os v b Other = refl
+
+  after-grows : (ts : Types) (os : List Open) (e : Encoding) → depth os ≤ l → (b : ℕ) (c : Class) → Grows (after l ts os e b c) (after m ts os e b c)
+  after-grows ts [] e v b c = by-both Grows (λ h. refl) (λ h. begin-grows (plain ts e) [] v b c)
+  after-grows ts (qualifying q ∷ os) e v b c = after-grows ts os (qualified q e) v b c
+  after-grows ts (pointing ∷ os) e v b c = after-grows ts os (pointer e) (omega arith) b c
+  after-grows ts (inArray d ds ∷ os) e v b c = by-both Grows (λ h. refl) (λ h. refl)
+  after-grows ts (inComposite k n fs ∷ os) e v b c = by-both Grows (λ h. refl) (λ h. begin-grows ts (inComposite k n (fs then e) ∷ os) v b c)
+
+  step-grows : (x : State) → Good l x → (b : ℕ) (c : Class) → Grows (step l x b c) (step m x b c)
+  step-grows (at ts wanted os) g b c = begin-grows ts os (g .3) b c
+  step-grows (at ts counting os) g b c = by-both Grows (λ h. refl) (λ h. refl)
+  step-grows (at ts (counted d ds) os) g b c = by-both Grows (λ h. refl) (λ h. begin-grows ts (inArray d ds ∷ os) (g .3 .1) b c)
+  step-grows (at ts (naming k n) os) g b c =
+      by-both Grows (λ h. refl) (λ h. by-both Grows (λ h. refl) (λ h. by-both Grows (λ h. refl) (λ h. refl)))
+  step-grows (at ts (named k n) os) g b c = by-both Grows (λ h. refl) (λ h. begin-grows ts (inComposite k n nothing ∷ os) (g .3 .1) b c)
+  step-grows (at ts (quoting n) os) g b c = by-both Grows (λ h. refl) (λ h. refl)
+  step-grows (at ts sizing os) g b c = by-both Grows (λ h. refl) (λ h. refl)
+  step-grows (at ts (sized d ds) os) g b c = by-both Grows (λ h. refl) (λ h. after-grows ts os (bitField d ds) (g .3 .1) b c)
+  step-grows (at ts atSign os) g b c = by-both Grows (λ h. after-grows ts os object (g .3) b c) (λ h. refl)
+  step-grows (at ts (ended e) os) g b c = after-grows ts os e (omega (arith, g .3 .2)) b c
+  step-grows (at ts (offset e d ds) os) g b c = by-both Grows (λ h. refl) (λ h. begin-grows (framed ts e d ds) [] (omega arith) b c)
+
+  -- So the whole text is too deep for the lesser limit, or both say the same of it.
+  run-grows : (s : List ℕ) (x : State) → Good l x → (run l s x ≡ tooDeep) ⊎ (run l s x ≡ run m s x)
+  unfolding run
+  run-grows [] x g = inr refl
+  run-grows (b ∷ s) x g =
+      go (step l x b (classOf b)) (step-keeps l x g b (classOf b) refl) (step-grows x g b (classOf b)) (λ y. run-grows s y)
+    where
+      go : (o : Outcome State) → Keeps l (λ s. spellState x (b ∷ s)) o → Grows o (step m x b (classOf b))
+          → ((y : State) → Good l y → (run l s y ≡ tooDeep) ⊎ (run l s y ≡ run m s y))
+          → (andThen o (λ y. run l s y) ≡ tooDeep) ⊎ (andThen o (λ y. run l s y) ≡ andThen (step m x b (classOf b)) (λ y. run m s y))
+      go (value y) k w f = rw w (f y (k .0))
+      go (absent r) k w f = inr (rw w)
+      go (number n) k w f = inl (ap (λ (i : ℕ). number i) (w .0))
+
+module _ (l : ℕ) where
+  -- A reading beyond the limit is too deep for the machine.
+  pub too-deep : (text : List ℕ) (ts : Types) → Reading text ts → l < nestingTypes ts → parse l text ≡ tooDeep
+  too-deep text ts r h = go (run-grows l (nestingTypes ts) h text (at none wanted []) (first-good l))
+    where
+      go : (parse l text ≡ tooDeep) ⊎ (parse l text ≡ parse (nestingTypes ts) text) → parse l text ≡ tooDeep
+      go (inl e) = e
+      go (inr e) = absurd (omega (arith, h, sound l text ts (e ∙ complete (nestingTypes ts) text ts r (omega arith)) .1))
+
+  outermost-never : (ts : Types) (os : List Open) (e : Encoding) → outermost ts os e ≡ tooDeep → ⊥
+  outermost-never ts [] e q = value-deep (plain ts e) q
+  outermost-never ts (qualifying x ∷ os) e q = outermost-never ts os (qualified x e) q
+  outermost-never ts (pointing ∷ os) e q = outermost-never ts os (pointer e) q
+  outermost-never ts (inArray d ds ∷ os) e q = outside-deep q
+  outermost-never ts (inComposite k n fs ∷ os) e q = outside-deep q
+
+  finish-never : (x : State) → finish x ≡ tooDeep → ⊥
+  finish-never (at ts wanted os) q = outside-deep q
+  finish-never (at ts counting os) q = outside-deep q
+  finish-never (at ts (counted d ds) os) q = outside-deep q
+  finish-never (at ts (naming k n) os) q = outside-deep q
+  finish-never (at ts (named k n) os) q = outside-deep q
+  finish-never (at ts (quoting n) os) q = outside-deep q
+  finish-never (at ts sizing os) q = outside-deep q
+  finish-never (at ts (sized d ds) os) q = outermost-never ts os (bitField d ds) q
+  finish-never (at ts atSign os) q = outermost-never ts os object q
+  finish-never (at ts (ended e) os) q = outermost-never ts os e q
+  finish-never (at ts (offset e d ds) os) q = value-deep (framed ts e d ds) q
+
+  -- Where the machine stops for depth: the state before the opening byte, and the one after it if one level more were allowed.
+  record DeepAt (x : State) (t : List ℕ) : Type 0 where
+    before : List ℕ
+    opening : ℕ
+    rest : List ℕ
+    here : State
+    there : State
+    is : t ≡ before ++ opening ∷ rest
+    goes : (s : List ℕ) → run l (before ++ s) x ≡ run l s here
+    stops : step l here opening (classOf opening) ≡ tooDeep
+    more : (s : List ℕ) → run (suc l) (before ++ opening ∷ s) x ≡ run (suc l) s there
+
+  deep-at : (t : List ℕ) (x : State) → Good l x → run l t x ≡ tooDeep → DeepAt x t
+  unfolding run
+  deep-at [] x g q = absurd (finish-never x q)
+  deep-at (b ∷ t) x g q =
+      go (step l x b (classOf b)) refl (step-keeps l x g b (classOf b) refl) (step-grows l (suc l) (omega arith) x g b (classOf b)) q (λ y. deep-at t y)
+    where
+      absent-deep : (r : Reason) → _≡_ {A = Outcome Types} (absent r) tooDeep → ⊥
+      absent-deep r e = let z : _≡_ {A = ℕ} 0 1 = cc in absurd (omega arith)
+
+      go : (o : Outcome State) → step l x b (classOf b) ≡ o → Keeps l (λ s. spellState x (b ∷ s)) o → Grows o (step (suc l) x b (classOf b))
+          → andThen o (λ y. run l t y) ≡ tooDeep → ((y : State) → Good l y → run l t y ≡ tooDeep → DeepAt y t) → DeepAt x (b ∷ t)
+      go (absent r) e k w q′ f = absurd (absent-deep r q′)
+      go (number n) e k w q′ f =
+          record {
+            before = [];
+            opening = b;
+            rest = t;
+            here = x;
+            there = w .1;
+            is = refl;
+            goes = λ s. refl;
+            stops = e ∙ ap (λ (i : ℕ). number i) (w .0);
+            more = λ s. moves (suc l) b s x (w .1) (w .2);
+          }
+      go (value y) e k w q′ f =
+          let d = f y (k .0) q′ in
+          record {
+            before = b ∷ d .before;
+            opening = d .opening;
+            rest = d .rest;
+            here = d .here;
+            there = d .there;
+            is = ap (λ (r : List ℕ). b ∷ r) (d .is);
+            goes = λ s. moves l b (d .before ++ s) x y e ∙ d .goes s;
+            stops = d .stops;
+            more = λ s. moves (suc l) b (d .before ++ d .opening ∷ s) x y w ∙ d .more s;
+          }
+
+  -- A text too deep for the machine opens a level beyond the limit.
+  pub deeper : (text : List ℕ) → parse l text ≡ tooDeep → Deeper l text
+  unfolding run
+  deeper text q = go (deep-at text (at none wanted []) (first-good l) q)
+    where
+      go : DeepAt (at none wanted []) text → Deeper l text
+      go d =
+          let a = live l (d .here) in
+          let r = sound l (d .before ++ a .0) (a .1) (d .goes (a .0) ∙ a .2) in
+          let a′ = live (suc l) (d .there) in
+          let r′ = sound (suc l) (d .before ++ d .opening ∷ a′ .0) (a′ .1) (d .more (a′ .0) ∙ a′ .2) in
+          record {
+            before = d .before;
+            opening = d .opening;
+            rest = d .rest;
+            is = d .is;
+            fits = (a .0, a .1, r .0, r .1);
+            begins = (a′ .0, a′ .1, r′ .0);
+            deeper = λ s ts w. beyond ts (λ h. never s ts w h);
+          }
+        where
+          beyond : (ts : Types) → (nestingTypes ts ≤ l → ⊥) → l < nestingTypes ts
+          beyond ts f = test (ltb l (nestingTypes ts)) refl
+            where
+              test : (b : Bool) → ltb l (nestingTypes ts) ≡ b → l < nestingTypes ts
+              test true e = ltb-true _ _ e
+              test false e = absurd (f (ltb-false _ _ e))
+
+          never : (s : List ℕ) (ts : Types) → Reading (d .before ++ d .opening ∷ s) ts → nestingTypes ts ≤ l → ⊥
+          never s ts w h =
+              value-deep ts
+              (sym (complete l _ ts w h) ∙ d .goes (d .opening ∷ s) ∙ ap (λ (o : Outcome State). andThen o (λ y. run l s y)) (d .stops))
+
+  -- ---- What the machine says of every text that begins with p
+
+  data Reach (p : List ℕ) (x : State) : Type 0 where
+    ends-at : (o : Outcome Types) → ((ts : Types) → o ≡ value ts → ⊥) → ((s : List ℕ) → run l (p ++ s) x ≡ o) → Reach p x
+    goes-on : (y : State) → ((s : List ℕ) → run l (p ++ s) x ≡ run l s y) → Reach p x
+
+  reach : (p : List ℕ) (x : State) → Reach p x
+  unfolding run
+  reach [] x = goes-on x (λ s. refl)
+  reach (b ∷ p) x = go (step l x b (classOf b)) refl (λ y. reach p y)
+    where
+      on-from : (y : State) → step l x b (classOf b) ≡ value y → Reach p y → Reach (b ∷ p) x
+      on-from y e (ends-at o n f) = ends-at o n (λ s. moves l b (p ++ s) x y e ∙ f s)
+      on-from y e (goes-on z f) = goes-on z (λ s. moves l b (p ++ s) x y e ∙ f s)
+
+      go : (o : Outcome State) → step l x b (classOf b) ≡ o → ((y : State) → Reach p y) → Reach (b ∷ p) x
+      go (value y) e f = on-from y e (f y)
+      go (absent r) e f =
+          ends-at (absent r) (λ ts q. let z : _≡_ {A = ℕ} 0 1 = cc in absurd (omega arith))
+          (λ s. ap (λ (o : Outcome State). andThen o (λ y. run l (p ++ s) y)) e)
+      go (number k) e f =
+          ends-at (number k) (λ ts q. let z : _≡_ {A = ℕ} 0 1 = cc in absurd (omega arith))
+          (λ s. ap (λ (o : Outcome State). andThen o (λ y. run l (p ++ s) y)) e)
+
+  -- A text that the machine refuses is outside the grammar.
+  pub never-read : (text : List ℕ) → parse l text ≡ outside → (ts : Types) → Reading text ts → ⊥
+  never-read text q ts r = test (ltb l (nestingTypes ts)) refl
+    where
+      test : (b : Bool) → ltb l (nestingTypes ts) ≡ b → ⊥
+      test true e = outside-deep (sym q ∙ too-deep text ts r (ltb-true _ _ e))
+      test false e = value-outside ts (sym (complete l text ts r (ltb-false _ _ e)) ∙ q)
+
+  -- And it opens no level beyond the limit before it leaves the grammar.
+  pub deeper-deep : (text : List ℕ) → Deeper l text → parse l text ≡ tooDeep
+  deeper-deep text d = go (reach (d .before ++ d .opening ∷ []) (at none wanted []))
+    where
+      joined : (s : List ℕ) → (d .before ++ d .opening ∷ []) ++ s ≡ d .before ++ d .opening ∷ s
+      joined s = simp append-assoc
+
+      go : Reach (d .before ++ d .opening ∷ []) (at none wanted []) → parse l text ≡ tooDeep
+      go (ends-at o n f) =
+          let b = d .begins in
+          ap (λ (x : List ℕ). parse l x) (d .is ∙ sym (joined (d .rest))) ∙ f (d .rest) ∙ sym (f (b .0))
+          ∙ ap (λ (x : List ℕ). parse l x) (joined (b .0)) ∙ too-deep _ (b .1) (b .2) (d .deeper (b .0) (b .1) (b .2))
+      go (goes-on y f) =
+          let a = live l y in
+          let r = sound l (d .before ++ d .opening ∷ a .0) (a .1) (ap (λ (x : List ℕ). parse l x) (sym (joined (a .0))) ∙ f (a .0) ∙ a .2) in
+          let h = d .deeper (a .0) (a .1) (r .0) in
+          absurd (omega (arith, h, r .1))
