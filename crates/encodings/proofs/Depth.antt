@@ -9,6 +9,7 @@ use mathlib.Core.List.{List, [], _∷_, _++_, append-assoc}
 use native.Mathlib.Omega.{arith}
 use borrow.Author.Tests.{ltb-true, ltb-false, lt-ltb, eq-eqb}
 use lib.Dec.{eqb, ltb}
+use Rattle.pointers.specs.Symbol.{ascii}
 use Rattle.reads.specs.Outcome.{Outcome, value, absent, number, andThen, choose}
 use Rattle.reads.specs.declared.answer.Reason.{Reason}
 use Rattle.reads.proofs.Tests.{by-choose, choose-true, choose-false}
@@ -16,6 +17,7 @@ use Rattle.encodings.specs.Grammar.{Composite, structure, union, closer,
 use Rattle.encodings.specs.Machine.{classOf, Open, qualifying, pointing, inArray, inComposite, wanted, counting, counted, naming, named, quoting, sizing, sized, atSign, ended, offset, State, at, outside, tooDeep, depth, within, begin, after, step, outermost, finish, run, parse}
 use Rattle.encodings.specs.declared.bytes.Class.{Class}
 use Rattle.encodings.specs.declared.bytes.Class.the-variants.{Basic, Qualifier, Object, BitField, Pointer, Array, Structure, Union, Other}
+use Rattle.encodings.proofs.ByteLaws.{begins}
 use Rattle.encodings.proofs.States.{spellState, Good, Keeps}
 use Rattle.encodings.proofs.Sound.{step-keeps, first-good, sound}
 use Rattle.encodings.proofs.Complete.{Closing, closing, closing-bracket, no-quoted, close-name, moves, complete}
@@ -97,12 +99,12 @@ module _ (l : ℕ) where
   live (at ts (ended e) os) = ended-ends ts e os
   live (at ts (offset e d ds) os) = ([], framed ts e d ds, refl)
 
--- ---- A greater limit: what goes on goes on alike, what is outside stays so, and what was too deep goes on
+-- ---- A greater limit: what goes on goes on alike, what is outside stays so, and what was too deep, at a byte that opens a level, goes on
 
-abbrev Grows : Outcome State → Outcome State → Type 0
-Grows (value x) o = o ≡ value x
-Grows (absent r) o = o ≡ absent r
-Grows (number k) o = (k ≡ 17) × (y : State) × (o ≡ value y)
+abbrev Grows : ℕ → Outcome State → Outcome State → Type 0
+Grows b (value x) o = o ≡ value x
+Grows b (absent r) o = o ≡ absent r
+Grows b (number k) o = (among (ascii "^[{(") b ≡ true) × (k ≡ 17) × (y : State) × (o ≡ value y)
 
 by-both : (P : Outcome State → Outcome State → Type 0) {t : Bool} {a b c d : Outcome State} → (t ≡ true → P a c) → (t ≡ false → P b d)
     → P (choose t a b) (choose t c d)
@@ -111,57 +113,65 @@ by-both P {t = true} f g = f refl
 by-both P {t = false} f g = g refl
 
 module _ (l m : ℕ) (more : l < m) where
-  within-grows : (os : List Open) (x : State) → depth os ≤ l → Grows (within l os x) (within m os x)
-  within-grows os x v =
-      by-choose (λ o. Grows o (within m os x))
-      (λ h. choose-true _ _ (lt-ltb (depth os) m (omega arith)))
-      (λ h. (refl, x, choose-true _ _ (lt-ltb (depth os) m (omega arith))))
+  module _ (b : ℕ) where
+    within-grows : (os : List Open) (x : State) → depth os ≤ l → among (ascii "^[{(") b ≡ true → Grows b (within l os x) (within m os x)
+    within-grows os x v o =
+        by-choose (λ y. Grows b y (within m os x))
+        (λ h. choose-true _ _ (lt-ltb (depth os) m (omega arith)))
+        (λ h. (o, refl, x, choose-true _ _ (lt-ltb (depth os) m (omega arith))))
 
-  begin-grows : (ts : Types) (os : List Open) → depth os ≤ l → (b : ℕ) (c : Class) → Grows (begin l ts os b c) (begin m ts os b c)
-  begin-grows ts os v b Basic = refl
-  begin-grows ts os v b Qualifier = refl
-  begin-grows ts os v b Object = refl
-  begin-grows ts os v b BitField = refl
-  begin-grows ts os v b Pointer = within-grows os (at ts wanted (pointing ∷ os)) v
-  begin-grows ts os v b Array = within-grows os (at ts counting os) v
-  begin-grows ts os v b Structure = within-grows os (at ts (naming structure []) os) v
-  begin-grows ts os v b Union = within-grows os (at ts (naming union []) os) v
-  begin-grows ts os v b Other = refl
+    opener-byte : (k : ℕ) → b ≡ k → among (ascii "^[{(") k ≡ true → among (ascii "^[{(") b ≡ true
+    opener-byte k e h = ap (among (ascii "^[{(")) e ∙ h
 
-  after-grows : (ts : Types) (os : List Open) (e : Encoding) → depth os ≤ l → (b : ℕ) (c : Class) → Grows (after l ts os e b c) (after m ts os e b c)
-  after-grows ts [] e v b c = by-both Grows (λ h. refl) (λ h. begin-grows (plain ts e) [] v b c)
-  after-grows ts (qualifying q ∷ os) e v b c = after-grows ts os (qualified q e) v b c
-  after-grows ts (pointing ∷ os) e v b c = after-grows ts os (pointer e) (omega arith) b c
-  after-grows ts (inArray d ds ∷ os) e v b c = by-both Grows (λ h. refl) (λ h. refl)
-  after-grows ts (inComposite k n fs ∷ os) e v b c = by-both Grows (λ h. refl) (λ h. begin-grows ts (inComposite k n (fs then e) ∷ os) v b c)
+    begin-grows : (ts : Types) (os : List Open) → depth os ≤ l → (c : Class) → classOf b ≡ c → Grows b (begin l ts os b c) (begin m ts os b c)
+    unfolding among
+    begin-grows ts os v Basic e = refl
+    begin-grows ts os v Qualifier e = refl
+    begin-grows ts os v Object e = refl
+    begin-grows ts os v BitField e = refl
+    begin-grows ts os v Pointer e = within-grows os (at ts wanted (pointing ∷ os)) v (opener-byte _ (begins b e) refl)
+    begin-grows ts os v Array e = within-grows os (at ts counting os) v (opener-byte _ (begins b e) refl)
+    begin-grows ts os v Structure e = within-grows os (at ts (naming structure []) os) v (opener-byte _ (begins b e) refl)
+    begin-grows ts os v Union e = within-grows os (at ts (naming union []) os) v (opener-byte _ (begins b e) refl)
+    begin-grows ts os v Other e = refl
 
-  step-grows : (x : State) → Good l x → (b : ℕ) (c : Class) → Grows (step l x b c) (step m x b c)
-  step-grows (at ts wanted os) g b c = begin-grows ts os (g .3) b c
-  step-grows (at ts counting os) g b c = by-both Grows (λ h. refl) (λ h. refl)
-  step-grows (at ts (counted d ds) os) g b c = by-both Grows (λ h. refl) (λ h. begin-grows ts (inArray d ds ∷ os) (g .3 .1) b c)
-  step-grows (at ts (naming k n) os) g b c =
-      by-both Grows (λ h. refl) (λ h. by-both Grows (λ h. refl) (λ h. by-both Grows (λ h. refl) (λ h. refl)))
-  step-grows (at ts (named k n) os) g b c = by-both Grows (λ h. refl) (λ h. begin-grows ts (inComposite k n nothing ∷ os) (g .3 .1) b c)
-  step-grows (at ts (quoting n) os) g b c = by-both Grows (λ h. refl) (λ h. refl)
-  step-grows (at ts sizing os) g b c = by-both Grows (λ h. refl) (λ h. refl)
-  step-grows (at ts (sized d ds) os) g b c = by-both Grows (λ h. refl) (λ h. after-grows ts os (bitField d ds) (g .3 .1) b c)
-  step-grows (at ts atSign os) g b c = by-both Grows (λ h. after-grows ts os object (g .3) b c) (λ h. refl)
-  step-grows (at ts (ended e) os) g b c = after-grows ts os e (omega (arith, g .3 .2)) b c
-  step-grows (at ts (offset e d ds) os) g b c = by-both Grows (λ h. refl) (λ h. begin-grows (framed ts e d ds) [] (omega arith) b c)
+    after-grows : (ts : Types) (os : List Open) (e : Encoding) → depth os ≤ l → (c : Class) → classOf b ≡ c
+        → Grows b (after l ts os e b c) (after m ts os e b c)
+    after-grows ts [] e v c q = by-both (Grows b) (λ h. refl) (λ h. begin-grows (plain ts e) [] v c q)
+    after-grows ts (qualifying x ∷ os) e v c q = after-grows ts os (qualified x e) v c q
+    after-grows ts (pointing ∷ os) e v c q = after-grows ts os (pointer e) (omega arith) c q
+    after-grows ts (inArray d ds ∷ os) e v c q = by-both (Grows b) (λ h. refl) (λ h. refl)
+    after-grows ts (inComposite k n fs ∷ os) e v c q =
+        by-both (Grows b) (λ h. refl) (λ h. begin-grows ts (inComposite k n (fs then e) ∷ os) v c q)
+
+    step-grows : (x : State) → Good l x → (c : Class) → classOf b ≡ c → Grows b (step l x b c) (step m x b c)
+    step-grows (at ts wanted os) g c q = begin-grows ts os (g .3) c q
+    step-grows (at ts counting os) g c q = by-both (Grows b) (λ h. refl) (λ h. refl)
+    step-grows (at ts (counted d ds) os) g c q = by-both (Grows b) (λ h. refl) (λ h. begin-grows ts (inArray d ds ∷ os) (g .3 .1) c q)
+    step-grows (at ts (naming k n) os) g c q =
+        by-both (Grows b) (λ h. refl) (λ h. by-both (Grows b) (λ h. refl) (λ h. by-both (Grows b) (λ h. refl) (λ h. refl)))
+    step-grows (at ts (named k n) os) g c q =
+        by-both (Grows b) (λ h. refl) (λ h. begin-grows ts (inComposite k n nothing ∷ os) (g .3 .1) c q)
+    step-grows (at ts (quoting n) os) g c q = by-both (Grows b) (λ h. refl) (λ h. refl)
+    step-grows (at ts sizing os) g c q = by-both (Grows b) (λ h. refl) (λ h. refl)
+    step-grows (at ts (sized d ds) os) g c q = by-both (Grows b) (λ h. refl) (λ h. after-grows ts os (bitField d ds) (g .3 .1) c q)
+    step-grows (at ts atSign os) g c q = by-both (Grows b) (λ h. after-grows ts os object (g .3) c q) (λ h. refl)
+    step-grows (at ts (ended e) os) g c q = after-grows ts os e (omega (arith, g .3 .2)) c q
+    step-grows (at ts (offset e d ds) os) g c q = by-both (Grows b) (λ h. refl) (λ h. begin-grows (framed ts e d ds) [] (omega arith) c q)
 
   -- So the whole text is too deep for the lesser limit, or both say the same of it.
   run-grows : (s : List ℕ) (x : State) → Good l x → (run l s x ≡ tooDeep) ⊎ (run l s x ≡ run m s x)
   unfolding run
   run-grows [] x g = inr refl
   run-grows (b ∷ s) x g =
-      go (step l x b (classOf b)) (step-keeps l x g b (classOf b) refl) (step-grows x g b (classOf b)) (λ y. run-grows s y)
+      go (step l x b (classOf b)) (step-keeps l x g b (classOf b) refl) (step-grows b x g (classOf b) refl) (λ y. run-grows s y)
     where
-      go : (o : Outcome State) → Keeps l (λ s. spellState x (b ∷ s)) o → Grows o (step m x b (classOf b))
+      go : (o : Outcome State) → Keeps l (λ s. spellState x (b ∷ s)) o → Grows b o (step m x b (classOf b))
           → ((y : State) → Good l y → (run l s y ≡ tooDeep) ⊎ (run l s y ≡ run m s y))
           → (andThen o (λ y. run l s y) ≡ tooDeep) ⊎ (andThen o (λ y. run l s y) ≡ andThen (step m x b (classOf b)) (λ y. run m s y))
       go (value y) k w f = rw w (f y (k .0))
       go (absent r) k w f = inr (rw w)
-      go (number n) k w f = inl (ap (λ (i : ℕ). number i) (w .0))
+      go (number n) k w f = inl (ap (λ (i : ℕ). number i) (w .1))
 
 module _ (l : ℕ) where
   -- A reading beyond the limit is too deep for the machine.
@@ -200,6 +210,7 @@ module _ (l : ℕ) where
     here : State
     there : State
     is : t ≡ before ++ opening ∷ rest
+    opens : among (ascii "^[{(") opening ≡ true
     goes : (s : List ℕ) → run l (before ++ s) x ≡ run l s here
     stops : step l here opening (classOf opening) ≡ tooDeep
     more : (s : List ℕ) → run (suc l) (before ++ opening ∷ s) x ≡ run (suc l) s there
@@ -208,12 +219,12 @@ module _ (l : ℕ) where
   unfolding run
   deep-at [] x g q = absurd (finish-never x q)
   deep-at (b ∷ t) x g q =
-      go (step l x b (classOf b)) refl (step-keeps l x g b (classOf b) refl) (step-grows l (suc l) (omega arith) x g b (classOf b)) q (λ y. deep-at t y)
+      go (step l x b (classOf b)) refl (step-keeps l x g b (classOf b) refl) (step-grows l (suc l) (omega arith) b x g (classOf b) refl) q (λ y. deep-at t y)
     where
       absent-deep : (r : Reason) → _≡_ {A = Outcome Types} (absent r) tooDeep → ⊥
       absent-deep r e = let z : _≡_ {A = ℕ} 0 1 = cc in absurd (omega arith)
 
-      go : (o : Outcome State) → step l x b (classOf b) ≡ o → Keeps l (λ s. spellState x (b ∷ s)) o → Grows o (step (suc l) x b (classOf b))
+      go : (o : Outcome State) → step l x b (classOf b) ≡ o → Keeps l (λ s. spellState x (b ∷ s)) o → Grows b o (step (suc l) x b (classOf b))
           → andThen o (λ y. run l t y) ≡ tooDeep → ((y : State) → Good l y → run l t y ≡ tooDeep → DeepAt y t) → DeepAt x (b ∷ t)
       go (absent r) e k w q′ f = absurd (absent-deep r q′)
       go (number n) e k w q′ f =
@@ -222,11 +233,12 @@ module _ (l : ℕ) where
             opening = b;
             rest = t;
             here = x;
-            there = w .1;
+            there = w .2;
             is = refl;
+            opens = w .0;
             goes = λ s. refl;
-            stops = e ∙ ap (λ (i : ℕ). number i) (w .0);
-            more = λ s. moves (suc l) b s x (w .1) (w .2);
+            stops = e ∙ ap (λ (i : ℕ). number i) (w .1);
+            more = λ s. moves (suc l) b s x (w .2) (w .3);
           }
       go (value y) e k w q′ f =
           let d = f y (k .0) q′ in
@@ -237,6 +249,7 @@ module _ (l : ℕ) where
             here = d .here;
             there = d .there;
             is = ap (λ (r : List ℕ). b ∷ r) (d .is);
+            opens = d .opens;
             goes = λ s. moves l b (d .before ++ s) x y e ∙ d .goes s;
             stops = d .stops;
             more = λ s. moves (suc l) b (d .before ++ d .opening ∷ s) x y w ∙ d .more s;
@@ -258,6 +271,7 @@ module _ (l : ℕ) where
             opening = d .opening;
             rest = d .rest;
             is = d .is;
+            opens = d .opens;
             fits = (a .0, a .1, r .0, r .1);
             begins = (a′ .0, a′ .1, r′ .0);
             deeper = λ s ts w. beyond ts (λ h. never s ts w h);

@@ -46,7 +46,7 @@ module _ (l : ℕ) (ts : Types) (at′ : AllowedTypes ts) (nt : nestingTypes ts 
       → (digitByte b ≡ true → endsInBits e ≡ false) → Keeps l (λ s. spellTypes ts (spellOpen os (spell e (b ∷ s)))) (after l ts os e b c)
   after-keeps [] g e ae v b c q n =
       by-choose (Keeps l (λ s. spellTypes ts (spell e (b ∷ s))))
-      (λ h. ((at′, nt, tt, (ae, n h, (h, tt), omega arith)), λ s. refl))
+      (λ h. ((at′, nt, tt, (ae, n h, (h, tt), omega arith, refl)), λ s. refl))
       (λ h. begin-keeps l (plain ts e) (at′, ae) (omega arith) [] tt (omega arith) b c q)
   after-keeps (qualifying x ∷ os) g e ae v b c q n = after-keeps os (g .1) (qualified x e) (g .0, ae) v b c q n
   after-keeps (pointing ∷ os) g e ae v b c q n = after-keeps os g (pointer e) ae (omega arith) b c q n
@@ -100,8 +100,8 @@ step-keeps l (at ts atSign os) g b c q =
 step-keeps l (at ts (ended e) os) g b c q = after-keeps l ts (g .0) (g .1) os (g .2) e (g .3 .0) (g .3 .2) b c q (λ h′. g .3 .1)
 step-keeps l (at ts (offset e d ds) os) g b c q =
     by-choose (Keeps l (λ s. spellState (at ts (offset e d ds) os) (b ∷ s)))
-    (λ h. ((g .0, g .1, tt, (g .3 .0, g .3 .1, each-snoc digitByte (d ∷ ds) b (g .3 .2) h, g .3 .3)), λ s. simp snoc))
-    (λ h. begin-keeps l (framed ts e d ds) (g .0, g .3 .0, g .3 .1, g .3 .2) (omega (arith, g .1, g .3 .3)) [] tt (omega arith) b c q)
+    (λ h. ((g .0, g .1, g .2, (g .3 .0, g .3 .1, each-snoc digitByte (d ∷ ds) b (g .3 .2) h, g .3 .3, g .3 .4)), λ s. simp snoc))
+    (λ h. rw (g .3 .4) (begin-keeps l (framed ts e d ds) (g .0, g .3 .0, g .3 .1, g .3 .2) (omega (arith, g .1, g .3 .3)) [] tt (omega arith) b c q))
 
 -- ---- The whole text
 
@@ -129,7 +129,7 @@ finish-reads l (at ts sizing os) g = tt
 finish-reads l (at ts (sized d ds) os) g = outermost-reads l ts (g .0) (g .1) os (g .2) (bitField d ds) (g .3 .0) (omega (arith, g .3 .1))
 finish-reads l (at ts atSign os) g = outermost-reads l ts (g .0) (g .1) os (g .2) object tt (omega (arith, g .3))
 finish-reads l (at ts (ended e) os) g = outermost-reads l ts (g .0) (g .1) os (g .2) e (g .3 .0) (g .3 .2)
-finish-reads l (at ts (offset e d ds) os) g = (omega arith, (g .0, g .3 .0, g .3 .1, g .3 .2), omega (arith, g .1, g .3 .3), refl)
+finish-reads l (at ts (offset e d ds) os) g = (omega arith, (g .0, g .3 .0, g .3 .1, g .3 .2), omega (arith, g .1, g .3 .3), rw (g .3 .4))
 
 run-reads : (l : ℕ) (s : List ℕ) (x : State) → Good l x → Reads l (spellState x s) (run l s x)
 unfolding run

@@ -16,18 +16,21 @@ spellOpen (pointing ∷ os) s = spellOpen os (code "^" ∷ s)
 spellOpen (inArray d ds ∷ os) s = spellOpen os (code "[" ∷ d ∷ ds ++ s)
 spellOpen (inComposite k n fs ∷ os) s = spellOpen os (opener k ∷ n ++ code "=" ∷ spellFields fs s)
 
+abbrev pub spellDoing : Doing → List ℕ → List ℕ
+spellDoing wanted s = s
+spellDoing counting s = code "[" ∷ s
+spellDoing (counted d ds) s = code "[" ∷ d ∷ ds ++ s
+spellDoing (naming k n) s = opener k ∷ n ++ s
+spellDoing (named k n) s = opener k ∷ n ++ code "=" ∷ s
+spellDoing (quoting n) s = code "@" ∷ code "\"" ∷ n ++ s
+spellDoing sizing s = code "b" ∷ s
+spellDoing (sized d ds) s = code "b" ∷ d ∷ ds ++ s
+spellDoing atSign s = code "@" ∷ s
+spellDoing (ended e) s = spell e s
+spellDoing (offset e d ds) s = spell e (d ∷ ds ++ s)
+
 abbrev pub spellState : State → List ℕ → List ℕ
-spellState (at ts wanted os) s = spellTypes ts (spellOpen os s)
-spellState (at ts counting os) s = spellTypes ts (spellOpen os (code "[" ∷ s))
-spellState (at ts (counted d ds) os) s = spellTypes ts (spellOpen os (code "[" ∷ d ∷ ds ++ s))
-spellState (at ts (naming k n) os) s = spellTypes ts (spellOpen os (opener k ∷ n ++ s))
-spellState (at ts (named k n) os) s = spellTypes ts (spellOpen os (opener k ∷ n ++ code "=" ∷ s))
-spellState (at ts (quoting n) os) s = spellTypes ts (spellOpen os (code "@" ∷ code "\"" ∷ n ++ s))
-spellState (at ts sizing os) s = spellTypes ts (spellOpen os (code "b" ∷ s))
-spellState (at ts (sized d ds) os) s = spellTypes ts (spellOpen os (code "b" ∷ d ∷ ds ++ s))
-spellState (at ts atSign os) s = spellTypes ts (spellOpen os (code "@" ∷ s))
-spellState (at ts (ended e) os) s = spellTypes ts (spellOpen os (spell e s))
-spellState (at ts (offset e d ds) os) s = spellTypes ts (spell e (d ∷ ds ++ s))
+spellState (at ts m os) s = spellTypes ts (spellOpen os (spellDoing m s))
 
 -- All that was read is allowed, with at most l levels.
 abbrev pub GoodOpen : ℕ → List Open → Type 0
@@ -37,22 +40,22 @@ GoodOpen l (pointing ∷ os) = GoodOpen l os
 GoodOpen l (inArray d ds ∷ os) = Each digitByte (d ∷ ds) × GoodOpen l os
 GoodOpen l (inComposite k n fs ∷ os) = Each nameByte n × AllowedFields fs × (nestingFields fs + suc (depth os) ≤ l) × GoodOpen l os
 
--- With v levels open around it.
-abbrev pub GoodDoing : ℕ → Doing → ℕ → Type 0
-GoodDoing l wanted v = v ≤ l
-GoodDoing l counting v = v < l
-GoodDoing l (counted d ds) v = Each digitByte (d ∷ ds) × (v < l)
-GoodDoing l (naming k n) v = Each nameByte n × (v < l)
-GoodDoing l (named k n) v = Each nameByte n × (v < l)
-GoodDoing l (quoting n) v = Each quotedByte n × (v ≤ l)
-GoodDoing l sizing v = v ≤ l
-GoodDoing l (sized d ds) v = Each digitByte (d ∷ ds) × (v ≤ l)
-GoodDoing l atSign v = v ≤ l
-GoodDoing l (ended e) v = Allowed e × (endsInBits e ≡ false) × (nesting e + v ≤ l)
-GoodDoing l (offset e d ds) v = Allowed e × (endsInBits e ≡ false) × Each digitByte (d ∷ ds) × (nesting e ≤ l)
+-- With os around it.
+abbrev pub GoodDoing : ℕ → Doing → List Open → Type 0
+GoodDoing l wanted os = depth os ≤ l
+GoodDoing l counting os = depth os < l
+GoodDoing l (counted d ds) os = Each digitByte (d ∷ ds) × (depth os < l)
+GoodDoing l (naming k n) os = Each nameByte n × (depth os < l)
+GoodDoing l (named k n) os = Each nameByte n × (depth os < l)
+GoodDoing l (quoting n) os = Each quotedByte n × (depth os ≤ l)
+GoodDoing l sizing os = depth os ≤ l
+GoodDoing l (sized d ds) os = Each digitByte (d ∷ ds) × (depth os ≤ l)
+GoodDoing l atSign os = depth os ≤ l
+GoodDoing l (ended e) os = Allowed e × (endsInBits e ≡ false) × (nesting e + depth os ≤ l)
+GoodDoing l (offset e d ds) os = Allowed e × (endsInBits e ≡ false) × Each digitByte (d ∷ ds) × (nesting e ≤ l) × (os ≡ [])
 
 abbrev pub Good : ℕ → State → Type 0
-Good l (at ts m os) = AllowedTypes ts × (nestingTypes ts ≤ l) × GoodOpen l os × GoodDoing l m (depth os)
+Good l (at ts m os) = AllowedTypes ts × (nestingTypes ts ≤ l) × GoodOpen l os × GoodDoing l m os
 
 -- What a step leads to is as good, and has read what t spells.
 abbrev pub Keeps : ℕ → (List ℕ → List ℕ) → Outcome State → Type 0

@@ -219,6 +219,7 @@ pub record Deeper (l : ℕ) (text : List ℕ) : Type 0 where
   pub opening : ℕ
   pub rest : List ℕ
   pub is : text ≡ before ++ opening ∷ rest
+  pub opens : among (ascii "^[{(") opening ≡ true
   pub fits : (s : List ℕ) × (ts : Types) × Reading (before ++ s) ts × (nestingTypes ts ≤ l)
   pub begins : (s : List ℕ) × (ts : Types) × Reading (before ++ opening ∷ s) ts
   pub deeper : (s : List ℕ) (ts : Types) → Reading (before ++ opening ∷ s) ts → l < nestingTypes ts

@@ -108,7 +108,7 @@ step l (at ts (sized d ds) os) b c =
 step l (at ts atSign os) b c = choose (quotedByte b) (after l ts os object b c) (value (at ts (quoting []) os))
 step l (at ts (ended e) os) b c = after l ts os e b c
 step l (at ts (offset e d ds) os) b c =
-    choose (digitByte b) (value (at ts (offset e d (ds ++ b ∷ [])) [])) (begin l (framed ts e d ds) [] b c)
+    choose (digitByte b) (value (at ts (offset e d (ds ++ b ∷ [])) os)) (begin l (framed ts e d ds) [] b c)
 
 -- The text ends after the type e.
 abbrev pub outermost : Types → List Open → Encoding → Outcome Types
