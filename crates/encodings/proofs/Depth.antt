@@ -18,6 +18,7 @@ use Rattle.encodings.specs.Machine.{classOf, Open, qualifying, pointing,
 use Rattle.encodings.specs.declared.bytes.Class.{Class}
 use Rattle.encodings.specs.declared.bytes.Class.the-variants.{Basic, Qualifier, Object, BitField, Pointer, Array, Structure, Union, Other}
 use Rattle.encodings.proofs.ByteLaws.{begins}
+use Rattle.encodings.proofs.Choices.{by-both}
 use Rattle.encodings.proofs.States.{spellState, Good, Keeps}
 use Rattle.encodings.proofs.Sound.{step-keeps, first-good, sound}
 use Rattle.encodings.proofs.Complete.{Closing, closing, closing-bracket, no-quoted, close-name, moves, complete}
@@ -105,12 +106,6 @@ abbrev Grows : ℕ → Outcome State → Outcome State → Type 0
 Grows b (value x) o = o ≡ value x
 Grows b (absent r) o = o ≡ absent r
 Grows b (number k) o = (among (ascii "^[{(") b ≡ true) × (k ≡ 17) × (y : State) × (o ≡ value y)
-
-by-both : (P : Outcome State → Outcome State → Type 0) {t : Bool} {a b c d : Outcome State} → (t ≡ true → P a c) → (t ≡ false → P b d)
-    → P (choose t a b) (choose t c d)
-unfolding choose
-by-both P {t = true} f g = f refl
-by-both P {t = false} f g = g refl
 
 module _ (l m : ℕ) (more : l < m) where
   module _ (b : ℕ) where

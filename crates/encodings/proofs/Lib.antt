@@ -8,3 +8,7 @@ pub mod States
 pub mod Sound
 pub mod Complete
 pub mod Depth
+pub mod Lengths
+pub mod Shows
+pub mod Turns
+pub mod Reached

@@ -1,3 +1,10 @@
+use Prim.Native.Nat.{_-_}
+use mathlib.Core.Path.{_≡_, ap, sym, _∙_}
+use lib.ListN.{length}
+use native.Mathlib.Omega.{arith}
+use Rattle.reads.specs.Answer.{wordOutcome}
+use Rattle.encodings.specs.Parser.{stepOutcome}
+use Rattle.encodings.proofs.Reached.{Reached, reached-first, reached-types, reached-ordered, reached-next, reached-missing, reached-end, reached-end-missing}
 use borrow.Author.Needs.{needs}
 use Rattle.encodings.proofs.reading.read_types.Statement.{statement}
 use Rattle.encodings.proofs.reading.read_types.Tie as tie
@@ -10,90 +17,70 @@ use Rattle.encodings.proofs.reading.put_before.Reads as put-before-read
 use Rattle.encodings.proofs.reading.put_row.Reads as put-row-reads
 
 abbrev Inv-loop : tie.InvT-loop
-Inv-loop text buffer₀ p₀ i₀ buffer p i = ?
+Inv-loop text buffer₀ p₀ i₀ buffer p i = Reached text buffer₀ buffer p i
 
 abbrev μ-loop : tie.MeasureT-loop
-μ-loop text buffer₀ p₀ i₀ buffer p i = ?
+μ-loop text buffer₀ p₀ i₀ buffer p i = length text - i
 
--- src/reading.rt:54:9
 first-requires : tie.Need-first-requires Inv-loop μ-loop
 first-requires c κs = search needs
 
--- src/reading.rt:56:5
 loop-holds : tie.Need-loop-holds Inv-loop μ-loop
-loop-holds c = search needs
+loop-holds c = reached-first _ _ _ (c .first .ensures)
 
--- src/reading.rt:57:23
 shared-slice-read-step : tie.Need-shared-slice-read-step Inv-loop μ-loop
 shared-slice-read-step c = search needs
 
--- src/reading.rt:57:15
 step-requires : tie.Need-step-requires Inv-loop μ-loop
-step-requires c κs = search needs
+step-requires c κs = reached-types (c .before .before .loop .inv) (omega (arith, c .before .before .loop .inv .within))
 
--- src/reading.rt:58:22
 enum-known-next : tie.Need-enum-known-next Inv-loop μ-loop
 enum-known-next c = search needs
 
--- src/reading.rt:59:17
 put-before-requires : tie.Need-put-before-requires Inv-loop μ-loop
-put-before-requires c κs = search needs
+put-before-requires c κs = reached-ordered (c .before .before .before .before .before .before .before .loop .inv)
 
--- src/reading.rt:62:27
 enum-known-m : tie.Need-enum-known-m Inv-loop μ-loop
 enum-known-m c = search needs
 
--- src/reading.rt:63:17
 same-length : tie.Need-same-length Inv-loop μ-loop
-same-length c = search needs
+same-length c = c .before .before .before .before .before .before .loop .inv .same
 
--- src/reading.rt:63:17
 returns : tie.Need-returns Inv-loop μ-loop
-returns c = search needs
+returns c = reached-missing (c .before .before .before .before .before .before .loop .inv) (c .before .before .before .before .before .loop-test .taken) (c .before .m .given .0 .0) (ap stepOutcome (sym (c .before .m .given .1)) ∙ c .before .before .before .step .ensures)
 
--- src/reading.rt:66:9
 add-i : tie.Need-add-i Inv-loop μ-loop
 add-i c = search needs
 
--- src/reading.rt:56:5
 loop-less : tie.Need-loop-less Inv-loop μ-loop
-loop-less c = search needs
+loop-less c = omega arith
 
--- src/reading.rt:56:5
 loop-again : tie.Need-loop-again Inv-loop μ-loop
-loop-again c = search needs
+loop-again c = reached-next (c .before .before .before .before .before .before .before .before .before .before .loop .inv) (c .before .before .before .before .before .before .before .before .before .loop-test .taken) (c .before .before .before .before .before .next .given .0 .0) (ap stepOutcome (sym (c .before .before .before .before .before .next .given .1)) ∙ c .before .before .before .before .before .before .before .step .ensures) (c .before .before .put-before .ensures)
 
--- src/reading.rt:68:11
 finish-requires : tie.Need-finish-requires Inv-loop μ-loop
-finish-requires c κs = search needs
+finish-requires c κs = reached-types (c .before .loop .inv) (omega (arith, c .before .loop .inv .within))
 
--- src/reading.rt:69:21
 enum-known-count : tie.Need-enum-known-count Inv-loop μ-loop
 enum-known-count c = search needs
 
--- src/reading.rt:70:13
 put-row-requires : tie.Need-put-row-requires Inv-loop μ-loop
-put-row-requires c κs = search needs
+put-row-requires c κs = reached-ordered (c .before .before .before .before .before .before .loop .inv)
 
--- src/reading.rt:73:23
 enum-known-m-2 : tie.Need-enum-known-m-2 Inv-loop μ-loop
 enum-known-m-2 c = search needs
 
--- src/reading.rt:51:1
 same-length-2 : tie.Need-same-length-2 Inv-loop μ-loop
-same-length-2 c = search needs
+same-length-2 c = c .before .before .put-row .ensures .same ∙ c .before .before .before .before .before .before .before .before .before .loop .inv .same
 
--- src/reading.rt:51:1
 returns-2 : tie.Need-returns-2 Inv-loop μ-loop
-returns-2 c = search needs
+returns-2 c = reached-end (c .before .before .before .before .before .before .before .before .before .loop .inv) (c .before .before .before .before .before .before .before .before .loop-test .left) (c .before .before .before .before .before .count .given .0 .0) (ap wordOutcome (sym (c .before .before .before .before .before .count .given .1)) ∙ c .before .before .before .before .before .before .before .finish .ensures) (c .before .before .put-row .ensures)
 
--- src/reading.rt:51:1
 same-length-3 : tie.Need-same-length-3 Inv-loop μ-loop
-same-length-3 c = search needs
+same-length-3 c = c .before .before .before .before .before .loop .inv .same
 
--- src/reading.rt:51:1
 returns-3 : tie.Need-returns-3 Inv-loop μ-loop
-returns-3 c = search needs
+returns-3 c = reached-end-missing (c .before .before .before .before .before .loop .inv) (c .before .before .before .before .loop-test .left) (c .before .m2 .given .0 .0) (ap wordOutcome (sym (c .before .m2 .given .1)) ∙ c .before .before .before .finish .ensures)
 
 pub read-types-spec : {M : Type 1} → statement M
 read-types-spec =
