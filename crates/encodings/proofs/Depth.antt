@@ -2,7 +2,7 @@
 -- begins one of the grammar; or a text outside the grammar.
 use Prim.Native.Nat.{ℕ, suc, _+_, _≤_, _<_}
 use Prim.Native.Char.{code}
-use mathlib.Core.Path.{_≡_, refl, ap, sym, _∙_}
+use mathlib.Core.Path.{_≡_, refl, ap, sym, subst, _∙_}
 use mathlib.Core.Bool.{Bool, true, false}
 use mathlib.Core.Logic.{_⊎_, inl, inr}
 use mathlib.Core.List.{List, [], _∷_, _++_, append-assoc}
@@ -12,6 +12,7 @@ use lib.Dec.{eqb, ltb}
 use Rattle.pointers.specs.Symbol.{ascii}
 use Rattle.reads.specs.Outcome.{Outcome, value, absent, number, andThen, choose}
 use Rattle.reads.specs.declared.answer.Reason.{Reason}
+use Rattle.reads.specs.declared.answer.Reason.the-variants.{Malformed}
 use Rattle.reads.proofs.Tests.{by-choose, choose-true, choose-false}
 use Rattle.encodings.specs.Grammar.{Composite, structure, union, closer, Encoding, basic, object, instance, bitField, qualified, pointer, array, opaque, defined, nothing, _then_, Types, none, plain, framed, among, digitByte, quotedByte, nestingTypes, Reading, Deeper}
 use Rattle.encodings.specs.Machine.{classOf, Open, qualifying, pointing, inArray, inComposite, wanted, counting, counted, naming, named, quoting, sizing, sized, atSign, ended, offset, State, at, outside, tooDeep, depth, within, begin, after, step, outermost, finish, run, parse}
@@ -30,7 +31,7 @@ value-outside ts q = let z : _≡_ {A = ℕ} 0 1 = cc in absurd (omega arith)
 value-deep : (ts : Types) → _≡_ {A = Outcome Types} (value ts) tooDeep → ⊥
 value-deep ts q = let z : _≡_ {A = ℕ} 0 1 = cc in absurd (omega arith)
 
-outside-deep : _≡_ {A = Outcome Types} outside tooDeep → ⊥
+pub outside-deep : _≡_ {A = Outcome Types} outside tooDeep → ⊥
 outside-deep q = let z : _≡_ {A = ℕ} 0 1 = cc in absurd (omega arith)
 
 -- ---- Each state can be brought to an end
@@ -104,7 +105,7 @@ module _ (l : ℕ) where
 
 abbrev Grows : ℕ → Outcome State → Outcome State → Type 0
 Grows b (value x) o = o ≡ value x
-Grows b (absent r) o = o ≡ absent r
+Grows b (absent r) o = (r ≡ Malformed) × (o ≡ absent r)
 Grows b (number k) o = (among (ascii "^[{(") b ≡ true) × (k ≡ 17) × (y : State) × (o ≡ value y)
 
 module _ (l m : ℕ) (more : l < m) where
@@ -128,27 +129,27 @@ module _ (l m : ℕ) (more : l < m) where
     begin-grows ts os v Array e = within-grows os (at ts counting os) v (opener-byte _ (begins b e) refl)
     begin-grows ts os v Structure e = within-grows os (at ts (naming structure []) os) v (opener-byte _ (begins b e) refl)
     begin-grows ts os v Union e = within-grows os (at ts (naming union []) os) v (opener-byte _ (begins b e) refl)
-    begin-grows ts os v Other e = refl
+    begin-grows ts os v Other e = (refl, refl)
 
     after-grows : (ts : Types) (os : List Open) (e : Encoding) → depth os ≤ l → (c : Class) → classOf b ≡ c
         → Grows b (after l ts os e b c) (after m ts os e b c)
     after-grows ts [] e v c q = by-both (Grows b) (λ h. refl) (λ h. begin-grows (plain ts e) [] v c q)
     after-grows ts (qualifying x ∷ os) e v c q = after-grows ts os (qualified x e) v c q
     after-grows ts (pointing ∷ os) e v c q = after-grows ts os (pointer e) (omega arith) c q
-    after-grows ts (inArray d ds ∷ os) e v c q = by-both (Grows b) (λ h. refl) (λ h. refl)
+    after-grows ts (inArray d ds ∷ os) e v c q = by-both (Grows b) (λ h. refl) (λ h. (refl, refl))
     after-grows ts (inComposite k n fs ∷ os) e v c q =
         by-both (Grows b) (λ h. refl) (λ h. begin-grows ts (inComposite k n (fs then e) ∷ os) v c q)
 
     step-grows : (x : State) → Good l x → (c : Class) → classOf b ≡ c → Grows b (step l x b c) (step m x b c)
     step-grows (at ts wanted os) g c q = begin-grows ts os (g .3) c q
-    step-grows (at ts counting os) g c q = by-both (Grows b) (λ h. refl) (λ h. refl)
+    step-grows (at ts counting os) g c q = by-both (Grows b) (λ h. refl) (λ h. (refl, refl))
     step-grows (at ts (counted d ds) os) g c q = by-both (Grows b) (λ h. refl) (λ h. begin-grows ts (inArray d ds ∷ os) (g .3 .1) c q)
     step-grows (at ts (naming k n) os) g c q =
-        by-both (Grows b) (λ h. refl) (λ h. by-both (Grows b) (λ h. refl) (λ h. by-both (Grows b) (λ h. refl) (λ h. refl)))
+        by-both (Grows b) (λ h. refl) (λ h. by-both (Grows b) (λ h. refl) (λ h. by-both (Grows b) (λ h. refl) (λ h. (refl, refl))))
     step-grows (at ts (named k n) os) g c q =
         by-both (Grows b) (λ h. refl) (λ h. begin-grows ts (inComposite k n nothing ∷ os) (g .3 .1) c q)
     step-grows (at ts (quoting n) os) g c q = by-both (Grows b) (λ h. refl) (λ h. refl)
-    step-grows (at ts sizing os) g c q = by-both (Grows b) (λ h. refl) (λ h. refl)
+    step-grows (at ts sizing os) g c q = by-both (Grows b) (λ h. refl) (λ h. (refl, refl))
     step-grows (at ts (sized d ds) os) g c q = by-both (Grows b) (λ h. refl) (λ h. after-grows ts os (bitField d ds) (g .3 .1) c q)
     step-grows (at ts atSign os) g c q = by-both (Grows b) (λ h. after-grows ts os object (g .3) c q) (λ h. refl)
     step-grows (at ts (ended e) os) g c q = after-grows ts os e (omega (arith, g .3 .2)) c q
@@ -165,8 +166,57 @@ module _ (l m : ℕ) (more : l < m) where
           → ((y : State) → Good l y → (run l s y ≡ tooDeep) ⊎ (run l s y ≡ run m s y))
           → (andThen o (λ y. run l s y) ≡ tooDeep) ⊎ (andThen o (λ y. run l s y) ≡ andThen (step m x b (classOf b)) (λ y. run m s y))
       go (value y) k w f = rw w (f y (k .0))
-      go (absent r) k w f = inr (rw w)
+      go (absent r) k w f = inr (rw (w .1))
       go (number n) k w f = inl (ap (λ (i : ℕ). number i) (w .1))
+
+-- ---- What the machine may say: a reading, outside, or, before the text ends, tooDeep
+
+abbrev Ended : Outcome Types → Type 0
+Ended (value ts) = Unit {0}
+Ended (absent r) = r ≡ Malformed
+Ended (number k) = ⊥
+
+outermost-ended : (ts : Types) (os : List Open) (e : Encoding) → Ended (outermost ts os e)
+outermost-ended ts [] e = tt
+outermost-ended ts (qualifying x ∷ os) e = outermost-ended ts os (qualified x e)
+outermost-ended ts (pointing ∷ os) e = outermost-ended ts os (pointer e)
+outermost-ended ts (inArray d ds ∷ os) e = refl
+outermost-ended ts (inComposite k n fs ∷ os) e = refl
+
+finish-ended : (x : State) → Ended (finish x)
+finish-ended (at ts wanted os) = refl
+finish-ended (at ts counting os) = refl
+finish-ended (at ts (counted d ds) os) = refl
+finish-ended (at ts (naming k n) os) = refl
+finish-ended (at ts (named k n) os) = refl
+finish-ended (at ts (quoting n) os) = refl
+finish-ended (at ts sizing os) = refl
+finish-ended (at ts (sized d ds) os) = outermost-ended ts os (bitField d ds)
+finish-ended (at ts atSign os) = outermost-ended ts os object
+finish-ended (at ts (ended e) os) = outermost-ended ts os e
+finish-ended (at ts (offset e d ds) os) = tt
+
+abbrev pub Known : Outcome Types → Type 0
+Known (value ts) = Unit {0}
+Known (absent r) = r ≡ Malformed
+Known (number k) = k ≡ 17
+
+pub run-known : (l : ℕ) (s : List ℕ) (x : State) → Good l x → Known (run l s x)
+unfolding run
+run-known l [] x g = go (finish x) (finish-ended x)
+  where
+    go : (o : Outcome Types) → Ended o → Known o
+    go (value ts) e = tt
+    go (absent r) e = e
+    go (number k) e = absurd e
+run-known l (b ∷ s) x g =
+    go (step l x b (classOf b)) (step-keeps l x g b (classOf b) refl) (step-grows l (suc l) (omega arith) b x g (classOf b) refl) (λ y. run-known l s y)
+  where
+    go : (o : Outcome State) → Keeps l (λ s. spellState x (b ∷ s)) o → Grows b o (step (suc l) x b (classOf b))
+        → ((y : State) → Good l y → Known (run l s y)) → Known (andThen o (λ y. run l s y))
+    go (value y) k w f = f y (k .0)
+    go (absent r) k w f = w .0
+    go (number n) k w f = w .1
 
 module _ (l : ℕ) where
   -- A reading beyond the limit is too deep for the machine.
@@ -177,25 +227,8 @@ module _ (l : ℕ) where
       go (inl e) = e
       go (inr e) = absurd (omega (arith, h, sound l text ts (e ∙ complete (nestingTypes ts) text ts r (omega arith)) .1))
 
-  outermost-never : (ts : Types) (os : List Open) (e : Encoding) → outermost ts os e ≡ tooDeep → ⊥
-  outermost-never ts [] e q = value-deep (plain ts e) q
-  outermost-never ts (qualifying x ∷ os) e q = outermost-never ts os (qualified x e) q
-  outermost-never ts (pointing ∷ os) e q = outermost-never ts os (pointer e) q
-  outermost-never ts (inArray d ds ∷ os) e q = outside-deep q
-  outermost-never ts (inComposite k n fs ∷ os) e q = outside-deep q
-
   finish-never : (x : State) → finish x ≡ tooDeep → ⊥
-  finish-never (at ts wanted os) q = outside-deep q
-  finish-never (at ts counting os) q = outside-deep q
-  finish-never (at ts (counted d ds) os) q = outside-deep q
-  finish-never (at ts (naming k n) os) q = outside-deep q
-  finish-never (at ts (named k n) os) q = outside-deep q
-  finish-never (at ts (quoting n) os) q = outside-deep q
-  finish-never (at ts sizing os) q = outside-deep q
-  finish-never (at ts (sized d ds) os) q = outermost-never ts os (bitField d ds) q
-  finish-never (at ts atSign os) q = outermost-never ts os object q
-  finish-never (at ts (ended e) os) q = outermost-never ts os e q
-  finish-never (at ts (offset e d ds) os) q = value-deep (framed ts e d ds) q
+  finish-never x q = subst Ended q (finish-ended x)
 
   -- Where the machine stops for depth: the state before the opening byte, and the one after it if one level more were allowed.
   record DeepAt (x : State) (t : List ℕ) : Type 0 where

@@ -12,3 +12,4 @@ pub mod Lengths
 pub mod Shows
 pub mod Turns
 pub mod Reached
+pub mod Answers

@@ -49,7 +49,7 @@ reached-first text w p e =
     }
 
 -- What is missing is neither a value nor what a value leads to.
-missing-value : {A : Type 0} (m : Missing) (a : A) → missed m ≡ value a → ⊥
+pub missing-value : {A : Type 0} (m : Missing) (a : A) → missed m ≡ value a → ⊥
 missing-value (Absent r) a e = let z : _≡_ {A = ℕ} 0 1 = cc in absurd (omega arith)
 missing-value (Refused k) a e = let z : _≡_ {A = ℕ} 0 1 = cc in absurd (omega arith)
 
