@@ -1,15 +1,14 @@
 -- Laws of bytes: the keys of a `match`, what begins a type, and what does not.
-use Prim.Native.Nat.{ℕ, zero, suc, _<_}
+use Prim.Native.Nat.{ℕ}
 use Prim.Native.Char.{code}
 use mathlib.Core.Path.{_≡_, refl, ap, sym, subst, _∙_}
 use mathlib.Core.Bool.{Bool, true, false, not, _&&_, _||_, true≢false, false≢true}
-use mathlib.Core.Logic.{_⊎_, inl, inr}
+use mathlib.Core.Logic.{inl, inr}
 use mathlib.Core.List.{List, [], _∷_}
 use types.Run.{OneOf}
 use borrow.Author.Tests.{eqb-true, ne-eqb, not-true}
 use lib.Dec.{eqb}
 use Rattle.pointers.specs.Symbol.{ascii}
-use Rattle.reads.specs.Outcome.{choose}
 use Rattle.reads.proofs.Tests.{by-choose, choose-true, choose-false, both-true}
 use Rattle.encodings.specs.Grammar.{codes, qualifiers, Composite, structure, union, opener, closer, among, digitByte, nameByte, quotedByte}
 use Rattle.encodings.specs.Machine.{classOf}

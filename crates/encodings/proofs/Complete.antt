@@ -1,5 +1,5 @@
 -- Each reading within the limit is what the machine reads; so no text has two.
-use Prim.Native.Nat.{ℕ, suc, _+_, _≤_, _<_, max}
+use Prim.Native.Nat.{ℕ, suc, _+_, _≤_, _<_}
 use Prim.Native.Char.{code}
 use mathlib.Core.Path.{_≡_, refl, ap, sym, _∙_}
 use mathlib.Core.Bool.{Bool, true, false, true≢false}
@@ -12,7 +12,7 @@ use Rattle.reads.proofs.Tests.{choose-true, choose-false}
 use Rattle.encodings.specs.Grammar.{Composite, structure, union, opener, closer, Encoding, basic, object, instance, bitField, qualified, pointer, array, opaque, defined, Fields, nothing, _then_, Types, none, plain, framed, spell, spellFields, spellTypes, among, digitByte, nameByte, quotedByte, Each, Allowed, AllowedFields, AllowedTypes, endsInBits, nesting, nestingFields, nestingTypes, count, Reading}
 use Rattle.encodings.specs.Machine.{classOf, Open, qualifying, pointing, inArray, inComposite, Doing, wanted, counting, counted, naming, named, quoting, sizing, sized, atSign, ended, offset, State, at, depth, within, begin, after, step, outermost, finish, run, parse}
 use Rattle.encodings.specs.declared.bytes.Class.{Class}
-use Rattle.encodings.specs.declared.bytes.Class.the-variants.{Basic, Qualifier, Object, BitField, Pointer, Array, Structure, Union}
+use Rattle.encodings.specs.declared.bytes.Class.the-variants.{Object, BitField, Pointer, Array, Structure, Union}
 use Rattle.encodings.proofs.ByteLaws.{class-basic, class-qualifier, startByte, start-digit, start-quoted, start-closer, basic-starts, qualifier-starts, opener-starts, digit-quoted}
 use Rattle.encodings.proofs.Sound.{snoc}
 

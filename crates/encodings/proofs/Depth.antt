@@ -8,13 +8,13 @@ use mathlib.Core.Logic.{_⊎_, inl, inr}
 use mathlib.Core.List.{List, [], _∷_, _++_, append-assoc}
 use native.Mathlib.Omega.{arith}
 use borrow.Author.Tests.{ltb-true, ltb-false, lt-ltb, eq-eqb}
-use lib.Dec.{eqb, ltb}
+use lib.Dec.{ltb}
 use Rattle.pointers.specs.Symbol.{ascii}
 use Rattle.reads.specs.Outcome.{Outcome, value, absent, number, andThen, choose}
 use Rattle.reads.specs.declared.answer.Reason.{Reason}
 use Rattle.reads.specs.declared.answer.Reason.the-variants.{Malformed}
 use Rattle.reads.proofs.Tests.{by-choose, choose-true, choose-false}
-use Rattle.encodings.specs.Grammar.{Composite, structure, union, closer, Encoding, basic, object, instance, bitField, qualified, pointer, array, opaque, defined, nothing, _then_, Types, none, plain, framed, among, digitByte, quotedByte, nestingTypes, Reading, Deeper}
+use Rattle.encodings.specs.Grammar.{structure, union, closer, Encoding, basic, object, instance, bitField, qualified, pointer, array, opaque, defined, nothing, _then_, Types, none, plain, framed, among, digitByte, nestingTypes, Reading, Deeper}
 use Rattle.encodings.specs.Machine.{classOf, Open, qualifying, pointing, inArray, inComposite, wanted, counting, counted, naming, named, quoting, sizing, sized, atSign, ended, offset, State, at, outside, tooDeep, depth, within, begin, after, step, outermost, finish, run, parse}
 use Rattle.encodings.specs.declared.bytes.Class.{Class}
 use Rattle.encodings.specs.declared.bytes.Class.the-variants.{Basic, Qualifier, Object, BitField, Pointer, Array, Structure, Union, Other}

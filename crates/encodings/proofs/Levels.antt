@@ -2,17 +2,14 @@
 use Prim.Native.Nat.{ℕ, zero, suc, _+_, _-_, _*_, _/_, _%_, _^_, _≤_, _<_}
 use Prim.Native.Char.{code}
 use mathlib.Core.Path.{_≡_, refl, ap, sym, _∙_}
-use mathlib.Core.Bool.{Bool, true, false, false≢true}
+use mathlib.Core.Bool.{true, false, false≢true}
 use mathlib.Core.List.{List, [], _∷_}
 use native.Mathlib.Omega.{arith}
 use native.Mathlib.Nat.{pow-suc, one-le-pow}
 use native.Mathlib.Numerals.{add-one}
-use borrow.Author.Tests.{eq-eqb, ne-eqb}
 use lib.Arith.{mod-mul}
-
 use lib.Dec.{eqb}
 use lib.ListN.{length, getD}
-use Rattle.reads.specs.Outcome.{choose}
 use Rattle.reads.proofs.Tests.{choose-true, choose-false}
 use Rattle.encodings.specs.Parser.{closers, levelsIn, belowPointers, closes, below}
 

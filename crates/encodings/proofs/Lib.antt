@@ -13,3 +13,4 @@ pub mod Shows
 pub mod Turns
 pub mod Reached
 pub mod Answers
+pub mod EncodingCases

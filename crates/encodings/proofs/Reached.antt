@@ -1,20 +1,20 @@
 -- The loop over a text: the parser keeps what it needs of the machine's state, and a buffer that they fit holds the words of the
 -- types before this one.
 use Prim.Native.Nat.{ℕ, _+_, _*_, _^_, _≤_, _<_}
-use mathlib.Core.Path.{_≡_, refl, ap, sym, subst, _∙_}
+use mathlib.Core.Path.{_≡_, refl, ap, sym, _∙_}
 use mathlib.Core.Logic.{_⊎_, inl, inr}
 use mathlib.Core.List.{List, [], _∷_}
 use native.Mathlib.Omega.{arith}
 use native.Mathlib.Numerals.{add-one}
 use lib.ListN.{length, getD, drop, drop-of-length-le}
 use lib.Seq.{drop-cons, sets}
-use Rattle.reads.specs.Answer.{missed, wordOutcome}
+use Rattle.reads.specs.Answer.{missed}
 use Rattle.reads.specs.Outcome.{Outcome, value, absent, number, andThen}
 use Rattle.reads.specs.declared.answer.Missing.{Missing}
 use Rattle.reads.specs.declared.answer.Missing.the-variants.{Absent, Refused}
 use Rattle.encodings.specs.Grammar.{Types, none, count, size, filled}
 use Rattle.encodings.specs.Machine.{classOf, wanted, State, at, step, finish, run, parse}
-use Rattle.encodings.specs.Parser.{Kept, kept, keptOf, stepOutcome, stepAs, finishOf, row, Ordered, RowPut, Turned, Read}
+use Rattle.encodings.specs.Parser.{Kept, kept, keptOf, stepAs, finishOf, row, Ordered, RowPut, Turned, Read}
 use Rattle.encodings.specs.declared.parser.Mode.the-variants as mode
 use Rattle.encodings.specs.declared.parser.Parser.{Parser}
 use Rattle.encodings.proofs.Lengths.{length-state, count-size}
@@ -22,7 +22,7 @@ use Rattle.encodings.proofs.Shows.{show, shown, stepKept, finishKept, c
 use Rattle.encodings.proofs.Sound.{step-keeps, first-good}
 use Rattle.encodings.proofs.States.{spellState, Good, Keeps}
 use Rattle.encodings.proofs.Steps.{kept-types, kept-start, kept-offset}
-use Rattle.encodings.proofs.Turns.{typesAt, offsetAt, Adds, Turns, length-filled, row-filled, step-turns, finish-adds, start-before, ordered}
+use Rattle.encodings.proofs.Turns.{typesAt, offsetAt, Adds, Turns, row-filled, step-turns, finish-adds, start-before, ordered}
 
 -- After i bytes of a text, with a buffer that held w₀ and holds w.
 pub record Reached (text w₀ w : List ℕ) (p : Parser) (i : ℕ) : Type 0 where

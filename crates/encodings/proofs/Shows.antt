@@ -2,15 +2,15 @@
 use Prim.Native.Nat.{ℕ, _+_}
 use Prim.Native.Char.{code}
 use mathlib.Core.Path.{_≡_, refl, ap, sym, _∙_}
-use mathlib.Core.Bool.{Bool, true, false}
+use mathlib.Core.Bool.{false}
 use mathlib.Core.List.{List, [], _∷_}
 use lib.Dec.{eqb}
 use lib.ListN.{length}
-use Rattle.reads.specs.Outcome.{Outcome, value, absent, number, andThen, choose}
-use Rattle.reads.proofs.Tests.{choose-true, choose-false, choose-same}
-use Rattle.encodings.specs.Grammar.{Composite, structure, union, closer, Encoding, object, bitField, qualified, pointer, array, defined, nothing, _then_, Types, plain, framed, spell, spellTypes, digitByte, nameByte, quotedByte, count, size}
-use Rattle.encodings.specs.Machine.{classOf, Open, qualifying, pointing, inArray, inComposite, Doing, wanted, counting, counted, naming, named, quoting, sizing, sized, atSign, ended, offset, State, at, levels, within, begin, after, step, outermost, finish}
-use Rattle.encodings.specs.Parser.{Kept, kept, opened, begun, belowPointers, closes, below, inside, followed, stepIn, endOf, finishIn}
+use Rattle.reads.specs.Outcome.{Outcome, value, andThen}
+use Rattle.reads.proofs.Tests.{choose-true, choose-false}
+use Rattle.encodings.specs.Grammar.{Composite, structure, union, closer, Encoding, object, bitField, qualified, pointer, nothing, _then_, Types, plain, framed, spell, spellTypes, count, size}
+use Rattle.encodings.specs.Machine.{classOf, Open, qualifying, pointing, inArray, inComposite, Doing, wanted, counting, counted, naming, named, quoting, sizing, sized, atSign, ended, offset, State, at, levels, begin, after, step, outermost, finish}
+use Rattle.encodings.specs.Parser.{Kept, kept, opened, begun, belowPointers, followed, stepIn, endOf, finishIn}
 use Rattle.encodings.specs.declared.bytes.Class.{Class}
 use Rattle.encodings.specs.declared.bytes.Class.the-variants.{Basic, Qualifier, Object, BitField, Pointer, Array, Structure, Union, Other}
 use Rattle.encodings.specs.declared.parser.Mode.{Mode}

@@ -1,15 +1,14 @@
 -- What the machine reads is a reading of the text.
-use Prim.Native.Nat.{ℕ, suc, _+_, _≤_, _<_}
+use Prim.Native.Nat.{ℕ, _+_, _≤_, _<_}
 use mathlib.Core.Path.{_≡_, refl, ap, sym, subst, _∙_}
 use mathlib.Core.Bool.{Bool, true, false, true≢false}
 use mathlib.Core.List.{List, [], _∷_, _++_}
 use native.Mathlib.Omega.{arith}
 use borrow.Author.Tests.{eqb-true, ltb-true}
-use lib.Dec.{eqb, ltb}
-use Rattle.reads.specs.Outcome.{Outcome, value, absent, number, andThen, choose}
+use Rattle.reads.specs.Outcome.{Outcome, value, absent, number, andThen}
 use Rattle.reads.proofs.Tests.{by-choose}
-use Rattle.encodings.specs.Grammar.{closer, Encoding, basic, object, instance, bitField, qualified, pointer, array, opaque, defined, nothing, _then_, Types, none, plain, framed, spell, spellTypes, Each, digitByte, nameByte, quotedByte, Allowed, AllowedTypes, endsInBits, nesting, nestingTypes, count, Reading}
-use Rattle.encodings.specs.Machine.{classOf, Open, qualifying, pointing, inArray, inComposite, wanted, counting, counted, naming, named, quoting, sizing, sized, atSign, ended, offset, State, at, depth, within, begin, after, step, outermost, finish, run, parse}
+use Rattle.encodings.specs.Grammar.{closer, Encoding, object, bitField, qualified, pointer, nothing, _then_, Types, none, plain, framed, spell, spellTypes, Each, digitByte, nameByte, quotedByte, Allowed, AllowedTypes, endsInBits, nesting, nestingTypes, count, Reading}
+use Rattle.encodings.specs.Machine.{classOf, Open, qualifying, pointing, inArray, inComposite, wanted, counting, counted, naming, named, quoting, sizing, sized, atSign, ended, offset, State, at, depth, begin, after, step, outermost, finish, run, parse}
 use Rattle.encodings.specs.declared.bytes.Class.{Class}
 use Rattle.encodings.specs.declared.bytes.Class.the-variants.{Basic, Qualifier, Object, BitField, Pointer, Array, Structure, Union, Other}
 use Rattle.encodings.proofs.ByteLaws.{begins, quote}

@@ -5,7 +5,7 @@ use mathlib.Core.Path.{_≡_}
 use mathlib.Core.Bool.{false, true}
 use mathlib.Core.List.{List, [], _∷_, _++_}
 use Rattle.reads.specs.Outcome.{Outcome, value, absent, number}
-use Rattle.encodings.specs.Grammar.{qualifiers, opener, Encoding, Types, spell, spellFields, spellTypes, among, digitByte, nameByte, quotedByte, Each, Allowed, AllowedFields, AllowedTypes, endsInBits, nesting, nestingFields, nestingTypes}
+use Rattle.encodings.specs.Grammar.{qualifiers, opener, spell, spellFields, spellTypes, among, digitByte, nameByte, quotedByte, Each, Allowed, AllowedFields, AllowedTypes, endsInBits, nesting, nestingFields, nestingTypes}
 use Rattle.encodings.specs.Machine.{Open, qualifying, pointing, inArray, inComposite, Doing, wanted, counting, counted, naming, named, quoting, sizing, sized, atSign, ended, offset, State, at, depth}
 
 -- The bytes read, before a text s.

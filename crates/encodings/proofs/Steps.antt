@@ -1,11 +1,12 @@
 -- What the code keeps of a state, part by part, and what comes after a type.
 use Prim.Native.Nat.{ℕ, _+_, _-_, _/_, _%_, _<_}
-use mathlib.Core.Path.{_≡_, refl, ap, sym, _∙_}
+use mathlib.Core.Path.{_≡_, ap, sym, _∙_}
 use mathlib.Core.List.{List, [], _∷_}
 use lib.ListN.{getD}
 use Rattle.reads.specs.Outcome.{Outcome, value}
-use Rattle.encodings.specs.Parser.{Kept, kept, closers, levelsIn, levelsOf, keptOf, inside, followed, endOf}
+use Rattle.encodings.specs.Parser.{Kept, kept, closers, levelsIn, levelsOf, keptOf, begun, inside, followed, stepAs, endOf, finishIn, finishOf}
 use Rattle.encodings.specs.Machine.{outside}
+use Rattle.encodings.specs.declared.bytes.Class.{Class}
 use Rattle.encodings.specs.declared.parser.Mode.{Mode}
 use Rattle.encodings.specs.declared.parser.Parser.{Parser}
 use Rattle.encodings.proofs.Levels.{levels-none, levels-top}
@@ -50,3 +51,14 @@ module _ (q : Parser) {m : Mode} {ls : List ℕ} {k s o : ℕ} (e : keptOf q ≡
 
   pub end-inner : 0 < q .depth → outside ≡ endOf ls k
   end-inner h = ap (λ (x : List ℕ). endOf x (q .types)) (sym (some-left h)) ∙ ap endFrom e
+
+-- What a function promises in one mode, or for one class of byte, is what `step`, `finish` and `begin` promise in it.
+pub step-in : (p : Parser) (b i : ℕ) {m : Mode} {o : Outcome Kept} → p .mode ≡ m → o ≡ stepAs m p b i → o ≡ stepAs (p .mode) p b i
+step-in p b i e h = h ∙ ap (λ (m : Mode). stepAs m p b i) (sym e)
+
+pub finish-in : (p : Parser) {m : Mode} {o : Outcome ℕ} → p .mode ≡ m → o ≡ finishIn m (levelsOf p) (p .types) → o ≡ finishOf p
+finish-in p e h = h ∙ ap (λ (m : Mode). finishIn m (levelsOf p) (p .types)) (sym e)
+
+pub begin-of : (p : Parser) {c k d : Class} {o : Outcome Kept} → k ≡ c → k ≡ d → o ≡ begun (levelsOf p) (p .types) (p .start) (p .offset) c
+    → o ≡ begun (levelsOf p) (p .types) (p .start) (p .offset) d
+begin-of p e q h = h ∙ ap (λ (x : Class). begun (levelsOf p) (p .types) (p .start) (p .offset) x) (sym e ∙ q)

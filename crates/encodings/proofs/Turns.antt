@@ -1,36 +1,25 @@
 -- A step keeps the types before this one, or adds this one to them; and the words of a reading, type by type.
-use Prim.Native.Nat.{ℕ, _+_, _-_, _*_, _^_, _≤_, _<_}
+use Prim.Native.Nat.{ℕ, _+_, _-_, _*_, _≤_, _<_}
 use mathlib.Core.Path.{_≡_, refl, ap, sym, subst, _∙_}
-use mathlib.Core.Bool.{true, false}
 use mathlib.Core.Logic.{_⊎_, inl, inr}
 use mathlib.Core.List.{List, [], _∷_, _++_}
 use native.Mathlib.Omega.{arith}
-use native.Mathlib.Numerals.{add-one}
 use borrow.Author.Tests.{ne-eqb}
-use lib.Dec.{eqb}
-use lib.ListN.{length, getD, drop, length-append, length-drop, drop-of-length-le}
-use lib.Seq.{drop-cons, sets, length-sets, sets-eq, take-at, drop-append-add, drop-drop}
-use Rattle.reads.specs.Answer.{missed, wordOutcome}
-use Rattle.reads.specs.Outcome.{Outcome, value, absent, number, andThen, choose}
-use Rattle.reads.specs.declared.answer.Missing.{Missing}
-use Rattle.reads.specs.declared.answer.Missing.the-variants.{Absent, Refused}
-use Rattle.reads.specs.declared.answer.Word.{Word}
+use lib.ListN.{length, drop, length-append, length-drop}
+use lib.Seq.{sets, sets-eq, take-at, drop-append-add, drop-drop}
+use Rattle.reads.specs.Outcome.{Outcome, value, absent, number}
 use Rattle.reads.specs.declared.answer.Word.the-variants as word
 use Rattle.reads.proofs.Tests.{by-choose, choose-true, choose-false}
 use Rattle.encodings.specs.Grammar.{Encoding, object, bitField, qualified, pointer, nothing, _then_, Types, none, plain, framed, spell, spellTypes, count, size, wordsOf, filled}
-use Rattle.encodings.specs.Machine.{classOf, Open, qualifying, pointing, inArray, inComposite, Doing, wanted, counting, counted, naming, named, quoting, sizing, sized, atSign, ended, offset, State, at, outside, begin, after, step, outermost, finish}
-use Rattle.encodings.specs.Parser.{Kept, kept, keptOf, stepOutcome, stepAs, finishOf, typeEnd, row, Ordered, RowPut, Turned, Read}
+use Rattle.encodings.specs.Machine.{Open, qualifying, pointing, inArray, inComposite, wanted, counting, counted, naming, named, quoting, sizing, sized, atSign, ended, offset, State, at, outside, begin, after, step, outermost, finish}
+use Rattle.encodings.specs.Parser.{typeEnd, row, Ordered}
 use Rattle.encodings.specs.declared.bytes.Class.{Class}
 use Rattle.encodings.specs.declared.bytes.Class.the-variants.{Basic, Qualifier, Object, BitField, Pointer, Array, Structure, Union, Other}
 use Rattle.encodings.specs.declared.parser.Mode.the-variants as mode
-use Rattle.encodings.specs.declared.parser.Next.{Next}
 use Rattle.encodings.specs.declared.parser.Next.the-variants as next
-use Rattle.encodings.specs.declared.parser.Parser.{Parser}
-use Rattle.encodings.proofs.Lengths.{length-spell, length-types, length-state, spell-some, count-size}
-use Rattle.encodings.proofs.Shows.{offsetIn, show, shown, stepKept, finishKept, counted-types, step-shows, finish-shows}
-use Rattle.encodings.proofs.Sound.{step-keeps, first-good}
-use Rattle.encodings.proofs.States.{spellOpen, spellDoing, spellState, Good, Keeps}
-use Rattle.encodings.proofs.Steps.{kept-types, kept-start, kept-offset}
+use Rattle.encodings.proofs.Lengths.{length-spell, length-types, spell-some}
+use Rattle.encodings.proofs.Shows.{offsetIn}
+use Rattle.encodings.proofs.States.{spellOpen, spellDoing, spellState, Good}
 
 -- ---- The words of one type
 
@@ -54,10 +43,12 @@ plain-adds ts e i h =
 framed-adds : (ts : Types) (e : Encoding) (d : ℕ) (ds : List ℕ) (i : ℕ) → size (framed ts e d ds) ≡ i
     → Adds ts (size (plain ts e)) i (framed ts e d ds)
 framed-adds ts e d ds i h =
-    let f = end-framed (size (plain ts e)) i (omega (arith, length-types ts (spell e []), spell-some e)) in
-    (refl, ap (λ (r : List ℕ). wordsOf ts ++ r)
-    (four (omega (arith, length-types ts (spell e []), f))
-    (omega (arith, f, length-types ts (spell e []), length-types ts (spell e (d ∷ ds ++ [])), length-spell e (d ∷ ds ++ []), length-append ds []))))
+    let f = end-framed (size (plain ts e)) i (omega (arith, length-types ts (spell e []), spell-some e)) in (
+      refl,
+      ap (λ (r : List ℕ). wordsOf ts ++ r)
+          (four (omega (arith, length-types ts (spell e []), f))
+          (omega (arith, f, length-types ts (spell e []), length-types ts (spell e (d ∷ ds ++ [])), length-spell e (d ∷ ds ++ []), length-append ds []))),
+    )
 
 length-words : (ts : Types) → length (wordsOf ts) ≡ 4 * count ts
 length-words none = refl

@@ -15,7 +15,7 @@ use Rattle.reads.specs.declared.answer.Reason.the-variants.{Malformed}
 -- Types of one byte (table 6-1), with what Apple calls them. `@`, an object, is below.
 abbrev pub codes : List ℕ
 codes =
-    code "c"    -- a char
+    code "c"  -- a char
     ∷ code "i"  -- an int
     ∷ code "s"  -- a short
     ∷ code "l"  -- a long
@@ -38,7 +38,7 @@ codes =
 -- Qualifiers (table 6-2).
 abbrev pub qualifiers : List ℕ
 qualifiers =
-    code "r"    -- const
+    code "r"  -- const
     ∷ code "n"  -- in
     ∷ code "N"  -- inout
     ∷ code "o"  -- out
@@ -64,14 +64,14 @@ infixl 20 _then_
 mutual
   -- A type. Digits are a first one and the others.
   pub data Encoding : Type 0 where
-    basic : ℕ → Encoding                              -- one of `codes`
-    object : Encoding                                 -- @            an object
-    instance : List ℕ → Encoding                      -- @"class"     an object of that class
-    bitField : ℕ → List ℕ → Encoding                  -- bnum         a bit field of num bits
-    qualified : ℕ → Encoding → Encoding               -- r type ..    one of `qualifiers`, and the type it stands before
-    pointer : Encoding → Encoding                     -- ^type        a pointer to type
-    array : ℕ → List ℕ → Encoding → Encoding          -- [num type]   an array
-    opaque : Composite → List ℕ → Encoding            -- {name}       a structure, or (name) a union, by its name alone
+    basic : ℕ → Encoding  -- one of `codes`
+    object : Encoding  -- @            an object
+    instance : List ℕ → Encoding  -- @"class"     an object of that class
+    bitField : ℕ → List ℕ → Encoding  -- bnum         a bit field of num bits
+    qualified : ℕ → Encoding → Encoding  -- r type ..    one of `qualifiers`, and the type it stands before
+    pointer : Encoding → Encoding  -- ^type        a pointer to type
+    array : ℕ → List ℕ → Encoding → Encoding  -- [num type]   an array
+    opaque : Composite → List ℕ → Encoding  -- {name}       a structure, or (name) a union, by its name alone
     defined : Composite → List ℕ → Fields → Encoding  -- {name=type..} a structure, or (name=type..) a union
 
   -- The types in a structure or union, the last one outermost.

@@ -2,13 +2,12 @@
 -- grammar.
 use Prim.Native.Nat.{ℕ, _+_}
 use Prim.Native.Char.{code}
-use mathlib.Core.Bool.{Bool}
 use mathlib.Core.List.{List, [], _∷_, _++_}
 use lib.ListN.{length}
 use lib.Dec.{eqb, ltb}
 use Rattle.reads.specs.Outcome.{Outcome, value, absent, number, andThen, choose}
 use Rattle.reads.specs.declared.answer.Reason.the-variants.{Malformed}
-use Rattle.encodings.specs.Grammar.{codes, qualifiers, Composite, structure, union, opener, closer, Encoding, basic, object, instance, bitField, qualified, pointer, array, opaque, defined, Fields, nothing, _then_, Types, none, plain, framed, among, digitByte, nameByte, quotedByte}
+use Rattle.encodings.specs.Grammar.{codes, qualifiers, Composite, structure, union, closer, Encoding, basic, object, instance, bitField, qualified, pointer, array, opaque, defined, Fields, nothing, _then_, Types, none, plain, framed, among, digitByte, nameByte, quotedByte}
 use Rattle.encodings.specs.declared.bytes.Class.{Class}
 use Rattle.encodings.specs.declared.bytes.Class.the-variants.{Basic, Qualifier, Object, BitField, Pointer, Array, Structure, Union, Other}
 
@@ -33,17 +32,17 @@ pub data Open : Type 0 where
 
 -- What was read last, and so what may come.
 pub data Doing : Type 0 where
-  wanted : Doing                                -- a type must begin
-  counting : Doing                              -- `[`
-  counted : ℕ → List ℕ → Doing                  -- digits of an array's count
-  naming : Composite → List ℕ → Doing           -- `{` or `(` and some of a name
-  named : Composite → List ℕ → Doing            -- the `=` behind a name
-  quoting : List ℕ → Doing                      -- `@"` and some of a class
-  sizing : Doing                                -- `b`
-  sized : ℕ → List ℕ → Doing                    -- digits of a bit field
-  atSign : Doing                                -- `@`
-  ended : Encoding → Doing                      -- a type's last byte
-  offset : Encoding → ℕ → List ℕ → Doing        -- digits of a frame offset
+  wanted : Doing  -- a type must begin
+  counting : Doing  -- `[`
+  counted : ℕ → List ℕ → Doing  -- digits of an array's count
+  naming : Composite → List ℕ → Doing  -- `{` or `(` and some of a name
+  named : Composite → List ℕ → Doing  -- the `=` behind a name
+  quoting : List ℕ → Doing  -- `@"` and some of a class
+  sizing : Doing  -- `b`
+  sized : ℕ → List ℕ → Doing  -- digits of a bit field
+  atSign : Doing  -- `@`
+  ended : Encoding → Doing  -- a type's last byte
+  offset : Encoding → ℕ → List ℕ → Doing  -- digits of a frame offset
 
 pub data State : Type 0 where
   at : Types → Doing → List Open → State

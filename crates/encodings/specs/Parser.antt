@@ -1,14 +1,14 @@
 -- What the code keeps of a state of the machine, and what its functions promise each other.
-use Prim.Native.Nat.{ℕ, zero, suc, _+_, _-_, _*_, _/_, _%_, _≤_, _<_}
+use Prim.Native.Nat.{ℕ, zero, suc, _+_, _-_, _*_, _/_, _%_, _≤_}
 use Prim.Native.Char.{code}
 use mathlib.Core.Path.{_≡_}
 use mathlib.Core.Bool.{Bool, false}
-use mathlib.Core.List.{List, [], _∷_, _++_}
+use mathlib.Core.List.{List, [], _∷_}
 use lib.Dec.{eqb, ltb}
 use lib.ListN.{length, getD}
 use lib.Seq.{sets}
 use Rattle.reads.specs.Answer.{missed}
-use Rattle.reads.specs.Outcome.{Outcome, value, absent, number, andThen, choose}
+use Rattle.reads.specs.Outcome.{Outcome, value, number, andThen, choose}
 use Rattle.pointers.specs.Symbol.{ascii}
 use Rattle.encodings.specs.Grammar.{Types, count, filled, digitByte, nameByte, quotedByte}
 use Rattle.encodings.specs.Machine.{outside, tooDeep, classOf, parse}

@@ -62,9 +62,13 @@ pub enum Next {
 
 // The kinds of levels, and what closes each: a pointer ends with the type that it points to.
 const POINTER: u64 = 0;
+
 const ARRAY: u64 = 1;
+
 const STRUCTURE: u64 = 2;
+
 const UNION: u64 = 3;
+
 const CLOSERS: [u8; 4] = *b"^]})";
 
 // Before the first byte.

@@ -1,6 +1,6 @@
 // A text read to its end, and the words of its outermost types.
-use crate::parser::Parser;
 use crate::parser::Next;
+use crate::parser::Parser;
 use crate::parser::finish;
 use crate::parser::first;
 use crate::parser::step;

@@ -1,10 +1,7 @@
 use mathlib.Core.Path.{refl}
 use Rattle.encodings.specs.Grammar.{quotedByte}
-use borrow.Author.Needs.{needs}
 use Rattle.encodings.proofs.bytes.in_quotes.Statement.{statement}
 use Rattle.encodings.proofs.bytes.in_quotes.Tie as tie
-use Rattle.encodings.proofs.bytes.in_quotes.Reads as reads
-use Rattle.encodings.proofs.bytes.in_quotes.Lts as lts
 
 returns : tie.Need-returns
 unfolding quotedByte

@@ -1,10 +1,7 @@
 use borrow.Author.Tests.{le-leb, lt-leb}
 use Rattle.encodings.specs.Grammar.{digitByte}
-use borrow.Author.Needs.{needs}
 use Rattle.encodings.proofs.bytes.is_digit.Statement.{statement}
 use Rattle.encodings.proofs.bytes.is_digit.Tie as tie
-use Rattle.encodings.proofs.bytes.is_digit.Reads as reads
-use Rattle.encodings.proofs.bytes.is_digit.Lts as lts
 
 returns : tie.Need-returns
 unfolding digitByte

@@ -2,8 +2,6 @@ use Rattle.encodings.specs.Parser.{levelsIn}
 use borrow.Author.Needs.{needs}
 use Rattle.encodings.proofs.parser.first.Statement.{statement}
 use Rattle.encodings.proofs.parser.first.Tie as tie
-use Rattle.encodings.proofs.parser.first.Reads as reads
-use Rattle.encodings.proofs.parser.first.Lts as lts
 
 returns : tie.Need-returns
 unfolding levelsIn

@@ -11,25 +11,18 @@ use Rattle.encodings.proofs.Levels.{levels-push, levels-length}
 use borrow.Author.Needs.{needs}
 use Rattle.encodings.proofs.parser.open.Statement.{statement}
 use Rattle.encodings.proofs.parser.open.Tie as tie
-use Rattle.encodings.proofs.parser.open.Reads as reads
-use Rattle.encodings.proofs.parser.open.Lts as lts
 
 returns : tie.Need-returns
-returns c = sym (choose-false _ _ (le-ltb (length (levelsOf (c .before .before .args .p))) 32 (omega (arith, levels-length (c .before .before .args .p .depth) (c .before .before .args .p .levels)))))
-
-add-t6 : tie.Need-add-t6
-add-t6 c = search needs
-
-mul-t8 : tie.Need-mul-t8
-mul-t8 c = search needs
-
-add-t9 : tie.Need-add-t9
-add-t9 c = search needs
+returns c =
+    let a = c .before .before .args in
+    sym (choose-false _ _ (le-ltb (length (levelsOf (a .p))) 32 (omega (arith, levels-length (a .p .depth) (a .p .levels)))))
 
 returns-2 : tie.Need-returns-2
-returns-2 c = ap (λ (ls : List ℕ). value (kept (c .before .before .before .before .args .mode) ls (c .before .before .before .before .args .p .types) (c .before .before .before .before .args .p .start) (c .before .before .before .before .args .p .offset)))
-    (levels-push (c .before .before .before .before .args .p .depth) (c .before .before .before .before .args .p .levels) (c .before .before .before .before .args .kind) (omega arith) (c .before .before .before .before .pre))
-    ∙ sym (choose-true _ _ (lt-ltb (length (levelsOf (c .before .before .before .before .args .p))) 32 (omega (arith, levels-length (c .before .before .before .before .args .p .depth) (c .before .before .before .before .args .p .levels)))))
+returns-2 c =
+    let a = c .before .before .before .before .args in
+    ap (λ (ls : List ℕ). value (kept (a .mode) ls (a .p .types) (a .p .start) (a .p .offset)))
+    (levels-push (a .p .depth) (a .p .levels) (a .kind) (omega arith) (c .before .before .before .before .pre))
+    ∙ sym (choose-true _ _ (lt-ltb (length (levelsOf (a .p))) 32 (omega (arith, levels-length (a .p .depth) (a .p .levels)))))
 
 pub open-spec : {M : Type 1} → statement M
-open-spec = tie.close (tie.spec returns add-t6 mul-t8 add-t9 returns-2)
+open-spec = tie.close (tie.spec returns (λ c. search needs) (λ c. search needs) (λ c. search needs) returns-2)

@@ -1,5 +1,5 @@
 use Prim.Native.Nat.{_-_}
-use mathlib.Core.Path.{_≡_, ap, sym, _∙_}
+use mathlib.Core.Path.{ap, sym, _∙_}
 use lib.ListN.{length}
 use native.Mathlib.Omega.{arith}
 use Rattle.reads.specs.Answer.{wordOutcome}
@@ -8,13 +8,6 @@ use Rattle.encodings.proofs.Reached.{Reached, reached-first, reached-ty
 use borrow.Author.Needs.{needs}
 use Rattle.encodings.proofs.reading.read_types.Statement.{statement}
 use Rattle.encodings.proofs.reading.read_types.Tie as tie
-use Rattle.encodings.proofs.reading.read_types.Reads as reads
-use Rattle.encodings.proofs.reading.read_types.Lts as lts
-use Rattle.encodings.proofs.parser.finish.Reads as finish-reads
-use Rattle.encodings.proofs.parser.first.Reads as first-reads
-use Rattle.encodings.proofs.parser.step.Reads as step-reads
-use Rattle.encodings.proofs.reading.put_before.Reads as put-before-reads
-use Rattle.encodings.proofs.reading.put_row.Reads as put-row-reads
 
 abbrev Inv-loop : tie.InvT-loop
 Inv-loop text buffer₀ p₀ i₀ buffer p i = Reached text buffer₀ buffer p i
@@ -22,65 +15,68 @@ Inv-loop text buffer₀ p₀ i₀ buffer p i = Reached text buffer₀ buffer p i
 abbrev μ-loop : tie.MeasureT-loop
 μ-loop text buffer₀ p₀ i₀ buffer p i = length text - i
 
-first-requires : tie.Need-first-requires Inv-loop μ-loop
-first-requires c κs = search needs
-
 loop-holds : tie.Need-loop-holds Inv-loop μ-loop
 loop-holds c = reached-first _ _ _ (c .first .ensures)
 
-shared-slice-read-step : tie.Need-shared-slice-read-step Inv-loop μ-loop
-shared-slice-read-step c = search needs
-
 step-requires : tie.Need-step-requires Inv-loop μ-loop
-step-requires c κs = reached-types (c .before .before .loop .inv) (omega (arith, c .before .before .loop .inv .within))
-
-enum-known-next : tie.Need-enum-known-next Inv-loop μ-loop
-enum-known-next c = search needs
+step-requires c κs =
+    let l = c .before .before .loop in reached-types (l .inv) (omega (arith, l .inv .within))
 
 put-before-requires : tie.Need-put-before-requires Inv-loop μ-loop
-put-before-requires c κs = reached-ordered (c .before .before .before .before .before .before .before .loop .inv)
-
-enum-known-m : tie.Need-enum-known-m Inv-loop μ-loop
-enum-known-m c = search needs
+put-before-requires c κs =
+    reached-ordered (c .before .before .before .before .before .before .before .loop .inv)
 
 same-length : tie.Need-same-length Inv-loop μ-loop
 same-length c = c .before .before .before .before .before .before .loop .inv .same
 
 returns : tie.Need-returns Inv-loop μ-loop
-returns c = reached-missing (c .before .before .before .before .before .before .loop .inv) (c .before .before .before .before .before .loop-test .taken) (c .before .m .given .0 .0) (ap stepOutcome (sym (c .before .m .given .1)) ∙ c .before .before .before .step .ensures)
-
-add-i : tie.Need-add-i Inv-loop μ-loop
-add-i c = search needs
-
-loop-less : tie.Need-loop-less Inv-loop μ-loop
-loop-less c = omega arith
+returns c =
+    let l = c .before .before .before .before .before .before .loop in
+    let step = c .before .before .before .step in
+    let m = c .before .m in
+    reached-missing (l .inv) (c .before .before .before .before .before .loop-test .taken)
+    (m .given .0 .0) (ap stepOutcome (sym (m .given .1)) ∙ step .ensures)
 
 loop-again : tie.Need-loop-again Inv-loop μ-loop
-loop-again c = reached-next (c .before .before .before .before .before .before .before .before .before .before .loop .inv) (c .before .before .before .before .before .before .before .before .before .loop-test .taken) (c .before .before .before .before .before .next .given .0 .0) (ap stepOutcome (sym (c .before .before .before .before .before .next .given .1)) ∙ c .before .before .before .before .before .before .before .step .ensures) (c .before .before .put-before .ensures)
+loop-again c =
+    let l = c .before .before .before .before .before .before .before .before .before .before .loop in
+    let step = c .before .before .before .before .before .before .before .step in
+    let next = c .before .before .before .before .before .next in
+    let put-before = c .before .before .put-before in
+    reached-next (l .inv) (c .before .before .before .before .before .before .before .before .before .loop-test .taken)
+    (next .given .0 .0) (ap stepOutcome (sym (next .given .1)) ∙ step .ensures) (put-before .ensures)
 
 finish-requires : tie.Need-finish-requires Inv-loop μ-loop
 finish-requires c κs = reached-types (c .before .loop .inv) (omega (arith, c .before .loop .inv .within))
 
-enum-known-count : tie.Need-enum-known-count Inv-loop μ-loop
-enum-known-count c = search needs
-
 put-row-requires : tie.Need-put-row-requires Inv-loop μ-loop
 put-row-requires c κs = reached-ordered (c .before .before .before .before .before .before .loop .inv)
 
-enum-known-m-2 : tie.Need-enum-known-m-2 Inv-loop μ-loop
-enum-known-m-2 c = search needs
-
 same-length-2 : tie.Need-same-length-2 Inv-loop μ-loop
-same-length-2 c = c .before .before .put-row .ensures .same ∙ c .before .before .before .before .before .before .before .before .before .loop .inv .same
+same-length-2 c =
+    let l = c .before .before .before .before .before .before .before .before .before .loop in
+    let put-row = c .before .before .put-row in
+    put-row .ensures .same ∙ l .inv .same
 
 returns-2 : tie.Need-returns-2 Inv-loop μ-loop
-returns-2 c = reached-end (c .before .before .before .before .before .before .before .before .before .loop .inv) (c .before .before .before .before .before .before .before .before .loop-test .left) (c .before .before .before .before .before .count .given .0 .0) (ap wordOutcome (sym (c .before .before .before .before .before .count .given .1)) ∙ c .before .before .before .before .before .before .before .finish .ensures) (c .before .before .put-row .ensures)
+returns-2 c =
+    let l = c .before .before .before .before .before .before .before .before .before .loop in
+    let finish = c .before .before .before .before .before .before .before .finish in
+    let count = c .before .before .before .before .before .count in
+    let put-row = c .before .before .put-row in
+    reached-end (l .inv) (c .before .before .before .before .before .before .before .before .loop-test .left)
+    (count .given .0 .0) (ap wordOutcome (sym (count .given .1)) ∙ finish .ensures) (put-row .ensures)
 
 same-length-3 : tie.Need-same-length-3 Inv-loop μ-loop
 same-length-3 c = c .before .before .before .before .before .loop .inv .same
 
 returns-3 : tie.Need-returns-3 Inv-loop μ-loop
-returns-3 c = reached-end-missing (c .before .before .before .before .before .loop .inv) (c .before .before .before .before .loop-test .left) (c .before .m2 .given .0 .0) (ap wordOutcome (sym (c .before .m2 .given .1)) ∙ c .before .before .before .finish .ensures)
+returns-3 c =
+    let l = c .before .before .before .before .before .loop in
+    let finish = c .before .before .before .finish in
+    let m = c .before .m2 in
+    reached-end-missing (l .inv) (c .before .before .before .before .loop-test .left)
+    (m .given .0 .0) (ap wordOutcome (sym (m .given .1)) ∙ finish .ensures)
 
 pub read-types-spec : {M : Type 1} → statement M
 read-types-spec =
@@ -88,22 +84,22 @@ read-types-spec =
     (tie.spec
     Inv-loop
     μ-loop
-    first-requires
+    (λ c κs. search needs)
     loop-holds
-    shared-slice-read-step
+    (λ c. search needs)
     step-requires
-    enum-known-next
+    (λ c. search needs)
     put-before-requires
-    enum-known-m
+    (λ c. search needs)
     same-length
     returns
-    add-i
-    loop-less
+    (λ c. search needs)
+    (λ c. omega arith)
     loop-again
     finish-requires
-    enum-known-count
+    (λ c. search needs)
     put-row-requires
-    enum-known-m-2
+    (λ c. search needs)
     same-length-2
     returns-2
     same-length-3

@@ -1,11 +1,8 @@
 use mathlib.Core.Path.{sym}
 use borrow.Author.Tests.{eq-eqb, ne-eqb}
 use Rattle.reads.proofs.Tests.{choose-true, choose-false}
-use borrow.Author.Needs.{needs}
 use Rattle.encodings.proofs.reading.type_end.Statement.{statement}
 use Rattle.encodings.proofs.reading.type_end.Tie as tie
-use Rattle.encodings.proofs.reading.type_end.Reads as reads
-use Rattle.encodings.proofs.reading.type_end.Lts as lts
 
 returns : tie.Need-returns
 returns c = sym (choose-true _ _ (eq-eqb _ _ (c .if1 .taken)))

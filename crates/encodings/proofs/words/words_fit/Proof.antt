@@ -2,11 +2,8 @@ use Prim.Native.Nat.{_/_, _*_}
 use native.Mathlib.Omega.{arith}
 use Rattle.reads.proofs.Tests.{le-same}
 use Rattle.encodings.specs.Words.{wordsFit}
-use borrow.Author.Needs.{needs}
 use Rattle.encodings.proofs.words.words_fit.Statement.{statement}
 use Rattle.encodings.proofs.words.words_fit.Tie as tie
-use Rattle.encodings.proofs.words.words_fit.Reads as reads
-use Rattle.encodings.proofs.words.words_fit.Lts as lts
 
 returns : tie.Need-returns
 unfolding wordsFit
