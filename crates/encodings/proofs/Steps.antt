@@ -4,7 +4,7 @@ use mathlib.Core.Path.{_≡_, ap, sym, _∙_}
 use mathlib.Core.List.{List, [], _∷_}
 use lib.ListN.{getD}
 use Rattle.reads.specs.Outcome.{Outcome, value}
-use Rattle.encodings.specs.Parser.{Kept, kept, closers, levelsIn, levelsOf, keptOf, begun, inside, followed, stepAs, endOf, finishIn, finishOf}
+use Rattle.encodings.specs.Parser.{Kept, kept, closers, levelsIn, levelsOf, keptIn, begun, inside, followed, stepAs, endOf, finishAs}
 use Rattle.encodings.specs.Machine.{outside}
 use Rattle.encodings.specs.declared.bytes.Class.{Class}
 use Rattle.encodings.specs.declared.parser.Mode.{Mode}
@@ -28,7 +28,7 @@ abbrev endFrom : Kept → Outcome ℕ
 endFrom (kept m ls k s o) = endOf ls k
 
 -- q is a parser without its innermost pointers: ls are the levels that are left.
-module _ (q : Parser) {m : Mode} {ls : List ℕ} {k s o : ℕ} (e : keptOf q ≡ kept m ls k s o) where
+module _ (q : Parser) {m : Mode} {ls : List ℕ} {k s o : ℕ} (e : keptIn m q ≡ kept m ls k s o) where
   none-left : q .depth ≡ 0 → levelsOf q ≡ []
   none-left h = levels-none (q .depth) (q .levels) h
 
@@ -53,11 +53,11 @@ module _ (q : Parser) {m : Mode} {ls : List ℕ} {k s o : ℕ} (e : keptOf q ≡
   end-inner h = ap (λ (x : List ℕ). endOf x (q .types)) (sym (some-left h)) ∙ ap endFrom e
 
 -- What a function promises in one mode, or for one class of byte, is what `step`, `finish` and `begin` promise in it.
-pub step-in : (p : Parser) (b i : ℕ) {m : Mode} {o : Outcome Kept} → p .mode ≡ m → o ≡ stepAs m p b i → o ≡ stepAs (p .mode) p b i
+pub step-in : (p : Parser) (b i : ℕ) {m k : Mode} {o : Outcome Kept} → m ≡ k → o ≡ stepAs k p b i → o ≡ stepAs m p b i
 step-in p b i e h = h ∙ ap (λ (m : Mode). stepAs m p b i) (sym e)
 
-pub finish-in : (p : Parser) {m : Mode} {o : Outcome ℕ} → p .mode ≡ m → o ≡ finishIn m (levelsOf p) (p .types) → o ≡ finishOf p
-finish-in p e h = h ∙ ap (λ (m : Mode). finishIn m (levelsOf p) (p .types)) (sym e)
+pub finish-in : (p : Parser) {m k : Mode} {o : Outcome ℕ} → m ≡ k → o ≡ finishAs k p → o ≡ finishAs m p
+finish-in p e h = h ∙ ap (λ (m : Mode). finishAs m p) (sym e)
 
 pub begin-of : (p : Parser) {c k d : Class} {o : Outcome Kept} → k ≡ c → k ≡ d → o ≡ begun (levelsOf p) (p .types) (p .start) (p .offset) c
     → o ≡ begun (levelsOf p) (p .types) (p .start) (p .offset) d

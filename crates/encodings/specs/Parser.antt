@@ -37,15 +37,11 @@ levelsIn (suc n) s = getD closers (s % 4) 0 ∷ levelsIn n (s / 4)
 abbrev pub levelsOf : Parser → List ℕ
 levelsOf p = levelsIn (p .depth) (p .levels)
 
--- A parser in another mode.
 abbrev pub keptIn : Mode → Parser → Kept
 keptIn m p = kept m (levelsOf p) (p .types) (p .start) (p .offset)
 
-abbrev pub keptOf : Parser → Kept
-keptOf p = keptIn (p .mode) p
-
 abbrev pub stepOutcome : Next → Outcome Kept
-stepOutcome (next.On p) = value (keptOf p)
+stepOutcome (next.On m p) = value (keptIn m p)
 stepOutcome (next.Missing m) = missed m
 
 -- A level that the byte c closes, 32 at most.
@@ -105,7 +101,6 @@ stepIn mode.AtSign ls k s o b i = choose (quotedByte b) (followed (belowPointers
 stepIn mode.Ended ls k s o b i = followed (belowPointers ls) k s o b i
 stepIn mode.Offset ls k s o b i = choose (digitByte b) (value (kept mode.Offset ls k s o)) (begun [] (k + 1) i 0 (classOf b))
 
--- A step in the mode m.
 abbrev pub stepAs : Mode → Parser → ℕ → ℕ → Outcome Kept
 stepAs m p b i = stepIn m (levelsOf p) (p .types) (p .start) (p .offset) b i
 
@@ -127,8 +122,8 @@ finishIn mode.AtSign ls k = endOf (belowPointers ls) k
 finishIn mode.Ended ls k = endOf (belowPointers ls) k
 finishIn mode.Offset ls k = value (k + 1)
 
-abbrev pub finishOf : Parser → Outcome ℕ
-finishOf p = finishIn (p .mode) (levelsOf p) (p .types)
+abbrev pub finishAs : Mode → Parser → Outcome ℕ
+finishAs m p = finishIn m (levelsOf p) (p .types)
 
 -- ---- Words
 

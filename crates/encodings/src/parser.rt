@@ -1,4 +1,4 @@
-// A parser of type encodings: its state, and a step for each byte.
+// A parser of type encodings: what it keeps of the text before, and a step for each byte.
 use crate::bytes::Class;
 use crate::bytes::class_of;
 use crate::bytes::in_name;
@@ -15,7 +15,7 @@ ghost use Rattle.reads.specs.Outcome.{value, choose};
 ghost use Rattle.reads.specs.Answer.{wordOutcome};
 ghost use Rattle.encodings.specs.Grammar.{digitByte};
 ghost use Rattle.encodings.specs.Machine.{outside, classOf};
-ghost use Rattle.encodings.specs.Parser.{closers, levelsOf, kept, keptIn, keptOf, stepOutcome, opened, begun, belowPointers, closes, below, inside, followed, stepAs, endOf, finishOf};
+ghost use Rattle.encodings.specs.Parser.{closers, levelsOf, kept, keptIn, stepOutcome, opened, begun, belowPointers, closes, below, inside, followed, stepAs, endOf, finishAs};
 
 // What was read last, and so what may come.
 pub enum Mode {
@@ -43,8 +43,8 @@ pub enum Mode {
     Offset,
 }
 
+// Where a text stands.
 pub struct Parser {
-    pub mode: Mode,
     // how many levels are open, 32 at most, and two bits for each of them, its kind, the innermost lowest
     pub depth: usize,
     pub levels: u64,
@@ -54,9 +54,9 @@ pub struct Parser {
     pub offset: usize,
 }
 
-// What a byte leads to: the parser goes on, or the text is absent or refused.
+// What a byte leads to: the text goes on, or is absent or refused.
 pub enum Next {
-    On(Parser),
+    On(Mode, Parser),
     Missing(Missing),
 }
 
@@ -73,10 +73,9 @@ const CLOSERS: [u8; 4] = *b"^]})";
 
 // Before the first byte.
 pub fn first() -> Parser
-    ensures { λ r. ⌜ keptOf r ≡ kept Mode.Wanted [] 0 0 0 ⌝ }
+    ensures { λ r. ⌜ keptIn Mode.Wanted r ≡ kept Mode.Wanted [] 0 0 0 ⌝ }
 {
     Parser {
-        mode: Mode::Wanted,
         depth: 0,
         levels: 0,
         types: 0,
@@ -92,20 +91,6 @@ fn outside() -> Next
     Next::Missing(Missing::Absent(Reason::Malformed))
 }
 
-// Another mode, and nothing else.
-fn on(p: Parser, mode: Mode) -> Next
-    ensures { λ r. ⌜ stepOutcome r ≡ value (keptIn mode p) ⌝ }
-{
-    Next::On(Parser {
-        mode,
-        depth: p.depth,
-        levels: p.levels,
-        types: p.types,
-        start: p.start,
-        offset: p.offset,
-    })
-}
-
 // One level more, of a kind.
 fn open(p: Parser, kind: u64, mode: Mode) -> Next
     requires { ⌜ kind < 4 ⌝ }
@@ -114,14 +99,14 @@ fn open(p: Parser, kind: u64, mode: Mode) -> Next
     if p.depth >= 32 {
         return Next::Missing(Missing::Refused(17));
     }
-    Next::On(Parser {
-        mode,
+    let q = Parser {
         depth: p.depth + 1,
         levels: p.levels % 0x4000_0000_0000_0000 * 4 + kind,
         types: p.types,
         start: p.start,
         offset: p.offset,
-    })
+    };
+    Next::On(mode, q)
 }
 
 // The innermost level is closed.
@@ -129,14 +114,14 @@ fn close(p: Parser) -> Next
     requires { ⌜ 0 < p .depth ⌝ }
     ensures { λ r. ⌜ stepOutcome r ≡ value (kept Mode.Ended (below (levelsOf p)) (p .types) (p .start) (p .offset)) ⌝ }
 {
-    Next::On(Parser {
-        mode: Mode::Ended,
+    let q = Parser {
         depth: p.depth - 1,
         levels: p.levels / 4,
         types: p.types,
         start: p.start,
         offset: p.offset,
-    })
+    };
+    Next::On(Mode::Ended, q)
 }
 
 // Whether the byte closes the innermost level.
@@ -152,7 +137,7 @@ fn closes(p: Parser, byte: u8) -> bool
 
 // The pointers that are innermost end with the type that ended.
 fn below_pointers(p: Parser) -> Parser
-    ensures { λ r. ⌜ keptOf r ≡ kept (p .mode) (belowPointers (levelsOf p)) (p .types) (p .start) (p .offset) ⌝ }
+    ensures { λ r. ⌜ keptIn Mode.Ended r ≡ kept Mode.Ended (belowPointers (levelsOf p)) (p .types) (p .start) (p .offset) ⌝ }
 {
     let mut depth = p.depth;
     let mut levels = p.levels;
@@ -163,9 +148,7 @@ fn below_pointers(p: Parser) -> Parser
         depth -= 1;
         levels /= 4;
     }
-    let mode = p.mode;
     Parser {
-        mode,
         depth,
         levels,
         types: p.types,
@@ -179,10 +162,10 @@ fn begin(p: Parser, byte: u8) -> Next
     ensures { λ r. ⌜ stepOutcome r ≡ begun (levelsOf p) (p .types) (p .start) (p .offset) (classOf byte) ⌝ }
 {
     match class_of(byte) {
-        Class::Basic => on(p, Mode::Ended),
-        Class::Qualifier => on(p, Mode::Wanted),
-        Class::Object => on(p, Mode::AtSign),
-        Class::BitField => on(p, Mode::Sizing),
+        Class::Basic => Next::On(Mode::Ended, p),
+        Class::Qualifier => Next::On(Mode::Wanted, p),
+        Class::Object => Next::On(Mode::AtSign, p),
+        Class::BitField => Next::On(Mode::Sizing, p),
         Class::Pointer => open(p, POINTER, Mode::Wanted),
         Class::Array => open(p, ARRAY, Mode::Counting),
         Class::Structure => open(p, STRUCTURE, Mode::Naming),
@@ -197,7 +180,6 @@ fn next_type(p: Parser, byte: u8, at: usize) -> Next
     ensures { λ r. ⌜ stepOutcome r ≡ begun [] (p .types + 1) at 0 (classOf byte) ⌝ }
 {
     let next = Parser {
-        mode: Mode::Wanted,
         depth: 0,
         levels: 0,
         types: p.types + 1,
@@ -213,14 +195,14 @@ fn between(p: Parser, byte: u8, at: usize) -> Next
     ensures { λ r. ⌜ stepOutcome r ≡ followed [] (p .types) (p .start) (p .offset) byte at ⌝ }
 {
     if is_digit(byte) {
-        return Next::On(Parser {
-            mode: Mode::Offset,
+        let q = Parser {
             depth: 0,
             levels: 0,
             types: p.types,
             start: p.start,
             offset: at,
-        });
+        };
+        return Next::On(Mode::Offset, q);
     }
     next_type(p, byte, at)
 }
@@ -256,7 +238,7 @@ fn digit(p: Parser, byte: u8, mode: Mode) -> Next
     ensures { λ r. ⌜ stepOutcome r ≡ choose (digitByte byte) (value (keptIn mode p)) outside ⌝ }
 {
     if is_digit(byte) {
-        return on(p, mode);
+        return Next::On(mode, p);
     }
     outside()
 }
@@ -265,7 +247,7 @@ fn in_counted(p: Parser, byte: u8) -> Next
     ensures { λ r. ⌜ stepOutcome r ≡ stepAs Mode.Counted p byte 0 ⌝ }
 {
     if is_digit(byte) {
-        return on(p, Mode::Counted);
+        return Next::On(Mode::Counted, p);
     }
     begin(p, byte)
 }
@@ -274,10 +256,10 @@ fn in_naming(p: Parser, byte: u8) -> Next
     ensures { λ r. ⌜ stepOutcome r ≡ stepAs Mode.Naming p byte 0 ⌝ }
 {
     if in_name(byte) {
-        return on(p, Mode::Naming);
+        return Next::On(Mode::Naming, p);
     }
     if byte == b'=' {
-        return on(p, Mode::Named);
+        return Next::On(Mode::Named, p);
     }
     if closes(p, byte) {
         return close(p);
@@ -298,9 +280,9 @@ fn in_quoting(p: Parser, byte: u8) -> Next
     ensures { λ r. ⌜ stepOutcome r ≡ stepAs Mode.Quoting p byte 0 ⌝ }
 {
     if in_quotes(byte) {
-        return on(p, Mode::Quoting);
+        return Next::On(Mode::Quoting, p);
     }
-    on(p, Mode::Ended)
+    Next::On(Mode::Ended, p)
 }
 
 fn in_sized(p: Parser, byte: u8, at: usize) -> Next
@@ -308,7 +290,7 @@ fn in_sized(p: Parser, byte: u8, at: usize) -> Next
     ensures { λ r. ⌜ stepOutcome r ≡ stepAs Mode.Sized p byte at ⌝ }
 {
     if is_digit(byte) {
-        return on(p, Mode::Sized);
+        return Next::On(Mode::Sized, p);
     }
     after(p, byte, at)
 }
@@ -320,7 +302,7 @@ fn at_sign(p: Parser, byte: u8, at: usize) -> Next
     if in_quotes(byte) {
         return after(p, byte, at);
     }
-    on(p, Mode::Quoting)
+    Next::On(Mode::Quoting, p)
 }
 
 fn in_offset(p: Parser, byte: u8, at: usize) -> Next
@@ -328,17 +310,16 @@ fn in_offset(p: Parser, byte: u8, at: usize) -> Next
     ensures { λ r. ⌜ stepOutcome r ≡ stepAs Mode.Offset p byte at ⌝ }
 {
     if is_digit(byte) {
-        return on(p, Mode::Offset);
+        return Next::On(Mode::Offset, p);
     }
     next_type(p, byte, at)
 }
 
 // The byte at `at` is read.
-pub fn step(p: Parser, byte: u8, at: usize) -> Next
+pub fn step(mode: Mode, p: Parser, byte: u8, at: usize) -> Next
     requires { ⌜ p .types < 2 ^ 63 ⌝ }
-    ensures { λ r. ⌜ stepOutcome r ≡ stepAs (p .mode) p byte at ⌝ }
+    ensures { λ r. ⌜ stepOutcome r ≡ stepAs mode p byte at ⌝ }
 {
-    let mode = p.mode;
     match mode {
         Mode::Wanted => begin(p, byte),
         Mode::Counting => digit(p, byte, Mode::Counted),
@@ -373,11 +354,10 @@ fn end(p: Parser) -> Word
 }
 
 // How many types there are where the text ends.
-pub fn finish(p: Parser) -> Word
+pub fn finish(mode: Mode, p: Parser) -> Word
     requires { ⌜ p .types < 2 ^ 63 ⌝ }
-    ensures { λ r. ⌜ wordOutcome r ≡ finishOf p ⌝ }
+    ensures { λ r. ⌜ wordOutcome r ≡ finishAs mode p ⌝ }
 {
-    let mode = p.mode;
     match mode {
         Mode::Wanted => malformed(),
         Mode::Counting => malformed(),

@@ -1,4 +1,5 @@
 // A text read to its end, and the words of its outermost types.
+use crate::parser::Mode;
 use crate::parser::Next;
 use crate::parser::Parser;
 use crate::parser::finish;
@@ -51,12 +52,14 @@ fn put_before(p: Parser, next: Parser, at: usize, buffer: &mut [u64])
 pub fn read_types(text: &[u8], buffer: &mut [u64]) -> Word
     ensures { λ r. ⌜ Read (before text) (before buffer) (wordOutcome r) (after buffer) ⌝ }
 {
+    let mut mode = Mode::Wanted;
     let mut p = first();
     let mut i = 0;
     while i < text.len() {
-        match step(p, text[i], i) {
-            Next::On(next) => {
+        match step(mode, p, text[i], i) {
+            Next::On(next_mode, next) => {
                 put_before(p, next, i, buffer);
+                mode = next_mode;
                 p = next;
             }
             Next::Missing(m) => {
@@ -65,7 +68,7 @@ pub fn read_types(text: &[u8], buffer: &mut [u64]) -> Word
         }
         i += 1;
     }
-    match finish(p) {
+    match finish(mode, p) {
         Word::Value(count) => {
             put_row(p, i, buffer);
             Word::Value(count)

@@ -1,9 +1,10 @@
 use mathlib.Core.Path.{_≡_, refl, ap, _∙_}
-use Rattle.encodings.specs.Parser.{levelsIn, levelsOf, belowPointers, kept}
 use mathlib.Core.List.{List}
 use Prim.Native.Nat.{ℕ}
-use Rattle.encodings.proofs.Levels.{pointer-top, other-top, none-below}
 use native.Mathlib.Omega.{arith}
+use Rattle.encodings.specs.Parser.{levelsIn, levelsOf, belowPointers, kept}
+use Rattle.encodings.specs.declared.parser.Mode.the-variants as mode
+use Rattle.encodings.proofs.Levels.{pointer-top, other-top, none-below}
 use borrow.Author.Needs.{needs}
 use Rattle.encodings.proofs.parser.below_pointers.Statement.{statement}
 use Rattle.encodings.proofs.parser.below_pointers.Tie as tie
@@ -26,14 +27,14 @@ returns : tie.Need-returns Inv-loop μ-loop
 returns c =
     let a = c .before .before .args in
     let l = c .before .loop in
-    ap (λ (ls : List ℕ). kept (a .p .mode) ls (a .p .types) (a .p .start) (a .p .offset))
+    ap (λ (ls : List ℕ). kept mode.Ended ls (a .p .types) (a .p .start) (a .p .offset))
     (none-below (l .depth) (l .levels) (omega arith) ∙ l .inv)
 
 returns-2 : tie.Need-returns-2 Inv-loop μ-loop
 returns-2 c =
     let a = c .before .before .before .args in
     let l = c .before .before .loop in
-    ap (λ (ls : List ℕ). kept (a .p .mode) ls (a .p .types) (a .p .start) (a .p .offset))
+    ap (λ (ls : List ℕ). kept mode.Ended ls (a .p .types) (a .p .start) (a .p .offset))
     (other-top (l .depth) (l .levels) (c .before .loop-test .taken) (c .if1 .taken) ∙ l .inv)
 
 pub below-pointers-spec : {M : Type 1} → statement M

@@ -12,7 +12,8 @@ use Rattle.encodings.proofs.parser.close.Tie as tie
 returns : tie.Need-returns
 returns c =
     let a = c .before .before .args in
-    ap (λ (ls : List ℕ). value (kept mode.Ended ls (a .p .types) (a .p .start) (a .p .offset))) (levels-below (a .p .depth) (a .p .levels) (c .before .before .pre))
+    ap (λ (ls : List ℕ). value (kept mode.Ended ls (a .p .types) (a .p .start) (a .p .offset)))
+    (levels-below (a .p .depth) (a .p .levels) (c .before .before .pre))
 
 pub close-spec : {M : Type 1} → statement M
 close-spec = tie.close (tie.spec (λ c. search needs) returns)

@@ -1,5 +1,5 @@
-use Rattle.encodings.proofs.Levels.{closes-none, closes-top}
 use native.Mathlib.Omega.{arith}
+use Rattle.encodings.proofs.Levels.{closes-none, closes-top}
 use borrow.Author.Needs.{needs}
 use Rattle.encodings.proofs.parser.closes.Statement.{statement}
 use Rattle.encodings.proofs.parser.closes.Tie as tie

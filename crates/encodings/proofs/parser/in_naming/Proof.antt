@@ -10,7 +10,7 @@ returns : tie.Need-returns
 returns c = search (choices, needs)
 
 returns-2 : tie.Need-returns-2
-returns-2 c = search (choices, eq-eqb, ne-eqb, needs)
+returns-2 c = search (choices, eq-eqb, needs)
 
 close-requires : tie.Need-close-requires
 close-requires c κs =
@@ -19,19 +19,17 @@ close-requires c κs =
     closes-open (a .p .depth) (a .p .levels) (a .byte) (sym (closes .ensures) ∙ c .if3 .taken)
 
 returns-3 : tie.Need-returns-3
-returns-3 c = search (choices, eq-eqb, ne-eqb, needs)
+returns-3 c = search (choices, ne-eqb, needs)
 
 returns-4 : tie.Need-returns-4
-returns-4 c = search (choices, eq-eqb, ne-eqb, needs)
+returns-4 c = search (choices, ne-eqb, needs)
 
 pub in-naming-spec : {M : Type 1} → statement M
 in-naming-spec =
     tie.close
     (tie.spec
     (λ c κs. search needs)
-    (λ c κs. search needs)
     returns
-    (λ c κs. search needs)
     returns-2
     (λ c κs. search needs)
     close-requires

@@ -10,5 +10,4 @@ returns-2 : tie.Need-returns-2
 returns-2 c = search (choices, needs)
 
 pub in-offset-spec : {M : Type 1} → statement M
-in-offset-spec =
-    tie.close (tie.spec (λ c κs. search needs) (λ c κs. search needs) returns (λ c κs. search needs) returns-2)
+in-offset-spec = tie.close (tie.spec (λ c κs. search needs) returns (λ c κs. search needs) returns-2)

@@ -10,21 +10,23 @@ use Rattle.encodings.proofs.reading.read_types.Statement.{statement}
 use Rattle.encodings.proofs.reading.read_types.Tie as tie
 
 abbrev Inv-loop : tie.InvT-loop
-Inv-loop text buffer₀ p₀ i₀ buffer p i = Reached text buffer₀ buffer p i
+Inv-loop text buffer₀ mode₀ p₀ i₀ buffer mode p i = Reached text buffer₀ buffer mode p i
 
 abbrev μ-loop : tie.MeasureT-loop
-μ-loop text buffer₀ p₀ i₀ buffer p i = length text - i
+μ-loop text buffer₀ mode₀ p₀ i₀ buffer mode p i = length text - i
 
 loop-holds : tie.Need-loop-holds Inv-loop μ-loop
 loop-holds c = reached-first _ _ _ (c .first .ensures)
 
 step-requires : tie.Need-step-requires Inv-loop μ-loop
 step-requires c κs =
-    let l = c .before .before .loop in reached-types (l .inv) (omega (arith, l .inv .within))
+    let l = c .before .before .loop in
+    reached-types (l .inv) (omega (arith, l .inv .within))
 
 put-before-requires : tie.Need-put-before-requires Inv-loop μ-loop
 put-before-requires c κs =
-    reached-ordered (c .before .before .before .before .before .before .before .loop .inv)
+    let l = c .before .before .before .before .before .before .before .loop in
+    reached-ordered (l .inv)
 
 same-length : tie.Need-same-length Inv-loop μ-loop
 same-length c = c .before .before .before .before .before .before .loop .inv .same
@@ -34,17 +36,17 @@ returns c =
     let l = c .before .before .before .before .before .before .loop in
     let step = c .before .before .before .step in
     let m = c .before .m in
-    reached-missing (l .inv) (c .before .before .before .before .before .loop-test .taken)
-    (m .given .0 .0) (ap stepOutcome (sym (m .given .1)) ∙ step .ensures)
+    reached-missing (l .inv) (c .before .before .before .before .before .loop-test .taken) (m .given .0 .0)
+    (ap stepOutcome (sym (m .given .1)) ∙ step .ensures)
 
 loop-again : tie.Need-loop-again Inv-loop μ-loop
 loop-again c =
     let l = c .before .before .before .before .before .before .before .before .before .before .loop in
     let step = c .before .before .before .before .before .before .before .step in
-    let next = c .before .before .before .before .before .next in
+    let next-mode = c .before .before .before .before .before .next-mode in
     let put-before = c .before .before .put-before in
-    reached-next (l .inv) (c .before .before .before .before .before .before .before .before .before .loop-test .taken)
-    (next .given .0 .0) (ap stepOutcome (sym (next .given .1)) ∙ step .ensures) (put-before .ensures)
+    reached-next (l .inv) (c .before .before .before .before .before .before .before .before .before .loop-test .taken) (next-mode .given .0 .0) (next-mode .given .0 .1 .0)
+    (ap stepOutcome (sym (next-mode .given .1)) ∙ step .ensures) (put-before .ensures)
 
 finish-requires : tie.Need-finish-requires Inv-loop μ-loop
 finish-requires c κs = reached-types (c .before .loop .inv) (omega (arith, c .before .loop .inv .within))
@@ -64,8 +66,8 @@ returns-2 c =
     let finish = c .before .before .before .before .before .before .before .finish in
     let count = c .before .before .before .before .before .count in
     let put-row = c .before .before .put-row in
-    reached-end (l .inv) (c .before .before .before .before .before .before .before .before .loop-test .left)
-    (count .given .0 .0) (ap wordOutcome (sym (count .given .1)) ∙ finish .ensures) (put-row .ensures)
+    reached-end (l .inv) (c .before .before .before .before .before .before .before .before .loop-test .left) (count .given .0 .0)
+    (ap wordOutcome (sym (count .given .1)) ∙ finish .ensures) (put-row .ensures)
 
 same-length-3 : tie.Need-same-length-3 Inv-loop μ-loop
 same-length-3 c = c .before .before .before .before .before .loop .inv .same
@@ -75,8 +77,8 @@ returns-3 c =
     let l = c .before .before .before .before .before .loop in
     let finish = c .before .before .before .finish in
     let m = c .before .m2 in
-    reached-end-missing (l .inv) (c .before .before .before .before .loop-test .left)
-    (m .given .0 .0) (ap wordOutcome (sym (m .given .1)) ∙ finish .ensures)
+    reached-end-missing (l .inv) (c .before .before .before .before .loop-test .left) (m .given .0 .0)
+    (ap wordOutcome (sym (m .given .1)) ∙ finish .ensures)
 
 pub read-types-spec : {M : Type 1} → statement M
 read-types-spec =
