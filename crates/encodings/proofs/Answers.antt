@@ -18,7 +18,7 @@ use Rattle.encodings.specs.Machine.{wanted, at, outside, tooDeep, parse}
 use Rattle.encodings.specs.Parser.{Read}
 use Rattle.encodings.specs.Words.{wordsFit, countFitting, typesOf, filledBy, typesLeft}
 use Rattle.encodings.proofs.Complete.{unique}
-use Rattle.encodings.proofs.Depth.{deeper, never-read, deeper-deep, outside-deep, Known, run-known}
+use Rattle.encodings.proofs.Depth.{seventeen-deeper, outside-unread, deeper-seventeen, outside-deep, Known, run-known}
 use Rattle.encodings.proofs.Reached.{missing-value}
 use Rattle.encodings.proofs.Shows.{counted-types}
 use Rattle.encodings.proofs.Sound.{first-good, sound}
@@ -103,11 +103,11 @@ says text buffer = go (parse 32 text) refl (run-known 32 text (at none wanted []
     go (absent why) e k =
         let q : parse 32 text ≡ outside = e ∙ ap (λ (x : Reason). absent x) k in
         let a = answers text buffer q in
-        says-absent (never-read 32 text q) (λ d. outside-deep (sym q ∙ deeper-deep 32 text d)) (sym (a .0)) (sym (a .1))
+        says-absent (outside-unread 32 text q) (λ d. outside-deep (sym q ∙ deeper-seventeen 32 text d)) (sym (a .0)) (sym (a .1))
     go (number n) e k =
         let q : parse 32 text ≡ tooDeep = e ∙ ap (λ (x : ℕ). number x) k in
         let a = answers text buffer q in
-        says-deeper (deeper 32 text q) (sym (a .0)) (sym (a .1))
+        says-deeper (seventeen-deeper 32 text q) (sym (a .0)) (sym (a .1))
 
 -- Nothing else can be said.
 fits-not-deep : (text : List ℕ) (ts : Types) → Reading text ts → nestingTypes ts ≤ 32 → Deeper 32 text → ⊥

@@ -284,9 +284,9 @@ module _ (l : ℕ) where
           }
 
   -- A text too deep for the machine opens a level beyond the limit.
-  pub deeper : (text : List ℕ) → parse l text ≡ tooDeep → Deeper l text
+  pub seventeen-deeper : (text : List ℕ) → parse l text ≡ tooDeep → Deeper l text
   unfolding run
-  deeper text q = go (deep-at text (at none wanted []) (first-good l) q)
+  seventeen-deeper text q = go (deep-at text (at none wanted []) (first-good l) q)
     where
       go : DeepAt (at none wanted []) text → Deeper l text
       go d =
@@ -342,16 +342,16 @@ module _ (l : ℕ) where
           (λ s. ap (λ (o : Outcome State). andThen o (λ y. run l (p ++ s) y)) e)
 
   -- A text that the machine refuses is outside the grammar.
-  pub never-read : (text : List ℕ) → parse l text ≡ outside → (ts : Types) → Reading text ts → ⊥
-  never-read text q ts r = test (ltb l (nestingTypes ts)) refl
+  pub outside-unread : (text : List ℕ) → parse l text ≡ outside → (ts : Types) → Reading text ts → ⊥
+  outside-unread text q ts r = test (ltb l (nestingTypes ts)) refl
     where
       test : (b : Bool) → ltb l (nestingTypes ts) ≡ b → ⊥
       test true e = outside-deep (sym q ∙ too-deep text ts r (ltb-true _ _ e))
       test false e = value-outside ts (sym (complete l text ts r (ltb-false _ _ e)) ∙ q)
 
   -- And it opens no level beyond the limit before it leaves the grammar.
-  pub deeper-deep : (text : List ℕ) → Deeper l text → parse l text ≡ tooDeep
-  deeper-deep text d = go (reach (d .before ++ d .opening ∷ []) (at none wanted []))
+  pub deeper-seventeen : (text : List ℕ) → Deeper l text → parse l text ≡ tooDeep
+  deeper-seventeen text d = go (reach (d .before ++ d .opening ∷ []) (at none wanted []))
     where
       joined : (s : List ℕ) → (d .before ++ d .opening ∷ []) ++ s ≡ d .before ++ d .opening ∷ s
       joined s = simp append-assoc
