@@ -62,17 +62,17 @@ closer union = code ")"
 
 infixl 20 _then_
 mutual
-  -- A type. Digits are a first one and the others.
+  -- A type, as Apple writes and calls it. Digits are a first one and the others.
   pub data Encoding : Type 0 where
     basic : ℕ → Encoding  -- one of `codes`
-    object : Encoding  -- @            an object
-    instance : List ℕ → Encoding  -- @"class"     an object of that class
-    bitField : ℕ → List ℕ → Encoding  -- bnum         a bit field of num bits
-    qualified : ℕ → Encoding → Encoding  -- r type ..    one of `qualifiers`, and the type it stands before
-    pointer : Encoding → Encoding  -- ^type        a pointer to type
-    array : ℕ → List ℕ → Encoding → Encoding  -- [num type]   an array
-    opaque : Composite → List ℕ → Encoding  -- {name}       a structure, or (name) a union, by its name alone
-    defined : Composite → List ℕ → Fields → Encoding  -- {name=type..} a structure, or (name=type..) a union
+    object : Encoding  -- `@`: an object
+    instance : List ℕ → Encoding  -- `@"name"`: an object of that class (not on Apple's page)
+    bitField : ℕ → List ℕ → Encoding  -- `bnum`: a bit field of num bits
+    qualified : ℕ → Encoding → Encoding  -- one of `qualifiers`, and the type that it stands before
+    pointer : Encoding → Encoding  -- `^type`: a pointer to type
+    array : ℕ → List ℕ → Encoding → Encoding  -- `[num type]`: an array
+    opaque : Composite → List ℕ → Encoding  -- `{name}`: a structure, or `(name)`: a union, without its types
+    defined : Composite → List ℕ → Fields → Encoding  -- `{name=type...}`: a structure, or `(name=type...)`: a union
 
   -- The types in a structure or union, the last one outermost.
   pub data Fields : Type 0 where

@@ -43,7 +43,7 @@ pub enum Mode {
     Offset,
 }
 
-// Where a text stands.
+// What is kept of the bytes before.
 pub struct Parser {
     // how many levels are open, 32 at most, and two bits for each of them, its kind, the innermost lowest
     pub depth: usize,
@@ -243,6 +243,7 @@ fn digit(p: Parser, byte: u8, mode: Mode) -> Next
     outside()
 }
 
+// In an array's count: a digit more, or the array's type.
 fn in_counted(p: Parser, byte: u8) -> Next
     ensures { λ r. ⌜ stepOutcome r ≡ stepAs Mode.Counted p byte 0 ⌝ }
 {
@@ -252,6 +253,7 @@ fn in_counted(p: Parser, byte: u8) -> Next
     begin(p, byte)
 }
 
+// In a name: a byte more, its `=`, or the closing bracket.
 fn in_naming(p: Parser, byte: u8) -> Next
     ensures { λ r. ⌜ stepOutcome r ≡ stepAs Mode.Naming p byte 0 ⌝ }
 {
@@ -267,6 +269,7 @@ fn in_naming(p: Parser, byte: u8) -> Next
     outside()
 }
 
+// After a name's `=`: the closing bracket, or the first type inside.
 fn in_named(p: Parser, byte: u8) -> Next
     ensures { λ r. ⌜ stepOutcome r ≡ stepAs Mode.Named p byte 0 ⌝ }
 {
@@ -276,6 +279,7 @@ fn in_named(p: Parser, byte: u8) -> Next
     begin(p, byte)
 }
 
+// In a quoted class: a byte more, or the closing quote.
 fn in_quoting(p: Parser, byte: u8) -> Next
     ensures { λ r. ⌜ stepOutcome r ≡ stepAs Mode.Quoting p byte 0 ⌝ }
 {
@@ -285,6 +289,7 @@ fn in_quoting(p: Parser, byte: u8) -> Next
     Next::On(Mode::Ended, p)
 }
 
+// In a bit field's digits: a digit more, or what comes after a type.
 fn in_sized(p: Parser, byte: u8, at: usize) -> Next
     requires { ⌜ p .types < 2 ^ 63 ⌝ }
     ensures { λ r. ⌜ stepOutcome r ≡ stepAs Mode.Sized p byte at ⌝ }
@@ -295,6 +300,7 @@ fn in_sized(p: Parser, byte: u8, at: usize) -> Next
     after(p, byte, at)
 }
 
+// After `@`: a quoted class, or what comes after a type.
 fn at_sign(p: Parser, byte: u8, at: usize) -> Next
     requires { ⌜ p .types < 2 ^ 63 ⌝ }
     ensures { λ r. ⌜ stepOutcome r ≡ stepAs Mode.AtSign p byte at ⌝ }
@@ -305,6 +311,7 @@ fn at_sign(p: Parser, byte: u8, at: usize) -> Next
     Next::On(Mode::Quoting, p)
 }
 
+// In a frame offset: a digit more, or the next type.
 fn in_offset(p: Parser, byte: u8, at: usize) -> Next
     requires { ⌜ p .types < 2 ^ 63 ⌝ }
     ensures { λ r. ⌜ stepOutcome r ≡ stepAs Mode.Offset p byte at ⌝ }
@@ -335,6 +342,7 @@ pub fn step(mode: Mode, p: Parser, byte: u8, at: usize) -> Next
     }
 }
 
+// The text ends outside the grammar.
 fn malformed() -> Word
     ensures { λ r. ⌜ wordOutcome r ≡ outside ⌝ }
 {
