@@ -25,7 +25,7 @@ use Rattle.encodings.specs.declared.parser.Next.the-variants as next
 pub data Kept : Type 0 where
   kept : Mode → List ℕ → ℕ → ℕ → ℕ → Kept
 
--- What closes a level, by its kind.
+-- What closes a level, by its kind: a pointer (nothing does), an array, a structure, a union.
 abbrev pub closers : List ℕ
 closers = ascii "^]})"
 
@@ -43,6 +43,8 @@ keptIn m p = kept m (levelsOf p) (p .types) (p .start) (p .offset)
 abbrev pub stepOutcome : Next → Outcome Kept
 stepOutcome (next.On m p) = value (keptIn m p)
 stepOutcome (next.Missing m) = missed m
+
+-- Below, ls are the levels, k the types before, s and o where this type and its offset start, b is the byte and i where it stands.
 
 -- A level that the byte c closes, 32 at most.
 abbrev pub opened : ℕ → Mode → List ℕ → ℕ → ℕ → ℕ → Outcome Kept
@@ -127,11 +129,11 @@ finishAs m p = finishIn m (levelsOf p) (p .types)
 
 -- ---- Words
 
--- Where a type ends that starts a row: at its frame offset, or with it.
+-- Where a type ends: at its frame offset, or where both end.
 abbrev pub typeEnd : ℕ → ℕ → ℕ
 typeEnd offset end = choose (eqb offset 0) end offset
 
--- The words of a type that starts at `from`, whose frame offset starts at `offset` (0: it has none) and which ends with it at `end`.
+-- The words of a type that starts at `from`; its frame offset starts at `offset` (0: it has none), and both end at `end`.
 abbrev pub row : ℕ → ℕ → ℕ → List ℕ
 row from offset end = from ∷ (typeEnd offset end - from) ∷ offset ∷ (end - typeEnd offset end) ∷ []
 
