@@ -2,6 +2,7 @@
 pub mod Header
 pub mod Ask
 pub mod Decode
+pub mod Asks
 pub mod Near
 pub mod Class
 pub mod Protocol
