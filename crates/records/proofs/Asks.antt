@@ -7,7 +7,7 @@ use Rattle.reads.specs.Outcome.{Outcome, value, absent, number, andThen, orElse
 use Rattle.reads.specs.declared.answer.Reason.{Reason}
 use Rattle.pointers.specs.Tables.{Tables}
 use Rattle.records.specs.Ask.{Ask, answer}
-use Rattle.records.specs.Asks.{ifValue, ifAbsent, asks, Each}
+use Rattle.records.specs.Asks.{ifValue, ifAbsent, asks, Within, itself, in-first, in-next, in-either, in-other, in-either-first, in-other-first, in-chosen, in-rejected, in-trial, Each}
 use Rattle.records.specs.Decode.{Decode, made, asked, after, either, eitherFirst, chosen, trial, triedOf, run}
 
 -- What holds of each of a list holds of each of its parts, and so does what follows from it.
@@ -101,3 +101,24 @@ module _ (t u : Tables) where
       h (λ g. asks-decide d g) (λ g. asks-decide e g)
   asks-decide (trial d) h =
       let s = asks-decide d h in record { outcome = ap triedOf (s .outcome); questions = s .questions }
+
+-- What is run within a definition asks no more than that.
+module _ (t : Tables) (P : Ask → Type 0) where
+  after-value : {B : Type 0} {o : Outcome B} {b : B} (us : B → List Ask) → o ≡ value b → Each P (ifValue o us) → Each P (us b)
+  after-value us q h = rw q at h
+
+  after-absent : {B : Type 0} {o : Outcome B} {r : Reason} (us : List Ask) → o ≡ absent r → Each P (ifAbsent o us) → Each P us
+  after-absent us q h = rw q at h
+
+  pub within-asks : {A B : Type 0} {d : Decode A} {e : Decode B} → Within t d B e → Each P (asks t e) → Each P (asks t d)
+  unfolding asks choose
+  within-asks itself h = h
+  within-asks (in-first {e = e} f w) h = within-asks w (each-left P (asks t e) _ h)
+  within-asks (in-next {e = e} {f = f} q w) h = within-asks w (after-value (λ b. asks t (f b)) q (each-right P (asks t e) _ h))
+  within-asks (in-either {e = e} other w) h = within-asks w (each-left P (asks t e) _ h)
+  within-asks (in-other {e = e} {other = other} q w) h = within-asks w (after-absent (asks t other) q (each-right P (asks t e) _ h))
+  within-asks (in-either-first {e = e} other w) h = within-asks w (each-left P (asks t e) _ h)
+  within-asks (in-other-first {e = e} {other = other} q w) h = within-asks w (after-absent (asks t other) q (each-right P (asks t e) _ h))
+  within-asks (in-chosen other q w) h = within-asks w (rw q at h)
+  within-asks (in-rejected q w) h = within-asks w (rw q at h)
+  within-asks (in-trial w) h = within-asks w h

@@ -8,6 +8,7 @@ pub mod Stages
 pub mod NearFields
 pub mod Decodes
 pub mod Asks
+pub mod Readings
 pub mod HubImage
 pub mod ListCases
 pub mod RowCases
