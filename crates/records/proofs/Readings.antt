@@ -4,23 +4,17 @@ use Prim.Native.Nat.{ℕ}
 use mathlib.Core.Path.{_≡_, refl}
 use mathlib.Core.List.{List, [], _∷_}
 use Rattle.reads.specs.Endings.{StringEnds}
-use Rattle.reads.specs.declared.text.Reading.the-variants.{Old, New}
 use Rattle.reads.proofs.Endings.{string-same}
-use Rattle.pointers.specs.Tables.{Tables, imageIn, readingUnder, under}
+use Rattle.pointers.specs.Tables.{Tables, imageIn}
 use Rattle.records.specs.Ask.{Ask, sum64, nonzero, even, atLeast, readable, u32In, u64In, i32In, u64At, picked, pickedAt, slot, rebase, pointer, pointerOr0, string, symbol, info, answer}
-use Rattle.records.specs.Asks.{asks, Within, Each, stringOf, stringsAmong}
+use Rattle.records.specs.Asks.{asks, Within, Each}
+use Rattle.records.specs.Readings.{underOld, underNew, stringOf, stringsAmong, StringsEnd}
 use Rattle.records.specs.Decode.{Decode, run}
 use Rattle.records.proofs.Asks.{each-left, each-right, Same, AnswerAlike, asks-decide, within-asks}
 
 module _ (t : Tables) where
-  abbrev pub underOld : Tables
-  underOld = under (readingUnder Old) t
-
-  abbrev pub underNew : Tables
-  underNew = under (readingUnder New) t
-
   -- The readings differ in the answers to questions for strings alone.
-  same-answer : (q : Ask) → Each (StringEnds (imageIn t)) (stringOf q) → AnswerAlike underOld underNew q
+  same-answer : (q : Ask) → Each (StringEnds (imageIn t)) (stringOf q) → AnswerAlike (underOld t) (underNew t) q
   same-answer (sum64 va k) h = refl
   same-answer (nonzero x) h = refl
   same-answer (even va) h = refl
@@ -40,17 +34,16 @@ module _ (t : Tables) where
   same-answer (symbol a) h = refl
   same-answer info h = refl
 
-  same-answers : (qs : List Ask) → Each (StringEnds (imageIn t)) (stringsAmong qs) → Each (AnswerAlike underOld underNew) qs
+  same-answers : (qs : List Ask) → Each (StringEnds (imageIn t)) (stringsAmong qs) → Each (AnswerAlike (underOld t) (underNew t)) qs
   unfolding stringsAmong
   same-answers [] h = tt
   same-answers (q ∷ qs) h =
       (same-answer q (each-left _ (stringOf q) (stringsAmong qs) h), same-answers qs (each-right _ (stringOf q) (stringsAmong qs) h))
 
-  pub readings-agree : {A : Type 0} (d : Decode A) → Each (StringEnds (imageIn t)) (stringsAmong (asks underOld d))
-      → Same (run underOld d) (run underNew d) (asks underOld d) (asks underNew d)
-  readings-agree d h = asks-decide underOld underNew d (same-answers (asks underOld d) h)
+  pub readings-agree : {A : Type 0} (d : Decode A) → StringsEnd t d → Same (run (underOld t) d) (run (underNew t) d) (asks (underOld t) d) (asks (underNew t) d)
+  readings-agree d h = asks-decide (underOld t) (underNew t) d (same-answers (asks (underOld t) d) h)
 
   -- And so it is with what is run within it.
-  pub parts-agree : {A B : Type 0} {d : Decode A} (e : Decode B) → Each (StringEnds (imageIn t)) (stringsAmong (asks underOld e)) → Within underOld d B e
-      → Same (run underOld d) (run underNew d) (asks underOld d) (asks underNew d)
-  parts-agree {d = d} e h w = asks-decide underOld underNew d (within-asks underOld _ w (same-answers (asks underOld e) h))
+  pub parts-agree : {A B : Type 0} {d : Decode A} (e : Decode B) → StringsEnd t e → Within (underOld t) d B e
+      → Same (run (underOld t) d) (run (underNew t) d) (asks (underOld t) d) (asks (underNew t) d)
+  parts-agree {d = d} e h w = asks-decide (underOld t) (underNew t) d (within-asks (underOld t) _ w (same-answers (asks (underOld t) e) h))

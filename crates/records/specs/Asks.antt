@@ -1,12 +1,10 @@
--- The questions that a definition asks of tables: what the bytes and the tables must say for its outcome (document 02, notes 12 and 13).
-use Prim.Native.Nat.{ℕ}
+-- The questions that a definition asks of tables, and the definitions that are run within it (document 02, notes 12 and 13).
 use mathlib.Core.Path.{_≡_}
 use mathlib.Core.Bool.{Bool, true, false}
 use mathlib.Core.List.{List, [], _∷_, _++_}
 use Rattle.reads.specs.Outcome.{Outcome, value, absent, number, choose}
 use Rattle.reads.specs.declared.answer.Reason.{Reason}
 use Rattle.pointers.specs.Tables.{Tables}
-use Rattle.records.specs.Ask as ask
 use Rattle.records.specs.Ask.{Ask}
 use Rattle.records.specs.Decode.{Decode, made, asked, after, either, eitherFirst, chosen, trial, Tried, run}
 
@@ -48,29 +46,3 @@ pub data Within (t : Tables) {A : Type 0} (d : Decode A) : (B : Type 0) → Deco
 abbrev pub Each : {A : Type 0} → (A → Type 0) → List A → Type 0
 Each P [] = Unit {0}
 Each P (a ∷ rest) = P a × Each P rest
-
--- The address of a question for a string; the others have none.
-abbrev pub stringOf : Ask → List ℕ
-stringOf (ask.sum64 va k) = []
-stringOf (ask.nonzero x) = []
-stringOf (ask.even va) = []
-stringOf (ask.atLeast least size) = []
-stringOf (ask.readable va k) = []
-stringOf (ask.u32In p i) = []
-stringOf (ask.u64In p i) = []
-stringOf (ask.i32In p i) = []
-stringOf (ask.u64At va) = []
-stringOf (ask.picked w) = []
-stringOf (ask.pickedAt a) = []
-stringOf (ask.slot a) = []
-stringOf (ask.rebase a) = []
-stringOf (ask.pointer va k) = []
-stringOf (ask.pointerOr0 va k) = []
-stringOf (ask.string va) = va ∷ []
-stringOf (ask.symbol a) = []
-stringOf ask.info = []
-
--- The addresses of the strings among questions. A bind's name is none of them: its length is given.
-unfoldable pub stringsAmong : List Ask → List ℕ
-stringsAmong [] = []
-stringsAmong (q ∷ qs) = stringOf q ++ stringsAmong qs
