@@ -206,13 +206,13 @@ six-events =
     ∷ []
 
 module _ (before : List ℕ) where
-  no-rebase : (a : ℕ) → rebaseAt [] (indexed [] [] before) a ≡ absent NoRecord
+  pub no-rebase : (a : ℕ) → rebaseAt [] (indexed [] [] before) a ≡ absent NoRecord
   unfolding rebaseAt lastAmong
   no-rebase a = rw (rebase-last-wins [] [] before a)
 
-  no-bind : (a : ℕ) → bindAt node-bytes [] [] (indexed [] [] before) a ≡ absent NoRecord
+  pub no-bind : (image : List ℕ) (a : ℕ) → bindAt image [] [] (indexed [] [] before) a ≡ absent NoRecord
   unfolding bindAt lastAmong
-  no-bind a = rw (bind-last-wins [] [] before a)
+  no-bind image a = rw (bind-last-wins [] [] before a)
 
   -- The records.
   the-class : classAt (node before) 0x1000 false ≡ value node-class
@@ -273,11 +273,11 @@ module _ (before : List ℕ) where
 
   node-superclass : superclassName (node before) node-class ≡ absent NullAddress
   unfolding decodeClassNameOf decodeNonzeroClassName decodeBoundName symbolOf sum64 nonzero choose
-  node-superclass = rw (no-bind 0x1008)
+  node-superclass = rw (no-bind node-bytes 0x1008)
 
   meta-superclass : superclassName (node before) meta-class ≡ absent NullAddress
   unfolding decodeClassNameOf decodeNonzeroClassName decodeBoundName symbolOf sum64 nonzero choose
-  meta-superclass = rw (no-bind 0x1030)
+  meta-superclass = rw (no-bind node-bytes 0x1030)
 
   category-class : categoryClassName (node before) extra-category ≡ value (textOf 0x1B8 4)
   unfolding decodeClassNameOf decodeNonzeroClassName decodeClassName decodeRoData pickedIn picked pickedWide mapped dataArm64e data64 pointerAt textIn textAt text utf8 judge resolve readable readableAt lookup rows ends holds placed sum64 stored word stripped le nonzero choose node-bytes
