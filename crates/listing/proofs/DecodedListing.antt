@@ -99,7 +99,7 @@ module _ (t : Tables) where
       (λ a. of-value-runs (decodeAddress a) (λ p. present (decodeProtocol p)) (λ p. gathers.present (protocolAt t p)) (λ p. present-runs (decodeProtocol p)))
       (slotsOf Protocols (t .sections))
 
-  records-run : run t (decodeRecords (t .sections)) ≡ plainRecords t
+  pub records-run : run t (decodeRecords (t .sections)) ≡ plainRecords t
   unfolding decodeRecords plainRecords
   records-run = rw (classes-run, protocols-run, categories-run)
 
@@ -130,14 +130,14 @@ module _ (t : Tables) where
       go (absent r) = refl
       go (number k) = refl
 
-  own-lines-run : (x : Record) → run t (decodeOwnLines x) ≡ ownLines t x
+  pub own-lines-run : (x : Record) → run t (decodeOwnLines x) ≡ ownLines t x
   unfolding decodeOwnLines ownLines
   own-lines-run (aRecord.Class c) =
       rw (named-runs (decodeClassNameOf (c .address) (c .«superclass_address»)), of-value-runs (decodeRoOf c) (λ r. done (line.Ro r ∷ [])) (λ r. value (line.Ro r ∷ [])) (λ r. refl))
   own-lines-run (aRecord.Protocol p) = refl
   own-lines-run (aRecord.Category c) = rw (named-runs (decodeClassNameOf (c .address) (c .«class_address»)))
 
-  fields-run : (x : Record) → run t (decodeFields x) ≡ recordFields t x
+  pub fields-run : (x : Record) → run t (decodeFields x) ≡ recordFields t x
   unfolding decodeFields recordFields
   fields-run (aRecord.Class c) = of-value-runs (decodeRoOf c) (λ r. done (roFields r)) (λ r. value (roFields r)) (λ r. refl)
   fields-run (aRecord.Protocol p) = refl
@@ -176,7 +176,7 @@ module _ (t : Tables) where
       (readables (imageIn t) h)))
   field-lines-run n (nameList va) = rw (names-run va)
 
-  fields-lines-run : (n : ℕ) (fs : List Field) → run t (decodeFieldsLines n fs) ≡ fieldsLines t n fs
+  pub fields-lines-run : (n : ℕ) (fs : List Field) → run t (decodeFieldsLines n fs) ≡ fieldsLines t n fs
   unfolding decodeFieldsLines fieldsLines
   fields-lines-run n [] = refl
   fields-lines-run n (f ∷ fs) = rw (field-lines-run n f, fields-lines-run (suc n) fs)
@@ -201,7 +201,7 @@ module _ (t : Tables) where
       rw (readables-run h) (gather-runs (decodeEntry h) (entryIn t h) (entry-runs h) (readables (imageIn t) h)))
   entries-run (nameList va) = refl
 
-  field-events-run : (r n : ℕ) (fs : List Field) → run t (decodeFieldEvents r n fs) ≡ fieldEvents t r n fs
+  pub field-events-run : (r n : ℕ) (fs : List Field) → run t (decodeFieldEvents r n fs) ≡ fieldEvents t r n fs
   unfolding decodeFieldEvents fieldEvents
   field-events-run r n [] = refl
   field-events-run r n (f ∷ fs) = rw (entries-run f, field-events-run r (suc n) fs)
