@@ -189,7 +189,6 @@ module _ (before : List ℕ) where
     one-readable whole = refl
     one-readable cut = refl
 
-
   -- The class_ro, whose name ends, and the method: in the file that is cut off its selector is there under the old reading alone.
   old-ro : (f : File) → roOf (underOld (file before f)) the-class ≡ value the-ro
   unfolding decodeRoOf decodeClassRo decodeRoLists picked pickedWide mapped dataArm64e data64 pointerAt pointerOr0At wordIn textIn textAt text utf8 judge resolve readable readableAt lookup rows ends holds placed sum64 stored word stripped le nonzero choose bytes

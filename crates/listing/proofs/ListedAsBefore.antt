@@ -66,6 +66,7 @@ module _ (t : Tables) (ends : StringsEnd t (decodeListing (t .sections))) where
     steps-as-before lines events a b =
         let room = no-number-room (underOld t) (opened-under (readingUnder Old) o) l (loan-numberless (readingUnder Old) t (readingUnder Old) l none) in
         let there = listing-there (underOld t) (opened-under (readingUnder Old) o) in
-        let new : plainListing (underNew t) ≡ value (withReading New lines) = rw listed-as-before (rw a) in
-        (loan-lists (readingUnder Old) t (lists-with-room (underOld t) (opened-under (readingUnder Old) o) l (room .0) (room .1) lines events a b),
-        loan-lists (readingUnder New) t (lists-with-room (underNew t) (opened-under (readingUnder New) o) l (room .0) (room .1) (withReading New lines) events new (settled-as-before there ∙ b)))
+        let new : plainListing (underNew t) ≡ value (withReading New lines) = rw listed-as-before (rw a) in (
+          loan-lists (readingUnder Old) t (lists-with-room (underOld t) (opened-under (readingUnder Old) o) l (room .0) (room .1) lines events a b),
+          loan-lists (readingUnder New) t (lists-with-room (underNew t) (opened-under (readingUnder New) o) l (room .0) (room .1) (withReading New lines) events new (settled-as-before there ∙ b)),
+        )

@@ -124,7 +124,17 @@ fn class_properties_at(
         ⌜ wordOutcome r ≡ classPropertiesAt t va p ⌝ }
 {
     if SIZE_WITH_CLASS_PROPERTIES <= u32_in(image, p, OWN_SIZE) {
-        return trailing_at(image, segments, sections, info, rebases, binds, index, setting, va);
+        return trailing_at(
+            image,
+            segments,
+            sections,
+            info,
+            rebases,
+            binds,
+            index,
+            setting,
+            va,
+        );
     }
     Word::Value(0)
 }
