@@ -69,7 +69,7 @@ module _ (t : Tables) where
   unfolding decodeAddresses addressesIn
   addresses-run slots = gather-runs (λ a. present (decodeAddress a)) (λ a. gathers.present (addressIn t a)) (λ a. present-runs (decodeAddress a)) slots
 
-  listed-runs : (lists : Lists) → run t (decodeListed (t .sections) lists) ≡ listed t lists
+  pub listed-runs : (lists : Lists) → run t (decodeListed (t .sections) lists) ≡ listed t lists
   unfolding decodeListed listed
   listed-runs lists = rw (addresses-run (slotsOf lists (t .sections)))
 
