@@ -2,7 +2,7 @@
 -- settled and the reasons of those skipped, and whatever record, class_ro or name the definition tries, with its reason where it is absent
 -- (document 02, note 12).
 use Prim.Native.Nat.{ℕ}
-use mathlib.Core.Path.{_≡_, refl, sym, ap, _∙_}
+use mathlib.Core.Path.{_≡_, sym, ap, _∙_}
 use mathlib.Core.List.{List, _∷_}
 use Rattle.reads.specs.Outcome.{Outcome, value, andThen}
 use Rattle.reads.specs.declared.text.Reading.the-variants.{Old, New}
@@ -66,6 +66,7 @@ module _ (t : Tables) (ends : StringsEnd t (decodeListing (t .sections))) where
     steps-as-before lines events a b =
         let room = no-number-room (underOld t) (opened-under (readingUnder Old) o) l (loan-numberless (readingUnder Old) t (readingUnder Old) l none) in
         let there = listing-there (underOld t) (opened-under (readingUnder Old) o) in
-        let new : plainListing (underNew t) ≡ value (withReading New lines) = rw listed-as-before (rw a) in
-        (loan-lists (readingUnder Old) t (lists-with-room (underOld t) (opened-under (readingUnder Old) o) l (room .0) (room .1) lines events a b),
-        loan-lists (readingUnder New) t (lists-with-room (underNew t) (opened-under (readingUnder New) o) l (room .0) (room .1) (withReading New lines) events new (settled-as-before there ∙ b)))
+        let new : plainListing (underNew t) ≡ value (withReading New lines) = rw listed-as-before (rw a) in (
+          loan-lists (readingUnder Old) t (lists-with-room (underOld t) (opened-under (readingUnder Old) o) l (room .0) (room .1) lines events a b),
+          loan-lists (readingUnder New) t (lists-with-room (underNew t) (opened-under (readingUnder New) o) l (room .0) (room .1) (withReading New lines) events new (settled-as-before there ∙ b)),
+        )

@@ -21,7 +21,7 @@ use Rattle.walks.proofs.Gathers.{There, there-known, Parts, joined-parts, each-
 use Rattle.walks.specs.PlainSections.{listed}
 use Rattle.walks.specs.Slots.{slotsOf, decodeAddress, addressIn}
 use Rattle.walks.specs.declared.slots.Lists.the-variants.{Categories, Protocols}
-use Rattle.listing.specs.DecodeListing.{joined, gather, ofValue, present, asEach, decodeListed, decodeClasses, decodeCategories, decodeProtocols, decodeRecords, nameOrNone, decodeOwnLines, decodeLinesOf, decodeListing}
+use Rattle.listing.specs.DecodeListing.{joined, gather, ofValue, present, asEach, decodeClasses, decodeCategories, decodeProtocols, decodeRecords, nameOrNone, decodeOwnLines, decodeLinesOf, decodeListing}
 use Rattle.listing.specs.PlainListing.{plainRecords, plainListing}
 use Rattle.listing.specs.declared.at.Record.{Record}
 use Rattle.listing.specs.declared.at.Record.the-variants as aRecord
