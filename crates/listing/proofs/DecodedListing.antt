@@ -1,13 +1,12 @@
 -- The listing as one definition (specs/DecodeListing.antt) is the plain listing, over all tables, numbers and reasons included.
 use Prim.Native.Nat.{ℕ, zero, suc, _+_, _^_}
-use mathlib.Core.Path.{_≡_, refl, sym, ap, _∙_}
+use mathlib.Core.Path.{_≡_, refl}
 use mathlib.Core.Bool.{Bool, true, false, _&&_}
 use mathlib.Core.List.{List, [], _∷_, _++_}
 use lib.Dec.{ltb}
 use lib.ListN.{length}
 use Rattle.reads.specs.Breaks.{isValue, canRead}
 use Rattle.reads.specs.Outcome.{Outcome, value, absent, number, Unrefused, is-value, is-absent, andThen, choose}
-use Rattle.reads.specs.Place as places
 use Rattle.reads.specs.declared.place.Place.{Place}
 use Rattle.reads.specs.declared.text.Text.{Text}
 use Rattle.reads.proofs.Unrefused.{readable-unrefused}
@@ -32,7 +31,7 @@ use Rattle.walks.specs.declared.slots.Lists.{Lists}
 use Rattle.walks.specs.declared.slots.Lists.the-variants.{Classes, Categories, Protocols}
 use Rattle.listing.specs.PlainListing as plain
 use Rattle.listing.specs.PlainListing.{infoLine, versionAndFlags, rowLine, endLine, Field, rowList, nameList, roFields, plainRecords, ownLines, recordFields, entryLines, fieldLines, fieldsLines, linesOf, entryIn, entriesIn, fieldEvents, recordEvents, eventsFrom, plainEvents, plainListing}
-use Rattle.listing.specs.DecodeListing.{joined, gather, orNothing, ofValue, present, asEach, decodeAddresses, decodeListed, decodeWithMeta, decodeClasses, decodeCategories, decodeProtocols, decodeRecords, decodeSlotNames, decodeProtocolNames, namedBy, nameOrNone, decodeOwnLines, decodeFields, decodeIndex, decodeIndices, decodeReadables, decodeEntryLines, decodeFieldLines, decodeFieldsLines, decodeLinesOf, entryBy, decodeEntry, decodeEntries, decodeFieldEvents, decodeRecordEvents, decodeEventsFrom, decodeEvents, decodeListing}
+use Rattle.listing.specs.DecodeListing.{joined, gather, orNothing, ofValue, present, decodeAddresses, decodeListed, decodeWithMeta, decodeClasses, decodeCategories, decodeProtocols, decodeRecords, decodeSlotNames, decodeProtocolNames, namedBy, nameOrNone, decodeOwnLines, decodeFields, decodeIndex, decodeIndices, decodeReadables, decodeEntryLines, decodeFieldLines, decodeFieldsLines, decodeLinesOf, entryBy, decodeEntry, decodeEntries, decodeFieldEvents, decodeRecordEvents, decodeEventsFrom, decodeEvents, decodeListing}
 use Rattle.listing.specs.declared.at.Record.{Record}
 use Rattle.listing.specs.declared.at.Record.the-variants as aRecord
 use Rattle.listing.specs.declared.line.Line.{Line}
@@ -69,7 +68,7 @@ module _ (t : Tables) where
   unfolding decodeAddresses addressesIn
   addresses-run slots = gather-runs (λ a. present (decodeAddress a)) (λ a. gathers.present (addressIn t a)) (λ a. present-runs (decodeAddress a)) slots
 
-  listed-runs : (lists : Lists) → run t (decodeListed (t .sections) lists) ≡ listed t lists
+  pub listed-runs : (lists : Lists) → run t (decodeListed (t .sections) lists) ≡ listed t lists
   unfolding decodeListed listed
   listed-runs lists = rw (addresses-run (slotsOf lists (t .sections)))
 

@@ -4,7 +4,7 @@
 use Prim.Native.Nat.{ℕ, _-_, _≤_}
 use mathlib.Core.Path.{_≡_, refl, sym, ap, _∙_}
 use mathlib.Core.Bool.{false}
-use mathlib.Core.List.{List, [], _∷_, _++_, append-assoc, append-nil}
+use mathlib.Core.List.{List, [], _∷_, _++_, append-nil}
 use native.Mathlib.Omega.{arith}
 use lib.ListN.{length, getD, replicate}
 use borrow.Author.Tests.{le-leb}
@@ -31,12 +31,12 @@ use Rattle.pointers.specs.Slot.{symbolOf, stored, resolve, pointerAt, pointerOr
 use Rattle.pointers.specs.Symbol.{ascii}
 use Rattle.pointers.specs.Tables.{Tables, tablesOf, imageIn, withIndex, readingUnder, under}
 use Rattle.pointers.specs.declared.setting.Setting.{Setting}
-use Rattle.records.specs.Ask.{evenList, entrySize, Ask}
+use Rattle.records.specs.Ask.{evenList, entrySize}
 use Rattle.records.specs.Asks.{asks}
 use Rattle.records.specs.Class.{bitsOf, decodeData, decodeClass, classAt, decodeRoLists, decodeClassRo, decodeRoOf, roOf, decodeNonzeroClassName, decodeBoundName, decodeClassNameOf, superclassName}
 use Rattle.records.specs.Decode.{Decode}
 use Rattle.records.specs.List.{methodRows, decodeList, listAt, entry}
-use Rattle.records.specs.Readings.{underOld, underNew, stringOf, stringsAmong, stringsAsked, StringsEnd}
+use Rattle.records.specs.Readings.{underOld, underNew, stringsAmong, stringsAsked, StringsEnd}
 use Rattle.records.specs.Row.{methodOf, legacyImp, decodeLegacyMethod, decodeRow, rowAt}
 use Rattle.records.specs.Search.{allFrom, readables}
 use Rattle.records.specs.declared.class.ClassRo.{ClassRo}
@@ -48,6 +48,7 @@ use Rattle.records.specs.declared.method.Imp.the-variants as imp
 use Rattle.records.specs.declared.method.MethodKind.the-variants as kind
 use Rattle.records.specs.declared.row.Row.{Row}
 use Rattle.records.specs.declared.row.Row.the-variants as row
+use Rattle.records.proofs.Readings.{strings-append}
 use Rattle.walks.specs.Gather.{gather}
 use Rattle.walks.specs.PlainSections.{addressesIn, without, once, listed, withMeta, plainClasses, plainProtocols, plainCategories}
 use Rattle.walks.specs.ProtocolNames.{decodeProtocolList, protocolNames}
@@ -138,18 +139,9 @@ lines r method =
 abbrev pub method-line : Line
 method-line = plain.rowLine 0 the-row
 
--- The strings that a definition asks for, and those of one that goes on.
+-- The strings that a definition asks for.
 abbrev strings : {A : Type 0} → Tables → Decode A → List ℕ
 strings t d = stringsAmong (asks t d)
-
-strings-append : (xs ys : List Ask) → stringsAmong (xs ++ ys) ≡ stringsAmong xs ++ stringsAmong ys
-unfolding stringsAmong
-strings-append [] ys = refl
-strings-append (q ∷ xs) ys = rw (strings-append xs ys) (sym (append-assoc (stringOf q) (stringsAmong xs) (stringsAmong ys)))
-
-strings-none : stringsAmong [] ≡ []
-unfolding stringsAmong
-strings-none = refl
 
 same-offset : (a b : ℕ) → _≡_ {A = Outcome Place} (value (placeAt a)) (value (placeAt b)) → a ≡ b
 same-offset a b e = let p : placeAt a ≡ placeAt b = cc in ap (λ (x : Place). x .offset) p
@@ -275,7 +267,7 @@ module _ (before : List ℕ) where
   strings-of-entries = simp (no-rebase before)
 
   pub strings-asked : stringsAsked (file before whole) (decodeListing sections) ≡ 0x1098 ∷ 0x1098 ∷ 0x109E ∷ 0x109C ∷ 0x1098 ∷ 0x109E ∷ 0x109C ∷ []
-  unfolding asks decodeListing decode.gather decode.decodeLinesOf decode.decodeEventsFrom decode.decodeRecordEvents
+  unfolding stringsAmong asks decodeListing decode.gather decode.decodeLinesOf decode.decodeEventsFrom decode.decodeRecordEvents
   strings-asked =
       let fields = plain.roFields the-ro in
       let records = records-run old ∙ records-there (readingUnder Old) whole in
@@ -283,7 +275,7 @@ module _ (before : List ℕ) where
       let named = fields-run old the-record ∙ fields-there Old whole (old-ro whole) in
       let listed = fields-lines-run old 0 fields ∙ shown-lines Old whole (old-row whole) in
       let settled = field-events-run old 0 0 fields ∙ shown-entry Old whole (old-row whole) in
-      rw (records, own, named, listed, settled) (simp (strings-append, strings-none, strings-of-records, strings-of-own, strings-of-fields, strings-of-lists, strings-of-entries))
+      rw (records, own, named, listed, settled) (simp (strings-append, strings-of-records, strings-of-own, strings-of-fields, strings-of-lists, strings-of-entries))
 
   -- A string between offset 0x98 and the zero byte at 0xA0.
   string-ends : (offset va : ℕ) → lookup (rows segments) va ≡ value (placeAt offset) → offset ≤ 0xA0 → StringEnds (imageIn (file before whole)) va

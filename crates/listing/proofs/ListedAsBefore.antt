@@ -2,7 +2,7 @@
 -- settled and the reasons of those skipped, and whatever record, class_ro or name the definition tries, with its reason where it is absent
 -- (document 02, note 12).
 use Prim.Native.Nat.{ℕ}
-use mathlib.Core.Path.{_≡_, refl, sym, ap, _∙_}
+use mathlib.Core.Path.{_≡_, sym, ap, _∙_}
 use mathlib.Core.List.{List, _∷_}
 use Rattle.reads.specs.Outcome.{Outcome, value, andThen}
 use Rattle.reads.specs.declared.text.Reading.the-variants.{Old, New}

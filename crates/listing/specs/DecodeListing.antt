@@ -6,7 +6,6 @@ use mathlib.Core.Bool.{true, false}
 use mathlib.Core.List.{List, [], _∷_, _++_, map}
 use lib.Dec.{ltb}
 use lib.ListN.{length}
-use Rattle.reads.specs.declared.answer.Reason.{Reason}
 use Rattle.reads.specs.declared.text.Text.{Text}
 use Rattle.records.specs.Category.{decodeCategory}
 use Rattle.records.specs.Class.{decodeClass, decodeRoOf, decodeClassNameOf}

@@ -10,7 +10,7 @@ use Rattle.records.specs.Ask.{Ask, answer}
 use Rattle.records.specs.Asks.{ifValue, ifAbsent, asks, Within, itself, in-first, in-next, in-either, in-other, in-either-first, in-other-first, in-chosen, in-rejected, in-trial, Each}
 use Rattle.records.specs.Decode.{Decode, made, asked, after, either, eitherFirst, chosen, trial, triedOf, run}
 
--- What holds of each of a list holds of each of its parts, and so does what follows from it.
+-- What holds of each of two lists together holds of each of either.
 module _ {A : Type 0} (P : A → Type 0) where
   pub each-left : (xs ys : List A) → Each P (xs ++ ys) → Each P xs
   each-left [] ys h = tt
@@ -19,14 +19,6 @@ module _ {A : Type 0} (P : A → Type 0) where
   pub each-right : (xs ys : List A) → Each P (xs ++ ys) → Each P ys
   each-right [] ys h = h
   each-right (x ∷ xs) ys h = each-right xs ys (h .1)
-
-  pub each-both : (xs ys : List A) → Each P xs → Each P ys → Each P (xs ++ ys)
-  each-both [] ys h g = g
-  each-both (x ∷ xs) ys h g = (h .0, each-both xs ys (h .1) g)
-
-  pub each-then : (Q : A → Type 0) → ((a : A) → P a → Q a) → (xs : List A) → Each P xs → Each Q xs
-  each-then Q f [] h = tt
-  each-then Q f (x ∷ xs) h = (f x (h .0), each-then Q f xs (h .1))
 
 -- The same outcome, and the same questions.
 pub record Same {A : Type 0} (o p : Outcome A) (qs rs : List Ask) : Type 0 where

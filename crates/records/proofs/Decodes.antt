@@ -12,7 +12,7 @@ use Rattle.pointers.proofs.OpenedTables.{opened-info, rebase-unrefused, symbol-
 use Rattle.pointers.proofs.LookupNumbers.{numbers-then, numbers-else, numbers-first, numbers-choose, info-unrefused, rebase-numbers, symbol-numbers, slot-numbers, pointer-numbers, pointer-or-0-numbers}
 use Rattle.records.proofs.Headers.{even-unrefused, size-unrefused}
 use Rattle.records.specs.Ask.{pickedIn, Ask, sum64, nonzero, even, atLeast, readable, u32In, u64In, i32In, u64At, picked, pickedAt, slot, rebase, pointer, pointerOr0, string, symbol, info, answer}
-use Rattle.records.specs.Decode.{Decode, made, asked, after, either, eitherFirst, chosen, trial, Tried, given, lacking, triedOf, run}
+use Rattle.records.specs.Decode.{Decode, made, asked, after, either, eitherFirst, chosen, trial, given, lacking, triedOf, run}
 use Rattle.records.specs.Class.{classAt, roOf, classNameOf, decodeClass, decodeRoOf, decodeClassNameOf}
 use Rattle.records.specs.Protocol.{protocolAt, decodeProtocol}
 use Rattle.records.specs.Category.{categoryAt, decodeCategory}

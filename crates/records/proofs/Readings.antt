@@ -1,16 +1,21 @@
 -- Where every string that a definition asks for ends, it has one outcome under both readings, its reason included, and asks the same
 -- (document 02, note 12).
-use Prim.Native.Nat.{ℕ}
-use mathlib.Core.Path.{_≡_, refl}
-use mathlib.Core.List.{List, [], _∷_}
+use mathlib.Core.Path.{_≡_, refl, sym}
+use mathlib.Core.List.{List, [], _∷_, _++_, append-assoc}
 use Rattle.reads.specs.Endings.{StringEnds}
 use Rattle.reads.proofs.Endings.{string-same}
 use Rattle.pointers.specs.Tables.{Tables, imageIn}
-use Rattle.records.specs.Ask.{Ask, sum64, nonzero, even, atLeast, readable, u32In, u64In, i32In, u64At, picked, pickedAt, slot, rebase, pointer, pointerOr0, string, symbol, info, answer}
+use Rattle.records.specs.Ask.{Ask, sum64, nonzero, even, atLeast, readable, u32In, u64In, i32In, u64At, picked, pickedAt, slot, rebase, pointer, pointerOr0, string, symbol, info}
 use Rattle.records.specs.Asks.{asks, Within, Each}
 use Rattle.records.specs.Readings.{underOld, underNew, stringOf, stringsAmong, StringsEnd}
 use Rattle.records.specs.Decode.{Decode, run}
 use Rattle.records.proofs.Asks.{each-left, each-right, Same, AnswerAlike, asks-decide, within-asks}
+
+-- The strings among two lists of questions.
+pub strings-append : (xs ys : List Ask) → stringsAmong (xs ++ ys) ≡ stringsAmong xs ++ stringsAmong ys
+unfolding stringsAmong
+strings-append [] ys = refl
+strings-append (q ∷ xs) ys = rw (strings-append xs ys) (sym (append-assoc (stringOf q) (stringsAmong xs) (stringsAmong ys)))
 
 module _ (t : Tables) where
   -- The readings differ in the answers to questions for strings alone.
