@@ -31,7 +31,7 @@ use Rattle.walks.specs.declared.slots.Lists.{Lists}
 use Rattle.walks.specs.declared.slots.Lists.the-variants.{Classes, Categories, Protocols}
 use Rattle.listing.specs.PlainListing as plain
 use Rattle.listing.specs.PlainListing.{infoLine, versionAndFlags, rowLine, endLine, Field, rowList, nameList, roFields, plainRecords, ownLines, recordFields, entryLines, fieldLines, fieldsLines, linesOf, entryIn, entriesIn, fieldEvents, recordEvents, eventsFrom, plainEvents, plainListing}
-use Rattle.listing.specs.DecodeListing.{joined, gather, orNothing, ofValue, present, decodeAddresses, decodeListed, decodeWithMeta, decodeClasses, decodeCategories, decodeProtocols, decodeRecords, decodeSlotNames, decodeProtocolNames, namedBy, nameOrNone, decodeOwnLines, decodeFields, decodeIndex, decodeIndices, decodeReadables, decodeEntryLines, decodeFieldLines, decodeFieldsLines, decodeLinesOf, entryBy, decodeEntry, decodeEntries, decodeFieldEvents, decodeRecordEvents, decodeEventsFrom, decodeEvents, decodeListing}
+use Rattle.listing.specs.DecodeListing.{joined, gather, orNothing, ofValue, present, decodeAddresses, decodeListed, decodeWithMeta, decodeClasses, decodeCategories, decodeProtocols, decodeRecords, decodeSlotNames, decodeProtocolNames, namedBy, decodeNamed, decodeOwnLines, decodeFields, decodeIndex, decodeIndices, decodeReadables, decodeEntryLines, decodeFieldLines, decodeFieldsLines, decodeLinesOf, entryTried, decodeEntry, decodeEntries, decodeFieldEvents, decodeRecordEvents, decodeEventsFrom, decodeEvents, decodeListing}
 use Rattle.listing.specs.declared.at.Record.{Record}
 use Rattle.listing.specs.declared.at.Record.the-variants as aRecord
 use Rattle.listing.specs.declared.line.Line.{Line}
@@ -121,7 +121,7 @@ module _ (t : Tables) where
       (λ l. slot-names-run l 0 (l .count))
 
   -- The lines of records.
-  named-runs : (d : Decode Text) → run t (nameOrNone d) ≡ plain.nameOrNone (run t d)
+  named-runs : (d : Decode Text) → run t (decodeNamed d) ≡ plain.nameOrNone (run t d)
   named-runs d = go (run t d)
     where
       go : (o : Outcome Text) → andThen (triedOf o) (λ name. value (namedBy name)) ≡ plain.nameOrNone o
@@ -188,7 +188,7 @@ module _ (t : Tables) where
   entry-runs : (h : Layout) (j : ℕ) → run t (decodeEntry h j) ≡ entryIn t h j
   entry-runs h j = go (rowAt t (h .kind) (entryAddress h j))
     where
-      go : (o : Outcome Row) → andThen (triedOf o) (λ row. value (entryBy j row ∷ [])) ≡ plain.entryBy j o
+      go : (o : Outcome Row) → andThen (triedOf o) (λ row. value (entryTried j row ∷ [])) ≡ plain.entryBy j o
       go (value row) = refl
       go (absent r) = refl
       go (number k) = refl

@@ -21,7 +21,7 @@ use Rattle.walks.proofs.Gathers.{There, there-known, Parts, joined-parts, each-
 use Rattle.walks.specs.PlainSections.{listed}
 use Rattle.walks.specs.Slots.{slotsOf, decodeAddress, addressIn}
 use Rattle.walks.specs.declared.slots.Lists.the-variants.{Categories, Protocols}
-use Rattle.listing.specs.DecodeListing.{joined, gather, ofValue, present, asEach, decodeClasses, decodeCategories, decodeProtocols, decodeRecords, nameOrNone, decodeOwnLines, decodeLinesOf, decodeListing}
+use Rattle.listing.specs.DecodeListing.{joined, gather, ofValue, present, asEach, decodeClasses, decodeCategories, decodeProtocols, decodeRecords, decodeNamed, decodeOwnLines, decodeLinesOf, decodeListing}
 use Rattle.listing.specs.PlainListing.{plainRecords, plainListing}
 use Rattle.listing.specs.declared.at.Record.{Record}
 use Rattle.listing.specs.declared.at.Record.the-variants as aRecord
@@ -115,7 +115,7 @@ module _ (t : Tables) (ends : StringsEnd t (decodeListing (t .sections))) (there
       → (c : ObjcClass) → x ≡ aRecord.Class c → roOf (underNew t) c ≡ roOf old c
   unfolding decodeLinesOf decodeOwnLines
   ro-same (aRecord.Class c) zs q lift d e =
-      let name = nameOrNone (decodeClassNameOf (c .address) (c .«superclass_address»)) in
+      let name = decodeNamed (decodeClassNameOf (c .address) (c .«superclass_address»)) in
       let own = then-came (run old (decodeOwnLines (aRecord.Class c))) _ zs q in
       let named = then-came (run old name) _ (own .0) (own .1) in
       let same : c ≡ d = cc in

@@ -93,17 +93,17 @@ abbrev pub namedBy : Tried Text → Named
 namedBy (given t) = named.Text t
 namedBy (lacking r) = named.Nothing
 
-abbrev pub nameOrNone : Decode Text → Decode Named
-nameOrNone d = then (tried d) (λ name. done (namedBy name))
+abbrev pub decodeNamed : Decode Text → Decode Named
+decodeNamed d = then (tried d) (λ name. done (namedBy name))
 
 -- A record's own line, and R; its lists.
 unfoldable pub decodeOwnLines : Record → Decode (List Line)
 decodeOwnLines (aRecord.Class c) =
-    then (nameOrNone (decodeClassNameOf (c .address) (c .«superclass_address»))) (λ name.
+    then (decodeNamed (decodeClassNameOf (c .address) (c .«superclass_address»))) (λ name.
     joined (done (classLine c name ∷ [])) (ofValue (decodeRoOf c) (λ r. done (line.Ro r ∷ []))))
 decodeOwnLines (aRecord.Protocol p) = done (line.Protocol p ∷ [])
 decodeOwnLines (aRecord.Category c) =
-    then (nameOrNone (decodeClassNameOf (c .address) (c .«class_address»))) (λ name. done (categoryLine c name ∷ []))
+    then (decodeNamed (decodeClassNameOf (c .address) (c .«class_address»))) (λ name. done (categoryLine c name ∷ []))
 
 unfoldable pub decodeFields : Record → Decode (List Field)
 decodeFields (aRecord.Class c) = ofValue (decodeRoOf c) (λ r. done (roFields r))
@@ -138,12 +138,12 @@ unfoldable pub decodeLinesOf : Record → Decode (List Line)
 decodeLinesOf x = joined (decodeOwnLines x) (then (decodeFields x) (decodeFieldsLines 0))
 
 -- The entries that a walk over a list settles, and the settling steps of a record's fields.
-abbrev pub entryBy : ℕ → Tried Row → Entry
-entryBy j (given row) = withRow j
-entryBy j (lacking r) = withoutRow j r
+abbrev pub entryTried : ℕ → Tried Row → Entry
+entryTried j (given row) = withRow j
+entryTried j (lacking r) = withoutRow j r
 
 abbrev pub decodeEntry : Layout → ℕ → Decode (List Entry)
-decodeEntry h j = then (tried (decodeRow (h .kind) (entryAddress h j))) (λ row. done (entryBy j row ∷ []))
+decodeEntry h j = then (tried (decodeRow (h .kind) (entryAddress h j))) (λ row. done (entryTried j row ∷ []))
 
 unfoldable pub decodeEntries : Field → Decode (List Entry)
 decodeEntries (rowList k va) = ofValue (decodeList k va) (λ h. then (decodeReadables h) (gather (decodeEntry h)))
