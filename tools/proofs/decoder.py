@@ -111,7 +111,7 @@ def main():
 
     out = []
     out.append("-- All that the function is lent, and its definition.")
-    out.append("abbrev tables : tie.Start → Tables\ntables s = tablesOf " + " ".join(f"(s .args .{x} .now)" for x in SLICES) + "\n")
+    out.append("abbrev tables : tie.Start → Tables\ntables s = under (s .args .setting) (tablesOf " + " ".join(f"(s .args .{x} .now)" for x in SLICES) + ")\n")
     out.append(f"abbrev whole : tie.Start → Decode {a.result}\nwhole s = {a.definition}\n")
     found, k, q = {}, 0, 0
     start_of, rest_of = {}, {}
@@ -220,7 +220,7 @@ def main():
     words = sorted(x for x in used if x in PURE)
     if words:
         uses.append(f"use Rattle.pointers.specs.Bytes.{{{', '.join(words)}}}")
-    uses.append("use Rattle.pointers.specs.Tables.{Tables, tablesOf}")
+    uses.append("use Rattle.pointers.specs.Tables.{Tables, tablesOf, under}")
     own = "Rattle.records.specs" if a.crate == "records" else "Rattle.records.specs"
     laws = "Rattle.records.proofs" if a.crate == "records" else "Rattle.records.proofs"
     uses += [f"use {own}.Decode.{{Decode, run}}", f"use {laws}.Stages.{{rest, past, stops}}"] + a.use

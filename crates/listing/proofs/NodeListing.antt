@@ -12,7 +12,7 @@ use Rattle.reads.specs.Place.{part, le, readableAt, readable, word, wordIn}
 use Rattle.reads.specs.Address.{stripped, dataArm64e, data64, mapped, pickedWide, picked}
 use Rattle.reads.specs.Relative.{slotAddress}
 use Rattle.reads.specs.Segment.{rows, ends, holds, placed, lookup}
-use Rattle.reads.specs.Text.{text, textLength, textAt, textIn}
+use Rattle.reads.specs.Text.{text, textAt, textIn}
 use Rattle.reads.specs.Utf8.{judge, utf8}
 use Rattle.reads.specs.declared.text.Text.{Text}
 use Rattle.reads.specs.declared.answer.Reason.the-variants.{NullAddress, NoRecord}
@@ -24,7 +24,7 @@ use Rattle.pointers.specs.Question.{question, imageFits, wholeRows, sectionFits
 use Rattle.pointers.specs.Section.{sectionAt}
 use Rattle.pointers.specs.Slot.{rebaseAt, bindAt, symbolOf, stored, resolve, pointerAt, pointerOr0At}
 use Rattle.pointers.specs.Symbol.{ascii}
-use Rattle.pointers.specs.Tables.{Tables, tablesOf, imageIn, withIndex}
+use Rattle.pointers.specs.Tables.{Tables, tablesOf, imageIn, withIndex, readingNew}
 use Rattle.pointers.proofs.Chains.{rebase-last-wins, bind-last-wins}
 use Rattle.records.specs.Category.{decodeCategoryLists, decodeCategoryProperties, decodeCategoryOf, decodeCategory, categoryAt, categoryClassName}
 use Rattle.records.specs.Class.{bitsOf, decodeData, decodeClass, classAt, decodeRoLists, decodeClassRo, decodeRoOf, roOf, decodeRoData, decodeClassName, decodeNonzeroClassName, decodeBoundName, decodeClassNameOf, superclassName}
@@ -177,10 +177,10 @@ two-methods = record { base = 0x1160; size = 24; count = 2; kind = Legacy }
 abbrev go-row : Row
 go-row = row.Method (methodOf (textOf 0x1C9 2) (textOf 0x1CC 1) (imp.At 0x2000) kind.Legacy)
 
--- The twelve lines: I 0 0; C, R; M, R and its row m 0 2:go 1:v 2000 0; P; K, the row once for each of its two fields, q 2 5:Walks; E 4 6.
+-- The twelve lines: I 0 0 1; C, R; M, R and its row m 0 2:go 1:v 2000 0; P; K, the row once for each of its two fields, q 2 5:Walks; E 4 6.
 abbrev pub twelve-lines : List Line
 twelve-lines =
-    line.Info (infoOf 0 0)
+    plain.infoLine (infoOf 0 0) readingNew
     ∷ plain.classLine node-class named.Nothing
     ∷ line.Ro node-ro
     ∷ plain.classLine meta-class named.Nothing
@@ -206,13 +206,13 @@ six-events =
     ∷ []
 
 module _ (before : List ℕ) where
-  no-rebase : (a : ℕ) → rebaseAt [] (indexed [] [] before) a ≡ absent NoRecord
+  pub no-rebase : (a : ℕ) → rebaseAt [] (indexed [] [] before) a ≡ absent NoRecord
   unfolding rebaseAt lastAmong
   no-rebase a = rw (rebase-last-wins [] [] before a)
 
-  no-bind : (a : ℕ) → bindAt node-bytes [] [] (indexed [] [] before) a ≡ absent NoRecord
+  pub no-bind : (image : List ℕ) (a : ℕ) → bindAt image [] [] (indexed [] [] before) a ≡ absent NoRecord
   unfolding bindAt lastAmong
-  no-bind a = rw (bind-last-wins [] [] before a)
+  no-bind image a = rw (bind-last-wins [] [] before a)
 
   -- The records.
   the-class : classAt (node before) 0x1000 false ≡ value node-class
@@ -236,11 +236,11 @@ module _ (before : List ℕ) where
   category-addresses = simp no-rebase
 
   the-protocol : protocolAt (node before) 0x10E0 ≡ value walks-protocol
-  unfolding decodeProtocol decodeProtocolLists decodeClassProperties pointerAt pointerOr0At wordIn textIn textAt textLength text utf8 judge resolve readable readableAt lookup rows ends holds placed sum64 stored word stripped le nonzero choose node-bytes
+  unfolding decodeProtocol decodeProtocolLists decodeClassProperties pointerAt pointerOr0At wordIn textIn textAt text utf8 judge resolve readable readableAt lookup rows ends holds placed sum64 stored word stripped le nonzero choose node-bytes
   the-protocol = simp no-rebase
 
   the-category : categoryAt (node before) 0x1128 ≡ value extra-category
-  unfolding decodeCategory decodeCategoryOf decodeCategoryLists decodeCategoryProperties imageInfo bit pointerOr0At textIn textAt textLength text utf8 judge resolve readable readableAt lookup rows ends holds placed sum64 stored word stripped le nonzero choose node-bytes
+  unfolding decodeCategory decodeCategoryOf decodeCategoryLists decodeCategoryProperties imageInfo bit pointerOr0At textIn textAt text utf8 judge resolve readable readableAt lookup rows ends holds placed sum64 stored word stripped le nonzero choose node-bytes
   the-category = simp no-rebase
 
   the-classes : plainClasses (node before) ≡ value (node-class ∷ meta-class ∷ [])
@@ -264,23 +264,23 @@ module _ (before : List ℕ) where
 
   -- Their names and class_ros.
   node-ro-there : roOf (node before) node-class ≡ value node-ro
-  unfolding decodeRoOf decodeClassRo decodeRoLists picked pickedWide mapped dataArm64e data64 pointerAt pointerOr0At wordIn textIn textAt textLength text utf8 judge resolve readable readableAt lookup rows ends holds placed sum64 stored word stripped le nonzero choose node-bytes
+  unfolding decodeRoOf decodeClassRo decodeRoLists picked pickedWide mapped dataArm64e data64 pointerAt pointerOr0At wordIn textIn textAt text utf8 judge resolve readable readableAt lookup rows ends holds placed sum64 stored word stripped le nonzero choose node-bytes
   node-ro-there = simp no-rebase
 
   meta-ro-there : roOf (node before) meta-class ≡ value meta-ro
-  unfolding decodeRoOf decodeClassRo decodeRoLists picked pickedWide mapped dataArm64e data64 pointerAt pointerOr0At wordIn textIn textAt textLength text utf8 judge resolve readable readableAt lookup rows ends holds placed sum64 stored word stripped le nonzero choose node-bytes
+  unfolding decodeRoOf decodeClassRo decodeRoLists picked pickedWide mapped dataArm64e data64 pointerAt pointerOr0At wordIn textIn textAt text utf8 judge resolve readable readableAt lookup rows ends holds placed sum64 stored word stripped le nonzero choose node-bytes
   meta-ro-there = simp no-rebase
 
   node-superclass : superclassName (node before) node-class ≡ absent NullAddress
   unfolding decodeClassNameOf decodeNonzeroClassName decodeBoundName symbolOf sum64 nonzero choose
-  node-superclass = rw (no-bind 0x1008)
+  node-superclass = rw (no-bind node-bytes 0x1008)
 
   meta-superclass : superclassName (node before) meta-class ≡ absent NullAddress
   unfolding decodeClassNameOf decodeNonzeroClassName decodeBoundName symbolOf sum64 nonzero choose
-  meta-superclass = rw (no-bind 0x1030)
+  meta-superclass = rw (no-bind node-bytes 0x1030)
 
   category-class : categoryClassName (node before) extra-category ≡ value (textOf 0x1B8 4)
-  unfolding decodeClassNameOf decodeNonzeroClassName decodeClassName decodeRoData pickedIn picked pickedWide mapped dataArm64e data64 pointerAt textIn textAt textLength text utf8 judge resolve readable readableAt lookup rows ends holds placed sum64 stored word stripped le nonzero choose node-bytes
+  unfolding decodeClassNameOf decodeNonzeroClassName decodeClassName decodeRoData pickedIn picked pickedWide mapped dataArm64e data64 pointerAt textIn textAt text utf8 judge resolve readable readableAt lookup rows ends holds placed sum64 stored word stripped le nonzero choose node-bytes
   category-class = simp no-rebase
 
   -- The lists.
@@ -293,11 +293,11 @@ module _ (before : List ℕ) where
   both-readable = refl
 
   first-row : rowAt (node before) Legacy 0x1160 ≡ value go-row
-  unfolding decodeRow decodeLegacyMethod legacyImp pointerAt pointerOr0At textIn textAt textLength text utf8 judge resolve readable readableAt lookup rows ends holds placed sum64 stored word stripped le nonzero choose node-bytes
+  unfolding decodeRow decodeLegacyMethod legacyImp pointerAt pointerOr0At textIn textAt text utf8 judge resolve readable readableAt lookup rows ends holds placed sum64 stored word stripped le nonzero choose node-bytes
   first-row = simp no-rebase
 
   second-row : rowAt (node before) Legacy 0x1178 ≡ absent NullAddress
-  unfolding decodeRow decodeLegacyMethod legacyImp pointerAt pointerOr0At textIn textAt textLength text utf8 judge resolve readable readableAt lookup rows ends holds placed sum64 stored word stripped le nonzero choose node-bytes
+  unfolding decodeRow decodeLegacyMethod legacyImp pointerAt pointerOr0At textIn textAt text utf8 judge resolve readable readableAt lookup rows ends holds placed sum64 stored word stripped le nonzero choose node-bytes
   second-row = simp no-rebase
 
   one-name : protocolListAt (node before) 0x1190 ≡ value (record { base = 0x1198; count = 1 })
@@ -305,7 +305,7 @@ module _ (before : List ℕ) where
   one-name = refl
 
   its-slots : slotNames (node before) (record { base = 0x1198; count = 1 }) 0 1 ≡ value (textOf 0x1BD 5) ∷ []
-  unfolding slotNames hasSlot decodeNameIn decodeProtocolNameIn decodeProtocolName decodeProtocol decodeProtocolLists decodeClassProperties pointerAt pointerOr0At wordIn textIn textAt textLength text utf8 judge resolve readable readableAt lookup rows ends holds placed sum64 stored word stripped le nonzero choose node-bytes
+  unfolding slotNames hasSlot decodeNameIn decodeProtocolNameIn decodeProtocolName decodeProtocol decodeProtocolLists decodeClassProperties pointerAt pointerOr0At wordIn textIn textAt text utf8 judge resolve readable readableAt lookup rows ends holds placed sum64 stored word stripped le nonzero choose node-bytes
   its-slots = simp no-rebase
 
   -- The lines and the settling steps of a field that names the list, and of one that names none.
@@ -393,7 +393,7 @@ module _ (before : List ℕ) where
     node-opened = record { indexBefore = before; gave = infoOf 0 0; accepted = rw accepts; left = rw accepts }
 
     -- The steps of the listing, with any ledger that has a word, say the twelve lines and settle the six entries.
-    pub node-steps-say : (l : List ℕ) → 1 ≤ length l → Lists (node before) l twelve-lines six-events
+    pub node-steps-say : (l : List ℕ) → 1 ≤ length l → Lists readingNew (node before) l twelve-lines six-events
     node-steps-say l room =
         let one : slotCount node-sections 0 1 ≡ 1 = unfold slotCount sectionAt choose in refl in
         let other : slotCount node-sections 2 3 ≡ 1 = unfold slotCount sectionAt choose in refl in

@@ -14,14 +14,15 @@ use Rattle.reads.specs.Address.{stripped}
 use Rattle.reads.specs.declared.answer.Reason.the-variants.{Unresolved}
 use Rattle.reads.proofs.Outcomes.{then-came}
 use Rattle.reads.proofs.Unrefused.{unrefused-then, unrefused-came, unrefused-because, unrefused-else, unrefused-zero, sum-unrefused, word-unrefused}
-use Rattle.pointers.specs.Tables.{Tables, imageIn, withIndex, bindWords, rebaseWords, chains, rebaseRecord, bindRecord}
-use Rattle.pointers.specs.Question.{bindInside, bindUtf8, namesInside, namesUtf8, indexFits, askedTables, askedIndex, asked}
+use Rattle.pointers.specs.Tables.{Tables, imageIn, under, withIndex, bindWords, rebaseWords, chains, rebaseRecord, bindRecord}
+use Rattle.pointers.specs.Question.{bindInside, bindUtf8, namesInside, namesUtf8, indexFits, askedTables, askedIndex, askedLent, asked}
 use Rattle.pointers.specs.ImageInfo.{imageInfo}
 use Rattle.pointers.specs.Index.{indexed, bindNexts, indexLength}
 use Rattle.pointers.specs.Chain.{follow, lastAmong, lastRecord}
 use Rattle.pointers.specs.Symbol.{strippedName}
 use Rattle.pointers.specs.Slot.{rebaseAt, bindName, bindAt, symbolOf, symbolAt, stored, resolve, pointerAt, pointerOr0At, rebase, slot, pointer, pointerOr0}
 use Rattle.pointers.specs.Open.{askedOpening, opening, openedIndex, Opened}
+use Rattle.pointers.specs.declared.setting.Setting.{Setting}
 use Rattle.pointers.proofs.Questions.{question-yes, asked-any-index, every-at}
 use Rattle.pointers.proofs.Rooms.{Room, tables-room, asked-index, Accepted, accepted-parts}
 use Rattle.pointers.proofs.IndexWords.{length-indexed}
@@ -91,7 +92,7 @@ module _ (t : Tables) (o : Opened t) where
 
   -- Every question of a later call says yes.
   pub opened-asked : asked t ≡ value tt
-  unfolding asked askedIndex indexFits
+  unfolding askedLent askedTables askedIndex indexFits
   opened-asked =
       let e : askedTables t ≡ value tt = asked-any-index (t .image) (t .segments) (t .sections) (t .info) (t .rebases) (t .binds) (t .index) (o .indexBefore) ∙ opened-accepted .tablesPass in
       rw e (question-yes 8 _ (le-leb (indexLength (t .rebases) (t .binds)) (length (t .index)) (rw opened-length room-before)))
@@ -134,3 +135,8 @@ module _ (t : Tables) (o : Opened t) where
   unfolding pointerOr0At
   pointer-or-0-unrefused va k =
       unrefused-then (λ a. orZero (resolve (imageIn t) (t .rebases) (t .index) a)) (sum-unrefused va k) (λ a. unrefused-zero (slot-unrefused a))
+
+-- Opening asks nothing of the setting: what is opened is opened under every one.
+pub opened-under : {t : Tables} (s : Setting) → Opened t → Opened (under s t)
+unfolding opening askedOpening askedTables askedIndex openedIndex
+opened-under s o = record { indexBefore = o .indexBefore; gave = o .gave; accepted = o .accepted; left = o .left }

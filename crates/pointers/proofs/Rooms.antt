@@ -10,7 +10,7 @@ use Rattle.reads.specs.Table.{records}
 use Rattle.reads.specs.Segment.{segmentWords}
 use Rattle.reads.proofs.Outcomes.{then-came}
 use Rattle.pointers.specs.Tables.{Tables, rebaseWords, bindWords}
-use Rattle.pointers.specs.Question.{question, imageFits, wholeRows, sectionTable, infoWhole, askedTables, askedIndex, asked, namesInside, namesUtf8}
+use Rattle.pointers.specs.Question.{question, imageFits, wholeRows, sectionTable, infoWhole, askedTables, askedIndex, askedLent, asked, namesInside, namesUtf8}
 use Rattle.pointers.specs.Index.{indexLength}
 use Rattle.pointers.specs.Open.{askedOpening}
 use Rattle.pointers.proofs.Questions.{question-came, rows-most, index-room}
@@ -41,7 +41,7 @@ tables-room t u e =
     }
 
 pub asked-tables : (t : Tables) (u : Unit {0}) → asked t ≡ value u → askedTables t ≡ value tt
-unfolding asked
+unfolding askedLent askedTables askedIndex
 asked-tables t u e = then-came (askedTables t) (λ _. askedIndex t) u e .1
 
 pub asked-index : (t : Tables) (u : Unit {0}) → askedIndex t ≡ value u → indexLength (t .rebases) (t .binds) ≤ length (t .index)

@@ -9,9 +9,9 @@ use Rattle.reads.specs.declared.place.Place.{Place}
 use Rattle.reads.specs.declared.text.Text.{Text}
 use Rattle.pointers.specs.Tables.{Tables, imageIn}
 
--- The text at an address.
+-- The text at an address, under the reading of the setting.
 abbrev pub string : Tables → ℕ → Outcome Text
-string t va = textIn (imageIn t) va
+string t va = textIn (t .setting .reading) (imageIn t) va
 
 -- The number of four bytes, of eight, and the signed number of four, at i bytes from a place; 0 where they do not lie in the image.
 abbrev pub u32In : Tables → Place → ℕ → ℕ

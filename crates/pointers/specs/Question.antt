@@ -9,7 +9,7 @@ use Rattle.reads.specs.Table.{records, wordOf}
 use Rattle.reads.specs.Segment.{segmentWords}
 use Rattle.reads.specs.Place.{part}
 use Rattle.reads.specs.Utf8.{utf8}
-use Rattle.pointers.specs.Tables.{Tables, sectionWords, bindWords, sectionTableWords, rebaseWords, chains, bindRecord}
+use Rattle.pointers.specs.Tables.{Tables, under, readingNew, sectionWords, bindWords, sectionTableWords, rebaseWords, chains, bindRecord}
 use Rattle.pointers.specs.declared.question.Asked.{Asked}
 use Rattle.pointers.specs.declared.question.Asked.the-variants as answer
 
@@ -84,9 +84,12 @@ askedTables t =
 unfoldable pub askedIndex : Tables → Outcome (Unit {0})
 askedIndex t = question 8 (indexFits (records rebaseWords (t .rebases)) (records bindWords (t .binds)) (length (t .index)))
 
--- The first of the questions 1 to 6 and 8 that says no: what every call after opening asks.
-unfoldable pub asked : Tables → Outcome (Unit {0})
-asked t = andThen (askedTables t) (λ _. askedIndex t)
+-- The first of the questions 1 to 6 and 8 that says no: what every call after opening asks, whatever the setting.
+unfoldable pub askedLent : Tables → Outcome (Unit {0})
+askedLent t = andThen (askedTables t) (λ _. askedIndex t)
+
+abbrev pub asked : Tables → Outcome (Unit {0})
+asked t = askedLent (under readingNew t)
 
 -- A call's outcome: the number of the first question that says no, or else what the call is about.
 abbrev pub guarded : {A : Type 0} → Tables → Outcome A → Outcome A

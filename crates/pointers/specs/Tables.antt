@@ -1,4 +1,4 @@
--- All that a caller lends (document 01, "Tables lent by the caller"), as one argument.
+-- All that a caller lends (document 01, "Tables lent by the caller"), as one argument, and how it is read (document 02, note 12).
 use Prim.Native.Nat.{ℕ, _*_}
 use mathlib.Core.List.{List}
 use lib.ListN.{getD}
@@ -6,6 +6,9 @@ use Rattle.reads.specs.Reference.{Slice, before}
 use Rattle.reads.specs.Outcome.{textOf}
 use Rattle.reads.specs.Table.{wordOf}
 use Rattle.reads.specs.Place.{Image, imageOf}
+use Rattle.reads.specs.declared.text.Reading.{Reading}
+use Rattle.reads.specs.declared.text.Reading.the-variants.{New}
+use Rattle.pointers.specs.declared.setting.Setting.{Setting}
 use Rattle.pointers.specs.declared.table.Bind.{Bind}
 use Rattle.pointers.specs.declared.table.Rebase.{Rebase}
 
@@ -17,6 +20,14 @@ pub record Tables : Type 0 where
   pub rebases : List ℕ
   pub binds : List ℕ
   pub index : List ℕ
+  pub setting : Setting
+
+-- Texts are read under either reading; what begins, begins under the new one.
+abbrev pub readingUnder : Reading → Setting
+readingUnder r = record { reading = r }
+
+abbrev pub readingNew : Setting
+readingNew = readingUnder New
 
 abbrev pub tablesOf : List ℕ → List ℕ → List ℕ → List ℕ → List ℕ → List ℕ → List ℕ → Tables
 tablesOf image segments sections info rebases binds index =
@@ -28,6 +39,21 @@ tablesOf image segments sections info rebases binds index =
       rebases = rebases;
       binds = binds;
       index = index;
+      setting = readingNew;
+    }
+
+-- The same tables under a setting.
+abbrev pub under : Setting → Tables → Tables
+under setting t =
+    record {
+      image = t .image;
+      segments = t .segments;
+      sections = t .sections;
+      info = t .info;
+      rebases = t .rebases;
+      binds = t .binds;
+      index = t .index;
+      setting = setting;
     }
 
 -- The same, of the slices that a function takes, as they are before the call.
@@ -41,7 +67,8 @@ imageIn t = imageOf (t .image) (t .segments)
 
 -- The same tables with another index.
 abbrev pub withIndex : Tables → List ℕ → Tables
-withIndex t index = tablesOf (t .image) (t .segments) (t .sections) (t .info) (t .rebases) (t .binds) index
+withIndex t index =
+    under (t .setting) (tablesOf (t .image) (t .segments) (t .sections) (t .info) (t .rebases) (t .binds) index)
 
 -- The words of a section (present, vmaddr, length), of the section table, of a rebase (slot, target) and of a bind (slot, name offset,
 -- name length).

@@ -4,6 +4,7 @@ pub mod index;
 pub mod open;
 pub mod question;
 pub mod section;
+pub mod setting;
 pub mod slot;
 pub mod symbol;
 pub mod table;

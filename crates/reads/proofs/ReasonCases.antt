@@ -6,43 +6,53 @@ use Rattle.reads.specs.Outcome.{absent, orElse, orFirst, choose, sum64, 
 use Rattle.reads.specs.Segment.{rows, ends, holds, placed, lookup}
 use Rattle.reads.specs.Place.{Image, imageOf, readableAt, readable}
 use Rattle.reads.specs.Utf8.{judge}
-use Rattle.reads.specs.Text.{text, textLength, textAt, textIn}
-use Rattle.reads.specs.declared.answer.Reason.the-variants.{NullAddress, Unmapped, PastEnd, NotUtf8, NoRecord, Unreadable, FieldOverflow}
+use Rattle.reads.specs.Text.{text, textAt, textIn}
+use Rattle.reads.specs.declared.answer.Reason.the-variants.{NullAddress, Unmapped, PastEnd, Unterminated, NotUtf8, NoRecord, Unreadable, FieldOverflow}
+use Rattle.reads.specs.declared.text.Reading.the-variants.{Old, New}
 
 -- Four bytes, mapped to 0x1000 with room for eight: "a", a byte that no text holds, an E2 that a "(" follows.
 abbrev m : Image
 m = imageOf (0x61 ∷ 0xFF ∷ 0xE2 ∷ 0x28 ∷ []) (0x1000 ∷ 8 ∷ 0 ∷ 8 ∷ [])
 
-at-zero : textIn m 0 ≡ absent NullAddress
+at-zero : textIn Old m 0 ≡ absent NullAddress
 unfolding textIn nonzero choose
 at-zero = refl
 
-not-mapped : textIn m 0x2000 ≡ absent Unmapped
+not-mapped : textIn Old m 0x2000 ≡ absent Unmapped
 unfolding textIn nonzero lookup rows ends holds placed sum64 choose
 not-mapped = refl
 
 -- fileoff + distance is over 64 bits: the lookup is absent, which is no field address.
-offset-over-64 : textIn (imageOf [] (0x1000 ∷ 0x10 ∷ 0xFFFFFFFFFFFFFFFF ∷ 0x10 ∷ [])) 0x1001 ≡ absent Unmapped
+offset-over-64 : textIn Old (imageOf [] (0x1000 ∷ 0x10 ∷ 0xFFFFFFFFFFFFFFFF ∷ 0x10 ∷ [])) 0x1001 ≡ absent Unmapped
 unfolding textIn nonzero lookup rows ends holds placed sum64 choose
 offset-over-64 = refl
 
-past-the-end : textIn m 0x1005 ≡ absent PastEnd
+past-the-end : textIn Old m 0x1005 ≡ absent PastEnd
 unfolding textIn textAt nonzero lookup rows ends holds placed sum64 choose
 past-the-end = refl
 
 -- The offset is in the string, not in the image.
-bad-byte : textIn m 0x1000 ≡ absent (NotUtf8 1)
-unfolding textIn textAt textLength text judge nonzero lookup rows ends holds placed sum64 choose
+bad-byte : textIn Old m 0x1000 ≡ absent (NotUtf8 1)
+unfolding textIn textAt text judge nonzero lookup rows ends holds placed sum64 choose
 bad-byte = refl
 
 -- E2 28: the second byte continues no text; E2 82 ends inside a character.
-misfit : textIn m 0x1002 ≡ absent (NotUtf8 1)
-unfolding textIn textAt textLength text judge nonzero lookup rows ends holds placed sum64 choose
+misfit : textIn Old m 0x1002 ≡ absent (NotUtf8 1)
+unfolding textIn textAt text judge nonzero lookup rows ends holds placed sum64 choose
 misfit = refl
 
-cut-character : textLength (0xE2 ∷ 0x82 ∷ []) ≡ absent (NotUtf8 2)
-unfolding textLength text judge choose
+cut-character : textAt Old (0xE2 ∷ 0x82 ∷ []) 0 ≡ absent (NotUtf8 2)
+unfolding textAt text judge choose
 cut-character = refl
+
+-- Under the new reading these have no end, which goes before; past the end is past the end (note 12).
+endless : textIn New m 0x1000 ≡ absent Unterminated
+unfolding textIn textAt text nonzero lookup rows ends holds placed sum64 choose
+endless = refl
+
+past-the-end-new : textIn New m 0x1005 ≡ absent PastEnd
+unfolding textIn textAt nonzero lookup rows ends holds placed sum64 choose
+past-the-end-new = refl
 
 -- Bytes that are not mapped, and bytes past the image's end.
 unmapped-bytes : readable m 0x2000 1 ≡ absent Unreadable

@@ -6,50 +6,64 @@ use Rattle.reads.specs.Outcome.{value, absent, choose, sum64, nonzero, t
 use Rattle.reads.specs.Segment.{rows, ends, holds, placed, lookup}
 use Rattle.reads.specs.Place.{Image, imageOf}
 use Rattle.reads.specs.Utf8.{judge, verdict, utf8}
-use Rattle.reads.specs.declared.answer.Reason.the-variants.{PastEnd, NotUtf8}
+use Rattle.reads.specs.declared.answer.Reason.the-variants.{PastEnd, Unterminated, NotUtf8}
+use Rattle.reads.specs.declared.text.Reading.the-variants.{Old, New}
 use Rattle.reads.specs.declared.text.Verdict.the-variants.{Bad}
-use Rattle.reads.specs.Text.{text, textLength, textAt, readAt, readIn, fixedLength}
+use Rattle.reads.specs.Text.{text, textAt, readAt, readIn, fixedLength}
 
 -- "\0Hub\0x": the text at 1 is "Hub", at 5 "x" runs to the image's end, at 6 it is empty, and above 6 it is absent.
 abbrev hub : List ℕ
 hub = 0x00 ∷ 0x48 ∷ 0x75 ∷ 0x62 ∷ 0x00 ∷ 0x78 ∷ []
 
-hub-at-1 : textAt hub 1 ≡ value (textOf 1 3)
-unfolding textAt textLength text judge choose
+hub-at-1 : textAt Old hub 1 ≡ value (textOf 1 3)
+unfolding textAt text judge choose
 hub-at-1 = refl
 
-hub-to-the-end : textAt hub 5 ≡ value (textOf 5 1)
-unfolding textAt textLength text judge choose
+hub-to-the-end : textAt Old hub 5 ≡ value (textOf 5 1)
+unfolding textAt text judge choose
 hub-to-the-end = refl
 
-hub-at-the-end : textAt hub 6 ≡ value (textOf 6 0)
-unfolding textAt textLength text judge choose
+hub-at-the-end : textAt Old hub 6 ≡ value (textOf 6 0)
+unfolding textAt text judge choose
 hub-at-the-end = refl
 
-hub-beyond : textAt hub 7 ≡ absent PastEnd
+hub-beyond : textAt Old hub 7 ≡ absent PastEnd
 unfolding textAt choose
 hub-beyond = refl
 
+-- Under the new reading (document 02, note 12) "Hub" is the same, "x" and the text at the image's end have no end.
+hub-ended : textAt New hub 1 ≡ value (textOf 1 3)
+unfolding textAt text judge choose
+hub-ended = refl
+
+hub-endless : (textAt New hub 5 ≡ absent Unterminated) × (textAt New hub 6 ≡ absent Unterminated)
+unfolding textAt text choose
+hub-endless = (refl, refl)
+
+hub-beyond-new : textAt New hub 7 ≡ absent PastEnd
+unfolding textAt choose
+hub-beyond-new = refl
+
 -- A character of each length: U+0041, U+00E9, U+2262, U+233B4.
-all-lengths : textAt (0x41 ∷ 0xC3 ∷ 0xA9 ∷ 0xE2 ∷ 0x89 ∷ 0xA2 ∷ 0xF0 ∷ 0xA3 ∷ 0x8E ∷ 0xB4 ∷ 0x00 ∷ []) 0 ≡ value (textOf 0 10)
-unfolding textAt textLength text judge choose
+all-lengths : textAt Old (0x41 ∷ 0xC3 ∷ 0xA9 ∷ 0xE2 ∷ 0x89 ∷ 0xA2 ∷ 0xF0 ∷ 0xA3 ∷ 0x8E ∷ 0xB4 ∷ 0x00 ∷ []) 0 ≡ value (textOf 0 10)
+unfolding textAt text judge choose
 all-lengths = refl
 
 -- A surrogate, two overlong forms, and a character that the zero byte cuts, each with the offset of the first bad byte.
-surrogate : textAt (0xED ∷ 0xA0 ∷ 0x80 ∷ 0x00 ∷ []) 0 ≡ absent (NotUtf8 1)
-unfolding textAt textLength text judge choose
+surrogate : textAt Old (0xED ∷ 0xA0 ∷ 0x80 ∷ 0x00 ∷ []) 0 ≡ absent (NotUtf8 1)
+unfolding textAt text judge choose
 surrogate = refl
 
-overlong-2 : textAt (0xC0 ∷ 0x80 ∷ 0x00 ∷ []) 0 ≡ absent (NotUtf8 0)
-unfolding textAt textLength text judge choose
+overlong-2 : textAt Old (0xC0 ∷ 0x80 ∷ 0x00 ∷ []) 0 ≡ absent (NotUtf8 0)
+unfolding textAt text judge choose
 overlong-2 = refl
 
-overlong-3 : textAt (0xE0 ∷ 0x80 ∷ 0x80 ∷ 0x00 ∷ []) 0 ≡ absent (NotUtf8 1)
-unfolding textAt textLength text judge choose
+overlong-3 : textAt Old (0xE0 ∷ 0x80 ∷ 0x80 ∷ 0x00 ∷ []) 0 ≡ absent (NotUtf8 1)
+unfolding textAt text judge choose
 overlong-3 = refl
 
-cut-by-zero : textAt (0xE2 ∷ 0x89 ∷ 0x00 ∷ 0xA2 ∷ []) 0 ≡ absent (NotUtf8 2)
-unfolding textAt textLength text judge choose
+cut-by-zero : textAt Old (0xE2 ∷ 0x89 ∷ 0x00 ∷ 0xA2 ∷ []) 0 ≡ absent (NotUtf8 2)
+unfolding textAt text judge choose
 cut-by-zero = refl
 
 first-bad : verdict (0x41 ∷ 0xED ∷ 0xA0 ∷ 0x80 ∷ []) ≡ Bad 2
@@ -82,13 +96,18 @@ count-beyond = refl
 abbrev malformed : List ℕ
 malformed = 0x61 ∷ 0xFF ∷ 0x62 ∷ 0x00 ∷ 0x63 ∷ []
 
-malformed-with-zero : (textAt malformed 0 ≡ absent (NotUtf8 1)) × (readAt malformed 0 ≡ 4)
-unfolding textAt textLength readAt text judge choose
+malformed-with-zero : (textAt Old malformed 0 ≡ absent (NotUtf8 1)) × (readAt malformed 0 ≡ 4)
+unfolding textAt readAt text judge choose
 malformed-with-zero = (refl, refl)
 
-malformed-without-zero : (textAt (0x61 ∷ 0xFF ∷ 0x62 ∷ []) 0 ≡ absent (NotUtf8 1)) × (readAt (0x61 ∷ 0xFF ∷ 0x62 ∷ []) 0 ≡ 3)
-unfolding textAt textLength readAt text judge choose
+malformed-without-zero : (textAt Old (0x61 ∷ 0xFF ∷ 0x62 ∷ []) 0 ≡ absent (NotUtf8 1)) × (readAt (0x61 ∷ 0xFF ∷ 0x62 ∷ []) 0 ≡ 3)
+unfolding textAt readAt text judge choose
 malformed-without-zero = (refl, refl)
+
+-- Under the new reading: malformed where a zero byte ends it, else without an end.
+malformed-new : (textAt New malformed 0 ≡ absent (NotUtf8 1)) × (textAt New (0x61 ∷ 0xFF ∷ 0x62 ∷ []) 0 ≡ absent Unterminated)
+unfolding textAt text judge choose
+malformed-new = (refl, refl)
 
 -- A character that the zero byte cuts, and one that the image's end cuts.
 count-cut-by-zero : readAt (0xE2 ∷ 0x89 ∷ 0x00 ∷ 0xA2 ∷ []) 0 ≡ 3

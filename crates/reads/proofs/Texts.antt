@@ -15,14 +15,16 @@ use Rattle.reads.specs.Place.{Image}
 use Rattle.reads.specs.declared.place.Place.{Place}
 use Rattle.reads.specs.Answer.{missed}
 use Rattle.reads.specs.Utf8.{judge, verdict, isGood, utf8}
-use Rattle.reads.specs.Text.{text, scanned, scanOf, ifGood, textOfScan, textLength, textAt, textIn, readAt, orNone, lengthPlusOne, fixedLength}
+use Rattle.reads.specs.Text.{text, scanned, scanOf, ifGood, goodText, ended, ifEnded, textOfScan, textAt, textIn, readAt, orNone, lengthPlusOne, fixedLength}
 use Rattle.reads.specs.Pass.{byteAfter, brokenAt}
 use Rattle.reads.specs.declared.text.ByteRead.{ByteRead}
+use Rattle.reads.specs.declared.text.Reading.{Reading}
+use Rattle.reads.specs.declared.text.Reading.the-variants.{Old, New}
 use Rattle.reads.specs.declared.text.Scan.{Scan}
 use Rattle.reads.specs.declared.text.Text.{Text}
 use Rattle.reads.specs.declared.text.Verdict.{Verdict}
 use Rattle.reads.specs.declared.text.Verdict.the-variants.{Good, Bad}
-use Rattle.reads.specs.declared.answer.Reason.the-variants.{PastEnd, NotUtf8}
+use Rattle.reads.specs.declared.answer.Reason.the-variants.{PastEnd, Unterminated, NotUtf8}
 use Rattle.reads.specs.declared.answer.Missing.{Missing}
 use Rattle.reads.specs.declared.answer.Missing.the-variants.{Absent, Refused}
 use Rattle.reads.proofs.Passes.{text-zero, text-next, stands-inside, read-there, read-of-all, Left, FoundBad}
@@ -87,15 +89,24 @@ scan-broken {s} {k} b = rw (b .long, b .judged)
 -- What the answers come to
 
 module _ (offset : ℕ) (c : Scan) where
-  pub scan-found : c .verdict ≡ Good → value (textOf offset (c .len)) ≡ textOfScan offset c
+  pub scan-found : c .verdict ≡ Good → value (textOf offset (c .len)) ≡ goodText offset c
   scan-found e = ap (λ (v : Verdict). andThen (ifGood v (c .len)) (λ n. value (textOf offset n))) (sym e)
 
-  pub scan-missed : (k : ℕ) → c .verdict ≡ Bad k → absent (NotUtf8 k) ≡ textOfScan offset c
+  pub scan-missed : (k : ℕ) → c .verdict ≡ Bad k → absent (NotUtf8 k) ≡ goodText offset c
   scan-missed k e = ap (λ (v : Verdict). andThen (ifGood v (c .len)) (λ n. value (textOf offset n))) (sym e)
 
-module _ (bytes : List ℕ) (offset : ℕ) where
+  pub scan-old : {r : Reading} → r ≡ Old → goodText offset c ≡ textOfScan r offset c
+  scan-old q = ap (λ (r : Reading). textOfScan r offset c) (sym q)
+
+  pub scan-ended : {r : Reading} → r ≡ New → ended c ≡ true → goodText offset c ≡ textOfScan r offset c
+  scan-ended q e = ap (λ (x : Bool). ifEnded New x (goodText offset c)) (sym e) ∙ ap (λ (r : Reading). textOfScan r offset c) (sym q)
+
+  pub scan-endless : {r : Reading} → r ≡ New → ended c ≡ false → absent Unterminated ≡ textOfScan r offset c
+  scan-endless q e = ap (λ (x : Bool). ifEnded New x (goodText offset c)) (sym e) ∙ ap (λ (r : Reading). textOfScan r offset c) (sym q)
+
+module _ (r : Reading) (bytes : List ℕ) (offset : ℕ) where
   module _ (h : length bytes < offset) where
-    pub text-beyond : absent PastEnd ≡ textAt bytes offset
+    pub text-beyond : absent PastEnd ≡ textAt r bytes offset
     unfolding textAt choose
     text-beyond = simp (lt-leb offset (length bytes) h)
 
@@ -111,9 +122,9 @@ module _ (bytes : List ℕ) (offset : ℕ) where
     scan-rest : c ≡ scanOf (drop offset bytes)
     scan-rest = e ∙ ap scanOf all-taken
 
-    pub text-scanned : textOfScan offset c ≡ textAt bytes offset
-    unfolding textAt textLength choose
-    text-scanned = ap (textOfScan offset) scan-rest ∙ simp (le-leb offset (length bytes) h)
+    pub text-scanned : textOfScan r offset c ≡ textAt r bytes offset
+    unfolding textAt choose
+    text-scanned = ap (textOfScan r offset) scan-rest ∙ simp (le-leb offset (length bytes) h)
 
     pub read-scanned : c .read ≡ readAt bytes offset
     unfolding readAt
@@ -142,6 +153,15 @@ module _ (s : List ℕ) {c : Scan} (e : c ≡ scanOf s) where
   fixed-bad k v = ap (λ (x : Verdict). choose (isGood x) (c .len) 0) (sym v) ∙ fixed-by
 
 -- A text lies in the image
+-- What is there under a reading is there under the old one.
+ended-value : (r : Reading) (e x : Bool) (t : Text) (o : Outcome Text) → value t ≡ choose x (ifEnded r e o) (absent PastEnd)
+    → value t ≡ choose x o (absent PastEnd)
+unfolding choose
+ended-value Old e x t o q = q
+ended-value New true x t o q = q
+ended-value New false true t o q = let z : _≡_ {A = ℕ} 0 1 = cc in absurd (omega arith)
+ended-value New false false t o q = q
+
 text-short : (s : List ℕ) → length (text s) ≤ length s
 unfolding text
 text-short [] = omega arith
@@ -151,9 +171,11 @@ text-short (b ∷ s) = go (eqb b 0) (text-short s)
     go true e = unfold choose in omega arith
     go false e = unfold choose in omega arith
 
-pub text-inside : (bytes : List ℕ) (offset : ℕ) (t : Text) → value t ≡ textAt bytes offset → t .offset + t .len ≤ length bytes
-unfolding textAt textLength
-text-inside bytes offset t e = go (leb offset (length bytes)) refl (verdict (text (drop offset bytes))) e
+pub text-inside : (r : Reading) (bytes : List ℕ) (offset : ℕ) (t : Text) → value t ≡ textAt r bytes offset → t .offset + t .len ≤ length bytes
+unfolding textAt
+text-inside r bytes offset t e =
+    go (leb offset (length bytes)) refl (verdict (text (drop offset bytes)))
+    (ended-value r (ended (scanOf (drop offset bytes))) (leb offset (length bytes)) t (goodText offset (scanOf (drop offset bytes))) e)
   where
     go : (x : Bool) → leb offset (length bytes) ≡ x → (v : Verdict)
         → value t ≡ choose x (andThen (ifGood v (length (text (drop offset bytes)))) (λ n. value (textOf offset n))) (absent PastEnd)
@@ -166,16 +188,16 @@ text-inside bytes offset t e = go (leb offset (length bytes)) refl (verdict (tex
     go false h v q = let z : _≡_ {A = ℕ} 0 1 = unfold choose in cc in absurd (omega arith)
 
 -- A text handed out at an address lies inside the image too.
-place-inside : (bytes : List ℕ) (o : Outcome Place) (t : Text) → value t ≡ andThen o (λ p. textAt bytes (p .offset)) → t .offset + t .len ≤ length bytes
-place-inside bytes (value p) t e = text-inside bytes (p .offset) t e
-place-inside bytes (absent r) t e = let z : _≡_ {A = ℕ} 0 1 = cc in absurd (omega arith)
-place-inside bytes (number k) t e = let z : _≡_ {A = ℕ} 0 1 = cc in absurd (omega arith)
+place-inside : (r : Reading) (bytes : List ℕ) (o : Outcome Place) (t : Text) → value t ≡ andThen o (λ p. textAt r bytes (p .offset)) → t .offset + t .len ≤ length bytes
+place-inside r bytes (value p) t e = text-inside r bytes (p .offset) t e
+place-inside r bytes (absent why) t e = let z : _≡_ {A = ℕ} 0 1 = cc in absurd (omega arith)
+place-inside r bytes (number k) t e = let z : _≡_ {A = ℕ} 0 1 = cc in absurd (omega arith)
 
-pub text-in-inside : (m : Image) (va : ℕ) (t : Text) → value t ≡ textIn m va → t .offset + t .len ≤ length (m .bytes)
+pub text-in-inside : (r : Reading) (m : Image) (va : ℕ) (t : Text) → value t ≡ textIn r m va → t .offset + t .len ≤ length (m .bytes)
 unfolding textIn
-text-in-inside m va t e = go (nonzero va) e
+text-in-inside r m va t e = go (nonzero va) e
   where
-    go : (o : Outcome ℕ) → value t ≡ andThen o (λ a. andThen (lookup (rows (m .words)) a) (λ p. textAt (m .bytes) (p .offset))) → t .offset + t .len ≤ length (m .bytes)
-    go (value a) q = place-inside (m .bytes) (lookup (rows (m .words)) a) t q
-    go (absent r) q = let z : _≡_ {A = ℕ} 0 1 = cc in absurd (omega arith)
+    go : (o : Outcome ℕ) → value t ≡ andThen o (λ a. andThen (lookup (rows (m .words)) a) (λ p. textAt r (m .bytes) (p .offset))) → t .offset + t .len ≤ length (m .bytes)
+    go (value a) q = place-inside r (m .bytes) (lookup (rows (m .words)) a) t q
+    go (absent why) q = let z : _≡_ {A = ℕ} 0 1 = cc in absurd (omega arith)
     go (number k) q = let z : _≡_ {A = ℕ} 0 1 = cc in absurd (omega arith)

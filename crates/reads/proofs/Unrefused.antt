@@ -1,6 +1,6 @@
 -- The reads ask no question: none of them gives a number. What is made of unrefused outcomes is unrefused.
 use mathlib.Core.Path.{_≡_, refl}
-use mathlib.Core.Bool.{Bool}
+use mathlib.Core.Bool.{Bool, true, false}
 use mathlib.Core.List.{List, [], _∷_}
 use Prim.Native.Nat.{ℕ, _+_, _-_}
 use lib.ListN.{length, drop}
@@ -8,10 +8,13 @@ use Rattle.reads.specs.Outcome.{Outcome, value, Unrefused, is-value, is-
 use Rattle.reads.specs.Segment.{rows, placeAt, placed, lookup}
 use Rattle.reads.specs.Place.{Image, le, part, readableAt, readable, word}
 use Rattle.reads.specs.Utf8.{verdict}
-use Rattle.reads.specs.Text.{text, ifGood, textLength, textAt, textIn}
+use Rattle.reads.specs.Text.{scanOf, ifGood, goodText, ended, ifEnded, textAt, textIn}
 use Rattle.reads.specs.Address.{dataArm64e, data64, mapped, pickedWide, picked}
 use Rattle.reads.specs.declared.answer.Reason.{Reason}
-use Rattle.reads.specs.declared.answer.Reason.the-variants.{NullAddress, Unmapped, PastEnd, NotUtf8, NoData, Unreadable, FieldOverflow}
+use Rattle.reads.specs.declared.answer.Reason.the-variants.{NullAddress, Unmapped, PastEnd, Unterminated, NotUtf8, NoData, Unreadable, FieldOverflow}
+use Rattle.reads.specs.declared.text.Reading.{Reading}
+use Rattle.reads.specs.declared.text.Reading.the-variants.{Old, New}
+use Rattle.reads.specs.declared.text.Scan.{Scan}
 use Rattle.reads.specs.declared.text.Text.{Text}
 use Rattle.reads.specs.declared.text.Verdict.{Verdict}
 use Rattle.reads.specs.declared.text.Verdict.the-variants.{Good, Bad}
@@ -87,22 +90,28 @@ if-good-unrefused : (v : Verdict) (n : ℕ) → Unrefused (ifGood v n)
 if-good-unrefused Good n = is-value n
 if-good-unrefused (Bad k) n = is-absent (NotUtf8 k)
 
-pub text-length-unrefused : (s : List ℕ) → Unrefused (textLength s)
-unfolding textLength
-text-length-unrefused s = if-good-unrefused (verdict (text s)) (length (text s))
+good-text-unrefused : (offset : ℕ) (c : Scan) → Unrefused (goodText offset c)
+good-text-unrefused offset c =
+    unrefused-then (λ n. value (textOf offset n)) (if-good-unrefused (c .verdict) (c .len)) (λ n. is-value (textOf offset n))
 
-pub text-at-unrefused : (bytes : List ℕ) (offset : ℕ) → Unrefused (textAt bytes offset)
+if-ended-unrefused : {A : Type 0} {o : Outcome A} (r : Reading) (e : Bool) → Unrefused o → Unrefused (ifEnded r e o)
+if-ended-unrefused Old e u = u
+if-ended-unrefused New true u = u
+if-ended-unrefused New false u = is-absent Unterminated
+
+pub text-at-unrefused : (r : Reading) (bytes : List ℕ) (offset : ℕ) → Unrefused (textAt r bytes offset)
 unfolding textAt
-text-at-unrefused bytes offset =
+text-at-unrefused r bytes offset =
+    let c = scanOf (drop offset bytes) in
     by-choose Unrefused
-    (λ e. unrefused-then (λ n. value (textOf offset n)) (text-length-unrefused (drop offset bytes)) (λ n. is-value (textOf offset n)))
+    (λ e. if-ended-unrefused r (ended c) (good-text-unrefused offset c))
     (λ e. is-absent PastEnd)
 
-pub text-in-unrefused : (m : Image) (va : ℕ) → Unrefused (textIn m va)
+pub text-in-unrefused : (r : Reading) (m : Image) (va : ℕ) → Unrefused (textIn r m va)
 unfolding textIn
-text-in-unrefused m va =
-    unrefused-then (λ a. andThen (lookup (rows (m .words)) a) (λ p. textAt (m .bytes) (p .offset))) (nonzero-unrefused va)
-    (λ a. unrefused-then (λ p. textAt (m .bytes) (p .offset)) (lookup-unrefused (rows (m .words)) a) (λ p. text-at-unrefused (m .bytes) (p .offset)))
+text-in-unrefused r m va =
+    unrefused-then (λ a. andThen (lookup (rows (m .words)) a) (λ p. textAt r (m .bytes) (p .offset))) (nonzero-unrefused va)
+    (λ a. unrefused-then (λ p. textAt r (m .bytes) (p .offset)) (lookup-unrefused (rows (m .words)) a) (λ p. text-at-unrefused r (m .bytes) (p .offset)))
 
 pub mapped-unrefused : (words : List ℕ) (va : ℕ) → Unrefused (mapped words va)
 unfolding mapped

@@ -1,13 +1,16 @@
--- Texts in the image (document 01, Reading rules, third point; document 02, notes 2 and 4; util.rs, read_cstr_at and cstr_from_fixed).
+-- Texts in the image (document 01, Reading rules, third point; document 02, notes 2, 4 and 12; util.rs, read_cstr_at and cstr_from_fixed).
 use Prim.Native.Nat.{ℕ, suc, _+_, min}
 use mathlib.Core.List.{List, [], _∷_}
-use lib.Dec.{leb, eqb}
+use mathlib.Core.Bool.{Bool, true, false}
+use lib.Dec.{leb, ltb, eqb}
 use lib.ListN.{length, drop}
 use Rattle.reads.specs.Outcome.{Outcome, value, absent, number, andThen, choose, nonzero, textOf}
 use Rattle.reads.specs.Segment.{rows, lookup}
 use Rattle.reads.specs.Place.{Image}
 use Rattle.reads.specs.Utf8.{verdict, utf8}
-use Rattle.reads.specs.declared.answer.Reason.the-variants.{PastEnd, NotUtf8}
+use Rattle.reads.specs.declared.answer.Reason.the-variants.{PastEnd, Unterminated, NotUtf8}
+use Rattle.reads.specs.declared.text.Reading.{Reading}
+use Rattle.reads.specs.declared.text.Reading.the-variants.{Old, New}
 use Rattle.reads.specs.declared.text.Scan.{Scan}
 use Rattle.reads.specs.declared.text.Text.{Text}
 use Rattle.reads.specs.declared.text.Verdict.{Verdict}
@@ -30,26 +33,31 @@ abbrev pub ifGood : Verdict → ℕ → Outcome ℕ
 ifGood Good n = value n
 ifGood (Bad k) n = absent (NotUtf8 k)
 
--- The length of a text that was scanned, or why it is missing.
-abbrev pub lengthOfScan : Scan → Outcome ℕ
-lengthOfScan c = ifGood (c .verdict) (c .len)
+-- The text that a scan from an offset found, absent unless UTF-8.
+abbrev pub goodText : ℕ → Scan → Outcome Text
+goodText offset c = andThen (ifGood (c .verdict) (c .len)) (λ n. value (textOf offset n))
 
--- That text, which begins at an offset.
-abbrev pub textOfScan : ℕ → Scan → Outcome Text
-textOfScan offset c = andThen (lengthOfScan c) (λ n. value (textOf offset n))
+-- A zero byte ends the text: it was read too.
+abbrev pub ended : Scan → Bool
+ended c = ltb (c .len) (c .read)
 
--- The length of the text in front of s, absent unless UTF-8.
-unfoldable pub textLength : List ℕ → Outcome ℕ
-textLength s = lengthOfScan (scanOf s)
+-- A text that no zero byte ends runs to the image's end under the old reading and is absent under the new one (note 12).
+abbrev pub ifEnded : {A : Type 0} → Reading → Bool → Outcome A → Outcome A
+ifEnded Old e o = o
+ifEnded New true o = o
+ifEnded New false o = absent Unterminated
 
--- The text at an offset: absent above the image's length, else the text there, which at that length is empty.
-unfoldable pub textAt : List ℕ → ℕ → Outcome Text
-textAt bytes offset =
-    choose (leb offset (length bytes)) (andThen (textLength (drop offset bytes)) (λ n. value (textOf offset n))) (absent PastEnd)
+-- The text that a scan found, under a reading: that it has no end goes before that it is not UTF-8.
+abbrev pub textOfScan : Reading → ℕ → Scan → Outcome Text
+textOfScan r offset c = ifEnded r (ended c) (goodText offset c)
+
+-- The text at an offset: absent above the image's length, else the text there, which at that length is empty and has no end.
+unfoldable pub textAt : Reading → List ℕ → ℕ → Outcome Text
+textAt r bytes offset = choose (leb offset (length bytes)) (textOfScan r offset (scanOf (drop offset bytes))) (absent PastEnd)
 
 -- The text at an address: absent at 0 and where nothing is mapped.
-unfoldable pub textIn : Image → ℕ → Outcome Text
-textIn m va = andThen (nonzero va) (λ a. andThen (lookup (rows (m .words)) a) (λ p. textAt (m .bytes) (p .offset)))
+unfoldable pub textIn : Reading → Image → ℕ → Outcome Text
+textIn r m va = andThen (nonzero va) (λ a. andThen (lookup (rows (m .words)) a) (λ p. textAt r (m .bytes) (p .offset)))
 
 -- How many bytes a read of the text at an offset reads: none where it lies at the image's end or above.
 unfoldable pub readAt : List ℕ → ℕ → ℕ

@@ -11,6 +11,8 @@ pub enum Reason {
     Unmapped,
     // A string's offset lies above the image's length.
     PastEnd,
+    // No zero byte ends a string before the image's end.
+    Unterminated,
     // A string is not UTF-8: the offset in it of the first byte that no well-formed text can continue, or its length where it
     // ends inside a character.
     NotUtf8(u64),

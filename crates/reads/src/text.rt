@@ -15,12 +15,19 @@ ghost use Rattle.reads.specs.Outcome.{because, orEmpty};
 ghost use Rattle.reads.specs.Utf8.{_to_, tail, verdict, utf8};
 ghost use Rattle.reads.specs.Pass.{byteAfter, due, follow, character, brokenAt};
 ghost use Rattle.reads.specs.Place.{lentImage};
-ghost use Rattle.reads.specs.Text.{scanOf, textOfScan, textAt, readAt, textIn, readIn, fixedLength, lengthPlusOne};
+ghost use Rattle.reads.specs.declared.text.Reading.the-variants.{Old};
+ghost use Rattle.reads.specs.Text.{ended, scanOf, goodText, textOfScan, textAt, readAt, textIn, readIn, fixedLength, lengthPlusOne};
 
 // A text: a part of the image.
 pub struct Text {
     pub offset: u64,
     pub len: u64,
+}
+
+// How a text is read that no zero byte ends: under the old reading it runs to the image's end, under the new one it is absent.
+pub enum Reading {
+    Old,
+    New,
 }
 
 // A text, or none.
@@ -232,9 +239,16 @@ pub fn scan_text(s: &[u8]) -> Scan
     }
 }
 
-// The text that a scan from an offset found, or why it is missing.
-fn text_of_scan(offset: u64, scan: Scan) -> TextAnswer
-    ensures { λ r. ⌜ textOutcome r ≡ textOfScan offset scan ⌝ }
+// The zero byte that ends a text was read too.
+fn ended(scan: Scan) -> bool
+    ensures { λ r. ⌜ r ≡ ended scan ⌝ }
+{
+    scan.len < scan.read
+}
+
+// The text that a scan from an offset found, if it is UTF-8.
+fn good_text(offset: u64, scan: Scan) -> TextAnswer
+    ensures { λ r. ⌜ textOutcome r ≡ goodText offset scan ⌝ }
 {
     let verdict = scan.verdict;
     match verdict {
@@ -246,9 +260,24 @@ fn text_of_scan(offset: u64, scan: Scan) -> TextAnswer
     }
 }
 
+// The same under a reading: that it has no end goes before that it is not UTF-8.
+fn text_of_scan(reading: Reading, offset: u64, scan: Scan) -> TextAnswer
+    ensures { λ r. ⌜ textOutcome r ≡ textOfScan reading offset scan ⌝ }
+{
+    match reading {
+        Reading::Old => good_text(offset, scan),
+        Reading::New => {
+            if !ended(scan) {
+                return TextAnswer::Missing(Missing::Absent(Reason::Unterminated));
+            }
+            good_text(offset, scan)
+        }
+    }
+}
+
 // The text at an offset of the image, and how many bytes were read.
-pub fn read_cstr_at(image: &[u8], offset: u64) -> CstrRead
-    ensures { λ r. ⌜ (textOutcome (r .text) ≡ textAt (before image) offset) × (r .read ≡ readAt (before image) offset) ⌝ }
+pub fn read_cstr_at(image: &[u8], reading: Reading, offset: u64) -> CstrRead
+    ensures { λ r. ⌜ (textOutcome (r .text) ≡ textAt reading (before image) offset) × (r .read ≡ readAt (before image) offset) ⌝ }
 {
     if (image.len() as u64) < offset {
         return CstrRead {
@@ -258,18 +287,18 @@ pub fn read_cstr_at(image: &[u8], offset: u64) -> CstrRead
     }
     let scan = scan_text(&image[offset as usize..image.len()]);
     CstrRead {
-        text: text_of_scan(offset, scan),
+        text: text_of_scan(reading, offset, scan),
         read: scan.read,
     }
 }
 
 // The text at an address, and how many bytes were read: absent at 0 and where nothing is mapped, and then none.
-pub fn read_cstr_counted(image: &[u8], segments: &[u64], va: u64) -> CstrRead
-    ensures { λ r. let m = lentImage image segments in ⌜ (textOutcome (r .text) ≡ textIn m va) × (r .read ≡ readIn m va) ⌝ }
+pub fn read_cstr_counted(image: &[u8], segments: &[u64], reading: Reading, va: u64) -> CstrRead
+    ensures { λ r. let m = lentImage image segments in ⌜ (textOutcome (r .text) ≡ textIn reading m va) × (r .read ≡ readIn m va) ⌝ }
 {
     match nonzero(va) {
         Word::Value(a) => match vm_to_file_offset_in(segments, a) {
-            Placed::At(p) => read_cstr_at(image, p.offset),
+            Placed::At(p) => read_cstr_at(image, reading, p.offset),
             Placed::Missing(m) => CstrRead {
                 text: TextAnswer::Missing(m),
                 read: 0,
@@ -283,18 +312,18 @@ pub fn read_cstr_counted(image: &[u8], segments: &[u64], va: u64) -> CstrRead
 }
 
 // The same without the count.
-pub fn read_cstr(image: &[u8], segments: &[u64], va: u64) -> TextAnswer
-    ensures { λ r. ⌜ textOutcome r ≡ textIn (lentImage image segments) va ⌝ }
+pub fn read_cstr(image: &[u8], segments: &[u64], reading: Reading, va: u64) -> TextAnswer
+    ensures { λ r. ⌜ textOutcome r ≡ textIn reading (lentImage image segments) va ⌝ }
 {
-    let r = read_cstr_counted(image, segments, va);
+    let r = read_cstr_counted(image, segments, reading, va);
     r.text
 }
 
 // The same, an absent text counting as the empty one.
-pub fn read_cstr_or_empty(image: &[u8], segments: &[u64], va: u64) -> TextAnswer
-    ensures { λ r. ⌜ textOutcome r ≡ orEmpty (textIn (lentImage image segments) va) ⌝ }
+pub fn read_cstr_or_empty(image: &[u8], segments: &[u64], reading: Reading, va: u64) -> TextAnswer
+    ensures { λ r. ⌜ textOutcome r ≡ orEmpty (textIn reading (lentImage image segments) va) ⌝ }
 {
-    or_empty(read_cstr(image, segments, va))
+    or_empty(read_cstr(image, segments, reading, va))
 }
 
 // The length of the text in a field of 16 bytes, as segname and sectname: 0 where it is not UTF-8.
@@ -309,12 +338,12 @@ pub fn cstr_from_fixed(bytes: &[u8; 16]) -> u64
     }
 }
 
-// For callers in C or Rust: one more than the length of the text at an offset of the image, 0 where there is none.
+// For callers in C or Rust: one more than the length of the text at an offset of the image under the old reading, 0 where there is none.
 #[no_mangle]
 pub extern "C" fn reads_cstr_length_plus_one(image: &[u8], offset: u64) -> u64
-    ensures { λ r. ⌜ r ≡ lengthPlusOne (textAt (before image) offset) ⌝ }
+    ensures { λ r. ⌜ r ≡ lengthPlusOne (textAt Old (before image) offset) ⌝ }
 {
-    let r = read_cstr_at(image, offset);
+    let r = read_cstr_at(image, Reading::Old, offset);
     let t = r.text;
     match t {
         TextAnswer::Found(t) => t.len + 1,

@@ -12,7 +12,7 @@ use Rattle.reads.specs.Relative.{signed32, signedIn, modulo64, relative}
 use Rattle.reads.specs.Segment.{rows, ends, holds, placed, lookup}
 use Rattle.reads.specs.Signed.{twos}
 use Rattle.reads.specs.Table.{tabulate}
-use Rattle.reads.specs.Text.{text, textLength, textAt, textIn}
+use Rattle.reads.specs.Text.{text, textAt, textIn}
 use Rattle.reads.specs.Utf8.{judge}
 use Rattle.reads.specs.declared.answer.Reason.the-variants.{NullAddress, Unmapped, NotUtf8, NoData, Unresolved, Unreadable, FieldOverflow, OddList, ShortEntry}
 use Rattle.pointers.specs.Chain.{followFrom, follow}
@@ -109,7 +109,7 @@ protocol-reasons : protocolAt (zeros 71 0x1000 71) 0x1000
     ∷ protocolAt (sizedAt 0x1000 72) 0x1000
     ∷ []
     ≡ absent Unreadable ∷ absent FieldOverflow ∷ absent Unresolved ∷ absent FieldOverflow ∷ absent NullAddress ∷ absent FieldOverflow ∷ absent Unreadable ∷ []
-unfolding decodeProtocol decodeProtocolLists decodeClassProperties decodeTrailing pointerAt pointerOr0At readable readableAt lookup rows tabulate ends holds placed sum64 resolve rebaseAt follow followFrom stored stripped word wordIn le textIn textAt textLength text judge nonzero choose
+unfolding decodeProtocol decodeProtocolLists decodeClassProperties decodeTrailing pointerAt pointerOr0At readable readableAt lookup rows tabulate ends holds placed sum64 resolve rebaseAt follow followFrom stored stripped word wordIn le textIn textAt text judge nonzero choose
 protocol-reasons = refl
 
 -- 48 bytes; +8, before the name's string; the string's.
@@ -145,7 +145,7 @@ small-reasons : smallMethodAt (zeros 11 0x1000 11) 0x1000 true
     ∷ smallMethodAt (mappedAt (smallBytes 12 0 ++ (0x61 ∷ 0xE2 ∷ 0x28 ∷ 0 ∷ [])) 0x1000 16) 0x1000 true
     ∷ []
     ≡ absent Unreadable ∷ absent FieldOverflow ∷ absent FieldOverflow ∷ absent Unresolved ∷ absent Unmapped ∷ absent (NotUtf8 2) ∷ []
-unfolding decodeSmallMethod decodeSelector decodeTypes signedIn signed32 twos modulo64 relative readable readableAt lookup rows tabulate ends holds placed sum64 resolve rebaseAt follow followFrom stored stripped word wordIn le textIn textAt textLength text judge nonzero choose
+unfolding decodeSmallMethod decodeSelector decodeTypes signedIn signed32 twos modulo64 relative readable readableAt lookup rows tabulate ends holds placed sum64 resolve rebaseAt follow followFrom stored stripped word wordIn le textIn textAt text judge nonzero choose
 small-reasons = refl
 
 -- 32 bytes; +8; the name slot; +16, before the name's string; the string's.

@@ -12,7 +12,7 @@ use Rattle.reads.specs.Relative.{signed32, modulo64, relative}
 use Rattle.reads.specs.Segment.{rows, ends, holds, placed, lookup}
 use Rattle.reads.specs.Signed.{twos}
 use Rattle.reads.specs.Table.{tabulate}
-use Rattle.reads.specs.Text.{text, textLength, textAt, textIn}
+use Rattle.reads.specs.Text.{text, textAt, textIn}
 use Rattle.reads.specs.Utf8.{judge, utf8}
 use Rattle.pointers.specs.Chain.{followFrom, follow}
 use Rattle.pointers.specs.ImageInfo.{imageInfo, bit}
@@ -89,5 +89,5 @@ category =
 
 -- Without bit 6 it is whole; with it 56 bytes are asked for.
 pub narrow-category : map (λ flags. categoryAt (flagged flags) 0x1008) (0 ∷ 64 ∷ []) ≡ value category ∷ absent Unreadable ∷ []
-unfolding decodeCategory decodeCategoryOf decodeCategoryLists decodeCategoryProperties imageInfo bit readable readableAt lookup rows tabulate ends holds placed sum64 resolve rebaseAt follow followFrom stored stripped word le pointerOr0At textIn nonzero textAt textLength text utf8 judge choose
+unfolding decodeCategory decodeCategoryOf decodeCategoryLists decodeCategoryProperties imageInfo bit readable readableAt lookup rows tabulate ends holds placed sum64 resolve rebaseAt follow followFrom stored stripped word le pointerOr0At textIn nonzero textAt text utf8 judge choose
 narrow-category = refl

@@ -14,12 +14,13 @@ use crate::protocol::ProtocolAnswer;
 use crate::protocol::protocol_at;
 use pointers::question::Asked;
 use pointers::question::ask;
+use pointers::setting::Setting;
 use reads::answer::Missing;
 use reads::text::TextAnswer;
 ghost use mathlib.Core.Path.{_≡_};
 ghost use Rattle.reads.specs.Answer.{textOutcome};
 ghost use Rattle.pointers.specs.Question.{guarded};
-ghost use Rattle.pointers.specs.Tables.{lent};
+ghost use Rattle.pointers.specs.Tables.{lent, under};
 ghost use Rattle.records.specs.Category.{categoryOutcome, categoryAt, categoryClassName};
 ghost use Rattle.records.specs.Class.{classOutcome, classRoOutcome, classAt, classRoAt, roOf, classNameAt, superclassName};
 ghost use Rattle.records.specs.Protocol.{protocolOutcome, protocolAt};
@@ -33,10 +34,11 @@ pub fn decode_class(
     rebases: &[u64],
     binds: &[u64],
     index: &[u32],
+    setting: Setting,
     va: u64,
     is_meta: bool,
 ) -> ClassAnswer
-    ensures { λ r. let t = lent image segments sections info rebases binds index in
+    ensures { λ r. let t = under setting (lent image segments sections info rebases binds index) in
         ⌜ classOutcome r ≡ guarded t (classAt t va «is_meta») ⌝ }
 {
     match ask(image, segments, sections, info, rebases, binds, index) {
@@ -48,6 +50,7 @@ pub fn decode_class(
             rebases,
             binds,
             index,
+            setting,
             va,
             is_meta,
         ),
@@ -64,13 +67,24 @@ pub fn decode_class_ro(
     rebases: &[u64],
     binds: &[u64],
     index: &[u32],
+    setting: Setting,
     va: u64,
 ) -> ClassRoAnswer
-    ensures { λ r. let t = lent image segments sections info rebases binds index in
+    ensures { λ r. let t = under setting (lent image segments sections info rebases binds index) in
         ⌜ classRoOutcome r ≡ guarded t (classRoAt t va) ⌝ }
 {
     match ask(image, segments, sections, info, rebases, binds, index) {
-        Asked::Yes => class_ro_at(image, segments, sections, info, rebases, binds, index, va),
+        Asked::Yes => class_ro_at(
+            image,
+            segments,
+            sections,
+            info,
+            rebases,
+            binds,
+            index,
+            setting,
+            va,
+        ),
         Asked::Refused(k) => ClassRoAnswer::Missing(Missing::Refused(k)),
     }
 }
@@ -84,13 +98,24 @@ pub fn decode_class_name(
     rebases: &[u64],
     binds: &[u64],
     index: &[u32],
+    setting: Setting,
     va: u64,
 ) -> TextAnswer
-    ensures { λ r. let t = lent image segments sections info rebases binds index in
+    ensures { λ r. let t = under setting (lent image segments sections info rebases binds index) in
         ⌜ textOutcome r ≡ guarded t (classNameAt t va) ⌝ }
 {
     match ask(image, segments, sections, info, rebases, binds, index) {
-        Asked::Yes => class_name_at(image, segments, sections, info, rebases, binds, index, va),
+        Asked::Yes => class_name_at(
+            image,
+            segments,
+            sections,
+            info,
+            rebases,
+            binds,
+            index,
+            setting,
+            va,
+        ),
         Asked::Refused(k) => TextAnswer::Missing(Missing::Refused(k)),
     }
 }
@@ -106,8 +131,9 @@ impl ObjcClass {
         rebases: &[u64],
         binds: &[u64],
         index: &[u32],
+        setting: Setting,
     ) -> TextAnswer
-        ensures { λ r. let t = lent image segments sections info rebases binds index in
+        ensures { λ r. let t = under setting (lent image segments sections info rebases binds index) in
             ⌜ textOutcome r ≡ guarded t (superclassName t self) ⌝ }
     {
         match ask(image, segments, sections, info, rebases, binds, index) {
@@ -119,6 +145,7 @@ impl ObjcClass {
                 rebases,
                 binds,
                 index,
+                setting,
                 self.address,
                 self.superclass_address,
             ),
@@ -136,12 +163,23 @@ impl ObjcClass {
         rebases: &[u64],
         binds: &[u64],
         index: &[u32],
+        setting: Setting,
     ) -> ClassRoAnswer
-        ensures { λ r. let t = lent image segments sections info rebases binds index in
+        ensures { λ r. let t = under setting (lent image segments sections info rebases binds index) in
             ⌜ classRoOutcome r ≡ guarded t (roOf t self) ⌝ }
     {
         match ask(image, segments, sections, info, rebases, binds, index) {
-            Asked::Yes => ro_of(image, segments, sections, info, rebases, binds, index, self),
+            Asked::Yes => ro_of(
+                image,
+                segments,
+                sections,
+                info,
+                rebases,
+                binds,
+                index,
+                setting,
+                self,
+            ),
             Asked::Refused(k) => ClassRoAnswer::Missing(Missing::Refused(k)),
         }
     }
@@ -156,13 +194,24 @@ pub fn decode_protocol(
     rebases: &[u64],
     binds: &[u64],
     index: &[u32],
+    setting: Setting,
     va: u64,
 ) -> ProtocolAnswer
-    ensures { λ r. let t = lent image segments sections info rebases binds index in
+    ensures { λ r. let t = under setting (lent image segments sections info rebases binds index) in
         ⌜ protocolOutcome r ≡ guarded t (protocolAt t va) ⌝ }
 {
     match ask(image, segments, sections, info, rebases, binds, index) {
-        Asked::Yes => protocol_at(image, segments, sections, info, rebases, binds, index, va),
+        Asked::Yes => protocol_at(
+            image,
+            segments,
+            sections,
+            info,
+            rebases,
+            binds,
+            index,
+            setting,
+            va,
+        ),
         Asked::Refused(k) => ProtocolAnswer::Missing(Missing::Refused(k)),
     }
 }
@@ -176,13 +225,24 @@ pub fn decode_category(
     rebases: &[u64],
     binds: &[u64],
     index: &[u32],
+    setting: Setting,
     va: u64,
 ) -> CategoryAnswer
-    ensures { λ r. let t = lent image segments sections info rebases binds index in
+    ensures { λ r. let t = under setting (lent image segments sections info rebases binds index) in
         ⌜ categoryOutcome r ≡ guarded t (categoryAt t va) ⌝ }
 {
     match ask(image, segments, sections, info, rebases, binds, index) {
-        Asked::Yes => category_at(image, segments, sections, info, rebases, binds, index, va),
+        Asked::Yes => category_at(
+            image,
+            segments,
+            sections,
+            info,
+            rebases,
+            binds,
+            index,
+            setting,
+            va,
+        ),
         Asked::Refused(k) => CategoryAnswer::Missing(Missing::Refused(k)),
     }
 }
@@ -198,8 +258,9 @@ impl ObjcCategory {
         rebases: &[u64],
         binds: &[u64],
         index: &[u32],
+        setting: Setting,
     ) -> TextAnswer
-        ensures { λ r. let t = lent image segments sections info rebases binds index in
+        ensures { λ r. let t = under setting (lent image segments sections info rebases binds index) in
             ⌜ textOutcome r ≡ guarded t (categoryClassName t self) ⌝ }
     {
         match ask(image, segments, sections, info, rebases, binds, index) {
@@ -211,6 +272,7 @@ impl ObjcCategory {
                 rebases,
                 binds,
                 index,
+                setting,
                 self.address,
                 self.class_address,
             ),

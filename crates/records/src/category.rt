@@ -1,6 +1,7 @@
 // Categories (objc-runtime-new.h, category_t).
 use pointers::imageinfo::ImageInfo;
 use pointers::imageinfo::ImageInfoAnswer;
+use pointers::setting::Setting;
 use pointers::slot::pointer_or_0;
 use pointers::slot::resolve_pointer;
 use reads::answer::Missing;
@@ -14,7 +15,7 @@ ghost use mathlib.Core.Path.{_≡_};
 ghost use Rattle.reads.specs.Answer.{wordOutcome, placeOutcome};
 ghost use Rattle.reads.specs.Outcome.{choose};
 ghost use Rattle.reads.specs.Place.{lentImage, readable};
-ghost use Rattle.pointers.specs.Tables.{lent};
+ghost use Rattle.pointers.specs.Tables.{lent, under};
 ghost use Rattle.records.specs.Header.{category·size, category·sizeWithClassProperties};
 ghost use Rattle.records.specs.Category.{categoryOutcome, categoryListsOutcome, categoryListsAt, categoryPropertiesAt, categoryOf, categoryAt};
 
@@ -87,10 +88,11 @@ fn category_properties_at(
     rebases: &[u64],
     binds: &[u64],
     index: &[u32],
+    setting: Setting,
     va: u64,
     wide: bool,
 ) -> Word
-    ensures { λ r. let t = lent image segments sections info rebases binds index in
+    ensures { λ r. let t = under setting (lent image segments sections info rebases binds index) in
         ⌜ wordOutcome r ≡ categoryPropertiesAt t va wide ⌝ }
 {
     if wide {
@@ -108,9 +110,10 @@ fn category_lists_at(
     rebases: &[u64],
     binds: &[u64],
     index: &[u32],
+    setting: Setting,
     va: u64,
 ) -> CategoryListsAnswer
-    ensures { λ r. let t = lent image segments sections info rebases binds index in
+    ensures { λ r. let t = under setting (lent image segments sections info rebases binds index) in
         ⌜ categoryListsOutcome r ≡ categoryListsAt t va ⌝ }
 {
     let instance_methods = match pointer_or_0(
@@ -160,10 +163,11 @@ fn category_of(
     rebases: &[u64],
     binds: &[u64],
     index: &[u32],
+    setting: Setting,
     va: u64,
     wide: bool,
 ) -> CategoryAnswer
-    ensures { λ r. let t = lent image segments sections info rebases binds index in
+    ensures { λ r. let t = under setting (lent image segments sections info rebases binds index) in
         ⌜ categoryOutcome r ≡ categoryOf t va wide ⌝ }
 {
     let _p = match whole_category(image, segments, va, wide) {
@@ -186,6 +190,7 @@ fn category_of(
         rebases,
         binds,
         index,
+        setting,
         va,
     ) {
         CategoryListsAnswer::Lists(lists) => lists,
@@ -199,13 +204,15 @@ fn category_of(
         rebases,
         binds,
         index,
+        setting,
         va,
         wide,
     ) {
         Word::Value(class_properties) => class_properties,
         Word::Missing(m) => return CategoryAnswer::Missing(m),
     };
-    let name = match read_cstr(image, segments, name_va) {
+    let reading = setting.reading;
+    let name = match read_cstr(image, segments, reading, name_va) {
         TextAnswer::Found(name) => name,
         TextAnswer::Missing(m) => return CategoryAnswer::Missing(m),
     };
@@ -230,9 +237,10 @@ pub fn category_at(
     rebases: &[u64],
     binds: &[u64],
     index: &[u32],
+    setting: Setting,
     va: u64,
 ) -> CategoryAnswer
-    ensures { λ r. let t = lent image segments sections info rebases binds index in
+    ensures { λ r. let t = under setting (lent image segments sections info rebases binds index) in
         ⌜ categoryOutcome r ≡ categoryAt t va ⌝ }
 {
     match ImageInfo::parse(info) {
@@ -246,6 +254,7 @@ pub fn category_at(
                 rebases,
                 binds,
                 index,
+                setting,
                 va,
                 wide,
             )

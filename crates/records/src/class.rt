@@ -1,6 +1,7 @@
 // Classes and their read-only records (objc-runtime-new.h, class_t and class_ro_t).
 use crate::near::field;
 use crate::near::field_or_0;
+use pointers::setting::Setting;
 use pointers::slot::pointer;
 use pointers::slot::rebase_at;
 use pointers::slot::slot_or_0;
@@ -28,7 +29,7 @@ ghost use Rattle.reads.specs.Answer.{wordOutcome, textOutcome};
 ghost use Rattle.reads.specs.Outcome.{orZero};
 ghost use Rattle.reads.specs.Place.{imageOf, lentImage};
 ghost use Rattle.pointers.specs.ImageInfo.{bit};
-ghost use Rattle.pointers.specs.Tables.{lent};
+ghost use Rattle.pointers.specs.Tables.{lent, under};
 ghost use Rattle.records.specs.Near.{Near};
 ghost use Rattle.records.specs.Class.{classOutcome, classRoOutcome, bitsOf, dataAt, classAt, roListsOutcome, roListsAt, classRoAt, roOf, roDataAt, classNameAt, boundName, decodedName, classNameOf, fastFlags, isSwift};
 ghost use Rattle.records.specs.Ask.{pickedIn};
@@ -118,10 +119,11 @@ fn data_at(
     rebases: &[u64],
     binds: &[u64],
     index: &[u32],
+    setting: Setting,
     slot: u64,
     raw: u64,
 ) -> Word
-    ensures { λ r. let t = lent image segments sections info rebases binds index in
+    ensures { λ r. let t = under setting (lent image segments sections info rebases binds index) in
         ⌜ wordOutcome r ≡ dataAt t slot raw ⌝ }
 {
     let target = rebase_at(rebases, index, slot);
@@ -140,10 +142,11 @@ fn data_or_0(
     rebases: &[u64],
     binds: &[u64],
     index: &[u32],
+    setting: Setting,
     slot: u64,
     raw: u64,
 ) -> Word
-    ensures { λ r. let t = lent image segments sections info rebases binds index in
+    ensures { λ r. let t = under setting (lent image segments sections info rebases binds index) in
         ⌜ wordOutcome r ≡ orZero (dataAt t slot raw) ⌝ }
 {
     or_zero(data_at(
@@ -154,6 +157,7 @@ fn data_or_0(
         rebases,
         binds,
         index,
+        setting,
         slot,
         raw,
     ))
@@ -168,10 +172,11 @@ pub fn class_at(
     rebases: &[u64],
     binds: &[u64],
     index: &[u32],
+    setting: Setting,
     va: u64,
     is_meta: bool,
 ) -> ClassAnswer
-    ensures { λ r. let t = lent image segments sections info rebases binds index in
+    ensures { λ r. let t = under setting (lent image segments sections info rebases binds index) in
         ⌜ classOutcome r ≡ classAt t va «is_meta» ⌝ }
 {
     let _p = match readable(image, segments, va, ObjcClass::SIZE) {
@@ -206,6 +211,7 @@ pub fn class_at(
         rebases,
         binds,
         index,
+        setting,
         bits_slot,
         raw,
     ) {
@@ -230,11 +236,12 @@ fn ro_lists_at(
     rebases: &[u64],
     binds: &[u64],
     index: &[u32],
+    setting: Setting,
     s: Spot,
     va: u64,
 ) -> RoListsAnswer
     requires { ⌜ Near (imageOf (now image) (now segments)) va s 72 ⌝ }
-    ensures { λ r. let t = lent image segments sections info rebases binds index in
+    ensures { λ r. let t = under setting (lent image segments sections info rebases binds index) in
         ⌜ roListsOutcome r ≡ roListsAt t va ⌝ }
 {
     let methods = match field_or_0(image, segments, rebases, index, s, va, BASE_METHODS) {
@@ -283,9 +290,10 @@ pub fn class_ro_at(
     rebases: &[u64],
     binds: &[u64],
     index: &[u32],
+    setting: Setting,
     va: u64,
 ) -> ClassRoAnswer
-    ensures { λ r. let t = lent image segments sections info rebases binds index in
+    ensures { λ r. let t = under setting (lent image segments sections info rebases binds index) in
         ⌜ classRoOutcome r ≡ classRoAt t va ⌝ }
 {
     let s = readable_spot(image, segments, va, ClassRo::SIZE);
@@ -309,13 +317,15 @@ pub fn class_ro_at(
         rebases,
         binds,
         index,
+        setting,
         s,
         va,
     ) {
         RoListsAnswer::Lists(lists) => lists,
         RoListsAnswer::Missing(m) => return ClassRoAnswer::Missing(m),
     };
-    let name = match read_cstr(image, segments, name_va) {
+    let reading = setting.reading;
+    let name = match read_cstr(image, segments, reading, name_va) {
         TextAnswer::Found(name) => name,
         TextAnswer::Missing(m) => return ClassRoAnswer::Missing(m),
     };
@@ -343,13 +353,24 @@ pub fn ro_of(
     rebases: &[u64],
     binds: &[u64],
     index: &[u32],
+    setting: Setting,
     class: ObjcClass,
 ) -> ClassRoAnswer
-    ensures { λ r. let t = lent image segments sections info rebases binds index in
+    ensures { λ r. let t = under setting (lent image segments sections info rebases binds index) in
         ⌜ classRoOutcome r ≡ roOf t class ⌝ }
 {
     match Address::pick(segments, class.bits) {
-        Word::Value(va) => class_ro_at(image, segments, sections, info, rebases, binds, index, va),
+        Word::Value(va) => class_ro_at(
+            image,
+            segments,
+            sections,
+            info,
+            rebases,
+            binds,
+            index,
+            setting,
+            va,
+        ),
         Word::Missing(m) => ClassRoAnswer::Missing(m),
     }
 }
@@ -363,9 +384,10 @@ fn ro_data_at(
     rebases: &[u64],
     binds: &[u64],
     index: &[u32],
+    setting: Setting,
     slot: u64,
 ) -> Word
-    ensures { λ r. let t = lent image segments sections info rebases binds index in
+    ensures { λ r. let t = under setting (lent image segments sections info rebases binds index) in
         ⌜ wordOutcome r ≡ roDataAt t slot ⌝ }
 {
     let target = rebase_at(rebases, index, slot);
@@ -394,9 +416,10 @@ pub fn class_name_at(
     rebases: &[u64],
     binds: &[u64],
     index: &[u32],
+    setting: Setting,
     va: u64,
 ) -> TextAnswer
-    ensures { λ r. let t = lent image segments sections info rebases binds index in
+    ensures { λ r. let t = under setting (lent image segments sections info rebases binds index) in
         ⌜ textOutcome r ≡ classNameAt t va ⌝ }
 {
     let _p = match readable(image, segments, va, ObjcClass::SIZE) {
@@ -415,6 +438,7 @@ pub fn class_name_at(
         rebases,
         binds,
         index,
+        setting,
         bits_slot,
     ) {
         Word::Value(ro_va) => ro_va,
@@ -424,7 +448,8 @@ pub fn class_name_at(
         Word::Value(name_va) => name_va,
         Word::Missing(m) => return TextAnswer::Missing(m),
     };
-    read_cstr(image, segments, name_va)
+    let reading = setting.reading;
+    read_cstr(image, segments, reading, name_va)
 }
 
 // The bind of the slot at +8, where both class_t.superclass and category_t.cls stand, less its prefix.
@@ -436,9 +461,10 @@ fn bound_name(
     rebases: &[u64],
     binds: &[u64],
     index: &[u32],
+    setting: Setting,
     address: u64,
 ) -> TextAnswer
-    ensures { λ r. let t = lent image segments sections info rebases binds index in
+    ensures { λ r. let t = under setting (lent image segments sections info rebases binds index) in
         ⌜ textOutcome r ≡ boundName t address ⌝ }
 {
     match checked_add(address, ObjcClass::SUPERCLASS) {
@@ -456,9 +482,10 @@ fn decoded_name(
     rebases: &[u64],
     binds: &[u64],
     index: &[u32],
+    setting: Setting,
     class_va: u64,
 ) -> TextAnswer
-    ensures { λ r. let t = lent image segments sections info rebases binds index in
+    ensures { λ r. let t = under setting (lent image segments sections info rebases binds index) in
         ⌜ textOutcome r ≡ decodedName t «class_va» ⌝ }
 {
     match nonzero(class_va) {
@@ -470,6 +497,7 @@ fn decoded_name(
             rebases,
             binds,
             index,
+            setting,
             va,
         ),
         Word::Missing(m) => TextAnswer::Missing(m),
@@ -486,10 +514,11 @@ pub fn class_name_of(
     rebases: &[u64],
     binds: &[u64],
     index: &[u32],
+    setting: Setting,
     address: u64,
     class_va: u64,
 ) -> TextAnswer
-    ensures { λ r. let t = lent image segments sections info rebases binds index in
+    ensures { λ r. let t = under setting (lent image segments sections info rebases binds index) in
         ⌜ textOutcome r ≡ classNameOf t address «class_va» ⌝ }
 {
     match decoded_name(
@@ -500,6 +529,7 @@ pub fn class_name_of(
         rebases,
         binds,
         index,
+        setting,
         class_va,
     ) {
         TextAnswer::Found(name) => TextAnswer::Found(name),
@@ -513,6 +543,7 @@ pub fn class_name_of(
                     rebases,
                     binds,
                     index,
+                    setting,
                     address,
                 ),
                 why,

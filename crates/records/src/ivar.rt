@@ -2,6 +2,7 @@
 use crate::near::field;
 use crate::near::field_or_0;
 use crate::near::first_slot_or_0;
+use pointers::setting::Setting;
 use reads::answer::Missing;
 use reads::answer::Word;
 use reads::answer::nonzero;
@@ -17,7 +18,7 @@ use reads::text::read_cstr_or_empty;
 ghost use mathlib.Core.Path.{_≡_};
 ghost use Rattle.reads.specs.Answer.{missed};
 ghost use Rattle.reads.specs.Outcome.{value, orElse};
-ghost use Rattle.pointers.specs.Tables.{lent};
+ghost use Rattle.pointers.specs.Tables.{lent, under};
 ghost use Rattle.records.specs.Row.{ivarOutcome, alignmentOf, alignedOf, offsetOutcome, offsetAt, ivarAt};
 ghost use Rattle.records.specs.declared.ivar.IvarOffset.the-variants as none;
 
@@ -125,9 +126,10 @@ fn offset_at(
     rebases: &[u64],
     binds: &[u64],
     index: &[u32],
+    setting: Setting,
     place: u64,
 ) -> OffsetAnswer
-    ensures { λ r. let t = lent image segments sections info rebases binds index in
+    ensures { λ r. let t = under setting (lent image segments sections info rebases binds index) in
         ⌜ offsetOutcome r ≡ offsetAt t place ⌝ }
 {
     match nonzero(place) {
@@ -148,9 +150,10 @@ pub(crate) fn ivar_at(
     rebases: &[u64],
     binds: &[u64],
     index: &[u32],
+    setting: Setting,
     va: u64,
 ) -> IvarAnswer
-    ensures { λ r. let t = lent image segments sections info rebases binds index in
+    ensures { λ r. let t = under setting (lent image segments sections info rebases binds index) in
         ⌜ ivarOutcome r ≡ ivarAt t va ⌝ }
 {
     let s = readable_spot(image, segments, va, Ivar::SIZE);
@@ -170,11 +173,12 @@ pub(crate) fn ivar_at(
         Word::Value(type_va) => type_va,
         Word::Missing(m) => return IvarAnswer::Missing(m),
     };
-    let name = match read_cstr(image, segments, name_va) {
+    let reading = setting.reading;
+    let name = match read_cstr(image, segments, reading, name_va) {
         TextAnswer::Found(name) => name,
         TextAnswer::Missing(m) => return IvarAnswer::Missing(m),
     };
-    let type_encoding = match read_cstr_or_empty(image, segments, type_va) {
+    let type_encoding = match read_cstr_or_empty(image, segments, reading, type_va) {
         TextAnswer::Found(type_encoding) => type_encoding,
         TextAnswer::Missing(m) => return IvarAnswer::Missing(m),
     };
@@ -186,6 +190,7 @@ pub(crate) fn ivar_at(
         rebases,
         binds,
         index,
+        setting,
         place,
     ) {
         OffsetAnswer::Offset(offset) => offset,

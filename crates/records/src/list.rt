@@ -2,6 +2,7 @@
 use crate::ivar::Ivar;
 use crate::method::Method;
 use crate::property::Property;
+use pointers::setting::Setting;
 use reads::answer::Missing;
 use reads::answer::Reason;
 use reads::answer::Word;
@@ -20,11 +21,11 @@ ghost use Rattle.reads.specs.Answer.{wordOutcome};
 ghost use Rattle.reads.specs.Breaks.{canRead};
 ghost use Rattle.reads.specs.Outcome.{value, choose};
 ghost use Rattle.reads.specs.Place.{imageOf, lentImage};
-ghost use Rattle.pointers.specs.Tables.{lent};
+ghost use Rattle.pointers.specs.Tables.{lent, under};
 ghost use Rattle.records.specs.Ask.{evenList, entrySize};
 ghost use Rattle.records.specs.List.{layoutOutcome, least, methodRows, rowsOf, sizeOf, mustBeEven, listAt};
 ghost use Rattle.records.specs.Search.{entryOf, firstReadable, searchBudget};
-ghost use Rattle.records.specs.Tries.{ahead, Tried};
+ghost use Rattle.records.specs.Tries.{ahead, Leads};
 
 // Bits of a method list's first word that are not its entry size (objc-runtime-new.h, entsize_list_tt<method_t, ..>).
 const METHOD_LIST_FLAG_MASK: u32 = 0xFFFF_0003;
@@ -171,10 +172,11 @@ pub fn list_at(
     rebases: &[u64],
     binds: &[u64],
     index: &[u32],
+    setting: Setting,
     kind: ListKind,
     va: u64,
 ) -> LayoutAnswer
-    ensures { λ r. let t = lent image segments sections info rebases binds index in
+    ensures { λ r. let t = under setting (lent image segments sections info rebases binds index) in
         ⌜ layoutOutcome r ≡ listAt t kind va ⌝ }
 {
     match nonzero(va) {
@@ -221,7 +223,7 @@ fn can_read(image: &[u8], segments: &[u64], k: u64, va: u64) -> bool
 // Tries index i: the entry there is the answer, or none from there on is, or the search goes on at the first entry whose
 // address reaches the next breakpoint.
 fn try_at(image: &[u8], segments: &[u64], h: Layout, i: u64) -> Try
-    ensures { λ r. ⌜ Tried (lentImage image segments) h i r ⌝ }
+    ensures { λ r. ⌜ Leads (lentImage image segments) h i r ⌝ }
 {
     let count = h.count as u64;
     if count <= i {

@@ -2,6 +2,7 @@
 use crate::near::field;
 use crate::near::field_or_0;
 use crate::near::first_slot;
+use pointers::setting::Setting;
 use pointers::slot::resolve_pointer;
 use reads::address::Address;
 use reads::answer::Missing;
@@ -24,7 +25,7 @@ ghost use mathlib.Core.Path.{_≡_};
 ghost use Rattle.reads.specs.Reference.{before};
 ghost use Rattle.reads.specs.Answer.{wordOutcome, textOutcome};
 ghost use Rattle.reads.specs.Relative.{relative, signedIn};
-ghost use Rattle.pointers.specs.Tables.{lent};
+ghost use Rattle.pointers.specs.Tables.{lent, under};
 ghost use Rattle.records.specs.Row.{methodOutcome, legacyImp, legacyMethodAt, smallImp, selectorAt, typesAt, smallKind, smallMethodAt, isSmall};
 
 // Which form of method_t a row came from.
@@ -102,9 +103,10 @@ pub(crate) fn legacy_method_at(
     rebases: &[u64],
     binds: &[u64],
     index: &[u32],
+    setting: Setting,
     va: u64,
 ) -> MethodAnswer
-    ensures { λ r. let t = lent image segments sections info rebases binds index in
+    ensures { λ r. let t = under setting (lent image segments sections info rebases binds index) in
         ⌜ methodOutcome r ≡ legacyMethodAt t va ⌝ }
 {
     let s = readable_spot(image, segments, va, Method::SIZE);
@@ -124,11 +126,12 @@ pub(crate) fn legacy_method_at(
         Word::Value(imp_va) => imp_va,
         Word::Missing(m) => return MethodAnswer::Missing(m),
     };
-    let selector = match read_cstr(image, segments, name_va) {
+    let reading = setting.reading;
+    let selector = match read_cstr(image, segments, reading, name_va) {
         TextAnswer::Found(selector) => selector,
         TextAnswer::Missing(m) => return MethodAnswer::Missing(m),
     };
-    let types = match read_cstr_or_empty(image, segments, types_va) {
+    let types = match read_cstr_or_empty(image, segments, reading, types_va) {
         TextAnswer::Found(types) => types,
         TextAnswer::Missing(m) => return MethodAnswer::Missing(m),
     };
@@ -175,11 +178,12 @@ fn selector_at(
     rebases: &[u64],
     binds: &[u64],
     index: &[u32],
+    setting: Setting,
     direct: bool,
     field: u64,
     p: Place,
 ) -> Word
-    ensures { λ r. let t = lent image segments sections info rebases binds index in
+    ensures { λ r. let t = under setting (lent image segments sections info rebases binds index) in
         ⌜ wordOutcome r ≡ selectorAt t direct field p ⌝ }
 {
     let target = target_of(image, p, Method::SMALL_NAME, field);
@@ -198,15 +202,18 @@ fn types_at(
     rebases: &[u64],
     binds: &[u64],
     index: &[u32],
+    setting: Setting,
     field: u64,
     p: Place,
 ) -> TextAnswer
-    ensures { λ r. let t = lent image segments sections info rebases binds index in
+    ensures { λ r. let t = under setting (lent image segments sections info rebases binds index) in
         ⌜ textOutcome r ≡ typesAt t field p ⌝ }
 {
+    let reading = setting.reading;
     read_cstr_or_empty(
         image,
         segments,
+        reading,
         target_of(image, p, Method::SMALL_TYPES, field),
     )
 }
@@ -220,10 +227,11 @@ pub(crate) fn small_method_at(
     rebases: &[u64],
     binds: &[u64],
     index: &[u32],
+    setting: Setting,
     va: u64,
     direct: bool,
 ) -> MethodAnswer
-    ensures { λ r. let t = lent image segments sections info rebases binds index in
+    ensures { λ r. let t = under setting (lent image segments sections info rebases binds index) in
         ⌜ methodOutcome r ≡ smallMethodAt t va direct ⌝ }
 {
     let p = match readable(image, segments, va, Method::SMALL_SIZE) {
@@ -246,6 +254,7 @@ pub(crate) fn small_method_at(
         rebases,
         binds,
         index,
+        setting,
         direct,
         va,
         p,
@@ -253,7 +262,8 @@ pub(crate) fn small_method_at(
         Word::Value(name_va) => name_va,
         Word::Missing(m) => return MethodAnswer::Missing(m),
     };
-    let selector = match read_cstr(image, segments, name_va) {
+    let reading = setting.reading;
+    let selector = match read_cstr(image, segments, reading, name_va) {
         TextAnswer::Found(selector) => selector,
         TextAnswer::Missing(m) => return MethodAnswer::Missing(m),
     };
@@ -265,6 +275,7 @@ pub(crate) fn small_method_at(
         rebases,
         binds,
         index,
+        setting,
         types_field,
         p,
     ) {

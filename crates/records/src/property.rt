@@ -1,6 +1,7 @@
 // Rows of property lists (objc-runtime-new.h, property_t).
 use crate::near::field_or_0;
 use crate::near::first_slot;
+use pointers::setting::Setting;
 use reads::answer::Missing;
 use reads::answer::Word;
 use reads::place::Placed;
@@ -11,7 +12,7 @@ use reads::text::TextAnswer;
 use reads::text::read_cstr;
 use reads::text::read_cstr_or_empty;
 ghost use mathlib.Core.Path.{_≡_};
-ghost use Rattle.pointers.specs.Tables.{lent};
+ghost use Rattle.pointers.specs.Tables.{lent, under};
 ghost use Rattle.records.specs.Row.{propertyOutcome, propertyAt};
 
 // A row of a property list; `parse_attributes` takes its attributes apart.
@@ -41,9 +42,10 @@ pub(crate) fn property_at(
     rebases: &[u64],
     binds: &[u64],
     index: &[u32],
+    setting: Setting,
     va: u64,
 ) -> PropertyAnswer
-    ensures { λ r. let t = lent image segments sections info rebases binds index in
+    ensures { λ r. let t = under setting (lent image segments sections info rebases binds index) in
         ⌜ propertyOutcome r ≡ propertyAt t va ⌝ }
 {
     let s = readable_spot(image, segments, va, Property::SIZE);
@@ -67,11 +69,12 @@ pub(crate) fn property_at(
         Word::Value(attributes_va) => attributes_va,
         Word::Missing(m) => return PropertyAnswer::Missing(m),
     };
-    let name = match read_cstr(image, segments, name_va) {
+    let reading = setting.reading;
+    let name = match read_cstr(image, segments, reading, name_va) {
         TextAnswer::Found(name) => name,
         TextAnswer::Missing(m) => return PropertyAnswer::Missing(m),
     };
-    let attributes = match read_cstr_or_empty(image, segments, attributes_va) {
+    let attributes = match read_cstr_or_empty(image, segments, reading, attributes_va) {
         TextAnswer::Found(attributes) => attributes,
         TextAnswer::Missing(m) => return PropertyAnswer::Missing(m),
     };

@@ -1,4 +1,5 @@
 // Protocols (objc-runtime-new.h, protocol_t).
+use pointers::setting::Setting;
 use pointers::slot::pointer;
 use pointers::slot::pointer_or_0;
 use pointers::slot::slot_or_0;
@@ -14,7 +15,7 @@ use reads::text::TextAnswer;
 use reads::text::read_cstr;
 ghost use mathlib.Core.Path.{_≡_};
 ghost use Rattle.reads.specs.Answer.{wordOutcome};
-ghost use Rattle.pointers.specs.Tables.{lent};
+ghost use Rattle.pointers.specs.Tables.{lent, under};
 ghost use Rattle.records.specs.Protocol.{protocolOutcome, protocolListsOutcome, protocolListsAt, classPropertiesAt, trailingAt, protocolAt};
 
 // A protocol: name, and the addresses of its lists; class_properties is 0 where it has none.
@@ -89,9 +90,10 @@ fn trailing_at(
     rebases: &[u64],
     binds: &[u64],
     index: &[u32],
+    setting: Setting,
     va: u64,
 ) -> Word
-    ensures { λ r. let t = lent image segments sections info rebases binds index in
+    ensures { λ r. let t = under setting (lent image segments sections info rebases binds index) in
         ⌜ wordOutcome r ≡ trailingAt t va ⌝ }
 {
     let slot = match checked_add(va, CLASS_PROPERTIES) {
@@ -114,14 +116,25 @@ fn class_properties_at(
     rebases: &[u64],
     binds: &[u64],
     index: &[u32],
+    setting: Setting,
     va: u64,
     p: Place,
 ) -> Word
-    ensures { λ r. let t = lent image segments sections info rebases binds index in
+    ensures { λ r. let t = under setting (lent image segments sections info rebases binds index) in
         ⌜ wordOutcome r ≡ classPropertiesAt t va p ⌝ }
 {
     if SIZE_WITH_CLASS_PROPERTIES <= u32_in(image, p, OWN_SIZE) {
-        return trailing_at(image, segments, sections, info, rebases, binds, index, va);
+        return trailing_at(
+            image,
+            segments,
+            sections,
+            info,
+            rebases,
+            binds,
+            index,
+            setting,
+            va,
+        );
     }
     Word::Value(0)
 }
@@ -135,9 +148,10 @@ fn protocol_lists_at(
     rebases: &[u64],
     binds: &[u64],
     index: &[u32],
+    setting: Setting,
     va: u64,
 ) -> ProtocolListsAnswer
-    ensures { λ r. let t = lent image segments sections info rebases binds index in
+    ensures { λ r. let t = under setting (lent image segments sections info rebases binds index) in
         ⌜ protocolListsOutcome r ≡ protocolListsAt t va ⌝ }
 {
     let protocols = match pointer_or_0(image, segments, rebases, index, va, PROTOCOLS) {
@@ -211,9 +225,10 @@ pub fn protocol_at(
     rebases: &[u64],
     binds: &[u64],
     index: &[u32],
+    setting: Setting,
     va: u64,
 ) -> ProtocolAnswer
-    ensures { λ r. let t = lent image segments sections info rebases binds index in
+    ensures { λ r. let t = under setting (lent image segments sections info rebases binds index) in
         ⌜ protocolOutcome r ≡ protocolAt t va ⌝ }
 {
     let p = match readable(image, segments, va, ObjcProtocol::SIZE) {
@@ -232,12 +247,14 @@ pub fn protocol_at(
         rebases,
         binds,
         index,
+        setting,
         va,
     ) {
         ProtocolListsAnswer::Lists(lists) => lists,
         ProtocolListsAnswer::Missing(m) => return ProtocolAnswer::Missing(m),
     };
-    let name = match read_cstr(image, segments, name_va) {
+    let reading = setting.reading;
+    let name = match read_cstr(image, segments, reading, name_va) {
         TextAnswer::Found(name) => name,
         TextAnswer::Missing(m) => return ProtocolAnswer::Missing(m),
     };
@@ -249,6 +266,7 @@ pub fn protocol_at(
         rebases,
         binds,
         index,
+        setting,
         va,
         p,
     ) {

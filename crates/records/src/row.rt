@@ -10,11 +10,12 @@ use crate::method::small_method_at;
 use crate::property::Property;
 use crate::property::PropertyAnswer;
 use crate::property::property_at;
+use pointers::setting::Setting;
 use reads::answer::Missing;
 ghost use mathlib.Core.Bool.{true, false};
 ghost use mathlib.Core.Path.{_≡_};
 ghost use Rattle.reads.specs.Outcome.{andThen};
-ghost use Rattle.pointers.specs.Tables.{lent};
+ghost use Rattle.pointers.specs.Tables.{lent, under};
 ghost use Rattle.records.specs.Row.{rowOutcome, methodOutcome, ivarOutcome, propertyOutcome, methodRow, ivarRow, propertyRow, rowAt};
 
 pub enum Row {
@@ -64,10 +65,11 @@ pub fn row_at(
     rebases: &[u64],
     binds: &[u64],
     index: &[u32],
+    setting: Setting,
     kind: RowKind,
     va: u64,
 ) -> RowAnswer
-    ensures { λ r. let t = lent image segments sections info rebases binds index in
+    ensures { λ r. let t = under setting (lent image segments sections info rebases binds index) in
         ⌜ rowOutcome r ≡ rowAt t kind va ⌝ }
 {
     match kind {
@@ -79,6 +81,7 @@ pub fn row_at(
             rebases,
             binds,
             index,
+            setting,
             va,
         )),
         RowKind::SmallIndirect => method_row(small_method_at(
@@ -89,6 +92,7 @@ pub fn row_at(
             rebases,
             binds,
             index,
+            setting,
             va,
             false,
         )),
@@ -100,6 +104,7 @@ pub fn row_at(
             rebases,
             binds,
             index,
+            setting,
             va,
             true,
         )),
@@ -111,6 +116,7 @@ pub fn row_at(
             rebases,
             binds,
             index,
+            setting,
             va,
         )),
         RowKind::Property => property_row(property_at(
@@ -121,6 +127,7 @@ pub fn row_at(
             rebases,
             binds,
             index,
+            setting,
             va,
         )),
     }

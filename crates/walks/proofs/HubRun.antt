@@ -13,15 +13,15 @@ use Rattle.reads.specs.Breaks.{canRead}
 use Rattle.reads.specs.Place.{le, readableAt, readable, word, wordIn}
 use Rattle.reads.specs.Address.{stripped, dataArm64e, data64, mapped, pickedWide, picked}
 use Rattle.reads.specs.Segment.{rows, ends, holds, placed, lookup}
-use Rattle.reads.specs.Text.{text, textLength, textAt, textIn}
+use Rattle.reads.specs.Text.{text, textAt, textIn}
 use Rattle.reads.specs.Utf8.{judge, utf8}
 use Rattle.reads.specs.declared.answer.Reason.the-variants.{Unmapped, Unresolved, NoRecord}
-use Rattle.pointers.specs.Tables.{Tables, tablesOf}
+use Rattle.pointers.specs.Tables.{Tables, tablesOf, readingNew}
 use Rattle.pointers.specs.Chain.{followFrom, follow, lastAmong}
 use Rattle.pointers.specs.Index.{chainOf, indexed}
 use Rattle.pointers.specs.ImageInfo.{infoOf, imageInfo, bit}
 use Rattle.pointers.specs.Open.{askedOpening, opening, openedIndex, Opened}
-use Rattle.pointers.specs.Question.{question, imageFits, wholeRows, sectionFits, every, sectionTable, infoWhole, nameInside, nameUtf8, namesInside, namesUtf8, indexFits, askedTables, askedIndex, asked}
+use Rattle.pointers.specs.Question.{question, imageFits, wholeRows, sectionFits, every, sectionTable, infoWhole, nameInside, nameUtf8, namesInside, namesUtf8, indexFits, askedTables, askedIndex, askedLent}
 use Rattle.pointers.specs.Slot.{rebaseAt, bindName, bindAt, symbolOf, stored, resolve, pointerAt, pointerOr0At, rebase, slot, pointer, pointerOr0}
 use Rattle.pointers.specs.Symbol.{starts, fitting, strippedName}
 use Rattle.pointers.proofs.OpenedTables.{opened-follow-rebase, opened-follow-bind}
@@ -130,7 +130,7 @@ abbrev pub up : Row
 up = row.Method (methodOf (textOf 0x94 2) (textOf 0x97 1) (At 0x2000) kind.Legacy)
 
 pub row-0 : rowAt hub Legacy 0x1078 ≡ value up
-unfolding decodeRow decodeLegacyMethod legacyImp readable readableAt lookup rows ends holds placed sum64 stored word stripped le textIn textAt textLength text utf8 judge nonzero choose counted up
+unfolding decodeRow decodeLegacyMethod legacyImp readable readableAt lookup rows ends holds placed sum64 stored word stripped le textIn textAt text utf8 judge nonzero choose counted up
 row-0 =
     rw (slot-stored 0x1078, pointer-stored 0x1078 8 0x1080 0x1097 refl refl, pointer-or-0-stored 0x1078 16 0x1088 0x2000 refl refl)
 
@@ -151,11 +151,11 @@ abbrev pub broken : Tables
 broken = tables 4294967295 (filled 7)
 
 refused-8 : (p : ℕ) → refusal unindexed Methods 0x1070 p ≡ number 8
-unfolding refusal asked askedIndex indexFits question choose
+unfolding refusal askedLent askedIndex indexFits question choose
 refused-8 p = rw (asked-hub 4294967295 [])
 
 refused-10 : refusal uncounted Methods 0x1070 1 ≡ number 10
-unfolding refusal asked decodeList evenList entrySize methodRows bit nonzero readable readableAt lookup rows ends holds placed sum64 wordIn le question choose counted
+unfolding refusal askedLent decodeList evenList entrySize methodRows bit nonzero readable readableAt lookup rows ends holds placed sum64 wordIn le question choose counted
 refused-10 = rw (asked-hub 0 (filled 0), index-room 0 0)
 
 head-7 : (c : ℕ) → c < 8193 → getD (filled 7) c 0 ≡ 7
@@ -187,7 +187,7 @@ unfolding decodeList
 broken-methods = hub-methods
 
 refused-9 : refusal broken Methods 0x1070 1 ≡ number 9
-unfolding refusal asked question choose
+unfolding refusal askedLent question choose
 refused-9 = rw (asked-hub 4294967295 (filled 7), index-room 4294967295 7, broken-methods) (rw (found-1, row-9))
 
 -- The first step stands at 1, whatever its row.
@@ -201,14 +201,14 @@ abbrev pub loans : List Tables
 loans = hub ∷ later
 
 last-run : (p : ℕ) → Loans hub Methods 0x1070 (hub ∷ []) p
-last-run p = loan-opened loans-end
+last-run p = loan-opened refl loans-end
 
 later-run : Loans hub Methods 0x1070 later 1
-later-run = loan-refused 8 (refused-8 1) (loan-refused 10 refused-10 (loan-refused 9 refused-9 (loan-opened {p = 1} (last-run _))))
+later-run = loan-refused 8 (refused-8 1) (loan-refused 10 refused-10 (loan-refused 9 refused-9 (loan-opened {p = 1} refl (last-run _))))
 
 -- The hypothesis of the whole claim: each loan is the opened tables or is refused where the walk stands.
 pub hub-run : Loans hub Methods 0x1070 loans 0
-hub-run = loan-opened {loans = later} {p = 0} (rw first-step later-run)
+hub-run = loan-opened {loans = later} {p = 0} refl (rw first-step later-run)
 
 unrefused : (p : ℕ) → p ≤ 4294967295 → refusal hub Methods 0x1070 p ≡ value tt
 unrefused p l = opened-unrefused hub hub-opened Methods 0x1070 p (rw hub-methods l)
@@ -227,18 +227,18 @@ hub-told =
     settles-each-once hub hub-opened Methods 0x1070 hub-list hub-methods loans hub-run
     ∙ rw (hub-two, unrefused 0 (omega arith), row-0, refused-8 1, refused-10, refused-9, unrefused 1 (omega arith), row-1, unrefused 2 (omega arith))
 
-pub hub-steps : steps loans (walkOf 0x1070 Methods 0)
-    ≡ hands (value (rowReached up)) (walkOf 0x1070 Methods 1)
-    ∷ handsBack (walkOf 0x1070 Methods 1) 8
-    ∷ handsBack (walkOf 0x1070 Methods 1) 10
-    ∷ handsBack (walkOf 0x1070 Methods 1) 9
-    ∷ hands (value (rowSkipped 1 Unmapped)) (walkOf 0x1070 Methods 2)
-    ∷ hands (value rowsFinished) (walkOf 0x1070 Methods 4294967295)
+pub hub-steps : steps loans (walkOf readingNew 0x1070 Methods 0)
+    ≡ hands (value (rowReached up)) (walkOf readingNew 0x1070 Methods 1)
+    ∷ handsBack (walkOf readingNew 0x1070 Methods 1) 8
+    ∷ handsBack (walkOf readingNew 0x1070 Methods 1) 10
+    ∷ handsBack (walkOf readingNew 0x1070 Methods 1) 9
+    ∷ hands (value (rowSkipped 1 Unmapped)) (walkOf readingNew 0x1070 Methods 2)
+    ∷ hands (value rowsFinished) (walkOf readingNew 0x1070 Methods 4294967295)
     ∷ []
-hub-steps = whole-claim hub hub-opened Methods 0x1070 loans hub-run ∙ ap (shownAll Methods 0x1070) hub-told
+hub-steps = whole-claim hub hub-opened Methods 0x1070 loans hub-run ∙ ap (shownAll readingNew Methods 0x1070) hub-told
 
 -- The same list with nothing refused, by the theorem of one walk: its row, the entry that is skipped, and then finished.
-pub hub-answers : (n : ℕ) → answersOf (nextOf hub) (2 + n) (walkOf 0x1070 Methods 0) ≡ value (rowReached up) ∷ value (rowSkipped 1 Unmapped) ∷ replicate n (value rowsFinished)
+pub hub-answers : (n : ℕ) → answersOf (nextOf hub) (2 + n) (walkOf readingNew 0x1070 Methods 0) ≡ value (rowReached up) ∷ value (rowSkipped 1 Unmapped) ∷ replicate n (value rowsFinished)
 hub-answers n =
     let answers = walk-meets-each-readable-once hub hub-opened Methods 0x1070 hub-list hub-methods n in
     rw (hub-two, row-0, row-1) at answers
@@ -266,7 +266,7 @@ pub hub-ro : classRoAt hub 0x1028
       «weak_ivar_layout_address» = 0;
       properties = 0;
     })
-unfolding decodeClassRo decodeRoLists readable readableAt lookup rows ends holds placed sum64 stored word wordIn stripped le textIn textAt textLength text utf8 judge nonzero choose counted
+unfolding decodeClassRo decodeRoLists readable readableAt lookup rows ends holds placed sum64 stored word wordIn stripped le textIn textAt text utf8 judge nonzero choose counted
 hub-ro =
     rw (
       pointer-or-0-stored 0x1028 16 0x1038 0 refl refl,
@@ -288,5 +288,5 @@ hub-superclass = rw (opened-follow-bind hub hub-opened 0x1008, question-yes 7 (n
 
 -- Where a class decodes, its name goes before the bind: here were the class its own superclass.
 pub decoded-before-bind : classNameOf hub 0x1000 0x1000 ≡ value (textOf 0x90 3)
-unfolding decodeClassNameOf decodeNonzeroClassName decodeClassName decodeRoData pickedIn picked pickedWide mapped dataArm64e readable readableAt lookup rows ends holds placed sum64 stored word stripped le textIn textAt textLength text utf8 judge nonzero choose counted
+unfolding decodeClassNameOf decodeNonzeroClassName decodeClassName decodeRoData pickedIn picked pickedWide mapped dataArm64e readable readableAt lookup rows ends holds placed sum64 stored word stripped le textIn textAt text utf8 judge nonzero choose counted
 decoded-before-bind = rw (no-rebase 0x1020, pointer-stored 0x1028 24 0x1040 0x1090 refl refl)

@@ -15,7 +15,7 @@ use Rattle.reads.specs.Outcome.{Outcome, value, absent, number, choose}
 use Rattle.reads.specs.declared.text.Text.{Text}
 use Rattle.reads.proofs.Tests.{by-choose}
 use Rattle.pointers.specs.Question.{question, asked}
-use Rattle.pointers.specs.Tables.{Tables, imageIn}
+use Rattle.pointers.specs.Tables.{Tables, imageIn, under}
 use Rattle.records.specs.List.{listAt, entryAddress}
 use Rattle.records.specs.Protocol.{protocolAt}
 use Rattle.records.specs.Row.{rowAt}
@@ -26,8 +26,8 @@ use Rattle.records.specs.declared.row.Row.{Row}
 use Rattle.records.proofs.Readables as readables
 use Rattle.reads.specs.declared.answer.Reason.{Reason}
 use Rattle.walks.specs.Handed.{unlessRefused, Handed, hands, handsBack, overList, countBy, fromCursor}
-use Rattle.walks.specs.Walk.{ReachedRow, rowReached, rowSkipped, rowsFinished, RowLeft, settles, searched, overRows, nextOf}
-use Rattle.walks.specs.ProtocolNames.{protocolListAt, slotIn, nameIn, ReachedName, nameReached, namePassed, namesFinished, NameLeft, named, stepIn, overNames, nextName}
+use Rattle.walks.specs.Walk.{ReachedRow, rowReached, rowSkipped, rowsFinished, RowLeft, settles, searched, overRows, nextUnder, nextOf}
+use Rattle.walks.specs.ProtocolNames.{protocolListAt, slotIn, nameIn, ReachedName, nameReached, namePassed, namesFinished, NameLeft, named, stepIn, overNames, nextNameUnder, nextName}
 use Rattle.walks.specs.Slots.{slotsOf, askedSlot, askedLedger, TakenSlot, address, slotDropped, noSlot, slotRefused, addressIn, takenBy, slotTaken, metBelow, greatest, firstMet}
 use Rattle.walks.specs.Sections.{Walk, walk, metIn, Highest, Step, found, passed, dropped, finished, Left, leaves, stays, Kind, slotsIn, byRecord, bySlot, takeWaiting, takeNew, takeSlot, stepBy, stepOf, takeProtocol, protocolStepOf}
 use Rattle.walks.specs.declared.list_walk.ListWalk.{ListWalk}
@@ -74,12 +74,15 @@ module _ (t : Tables) (w : ListWalk) where
   searched-moved h (some j) e = settled-moved j (readables.found (imageIn t) h (w .cursor) j (sym e) .from) (rowAt t (h .kind) (entryAddress h j))
   searched-moved h none e = record { moves = tt }
 
-  pub row-step-moved : RowMoved w (nextOf t w)
-  unfolding nextOf overRows
-  row-step-moved =
+  under-moved : RowMoved w (nextUnder t w)
+  unfolding nextUnder overRows
+  under-moved =
       by-asked (RowMoved w) w (λ k. record { moves = refl }) (asked t)
       (by-cursor (RowMoved w) w (λ k. record { moves = refl }) (w .cursor) (λ h. h .count) _
       (λ h. searched-moved h (firstReadable (imageIn t) h (w .cursor)) refl) (λ r. record { moves = refl }) (listAt t (w .kind) (w .list)))
+
+pub row-step-moved : (t : Tables) (w : ListWalk) → RowMoved w (nextOf t w)
+row-step-moved t w = under-moved (under (w .setting) t) w
 
 -- A name step that takes a slot stands past it.
 abbrev pub NameMoves : ProtocolNameWalk → ProtocolNameWalk → Outcome ReachedName → Type 0
@@ -102,12 +105,15 @@ module _ (t : Tables) (w : ProtocolNameWalk) where
   unfolding stepIn
   slot-moved l = by-choose (NameMoved w) (λ e. named-moved (nameIn t (slotIn l (w .cursor)))) (λ e. record { moves = tt })
 
-  pub name-step-moved : NameMoved w (nextName t w)
-  unfolding nextName overNames
-  name-step-moved =
+  name-under-moved : NameMoved w (nextNameUnder t w)
+  unfolding nextNameUnder overNames
+  name-under-moved =
       by-asked (NameMoved w) w (λ k. record { moves = refl }) (asked t)
       (by-cursor (NameMoved w) w (λ k. record { moves = refl }) (w .cursor) (λ l. l .count) (stepIn t w) slot-moved (λ r. record { moves = refl })
       (protocolListAt t (w .list)))
+
+pub name-step-moved : (t : Tables) (w : ProtocolNameWalk) → NameMoved w (nextName t w)
+name-step-moved t w = name-under-moved (under (w .setting) t) w
 
 -- A section step goes a slot further or takes what waits; it leaves the walk as given where that has finished. No section step is absent.
 pub data Further (w : Walk) : Walk → Type 0 where

@@ -8,10 +8,10 @@ use Rattle.reads.specs.Outcome.{value, absent, number, choose, sum64, nonzero, 
 use Rattle.reads.specs.Segment.{rows, ends, holds, placed, lookup}
 use Rattle.reads.specs.Place.{le, readableAt, readable, word, wordIn}
 use Rattle.reads.specs.Address.{stripped}
-use Rattle.reads.specs.Text.{text, textLength, textAt, textIn}
+use Rattle.reads.specs.Text.{text, textAt, textIn}
 use Rattle.reads.specs.Utf8.{judge, utf8}
 use Rattle.reads.specs.declared.answer.Reason.the-variants.{NullAddress, NoRecord}
-use Rattle.pointers.specs.Tables.{Tables, tablesOf, withIndex}
+use Rattle.pointers.specs.Tables.{Tables, tablesOf, withIndex, readingNew}
 use Rattle.pointers.specs.Question.{question, imageFits, wholeRows, every, sectionFits, sectionTable, infoWhole, nameInside, nameUtf8, indexFits, askedTables, askedIndex, namesInside, namesUtf8}
 use Rattle.pointers.specs.ImageInfo.{imageInfo, infoOf}
 use Rattle.pointers.specs.Index.{indexed}
@@ -62,7 +62,7 @@ module _ (before : List ℕ) where
   name-empty = simp (names-unrebased, bind-last-wins [] namesBinds before)
 
   name-decoded : nameIn (namesTables before) 0x1018 ≡ value (textOf 104 1)
-  unfolding decodeNameIn decodeProtocolNameIn decodeProtocolName decodeProtocol decodeProtocolLists decodeClassProperties pointerAt pointerOr0At resolve stored word wordIn readable lookup rows ends holds placed sum64 readableAt le stripped nonzero choose textIn textAt textLength text utf8 judge
+  unfolding decodeNameIn decodeProtocolNameIn decodeProtocolName decodeProtocol decodeProtocolLists decodeClassProperties pointerAt pointerOr0At resolve stored word wordIn readable lookup rows ends holds placed sum64 readableAt le stripped nonzero choose textIn textAt text utf8 judge
   name-decoded = simp names-unrebased
 
   list-there : protocolListAt (namesTables before) 0x1000 ≡ value (record { base = 0x1008; count = 3 })
@@ -87,7 +87,7 @@ module _ (before : List ℕ) where
     unfolding opening openedIndex imageInfo le choose
     opened = record { indexBefore = before; gave = infoOf 0 0; accepted = rw accepts; left = rw accepts }
 
-    pub name-answers : answersOf (nextName (namesTables before)) 4 (walkAt 0x1000 0)
+    pub name-answers : answersOf (nextName (namesTables before)) 4 (walkAt readingNew 0x1000 0)
         ≡ value (nameReached (textOf 123 9)) ∷ value (namePassed NullAddress) ∷ value (nameReached (textOf 104 1)) ∷ value namesFinished ∷ []
     name-answers = simp names-in-slots at (slots-said-then-finished (namesTables before) opened 0x1000 (record { base = 0x1008; count = 3 }) list-there 1)
 

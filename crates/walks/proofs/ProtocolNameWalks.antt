@@ -22,7 +22,7 @@ use Rattle.walks.specs.declared.protocol_names.ProtocolList.{ProtocolLis
 use Rattle.walks.specs.declared.protocol_names.ProtocolNameWalk.{ProtocolNameWalk}
 use Rattle.walks.specs.Gather.{gather, ofValue, present}
 use Rattle.walks.specs.Handed.{hands, countBy, fromCursor, answersOf}
-use Rattle.walks.specs.ProtocolNames.{protocolListAt, decodeProtocolList, hasSlot, slotIn, nameIn, decodeNameIn, walkAt, nameReached, namePassed, namesFinished, NameLeft, slotAnswer, named, stepIn, overNames, nextName, slotNames, protocolNames, nameSaid, namesSaid}
+use Rattle.walks.specs.ProtocolNames.{protocolListAt, decodeProtocolList, hasSlot, slotIn, nameIn, decodeNameIn, walkAt, nameReached, namePassed, namesFinished, NameLeft, slotAnswer, named, stepIn, overNames, nextNameUnder, nextName, slotNames, protocolNames, nameSaid, namesSaid}
 use Rattle.records.specs.Ask.{evenList}
 use Rattle.records.proofs.Headers.{even-unrefused}
 use Rattle.records.proofs.Decodes.{unrefused}
@@ -57,7 +57,7 @@ slots-at-most t l (suc k) i =
     by-choose (λ (os : List (Outcome Text)). length os ≤ suc k) (λ e. omega arith) (λ e. omega arith)
 
 -- Without a number the walk goes one slot on.
-named-on : (w : ProtocolNameWalk) {x : Outcome Text} → Unrefused x → named w x ≡ hands (slotAnswer x) (walkAt (w .list) (w .cursor + 1))
+named-on : (w : ProtocolNameWalk) {x : Outcome Text} → Unrefused x → named w x ≡ hands (slotAnswer x) (walkAt (w .setting) (w .list) (w .cursor + 1))
 named-on w (is-value name) = refl
 named-on w (is-absent r) = refl
 
@@ -100,19 +100,19 @@ module _ (t : Tables) (o : Opened t) where
   names-there va = there-of _ (protocol-list-unrefused t va) (λ l. slots-there l (l .count) 0)
 
   -- Every question passes.
-  pub next-in : (w : ProtocolNameWalk) (l : ProtocolList) → protocolListAt t (w .list) ≡ value l → w .cursor ≤ l .count → nextName t w ≡ stepIn t w l
-  unfolding nextName overNames fromCursor
+  pub next-in : (w : ProtocolNameWalk) (l : ProtocolList) → protocolListAt t (w .list) ≡ value l → w .cursor ≤ l .count → nextNameUnder t w ≡ stepIn t w l
+  unfolding nextNameUnder overNames fromCursor
   next-in w l e h = rw (opened-asked t o, e, question-yes 10 _ (le-leb (w .cursor) (l .count) h))
 
-  pub next-absent : (w : ProtocolNameWalk) (r : Reason) → protocolListAt t (w .list) ≡ absent r → w .cursor ≤ 0 → nextName t w ≡ hands (absent r) w
-  unfolding nextName overNames fromCursor
+  pub next-absent : (w : ProtocolNameWalk) (r : Reason) → protocolListAt t (w .list) ≡ absent r → w .cursor ≤ 0 → nextNameUnder t w ≡ hands (absent r) w
+  unfolding nextNameUnder overNames fromCursor
   next-absent w r e h = rw (opened-asked t o, e, question-yes 10 _ (le-leb (w .cursor) 0 h))
 
-  pub next-unrefused : (w : ProtocolNameWalk) → w .cursor ≤ countBy (λ l. l .count) (protocolListAt t (w .list)) → Unrefused (nextName t w .answer)
+  pub next-unrefused : (w : ProtocolNameWalk) → w .cursor ≤ countBy (λ l. l .count) (protocolListAt t (w .list)) → Unrefused (nextNameUnder t w .answer)
   unfolding stepIn
   next-unrefused w h = go (protocolListAt t (w .list)) refl (protocol-list-unrefused t (w .list))
     where
-      go : (x : Outcome ProtocolList) → protocolListAt t (w .list) ≡ x → Unrefused x → Unrefused (nextName t w .answer)
+      go : (x : Outcome ProtocolList) → protocolListAt t (w .list) ≡ x → Unrefused x → Unrefused (nextNameUnder t w .answer)
       go (value l) e u =
           rw (next-in w l e (rw e at h))
           (by-choose (λ (s : NameLeft). Unrefused (s .answer))
@@ -123,26 +123,26 @@ module _ (t : Tables) (o : Opened t) where
   -- The steps over a list that is there.
   module _ (list : ℕ) (l : ProtocolList) (there : protocolListAt t list ≡ value l) where
     -- With no slot left each step says finished.
-    no-slot-finished : (n i : ℕ) → i ≤ l .count → hasSlot l i ≡ false → answersOf (nextName t) n (walkAt list i) ≡ replicate n (value namesFinished)
+    no-slot-finished : (n i : ℕ) → i ≤ l .count → hasSlot l i ≡ false → answersOf (nextName t) n (walkAt (t .setting) list i) ≡ replicate n (value namesFinished)
     unfolding answersOf stepIn
     no-slot-finished zero i h e = refl
     no-slot-finished (suc n) i h e =
-        let next : nextName t (walkAt list i) ≡ hands (value namesFinished) (walkAt list (l .count)) = next-in (walkAt list i) l there h ∙ choose-false _ _ e in
+        let next : nextName t (walkAt (t .setting) list i) ≡ hands (value namesFinished) (walkAt (t .setting) list (l .count)) = next-in (walkAt (t .setting) list i) l there h ∙ choose-false _ _ e in
         let same : l .count ≤ l .count = omega arith in
         rw next (ap (λ rest. value namesFinished ∷ rest) (no-slot-finished n (l .count) same (no-slot-from-count l (l .count) same)))
 
     -- A slot that is there is said, and the walk goes one on.
     slot-said : (n i : ℕ) → i ≤ l .count → hasSlot l i ≡ true
-        → answersOf (nextName t) (suc n) (walkAt list i) ≡ slotAnswer (nameIn t (slotIn l i)) ∷ answersOf (nextName t) n (walkAt list (i + 1))
+        → answersOf (nextName t) (suc n) (walkAt (t .setting) list i) ≡ slotAnswer (nameIn t (slotIn l i)) ∷ answersOf (nextName t) n (walkAt (t .setting) list (i + 1))
     unfolding answersOf stepIn
     slot-said n i h e =
-        let next : nextName t (walkAt list i) ≡ named (walkAt list i) (nameIn t (slotIn l i)) = next-in (walkAt list i) l there h ∙ choose-true _ _ e in
-        rw (next, named-on (walkAt list i) (name-in-unrefused (slotIn l i)))
+        let next : nextName t (walkAt (t .setting) list i) ≡ named (walkAt (t .setting) list i) (nameIn t (slotIn l i)) = next-in (walkAt (t .setting) list i) l there h ∙ choose-true _ _ e in
+        rw (next, named-on (walkAt (t .setting) list i) (name-in-unrefused (slotIn l i)))
 
     -- Each slot is said, in order, and then finished, n times in n more steps than there are slots.
     abbrev Said : ℕ → ℕ → List (Outcome Text) → Type 0
     Said i n os =
-        (m : ℕ) → m ≡ length os + n → answersOf (nextName t) m (walkAt list i) ≡ map slotAnswer os ++ replicate n (value namesFinished)
+        (m : ℕ) → m ≡ length os + n → answersOf (nextName t) m (walkAt (t .setting) list i) ≡ map slotAnswer os ++ replicate n (value namesFinished)
 
     said-from : (k i n : ℕ) → i + k ≡ l .count → Said i n (slotNames t l i k)
     unfolding slotNames
@@ -158,12 +158,12 @@ module _ (t : Tables) (o : Opened t) where
         (λ e m g. let f : m ≡ n = omega arith in rw f (no-slot-finished n i (omega arith) e))
 
     pub slots-said-then-finished : (n : ℕ)
-        → answersOf (nextName t) (length (slotNames t l 0 (l .count)) + n) (walkAt list 0)
+        → answersOf (nextName t) (length (slotNames t l 0 (l .count)) + n) (walkAt (t .setting) list 0)
         ≡ map slotAnswer (slotNames t l 0 (l .count)) ++ replicate n (value namesFinished)
     slots-said-then-finished n = said-from (l .count) 0 n (omega arith) (length (slotNames t l 0 (l .count)) + n) refl
 
     -- The list's names are there, no number, and count + 1 steps say exactly these.
-    pub names-said : (names : List Text) × (protocolNames t list ≡ value names) × (namesSaid (answersOf (nextName t) (l .count + 1) (walkAt list 0)) ≡ value names)
+    pub names-said : (names : List Text) × (protocolNames t list ≡ value names) × (namesSaid (answersOf (nextName t) (l .count + 1) (walkAt (t .setting) list 0)) ≡ value names)
     unfolding protocolNames
     names-said =
         let os = slotNames t l 0 (l .count) in

@@ -11,7 +11,7 @@ use Rattle.reads.specs.Address.{stripped, dataArm64e, data64, mapped, pickedWid
 use Rattle.reads.specs.Relative.{slotAddress}
 use Rattle.reads.specs.declared.answer.Reason.the-variants.{Unreadable}
 use Rattle.pointers.specs.Tables.{Tables, tablesOf, withIndex}
-use Rattle.pointers.specs.Question.{question, imageFits, wholeRows, sectionFits, every, sectionTable, infoWhole, indexFits, askedTables, askedIndex, asked}
+use Rattle.pointers.specs.Question.{question, imageFits, wholeRows, sectionFits, every, sectionTable, infoWhole, indexFits, askedTables, askedIndex, askedLent}
 use Rattle.pointers.specs.Section.{sectionAt}
 use Rattle.pointers.specs.Chain.{followFrom, follow}
 use Rattle.pointers.specs.Slot.{rebaseAt, stored, resolve}
@@ -90,7 +90,7 @@ refusals =
     ∷ []
 
 pub step-cases : map (λ (c : Case). stepOf classes example (c .walk) (c .ledger)) (taken ++ (by-hand ++ refusals)) ≡ map (λ (c : Case). c .expected) (taken ++ (by-hand ++ refusals))
-unfolding stepOf stepBy askedLedger askedSlot slotFits ledgerFits sectionSlots slotsFrom asked askedTables askedIndex question imageFits wholeRows sectionTable every sectionFits infoWhole indexFits takeSlot takeNew takeWaiting slotTaken among decodeAddress sectionAt slotAddress resolve rebaseAt follow followFrom stored stripped word readable readableAt lookup rows ends holds placed le nonzero choose sum64 decodeClass decodeData bitsOf picked pickedWide mapped dataArm64e data64 metaOf
+unfolding stepOf stepBy askedLedger askedSlot slotFits ledgerFits sectionSlots slotsFrom askedLent askedTables askedIndex question imageFits wholeRows sectionTable every sectionFits infoWhole indexFits takeSlot takeNew takeWaiting slotTaken among decodeAddress sectionAt slotAddress resolve rebaseAt follow followFrom stored stripped word readable readableAt lookup rows ends holds placed le nonzero choose sum64 decodeClass decodeData bitsOf picked pickedWide mapped dataArm64e data64 metaOf
 step-cases = refl
 
 pub plain-case : plainClasses example ≡ value (listedClass ∷ listedMeta ∷ [])

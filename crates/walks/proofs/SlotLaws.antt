@@ -15,7 +15,7 @@ use Rattle.reads.proofs.Tests.{by-choose, choose-true, choose-false, both-true}
 use Rattle.reads.proofs.Outcomes.{then-came}
 use Rattle.reads.specs.declared.answer.Reason.{Reason}
 use Rattle.pointers.specs.Tables.{Tables}
-use Rattle.pointers.specs.Question.{question, askedTables, askedIndex, asked}
+use Rattle.pointers.specs.Question.{question, askedTables, askedIndex, askedLent, asked}
 use Rattle.pointers.specs.Section.{sectionAt}
 use Rattle.pointers.specs.declared.section.ObjcSection.{ObjcSection}
 use Rattle.pointers.proofs.Questions.{question-yes, question-no, question-came}
@@ -277,7 +277,7 @@ answered-then f (answered-value a) v = v a
 answered-then f (answered-number k) v = answered-number k
 
 asked-answered : (t : Tables) → Answered (asked t)
-unfolding asked askedTables askedIndex
+unfolding askedLent askedTables askedIndex
 asked-answered t =
     answered-then _
     (answered-then _ (answered-question 1 _) (λ a. answered-then _ (answered-question 2 _) (λ b. answered-then _ (answered-question 3 _)

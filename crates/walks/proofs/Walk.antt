@@ -15,14 +15,14 @@ use Rattle.reads.specs.Outcome.{Outcome, value, absent, number, Unrefused, is-v
 use Rattle.reads.specs.declared.answer.Reason.{Reason}
 use Rattle.pointers.specs.Open.{Opened}
 use Rattle.pointers.specs.Question.{question, asked}
-use Rattle.pointers.specs.Tables.{Tables, imageIn}
+use Rattle.pointers.specs.Tables.{Tables, imageIn, under}
 use Rattle.pointers.proofs.OpenedTables.{opened-asked}
 use Rattle.pointers.proofs.Questions.{question-yes, question-no}
 use Rattle.records.specs.List.{listAt, entryAddress}
 use Rattle.records.specs.Search.{firstReadable, readables}
 use Rattle.records.specs.Row.{rowAt}
 use Rattle.walks.specs.Handed.{unlessRefused, handsBack, overList, fromCursor, answersOf}
-use Rattle.walks.specs.Walk.{walkOf, ReachedRow, rowsFinished, RowLeft, entryRow, settles, searched, overRows, nextOf}
+use Rattle.walks.specs.Walk.{walkOf, ReachedRow, rowsFinished, RowLeft, entryRow, settles, searched, overRows, nextUnder, nextOf}
 use Rattle.walks.specs.PlainWalk.{Told, told, countOf, refusedBy, rowRefusal, refusalFrom, refusal, settling, goOn, leftFrom, plainOver, plainStep, plainWalk, steps, shown, shownAll, Loans, loans-end, loan-opened, loan-refused, handedOut}
 use Rattle.records.specs.declared.list.Layout.{Layout}
 use Rattle.records.specs.declared.list.ListKind.{ListKind}
@@ -54,7 +54,7 @@ unrefused-in (is-absent r) = refl
 -- A step that a question refuses gives its number, and the walk as given.
 module _ (t : Tables) (k : ListKind) (list p q : ℕ) where
   abbrev standing : ListWalk
-  standing = walkOf list k p
+  standing = walkOf (t .setting) list k p
 
   -- A lookup of the row that is reached refuses.
   of-search : (h : Layout) (o : Option ℕ) → rowRefusal t h o ≡ number q → searched t standing h o ≡ handsBack standing q
@@ -84,8 +84,8 @@ module _ (t : Tables) (k : ListKind) (list p q : ℕ) where
   of-asked (absent r) e = absurd (not-absent r q e)
   of-asked (number n) e = ap (handsBack standing) (number-same n q e)
 
-  pub refused-step : refusal t k list p ≡ number q → nextOf t standing ≡ handsBack standing q
-  unfolding refusal nextOf
+  pub refused-step : refusal t k list p ≡ number q → nextUnder t standing ≡ handsBack standing q
+  unfolding refusal nextUnder
   refused-step e = of-asked (asked t) e
 
 -- Over opened tables no question refuses a position up to the count, and the step is the plain one.
@@ -103,23 +103,23 @@ module _ (t : Tables) (opened : Opened t) (k : ListKind) (list : ℕ) where
   opened-unrefused p l =
       rw (opened-asked t opened, question-yes 10 (leb p (countOf (listAt t k list))) (le-leb p (countOf (listAt t k list)) l)) (list-unrefusing p (list-unrefused t k list))
 
-  row-step : (p j : ℕ) {o : Outcome Row} → Unrefused o → settles (walkOf list k p) j o ≡ shown k list (settling j o)
+  row-step : (p j : ℕ) {o : Outcome Row} → Unrefused o → settles (walkOf (t .setting) list k p) j o ≡ shown (t .setting) k list (settling j o)
   row-step p j (is-value r) = refl
   row-step p j (is-absent r) = refl
 
   search-step : (p : ℕ) (h : Layout) (o : Option ℕ) → firstReadable (imageIn t) h p ≡ o
-      → searched t (walkOf list k p) h o ≡ shown k list (goOn t h (leftFrom t h p))
+      → searched t (walkOf (t .setting) list k p) h o ≡ shown (t .setting) k list (goOn t h (leftFrom t h p))
   search-step p h (some j) e =
       rw (rest-of-some (imageIn t) h p j e) (row-step p j (row-unrefused t opened (h .kind) (entryAddress h j)))
   search-step p h none e = rw (rest-of-none (imageIn t) h p e)
 
-  list-step : (p : ℕ) {o : Outcome Layout} → Unrefused o → p ≤ countOf o → overRows t (walkOf list k p) o ≡ shown k list (plainOver t p o)
+  list-step : (p : ℕ) {o : Outcome Layout} → Unrefused o → p ≤ countOf o → overRows t (walkOf (t .setting) list k p) o ≡ shown (t .setting) k list (plainOver t p o)
   unfolding overRows fromCursor
   list-step p (is-value h) l = rw (question-yes 10 _ (le-leb p (h .count) l)) (search-step p h (firstReadable (imageIn t) h p) refl)
   list-step p (is-absent r) l = rw (question-yes 10 _ (le-leb p 0 l))
 
-  pub opened-step : (p : ℕ) → p ≤ countOf (listAt t k list) → nextOf t (walkOf list k p) ≡ shown k list (plainStep t k list t p)
-  unfolding nextOf plainStep
+  pub opened-step : (p : ℕ) → p ≤ countOf (listAt t k list) → nextOf t (walkOf (t .setting) list k p) ≡ shown (t .setting) k list (plainStep t k list t p)
+  unfolding nextUnder plainStep
   opened-step p l = rw (opened-asked t opened, opened-unrefused p l) (list-step p (list-unrefused t k list) l)
 
   go-on-stands : (p : ℕ) (h : Layout) (o : Option ℕ) → firstReadable (imageIn t) h p ≡ o → goOn t h (leftFrom t h p) .position ≤ h .count
@@ -136,33 +136,45 @@ module _ (t : Tables) (opened : Opened t) (k : ListKind) (list : ℕ) where
   unfolding plainStep
   stands p l = rw (opened-unrefused p l) (over-stands p (list-unrefused t k list) l)
 
-  refused-plain : (lent : Tables) (p q : ℕ) → refusal lent k list p ≡ number q → plainStep t k list lent p ≡ told (number q) p
+  -- A loan that is the opened tables, under their setting.
+  module _ (lent : Tables) (e : under (t .setting) lent ≡ t) (p : ℕ) where
+    same-refusal : refusal (under (t .setting) lent) k list p ≡ refusal t k list p
+    same-refusal = ap (λ (x : Tables). refusal x k list p) e
+
+    same-next : nextOf lent (walkOf (t .setting) list k p) ≡ nextOf t (walkOf (t .setting) list k p)
+    same-next = ap (λ (x : Tables). nextUnder x (walkOf (t .setting) list k p)) e
+
+    same-plain : plainStep t k list lent p ≡ plainStep t k list t p
+    unfolding plainStep
+    same-plain = rw same-refusal
+
+  refused-plain : (lent : Tables) (p q : ℕ) → refusal (under (t .setting) lent) k list p ≡ number q → plainStep t k list lent p ≡ told (number q) p
   unfolding plainStep
   refused-plain lent p q e = rw e
 
   steps-from : (loans : List Tables) (p : ℕ) → Loans t k list loans p → p ≤ countOf (listAt t k list)
-      → steps loans (walkOf list k p) ≡ shownAll k list (plainWalk t k list loans p)
+      → steps loans (walkOf (t .setting) list k p) ≡ shownAll (t .setting) k list (plainWalk t k list loans p)
   unfolding steps plainWalk
   steps-from [] p loans-end l = refl
-  steps-from (t′ ∷ loans) p (loan-opened r) l =
-      rw (opened-step p l) (ap (λ (more : List RowLeft). shown k list (plainStep t k list t p) ∷ more) (steps-from loans (plainStep t k list t p .position) r (stands p l)))
+  steps-from (lent ∷ loans) p (loan-opened same r) l =
+      rw (same-next lent same p, same-plain lent same p, opened-step p l) (ap (λ (more : List RowLeft). shown (t .setting) k list (plainStep t k list t p) ∷ more) (steps-from loans (plainStep t k list t p .position) r (stands p l)))
   steps-from (lent ∷ loans) p (loan-refused q e r) l =
-      rw (refused-step lent k list p q e, refused-plain lent p q e)
-      (ap (λ (more : List RowLeft). shown k list (told (number q) p) ∷ more) (steps-from loans p r l))
+      rw (refused-step (under (t .setting) lent) k list p q e, refused-plain lent p q e)
+      (ap (λ (more : List RowLeft). shown (t .setting) k list (told (number q) p) ∷ more) (steps-from loans p r l))
 
   -- D3b, the whole claim. `opened`: the tables are what opening accepted, with the index as opening left it. The run: each loan is these
-  -- tables, or is refused where the walk stands by a question that the step asks. Then every answer, with its whole row or the index that
+  -- tables under their setting, or is refused there, where the walk stands, by a question that the step asks. Then every answer, with its whole row or the index that
   -- it skipped and why or the number, and every cursor are the plain walk's.
-  pub whole-claim : (loans : List Tables) → Loans t k list loans 0 → steps loans (walkOf list k 0) ≡ shownAll k list (plainWalk t k list loans 0)
+  pub whole-claim : (loans : List Tables) → Loans t k list loans 0 → steps loans (walkOf (t .setting) list k 0) ≡ shownAll (t .setting) k list (plainWalk t k list loans 0)
   whole-claim loans r = steps-from loans 0 r (omega arith)
 
   -- Over an absent list every step says so, and why.
-  pub walk-of-absent-list : (r : Reason) → listAt t k list ≡ absent r → (n : ℕ) → answersOf (nextOf t) n (walkOf list k 0) ≡ replicate n (absent r)
+  pub walk-of-absent-list : (r : Reason) → listAt t k list ≡ absent r → (n : ℕ) → answersOf (nextOf t) n (walkOf (t .setting) list k 0) ≡ replicate n (absent r)
   unfolding answersOf plainStep
   walk-of-absent-list r e zero = refl
   walk-of-absent-list r e (suc n) =
       let none : 0 ≤ countOf (listAt t k list) = omega arith in
-      let next : nextOf t (walkOf list k 0) ≡ shown k list (told (absent r) 0) = opened-step 0 none ∙ rw (opened-unrefused 0 none, e) in
+      let next : nextOf t (walkOf (t .setting) list k 0) ≡ shown (t .setting) k list (told (absent r) 0) = opened-step 0 none ∙ rw (opened-unrefused 0 none, e) in
       rw next (ap (λ (rest : List (Outcome ReachedRow)). absent r ∷ rest) (walk-of-absent-list r e n))
 
   -- The list is there, with the layout h.
@@ -195,9 +207,10 @@ module _ (t : Tables) (opened : Opened t) (k : ListKind) (list : ℕ) where
     takes-from : (loans : List Tables) (p : ℕ) → Loans t k list loans p → p ≤ h .count → plainWalk t k list loans p ≡ handedOut t k list h loans (leftFrom t h p) p
     unfolding plainWalk handedOut
     takes-from [] p loans-end l = refl
-    takes-from (t′ ∷ loans) p (loan-opened r) l =
-        one-taken loans p l (firstReadable (imageIn t) h p) refl
-        (takes-from loans (plainStep t k list t p .position) r (rw there at (stands p (within-count p l))))
+    takes-from (lent ∷ loans) p (loan-opened same r) l =
+        rw (same-plain lent same p, same-refusal lent same p)
+        (one-taken loans p l (firstReadable (imageIn t) h p) refl
+        (takes-from loans (plainStep t k list t p .position) r (rw there at (stands p (within-count p l)))))
     takes-from (lent ∷ loans) p (loan-refused q e r) l =
         rw (e, refused-plain lent p q e) (ap (λ (more : List Told). told (number q) p ∷ more) (takes-from loans p r l))
 
@@ -223,13 +236,13 @@ module _ (t : Tables) (opened : Opened t) (k : ListKind) (list : ℕ) where
     -- So the steps from p on answer with the entries that are left, and then with finished.
     abbrev Meets : ℕ → ℕ → List ℕ → Type 0
     Meets p n es =
-        (m : ℕ) → m ≡ length es + n → answersOf (nextOf t) m (walkOf list k p) ≡ map (entryRow t h) es ++ replicate n (value rowsFinished)
+        (m : ℕ) → m ≡ length es + n → answersOf (nextOf t) m (walkOf (t .setting) list k p) ≡ map (entryRow t h) es ++ replicate n (value rowsFinished)
 
-    finished-from : (n p : ℕ) → p ≤ h .count → leftFrom t h p ≡ [] → answersOf (nextOf t) n (walkOf list k p) ≡ replicate n (value rowsFinished)
+    finished-from : (n p : ℕ) → p ≤ h .count → leftFrom t h p ≡ [] → answersOf (nextOf t) n (walkOf (t .setting) list k p) ≡ replicate n (value rowsFinished)
     unfolding answersOf
     finished-from zero p l e = refl
     finished-from (suc n) p l e =
-        let next = opened-step p (within-count p l) ∙ ap (shown k list) (step-finished p l (none-left p (firstReadable (imageIn t) h p) refl e)) in
+        let next = opened-step p (within-count p l) ∙ ap (shown (t .setting) k list) (step-finished p l (none-left p (firstReadable (imageIn t) h p) refl e)) in
         rw next (ap (λ (rest : List (Outcome ReachedRow)). value rowsFinished ∷ rest) (finished-from n (h .count) (omega arith) (rest-from-count (imageIn t) h)))
 
     meets-from : (es : List ℕ) (p n : ℕ) → p ≤ h .count → leftFrom t h p ≡ es → Meets p n es
@@ -237,7 +250,7 @@ module _ (t : Tables) (opened : Opened t) (k : ListKind) (list : ℕ) where
     meets-from [] p n l e = λ m f. let same : m ≡ n = omega arith in rw same (finished-from n p l e)
     meets-from (j ∷ js) p n l e = λ m f.
         let first = first-left p j js (firstReadable (imageIn t) h p) refl e in
-        let next = opened-step p (within-count p l) ∙ ap (shown k list) (step-value p j l (first .0)) in
+        let next = opened-step p (within-count p l) ∙ ap (shown (t .setting) k list) (step-value p j l (first .0)) in
         let below = found-below-count (imageIn t) h p j (first .0) in
         let one : m ≡ suc (length js + n) = omega arith in
         rw (one, next)
@@ -246,7 +259,7 @@ module _ (t : Tables) (opened : Opened t) (k : ListKind) (list : ℕ) where
     -- D3b and D3c in one: over what opening accepted, the steps from the start on answer with each readable entry once, in order, by its row
     -- or as skipped with its index; and then, as often as one steps, that the walk has finished.
     pub walk-meets-each-readable-once : (n : ℕ)
-        → answersOf (nextOf t) (length (readables (imageIn t) h) + n) (walkOf list k 0)
+        → answersOf (nextOf t) (length (readables (imageIn t) h) + n) (walkOf (t .setting) list k 0)
         ≡ map (entryRow t h) (readables (imageIn t) h) ++ replicate n (value rowsFinished)
     walk-meets-each-readable-once n = meets-from (readables (imageIn t) h) 0 n (omega arith) (sym (rest-from-0 (imageIn t) h)) _ refl
 

@@ -1,12 +1,13 @@
--- The plain walk over a list (document 01, Lists): fed the opened tables, list address and kind, it holds a position, and asks of what a
--- step is lent only whether a question refuses it there.
+-- The plain walk over a list (document 01, Lists): fed the opened tables under a setting, which holds the reading (document 02, note 12),
+-- list address and kind, it holds a position, and asks of what a step is lent only whether a question refuses it there under that setting.
 use Prim.Native.Nat.{ℕ, suc, _-_}
 use mathlib.Core.Path.{_≡_}
 use mathlib.Core.List.{List, [], _∷_}
 use mathlib.Core.Option.{Option, none, some}
 use lib.Dec.{leb}
 use Rattle.reads.specs.Outcome.{Outcome, value, absent, number, andThen}
-use Rattle.pointers.specs.Tables.{Tables, imageIn}
+use Rattle.pointers.specs.Tables.{Tables, imageIn, under}
+use Rattle.pointers.specs.declared.setting.Setting.{Setting}
 use Rattle.pointers.specs.Question.{question, asked}
 use Rattle.records.specs.List.{listAt, entryAddress, entry}
 use Rattle.records.specs.Search.{allFrom, firstReadable}
@@ -74,7 +75,8 @@ plainOver t p (number k) = told (number k) p
 
 -- A step of the plain walk: a refused one gives the number and stays.
 unfoldable pub plainStep : Tables → ListKind → ℕ → Tables → ℕ → Told
-plainStep opened k list lent p = unlessRefused (refusal lent k list p) (λ q. told (number q) p) (plainOver opened p (listAt opened k list))
+plainStep opened k list lent p =
+    unlessRefused (refusal (under (opened .setting) lent) k list p) (λ q. told (number q) p) (plainOver opened p (listAt opened k list))
 
 -- The plain walk over a list of loans.
 unfoldable pub plainWalk : Tables → ListKind → ℕ → List Tables → ℕ → List Told
@@ -88,18 +90,20 @@ steps [] w = []
 steps (lent ∷ loans) w = nextOf lent w ∷ steps loans (nextOf lent w .walk)
 
 -- What the plain walk tells, as the library hands it back.
-abbrev pub shown : ListKind → ℕ → Told → RowLeft
-shown k list a = hands (a .answer) (walkOf list k (a .position))
+abbrev pub shown : Setting → ListKind → ℕ → Told → RowLeft
+shown s k list a = hands (a .answer) (walkOf s list k (a .position))
 
-abbrev pub shownAll : ListKind → ℕ → List Told → List RowLeft
-shownAll k list [] = []
-shownAll k list (a ∷ more) = shown k list a ∷ shownAll k list more
+abbrev pub shownAll : Setting → ListKind → ℕ → List Told → List RowLeft
+shownAll s k list [] = []
+shownAll s k list (a ∷ more) = shown s k list a ∷ shownAll s k list more
 
--- What is lent step by step: the opened tables, or tables that a question refuses where the walk stands.
+-- What is lent step by step, under the setting of the opened tables: these, or tables that a question refuses where the walk stands.
 pub data Loans (opened : Tables) (k : ListKind) (list : ℕ) : List Tables → ℕ → Type 0 where
   loans-end : {p : ℕ} → Loans opened k list [] p
-  loan-opened : {loans : List Tables} {p : ℕ} → Loans opened k list loans (plainStep opened k list opened p .position) → Loans opened k list (opened ∷ loans) p
-  loan-refused : {lent : Tables} {loans : List Tables} {p : ℕ} (q : ℕ) → refusal lent k list p ≡ number q → Loans opened k list loans p → Loans opened k list (lent ∷ loans) p
+  loan-opened : {lent : Tables} {loans : List Tables} {p : ℕ}
+      → under (opened .setting) lent ≡ opened → Loans opened k list loans (plainStep opened k list opened p .position) → Loans opened k list (lent ∷ loans) p
+  loan-refused : {lent : Tables} {loans : List Tables} {p : ℕ} (q : ℕ)
+      → refusal (under (opened .setting) lent) k list p ≡ number q → Loans opened k list loans p → Loans opened k list (lent ∷ loans) p
 
 -- The entries handed out one by one: a step that is not refused takes the first that is left and settles it; with none left it is finished
 -- at the count. The answer, and what is left after it.
@@ -113,5 +117,5 @@ handStep t h refused es p = unlessRefused refused (λ q. (told (number q) p, es)
 unfoldable pub handedOut : Tables → ListKind → ℕ → Layout → List Tables → List ℕ → ℕ → List Told
 handedOut t k list h [] es p = []
 handedOut t k list h (lent ∷ loans) es p =
-    handStep t h (refusal lent k list p) es p .0
-    ∷ handedOut t k list h loans (handStep t h (refusal lent k list p) es p .1) (handStep t h (refusal lent k list p) es p .0 .position)
+    let step = handStep t h (refusal (under (t .setting) lent) k list p) es p in
+    step .0 ∷ handedOut t k list h loans (step .1) (step .0 .position)

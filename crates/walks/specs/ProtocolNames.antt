@@ -7,7 +7,8 @@ use Rattle.reads.specs.Outcome.{Outcome, value, absent, number, choose}
 use Rattle.reads.specs.Answer.{missed}
 use Rattle.reads.specs.declared.answer.Reason.{Reason}
 use Rattle.reads.specs.declared.text.Text.{Text}
-use Rattle.pointers.specs.Tables.{Tables}
+use Rattle.pointers.specs.Tables.{Tables, under}
+use Rattle.pointers.specs.declared.setting.Setting.{Setting}
 use Rattle.pointers.specs.Question.{asked}
 use Rattle.records.specs.Header.{protocolList·size, protocolList·count}
 use Rattle.records.specs.Decode.{Decode, run, done, then, elseFirst, sum64, nonzero, even, readable, u64In, slot, symbol}
@@ -72,8 +73,9 @@ decodeNameIn a = elseFirst (decodeProtocolNameIn a) (symbol a)
 abbrev pub nameIn : Tables → ℕ → Outcome Text
 nameIn t a = run t (decodeNameIn a)
 
-abbrev pub walkAt : ℕ → ℕ → ProtocolNameWalk
-walkAt list cursor = record { list = list; cursor = cursor }
+-- A walk over the names of a list, under the setting that it began with.
+abbrev pub walkAt : Setting → ℕ → ℕ → ProtocolNameWalk
+walkAt setting list cursor = record { list = list; cursor = cursor; setting = setting }
 
 -- What a step reaches where no question refuses it: the name of a slot, or a slot that gives none and why; or it has finished. As an
 -- outcome, absent is an absent list.
@@ -93,19 +95,23 @@ slotAnswer (number k) = number k
 
 -- The walk is one slot on; a number refuses the step.
 abbrev pub named : ProtocolNameWalk → Outcome Text → NameLeft
-named w name = unlessRefused name (handsBack w) (hands (slotAnswer name) (walkAt (w .list) (w .cursor + 1)))
+named w name = unlessRefused name (handsBack w) (hands (slotAnswer name) (walkAt (w .setting) (w .list) (w .cursor + 1)))
 
 -- The next slot; with none left the walk has finished, at the count.
 unfoldable pub stepIn : Tables → ProtocolNameWalk → ProtocolList → NameLeft
 stepIn t w l =
-    choose (hasSlot l (w .cursor)) (named w (nameIn t (slotIn l (w .cursor)))) (hands (value namesFinished) (walkAt (w .list) (l .count)))
+    choose (hasSlot l (w .cursor)) (named w (nameIn t (slotIn l (w .cursor)))) (hands (value namesFinished) (walkAt (w .setting) (w .list) (l .count)))
 
 unfoldable pub overNames : Tables → ProtocolNameWalk → Outcome ProtocolList → NameLeft
 overNames t w list = fromCursor w (w .cursor) (λ l. l .count) (stepIn t w) list
 
--- A step of a walk: 1 to 6 and 8 are asked, then 10, then 9, 7 and 14 as the lookups come.
-unfoldable pub nextName : Tables → ProtocolNameWalk → NameLeft
-nextName t w = unlessRefused (asked t) (handsBack w) (overNames t w (protocolListAt t (w .list)))
+-- A step under a setting: 1 to 6 and 8 are asked, then 10, then 9, 7 and 14 as the lookups come.
+unfoldable pub nextNameUnder : Tables → ProtocolNameWalk → NameLeft
+nextNameUnder t w = unlessRefused (asked t) (handsBack w) (overNames t w (protocolListAt t (w .list)))
+
+-- A step, which takes the setting from the walk, never from what it is lent (document 02, note 12).
+abbrev pub nextName : Tables → ProtocolNameWalk → NameLeft
+nextName t w = nextNameUnder (under (w .setting) t) w
 
 -- Document 01's meaning of each case of the code's answers.
 abbrev pub nameAnswer : NameStep → Outcome ReachedName

@@ -18,14 +18,20 @@ use Rattle.records.specs.declared.category.ObjcCategory.{ObjcCategory}
 use Rattle.records.specs.declared.protocol.ObjcProtocol.{ObjcProtocol}
 use Rattle.walks.specs.declared.slots.Lists.{Lists}
 use Rattle.walks.specs.declared.slots.Lists.the-variants.{Classes, Categories, Protocols}
+use Rattle.walks.specs.declared.section_slots.ClassSlots.{ClassSlots}
+use Rattle.walks.specs.declared.section_slots.ClassTaken.{ClassTaken}
 use Rattle.walks.specs.declared.sections.ClassWalk.{ClassWalk}
 use Rattle.walks.specs.declared.sections.ClassStep.{ClassStep}
 use Rattle.walks.specs.declared.sections.ClassStep.the-variants as class
 use Rattle.walks.specs.declared.sections.ClassStepped.{ClassStepped}
+use Rattle.walks.specs.declared.section_slots.CategorySlots.{CategorySlots}
+use Rattle.walks.specs.declared.section_slots.CategoryTaken.{CategoryTaken}
 use Rattle.walks.specs.declared.sections.CategoryWalk.{CategoryWalk}
 use Rattle.walks.specs.declared.sections.CategoryStep.{CategoryStep}
 use Rattle.walks.specs.declared.sections.CategoryStep.the-variants as category
 use Rattle.walks.specs.declared.sections.CategoryStepped.{CategoryStepped}
+use Rattle.walks.specs.declared.section_slots.ProtocolSlots.{ProtocolSlots}
+use Rattle.walks.specs.declared.section_slots.ProtocolTaken.{ProtocolTaken}
 use Rattle.walks.specs.declared.sections.ProtocolWalk.{ProtocolWalk}
 use Rattle.walks.specs.declared.sections.ProtocolStep.{ProtocolStep}
 use Rattle.walks.specs.declared.sections.ProtocolStep.the-variants as protocol
@@ -150,9 +156,12 @@ protocolStepOf t w ledger =
     unlessRefused (askedSlot t (slotsOf Protocols (t .sections)) (w .slot) (w .used)) (stays w ledger)
     (bySlot w ledger (takeProtocol t w ledger) (slotTaken t (slotsOf Protocols (t .sections)) (w .slot)))
 
--- Document 01's meaning of the code's walks and of each case of its answers.
+-- Document 01's meaning of the code's walks, each of which holds the setting that it began with beside it, and of each case of its answers.
+abbrev pub classSlots : ClassSlots → Walk
+classSlots w = walk (w .slots .slot) (w .slots .used) (w .slots .highest) (w .meta)
+
 abbrev pub classWalk : ClassWalk → Walk
-classWalk w = walk (w .slots .slot) (w .slots .used) (w .slots .highest) (w .meta)
+classWalk w = classSlots (w .slots)
 
 abbrev pub classStep : ClassStep → Outcome (Step ObjcClass)
 classStep (class.Record c) = value (found c)
@@ -161,11 +170,17 @@ classStep class.Dropped = value dropped
 classStep class.Finished = value finished
 classStep (class.Refused k) = number k
 
+abbrev pub classTaken : ClassTaken → List ℕ → Left ObjcClass
+classTaken r ledger = leaves (classStep (r .step)) (classSlots (r .slots)) ledger
+
 abbrev pub classLeft : ClassStepped → List ℕ → Left ObjcClass
 classLeft r ledger = leaves (classStep (r .step)) (classWalk (r .walk)) ledger
 
+abbrev pub categorySlots : CategorySlots → Walk
+categorySlots w = walk (w .slots .slot) (w .slots .used) (w .slots .highest) 0
+
 abbrev pub categoryWalk : CategoryWalk → Walk
-categoryWalk w = walk (w .slots .slot) (w .slots .used) (w .slots .highest) 0
+categoryWalk w = categorySlots (w .slots)
 
 abbrev pub categoryStep : CategoryStep → Outcome (Step ObjcCategory)
 categoryStep (category.Record c) = value (found c)
@@ -174,11 +189,17 @@ categoryStep category.Dropped = value dropped
 categoryStep category.Finished = value finished
 categoryStep (category.Refused k) = number k
 
+abbrev pub categoryTaken : CategoryTaken → List ℕ → Left ObjcCategory
+categoryTaken r ledger = leaves (categoryStep (r .step)) (categorySlots (r .slots)) ledger
+
 abbrev pub categoryLeft : CategoryStepped → List ℕ → Left ObjcCategory
 categoryLeft r ledger = leaves (categoryStep (r .step)) (categoryWalk (r .walk)) ledger
 
+abbrev pub protocolSlots : ProtocolSlots → Walk
+protocolSlots w = walk (w .slot) 0 0 0
+
 abbrev pub protocolWalk : ProtocolWalk → Walk
-protocolWalk w = walk (w .slot) 0 0 0
+protocolWalk w = protocolSlots (w .slots)
 
 abbrev pub protocolStep : ProtocolStep → Outcome (Step ObjcProtocol)
 protocolStep (protocol.Record p) = value (found p)
@@ -186,6 +207,9 @@ protocolStep (protocol.Passed r) = value (passed r)
 protocolStep protocol.Dropped = value dropped
 protocolStep protocol.Finished = value finished
 protocolStep (protocol.Refused k) = number k
+
+abbrev pub protocolTaken : ProtocolTaken → Left ObjcProtocol
+protocolTaken r = leaves (protocolStep (r .step)) (protocolSlots (r .slots)) []
 
 abbrev pub protocolLeft : ProtocolStepped → Left ObjcProtocol
 protocolLeft r = leaves (protocolStep (r .step)) (protocolWalk (r .walk)) []

@@ -3,12 +3,13 @@ use Prim.Native.Nat.{ℕ, suc}
 use mathlib.Core.Option.{Option, none, some}
 use Rattle.reads.specs.Outcome.{Outcome, value, absent, number}
 use Rattle.reads.specs.declared.answer.Reason.{Reason}
-use Rattle.pointers.specs.Tables.{Tables, imageIn}
+use Rattle.pointers.specs.Tables.{Tables, imageIn, under}
 use Rattle.pointers.specs.Question.{asked}
 use Rattle.records.specs.List.{listAt, entryAddress}
 use Rattle.records.specs.Search.{firstReadable}
 use Rattle.records.specs.Row.{rowAt}
 use Rattle.walks.specs.Handed.{unlessRefused, Handed, hands, handsBack, fromCursor}
+use Rattle.pointers.specs.declared.setting.Setting.{Setting}
 use Rattle.records.specs.declared.list.Layout.{Layout}
 use Rattle.records.specs.declared.list.ListKind.{ListKind}
 use Rattle.records.specs.declared.row.Row.{Row}
@@ -19,12 +20,13 @@ use Rattle.walks.specs.declared.list_walk.ListWalked.{ListWalked}
 use Rattle.walks.specs.declared.list_walk.ListWalked.the-variants as walked
 use Rattle.walks.specs.declared.list_walk.ListStepped.{ListStepped}
 
-abbrev pub walkOf : ℕ → ListKind → ℕ → ListWalk
-walkOf list kind cursor = record { list = list; kind = kind; cursor = cursor }
+-- A walk over a list, under the setting that it began with.
+abbrev pub walkOf : Setting → ℕ → ListKind → ℕ → ListWalk
+walkOf setting list kind cursor = record { list = list; kind = kind; setting = setting; cursor = cursor }
 
 -- The walk at another cursor.
 abbrev pub moved : ListWalk → ℕ → ListWalk
-moved w cursor = walkOf (w .list) (w .kind) cursor
+moved w cursor = walkOf (w .setting) (w .list) (w .kind) cursor
 
 -- What a step reaches where no question refuses it: a row, or an entry whose row is skipped, with its index and why; or it has finished.
 -- As an outcome, absent is an absent list.
@@ -57,9 +59,13 @@ searched t w h none = hands (value rowsFinished) (moved w (h .count))
 unfoldable pub overRows : Tables → ListWalk → Outcome Layout → RowLeft
 overRows t w list = fromCursor w (w .cursor) (λ h. h .count) (λ h. searched t w h (firstReadable (imageIn t) h (w .cursor))) list
 
--- A step: 1 to 6 and 8, then 10, then the next readable entry.
-unfoldable pub nextOf : Tables → ListWalk → RowLeft
-nextOf t w = unlessRefused (asked t) (handsBack w) (overRows t w (listAt t (w .kind) (w .list)))
+-- A step under a setting: 1 to 6 and 8, then 10, then the next readable entry.
+unfoldable pub nextUnder : Tables → ListWalk → RowLeft
+nextUnder t w = unlessRefused (asked t) (handsBack w) (overRows t w (listAt t (w .kind) (w .list)))
+
+-- A step, which takes the setting from the walk, never from what it is lent (document 02, note 12).
+abbrev pub nextOf : Tables → ListWalk → RowLeft
+nextOf t w = nextUnder (under (w .setting) t) w
 
 -- Document 01's meaning of each case of the code's answers.
 abbrev pub stepAnswer : ListStep → Outcome ReachedRow

@@ -1,8 +1,10 @@
 // Walks over method, ivar and property lists: each step settles the next entry that can be read.
 use pointers::question::Asked;
 use pointers::question::ask;
+use pointers::setting::Setting;
 use reads::answer::Missing;
 use reads::answer::Reason;
+use reads::text::Reading;
 use records::list::Entry;
 use records::list::Layout;
 use records::list::LayoutAnswer;
@@ -14,7 +16,7 @@ use records::row::RowAnswer;
 use records::row::row_at;
 ghost use mathlib.Core.Path.{_≡_};
 ghost use Prim.Native.Nat.{_<_, _^_};
-ghost use Rattle.pointers.specs.Tables.{lent};
+ghost use Rattle.pointers.specs.Tables.{lent, under, readingNew, readingUnder};
 ghost use Rattle.reads.specs.Answer.{missed};
 ghost use Rattle.reads.specs.Outcome.{value};
 ghost use Rattle.walks.specs.Handed.{hands, handsBack};
@@ -22,10 +24,11 @@ ghost use Rattle.walks.specs.Walk.{walkOf, moved, settles, overRows, nex
 ghost use Rattle.records.specs.List.{listAt, entryAddress};
 ghost use Rattle.records.specs.Row.{rowAt};
 
-// A walk: list address, kind and cursor.
+// A walk: list address, kind and cursor, and the setting that it began with.
 pub struct ListWalk {
     list: u64,
     kind: ListKind,
+    setting: Setting,
     cursor: u32,
 }
 
@@ -51,13 +54,26 @@ pub struct ListStepped {
 }
 
 impl ListWalk {
-    // The walk over a list from its first entry on.
+    // The walk over a list from its first entry on, under the new reading.
     pub fn new(list: u64, kind: ListKind) -> ListWalk
-        ensures { λ r. ⌜ r ≡ walkOf list kind 0 ⌝ }
+        ensures { λ r. ⌜ r ≡ walkOf readingNew list kind 0 ⌝ }
     {
         ListWalk {
             list,
             kind,
+            setting: Setting::new(),
+            cursor: 0,
+        }
+    }
+
+    // The same under either reading.
+    pub fn under(reading: Reading, list: u64, kind: ListKind) -> ListWalk
+        ensures { λ r. ⌜ r ≡ walkOf (readingUnder reading) list kind 0 ⌝ }
+    {
+        ListWalk {
+            list,
+            kind,
+            setting: Setting::under(reading),
             cursor: 0,
         }
     }
@@ -67,11 +83,13 @@ impl ListWalk {
         ensures { λ r. ⌜ rowLeft r ≡ hands (stepAnswer step) (moved self cursor) ⌝ }
     {
         let kind = self.kind;
+        let setting = self.setting;
         ListStepped {
             walked: ListWalked::Step(step),
             walk: ListWalk {
                 list: self.list,
                 kind,
+                setting,
                 cursor,
             },
         }
@@ -114,10 +132,11 @@ impl ListWalk {
         j: u64,
     ) -> ListStepped
         requires { ⌜ (j < h .count) × (entryAddress h j < 2 ^ 64) ⌝ }
-        ensures { λ r. let t = lent image segments sections info rebases binds index in
+        ensures { λ r. let t = under (self .setting) (lent image segments sections info rebases binds index) in
             ⌜ rowLeft r ≡ settles self j (rowAt t (h .kind) (entryAddress h j)) ⌝ }
     {
         let kind = h.kind;
+        let setting = self.setting;
         let va = h.base + j * (h.size as u64);
         match row_at(
             image,
@@ -127,6 +146,7 @@ impl ListWalk {
             rebases,
             binds,
             index,
+            setting,
             kind,
             va,
         ) {
@@ -150,7 +170,7 @@ impl ListWalk {
         index: &[u32],
         h: Layout,
     ) -> ListStepped
-        ensures { λ r. let t = lent image segments sections info rebases binds index in
+        ensures { λ r. let t = under (self .setting) (lent image segments sections info rebases binds index) in
             ⌜ rowLeft r ≡ overRows t self (value h) ⌝ }
     {
         if h.count < self.cursor {
@@ -184,11 +204,12 @@ impl ListWalk {
         binds: &[u64],
         index: &[u32],
     ) -> ListStepped
-        ensures { λ r. let t = lent image segments sections info rebases binds index in
+        ensures { λ r. let t = under (self .setting) (lent image segments sections info rebases binds index) in
             ⌜ rowLeft r ≡ overRows t self (listAt t (self .kind) (self .list)) ⌝ }
     {
         let kind = self.kind;
         let list = self.list;
+        let setting = self.setting;
         match list_at(
             image,
             segments,
@@ -197,6 +218,7 @@ impl ListWalk {
             rebases,
             binds,
             index,
+            setting,
             kind,
             list,
         ) {

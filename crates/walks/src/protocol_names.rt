@@ -1,6 +1,7 @@
 // Protocol names: the walk over a protocol_list_t (objc-runtime-new.h; protocol.rs, protocol_name_iter).
 use pointers::question::Asked;
 use pointers::question::ask;
+use pointers::setting::Setting;
 use pointers::slot::resolve_pointer;
 use pointers::slot::symbol_at;
 use reads::answer::Missing;
@@ -11,6 +12,7 @@ use reads::answer::nonzero;
 use reads::place::Placed;
 use reads::place::readable;
 use reads::place::u64_in;
+use reads::text::Reading;
 use reads::text::Text;
 use reads::text::TextAnswer;
 use reads::text::text_because;
@@ -20,7 +22,7 @@ use records::protocol::protocol_at;
 ghost use mathlib.Core.Path.{_≡_};
 ghost use Prim.Native.Nat.{_+_, _^_, _<_, min};
 ghost use Rattle.reads.specs.Answer.{missed, textOutcome};
-ghost use Rattle.pointers.specs.Tables.{lent};
+ghost use Rattle.pointers.specs.Tables.{lent, under, readingNew, readingUnder};
 ghost use Rattle.walks.specs.Handed.{hands, handsBack};
 ghost use Rattle.walks.specs.ProtocolNames.{protocolListOutcome, protocolListAt, hasSlot, protocolNameAt, protocolNameIn, nameIn, walkAt, named, stepIn, overNames, nextName, nameAnswer, nameLeft};
 
@@ -42,10 +44,11 @@ pub enum ProtocolListAnswer {
     Missing(Missing),
 }
 
-// A walk over the names of a list: its address, and the number of slots taken.
+// A walk over the names of a list: its address, the number of slots taken, and the setting that it began with.
 pub struct ProtocolNameWalk {
     list: u64,
     cursor: u64,
+    setting: Setting,
 }
 
 // What a step reached: a name, a slot that gives none and why, the end, or the number of the question that refuses.
@@ -90,9 +93,10 @@ fn protocol_list_at(
     rebases: &[u64],
     binds: &[u64],
     index: &[u32],
+    setting: Setting,
     va: u64,
 ) -> ProtocolListAnswer
-    ensures { λ r. let t = lent image segments sections info rebases binds index in
+    ensures { λ r. let t = under setting (lent image segments sections info rebases binds index) in
         ⌜ protocolListOutcome r ≡ protocolListAt t va ⌝ }
 {
     match nonzero(va) {
@@ -136,9 +140,10 @@ fn protocol_name_at(
     rebases: &[u64],
     binds: &[u64],
     index: &[u32],
+    setting: Setting,
     va: u64,
 ) -> TextAnswer
-    ensures { λ r. let t = lent image segments sections info rebases binds index in
+    ensures { λ r. let t = under setting (lent image segments sections info rebases binds index) in
         ⌜ textOutcome r ≡ protocolNameAt t va ⌝ }
 {
     let proto_va = match nonzero(va) {
@@ -153,6 +158,7 @@ fn protocol_name_at(
         rebases,
         binds,
         index,
+        setting,
         proto_va,
     ) {
         ProtocolAnswer::Protocol(p) => {
@@ -172,9 +178,10 @@ fn protocol_name_in(
     rebases: &[u64],
     binds: &[u64],
     index: &[u32],
+    setting: Setting,
     slot: u64,
 ) -> TextAnswer
-    ensures { λ r. let t = lent image segments sections info rebases binds index in
+    ensures { λ r. let t = under setting (lent image segments sections info rebases binds index) in
         ⌜ textOutcome r ≡ protocolNameIn t slot ⌝ }
 {
     match resolve_pointer(image, segments, rebases, index, slot) {
@@ -186,6 +193,7 @@ fn protocol_name_in(
             rebases,
             binds,
             index,
+            setting,
             va,
         ),
         Word::Missing(m) => TextAnswer::Missing(m),
@@ -202,12 +210,23 @@ fn name_in(
     rebases: &[u64],
     binds: &[u64],
     index: &[u32],
+    setting: Setting,
     slot: u64,
 ) -> TextAnswer
-    ensures { λ r. let t = lent image segments sections info rebases binds index in
+    ensures { λ r. let t = under setting (lent image segments sections info rebases binds index) in
         ⌜ textOutcome r ≡ nameIn t slot ⌝ }
 {
-    match protocol_name_in(image, segments, sections, info, rebases, binds, index, slot) {
+    match protocol_name_in(
+        image,
+        segments,
+        sections,
+        info,
+        rebases,
+        binds,
+        index,
+        setting,
+        slot,
+    ) {
         TextAnswer::Found(name) => TextAnswer::Found(name),
         TextAnswer::Missing(m) => match m {
             Missing::Absent(why) => text_because(
@@ -220,11 +239,26 @@ fn name_in(
 }
 
 impl ProtocolNameWalk {
-    // The walk over the list at an address, before its first slot.
+    // The walk over the list at an address, before its first slot, under the new reading.
     pub fn new(list: u64) -> ProtocolNameWalk
-        ensures { λ r. ⌜ r ≡ walkAt list 0 ⌝ }
+        ensures { λ r. ⌜ r ≡ walkAt readingNew list 0 ⌝ }
     {
-        ProtocolNameWalk { list, cursor: 0 }
+        ProtocolNameWalk {
+            list,
+            cursor: 0,
+            setting: Setting::new(),
+        }
+    }
+
+    // The same under either reading.
+    pub fn under(reading: Reading, list: u64) -> ProtocolNameWalk
+        ensures { λ r. ⌜ r ≡ walkAt (readingUnder reading) list 0 ⌝ }
+    {
+        ProtocolNameWalk {
+            list,
+            cursor: 0,
+            setting: Setting::under(reading),
+        }
     }
 
     // The number of the slot that the next step takes.
@@ -259,13 +293,15 @@ impl ProtocolNameWalk {
 
     // A step, with the walk at another cursor.
     fn at(self, step: NameStep, cursor: u64) -> ProtocolNameStepped
-        ensures { λ r. ⌜ nameLeft r ≡ hands (nameAnswer step) (walkAt (self .list) cursor) ⌝ }
+        ensures { λ r. ⌜ nameLeft r ≡ hands (nameAnswer step) (walkAt (self .setting) (self .list) cursor) ⌝ }
     {
+        let setting = self.setting;
         ProtocolNameStepped {
             walked: ProtocolNamesWalked::Step(step),
             walk: ProtocolNameWalk {
                 list: self.list,
                 cursor,
+                setting,
             },
         }
     }
@@ -296,12 +332,23 @@ impl ProtocolNameWalk {
         index: &[u32],
         list: ProtocolList,
     ) -> ProtocolNameStepped
-        ensures { λ r. let t = lent image segments sections info rebases binds index in
+        ensures { λ r. let t = under (self .setting) (lent image segments sections info rebases binds index) in
             ⌜ nameLeft r ≡ stepIn t self list ⌝ }
     {
         if has_slot(list, self.cursor) {
             let slot = list.base + 8 * self.cursor;
-            let name = name_in(image, segments, sections, info, rebases, binds, index, slot);
+            let setting = self.setting;
+            let name = name_in(
+                image,
+                segments,
+                sections,
+                info,
+                rebases,
+                binds,
+                index,
+                setting,
+                slot,
+            );
             return self.named(name);
         }
         self.at(NameStep::Finished, list.count)
@@ -318,11 +365,22 @@ impl ProtocolNameWalk {
         binds: &[u64],
         index: &[u32],
     ) -> ProtocolNameStepped
-        ensures { λ r. let t = lent image segments sections info rebases binds index in
+        ensures { λ r. let t = under (self .setting) (lent image segments sections info rebases binds index) in
             ⌜ nameLeft r ≡ overNames t self (protocolListAt t (self .list)) ⌝ }
     {
         let list = self.list;
-        match protocol_list_at(image, segments, sections, info, rebases, binds, index, list) {
+        let setting = self.setting;
+        match protocol_list_at(
+            image,
+            segments,
+            sections,
+            info,
+            rebases,
+            binds,
+            index,
+            setting,
+            list,
+        ) {
             ProtocolListAnswer::List(list) => {
                 if list.count < self.cursor {
                     return self.refused(10);

@@ -1,34 +1,23 @@
-// Walks over the section lists, one slot a step. Classes and categories meet each address once, by a ledger that the caller lends.
-use crate::slots::Lists;
-use crate::slots::SlotStep;
-use crate::slots::SlotWalk;
-use crate::slots::next_slot;
-use pointers::question::Asked;
-use reads::answer::Missing;
+// Walks over the section lists, one slot a step. A walk says under which reading it began, and each step takes it from there.
+use crate::section_slots::CategorySlots;
+use crate::section_slots::ClassSlots;
+use crate::section_slots::ProtocolSlots;
+use pointers::setting::Setting;
 use reads::answer::Reason;
-use records::category::CategoryAnswer;
+use reads::text::Reading;
 use records::category::ObjcCategory;
-use records::category::category_at;
-use records::class::ClassAnswer;
 use records::class::ObjcClass;
-use records::class::class_at;
 use records::protocol::ObjcProtocol;
-use records::protocol::ProtocolAnswer;
-use records::protocol::protocol_at;
 ghost use mathlib.Core.Path.{_≡_};
-ghost use mathlib.Core.List.{List, []};
-ghost use Prim.Native.Nat.{ℕ, _+_, _^_, _<_};
-ghost use lib.ListN.{length};
+ghost use mathlib.Core.List.{[]};
 ghost use Rattle.reads.specs.Reference.{before, after};
-ghost use Rattle.pointers.specs.Tables.{lent};
-ghost use Rattle.walks.specs.Slots.{Room};
-ghost use Rattle.reads.specs.Outcome.{value};
-ghost use Rattle.walks.specs.Sections.{walk, atStart, passed, dropped, leaves, stays, metaOf, classes, categories, takeWaiting, nextWaiting, takeNew, stepOf, takeProtocol, protocolStepOf, classWalk, classLeft, categoryWalk, categoryLeft, protocolWalk, protocolLeft};
+ghost use Rattle.pointers.specs.Tables.{lent, under, readingNew, readingUnder};
+ghost use Rattle.walks.specs.Sections.{atStart, classes, categories, stepOf, protocolStepOf, classWalk, classLeft, categoryWalk, categoryLeft, protocolWalk, protocolLeft};
 
-// The slots, and the address of the metaclass that waits (0: none).
+// A walk over classes: where it stands, and the setting that it began with.
 pub struct ClassWalk {
-    slots: SlotWalk,
-    meta: u64,
+    slots: ClassSlots,
+    setting: Setting,
 }
 
 // A step gives a class, or the reason for which it is absent; a slot of 0 or an address met before is dropped, which is no absence; or there was
@@ -47,9 +36,10 @@ pub struct ClassStepped {
     pub walk: ClassWalk,
 }
 
-// The slots.
+// A walk over categories: where it stands, and the setting that it began with.
 pub struct CategoryWalk {
-    slots: SlotWalk,
+    slots: CategorySlots,
+    setting: Setting,
 }
 
 // A step gives a category, or the reason for which it is absent; a slot of 0 or an address met before is dropped, which is no absence; or there was
@@ -68,9 +58,10 @@ pub struct CategoryStepped {
     pub walk: CategoryWalk,
 }
 
-// The next slot.
+// A walk over protocols: where it stands, and the setting that it began with.
 pub struct ProtocolWalk {
-    slot: u64,
+    slots: ProtocolSlots,
+    setting: Setting,
 }
 
 // A step gives a protocol, or the reason for which it is absent; a slot of 0 is dropped, which is no absence; or there was
@@ -89,173 +80,28 @@ pub struct ProtocolStepped {
     pub walk: ProtocolWalk,
 }
 
-// The address of a class's metaclass, 0 where isa is the class itself.
-fn meta_of(class: ObjcClass) -> u64
-    ensures { λ r. ⌜ r ≡ metaOf class ⌝ }
-{
-    if class.isa == class.address {
-        return 0;
-    }
-    class.isa
-}
-
 impl ClassWalk {
-    // The walk before its first slot.
+    // The walk before its first slot, under the new reading.
     pub fn new() -> ClassWalk
-        ensures { λ r. ⌜ classWalk r ≡ atStart ⌝ }
+        ensures { λ r. ⌜ (classWalk r ≡ atStart) × (r .setting ≡ readingNew) ⌝ }
     {
         ClassWalk {
-            slots: SlotWalk::new(),
-            meta: 0,
+            slots: ClassSlots::new(),
+            setting: Setting::new(),
         }
     }
 
-    // The walk as given, with a number.
-    fn refused(self, k: u8) -> ClassStepped
-        ensures { λ r. ⌜ ((l : List ℕ) → classLeft r l ≡ stays (classWalk self) l k) ⌝ }
+    // The same under either reading.
+    pub fn under(reading: Reading) -> ClassWalk
+        ensures { λ r. ⌜ (classWalk r ≡ atStart) × (r .setting ≡ readingUnder reading) ⌝ }
     {
-        ClassStepped {
-            step: ClassStep::Refused(k),
-            walk: self,
+        ClassWalk {
+            slots: ClassSlots::new(),
+            setting: Setting::under(reading),
         }
     }
 
-    // The class is absent, and no metaclass waits.
-    fn passed(slots: SlotWalk, why: Reason) -> ClassStepped
-        ensures { λ r. ⌜ ((l : List ℕ) → classLeft r l ≡ leaves (value (passed why)) (walk (slots .slot) (slots .used) (slots .highest) 0) l) ⌝ }
-    {
-        ClassStepped {
-            step: ClassStep::Passed(why),
-            walk: ClassWalk { slots, meta: 0 },
-        }
-    }
-
-    // The slot is dropped.
-    fn dropped(slots: SlotWalk) -> ClassStepped
-        ensures { λ r. ⌜ ((l : List ℕ) → classLeft r l ≡ leaves (value dropped) (walk (slots .slot) (slots .used) (slots .highest) 0) l) ⌝ }
-    {
-        ClassStepped {
-            step: ClassStep::Dropped,
-            walk: ClassWalk { slots, meta: 0 },
-        }
-    }
-
-    // Takes the metaclass that waits.
-    fn take_meta(
-        self,
-        image: &[u8],
-        segments: &[u64],
-        sections: &[u64],
-        info: &[u8],
-        rebases: &[u64],
-        binds: &[u64],
-        index: &[u32],
-    ) -> ClassStepped
-        ensures { λ r. let t = lent image segments sections info rebases binds index in
-            ⌜ ((l : List ℕ) → classLeft r l ≡ takeWaiting classes t (classWalk self) l) ⌝ }
-    {
-        let slots = self.slots;
-        match class_at(
-            image,
-            segments,
-            sections,
-            info,
-            rebases,
-            binds,
-            index,
-            self.meta,
-            true,
-        ) {
-            ClassAnswer::Class(class) => ClassStepped {
-                step: ClassStep::Record(class),
-                walk: ClassWalk { slots, meta: 0 },
-            },
-            ClassAnswer::Missing(m) => match m {
-                Missing::Absent(why) => ClassWalk::passed(slots, why),
-                Missing::Refused(k) => self.refused(k),
-            },
-        }
-    }
-
-    // Takes an address first met: the ledger word is the last write, and with a number there is none.
-    fn take_new(
-        self,
-        image: &[u8],
-        segments: &[u64],
-        sections: &[u64],
-        info: &[u8],
-        rebases: &[u64],
-        binds: &[u64],
-        index: &[u32],
-        va: u64,
-        ledger: &mut [u64],
-    ) -> ClassStepped
-        requires { ⌜ Room (self .slots) (length (now ledger)) ⌝ }
-        ensures { λ r. let t = lent image segments sections info rebases binds index in
-            ⌜ classLeft r (after ledger) ≡ takeNew classes t (classWalk self) (before ledger) va ⌝ }
-    {
-        let slots = self.slots;
-        match class_at(
-            image,
-            segments,
-            sections,
-            info,
-            rebases,
-            binds,
-            index,
-            va,
-            false,
-        ) {
-            ClassAnswer::Class(class) => {
-                let meta = meta_of(class);
-                ClassStepped {
-                    step: ClassStep::Record(class),
-                    walk: ClassWalk {
-                        slots: slots.note(va, ledger),
-                        meta,
-                    },
-                }
-            }
-            ClassAnswer::Missing(m) => match m {
-                Missing::Absent(why) => ClassWalk::passed(slots.note(va, ledger), why),
-                Missing::Refused(k) => self.refused(k),
-            },
-        }
-    }
-
-    // The waiting metaclass, where no question refuses the step over a ledger of `len` words.
-    fn next_meta(
-        self,
-        image: &[u8],
-        segments: &[u64],
-        sections: &[u64],
-        info: &[u8],
-        rebases: &[u64],
-        binds: &[u64],
-        index: &[u32],
-        len: usize,
-    ) -> ClassStepped
-        ensures { λ r. let t = lent image segments sections info rebases binds index in
-            ⌜ ((l : List ℕ) → length l ≡ len → classLeft r l ≡ nextWaiting classes t (classWalk self) l) ⌝ }
-    {
-        let slots = self.slots;
-        match slots.ask_ledger(
-            image,
-            segments,
-            sections,
-            info,
-            rebases,
-            binds,
-            index,
-            Lists::Classes,
-            len,
-        ) {
-            Asked::Yes => self.take_meta(image, segments, sections, info, rebases, binds, index),
-            Asked::Refused(k) => self.refused(k),
-        }
-    }
-
-    // One step: the waiting metaclass, or else the next slot.
+    // One step, under the setting that the walk began with.
     pub fn next(
         self,
         image: &[u8],
@@ -267,15 +113,12 @@ impl ClassWalk {
         index: &[u32],
         ledger: &mut [u64],
     ) -> ClassStepped
-        ensures { λ r. let t = lent image segments sections info rebases binds index in
-            ⌜ classLeft r (after ledger) ≡ stepOf classes t (classWalk self) (before ledger) ⌝ }
+        ensures { λ r. let t = under (self .setting) (lent image segments sections info rebases binds index) in
+            ⌜ (classLeft r (after ledger) ≡ stepOf classes t (classWalk self) (before ledger)) × (r .walk .setting ≡ self .setting) ⌝ }
     {
-        if self.meta != 0 {
-            let len = ledger.len();
-            return self.next_meta(image, segments, sections, info, rebases, binds, index, len);
-        }
         let slots = self.slots;
-        match slots.next_new(
+        let setting = self.setting;
+        let taken = slots.next(
             image,
             segments,
             sections,
@@ -283,103 +126,40 @@ impl ClassWalk {
             rebases,
             binds,
             index,
-            Lists::Classes,
+            setting,
             ledger,
-        ) {
-            SlotStep::Address(va) => self.take_new(
-                image,
-                segments,
-                sections,
-                info,
-                rebases,
-                binds,
-                index,
-                va,
-                ledger,
-            ),
-            SlotStep::Dropped => ClassWalk::dropped(slots.past()),
-            SlotStep::Finished => ClassStepped {
-                step: ClassStep::Finished,
-                walk: self,
-            },
-            SlotStep::Refused(k) => self.refused(k),
+        );
+        let step = taken.step;
+        let slots = taken.slots;
+        ClassStepped {
+            step,
+            walk: ClassWalk { slots, setting },
         }
     }
 }
 
 impl CategoryWalk {
-    // The walk before its first slot.
+    // The walk before its first slot, under the new reading.
     pub fn new() -> CategoryWalk
-        ensures { λ r. ⌜ categoryWalk r ≡ atStart ⌝ }
+        ensures { λ r. ⌜ (categoryWalk r ≡ atStart) × (r .setting ≡ readingNew) ⌝ }
     {
         CategoryWalk {
-            slots: SlotWalk::new(),
+            slots: CategorySlots::new(),
+            setting: Setting::new(),
         }
     }
 
-    // The walk as given, with a number.
-    fn refused(self, k: u8) -> CategoryStepped
-        ensures { λ r. ⌜ ((l : List ℕ) → categoryLeft r l ≡ stays (categoryWalk self) l k) ⌝ }
+    // The same under either reading.
+    pub fn under(reading: Reading) -> CategoryWalk
+        ensures { λ r. ⌜ (categoryWalk r ≡ atStart) × (r .setting ≡ readingUnder reading) ⌝ }
     {
-        CategoryStepped {
-            step: CategoryStep::Refused(k),
-            walk: self,
+        CategoryWalk {
+            slots: CategorySlots::new(),
+            setting: Setting::under(reading),
         }
     }
 
-    // The category is absent.
-    fn passed(slots: SlotWalk, why: Reason) -> CategoryStepped
-        ensures { λ r. ⌜ ((l : List ℕ) → categoryLeft r l ≡ leaves (value (passed why)) (walk (slots .slot) (slots .used) (slots .highest) 0) l) ⌝ }
-    {
-        CategoryStepped {
-            step: CategoryStep::Passed(why),
-            walk: CategoryWalk { slots },
-        }
-    }
-
-    // The slot is dropped.
-    fn dropped(slots: SlotWalk) -> CategoryStepped
-        ensures { λ r. ⌜ ((l : List ℕ) → categoryLeft r l ≡ leaves (value dropped) (walk (slots .slot) (slots .used) (slots .highest) 0) l) ⌝ }
-    {
-        CategoryStepped {
-            step: CategoryStep::Dropped,
-            walk: CategoryWalk { slots },
-        }
-    }
-
-    // Takes an address first met: the ledger word is the last write, and with a number there is none.
-    fn take_new(
-        self,
-        image: &[u8],
-        segments: &[u64],
-        sections: &[u64],
-        info: &[u8],
-        rebases: &[u64],
-        binds: &[u64],
-        index: &[u32],
-        va: u64,
-        ledger: &mut [u64],
-    ) -> CategoryStepped
-        requires { ⌜ Room (self .slots) (length (now ledger)) ⌝ }
-        ensures { λ r. let t = lent image segments sections info rebases binds index in
-            ⌜ categoryLeft r (after ledger) ≡ takeNew categories t (categoryWalk self) (before ledger) va ⌝ }
-    {
-        let slots = self.slots;
-        match category_at(image, segments, sections, info, rebases, binds, index, va) {
-            CategoryAnswer::Category(category) => CategoryStepped {
-                step: CategoryStep::Record(category),
-                walk: CategoryWalk {
-                    slots: slots.note(va, ledger),
-                },
-            },
-            CategoryAnswer::Missing(m) => match m {
-                Missing::Absent(why) => CategoryWalk::passed(slots.note(va, ledger), why),
-                Missing::Refused(k) => self.refused(k),
-            },
-        }
-    }
-
-    // One step: the next slot.
+    // One step, under the setting that the walk began with.
     pub fn next(
         self,
         image: &[u8],
@@ -391,11 +171,12 @@ impl CategoryWalk {
         index: &[u32],
         ledger: &mut [u64],
     ) -> CategoryStepped
-        ensures { λ r. let t = lent image segments sections info rebases binds index in
-            ⌜ categoryLeft r (after ledger) ≡ stepOf categories t (categoryWalk self) (before ledger) ⌝ }
+        ensures { λ r. let t = under (self .setting) (lent image segments sections info rebases binds index) in
+            ⌜ (categoryLeft r (after ledger) ≡ stepOf categories t (categoryWalk self) (before ledger)) × (r .walk .setting ≡ self .setting) ⌝ }
     {
         let slots = self.slots;
-        match slots.next_new(
+        let setting = self.setting;
+        let taken = slots.next(
             image,
             segments,
             sections,
@@ -403,90 +184,40 @@ impl CategoryWalk {
             rebases,
             binds,
             index,
-            Lists::Categories,
+            setting,
             ledger,
-        ) {
-            SlotStep::Address(va) => self.take_new(
-                image,
-                segments,
-                sections,
-                info,
-                rebases,
-                binds,
-                index,
-                va,
-                ledger,
-            ),
-            SlotStep::Dropped => CategoryWalk::dropped(slots.past()),
-            SlotStep::Finished => CategoryStepped {
-                step: CategoryStep::Finished,
-                walk: self,
-            },
-            SlotStep::Refused(k) => self.refused(k),
+        );
+        let step = taken.step;
+        let slots = taken.slots;
+        CategoryStepped {
+            step,
+            walk: CategoryWalk { slots, setting },
         }
     }
 }
 
 impl ProtocolWalk {
-    // The walk before its first slot.
+    // The walk before its first slot, under the new reading.
     pub fn new() -> ProtocolWalk
-        ensures { λ r. ⌜ protocolWalk r ≡ atStart ⌝ }
+        ensures { λ r. ⌜ (protocolWalk r ≡ atStart) × (r .setting ≡ readingNew) ⌝ }
     {
-        ProtocolWalk { slot: 0 }
-    }
-
-    // The walk as given, with a number.
-    fn refused(self, k: u8) -> ProtocolStepped
-        ensures { λ r. ⌜ protocolLeft r ≡ stays (protocolWalk self) [] k ⌝ }
-    {
-        ProtocolStepped {
-            step: ProtocolStep::Refused(k),
-            walk: self,
+        ProtocolWalk {
+            slots: ProtocolSlots::new(),
+            setting: Setting::new(),
         }
     }
 
-    // The walk one slot on.
-    fn past(self) -> ProtocolWalk
-        requires { ⌜ self .slot + 1 < 2 ^ 64 ⌝ }
-        ensures { λ r. ⌜ protocolWalk r ≡ walk (self .slot + 1) 0 0 0 ⌝ }
+    // The same under either reading.
+    pub fn under(reading: Reading) -> ProtocolWalk
+        ensures { λ r. ⌜ (protocolWalk r ≡ atStart) × (r .setting ≡ readingUnder reading) ⌝ }
     {
-        let slot = self.slot + 1;
-        ProtocolWalk { slot }
-    }
-
-    // Takes an address: a protocol listed twice comes twice.
-    fn take(
-        self,
-        image: &[u8],
-        segments: &[u64],
-        sections: &[u64],
-        info: &[u8],
-        rebases: &[u64],
-        binds: &[u64],
-        index: &[u32],
-        va: u64,
-    ) -> ProtocolStepped
-        requires { ⌜ self .slot + 1 < 2 ^ 64 ⌝ }
-        ensures { λ r. let t = lent image segments sections info rebases binds index in
-            ⌜ protocolLeft r ≡ takeProtocol t (protocolWalk self) [] va ⌝ }
-    {
-        let walk = self.past();
-        match protocol_at(image, segments, sections, info, rebases, binds, index, va) {
-            ProtocolAnswer::Protocol(protocol) => ProtocolStepped {
-                step: ProtocolStep::Record(protocol),
-                walk,
-            },
-            ProtocolAnswer::Missing(m) => match m {
-                Missing::Absent(why) => ProtocolStepped {
-                    step: ProtocolStep::Passed(why),
-                    walk,
-                },
-                Missing::Refused(k) => self.refused(k),
-            },
+        ProtocolWalk {
+            slots: ProtocolSlots::new(),
+            setting: Setting::under(reading),
         }
     }
 
-    // One step: the next slot.
+    // One step, under the setting that the walk began with.
     pub fn next(
         self,
         image: &[u8],
@@ -497,10 +228,12 @@ impl ProtocolWalk {
         binds: &[u64],
         index: &[u32],
     ) -> ProtocolStepped
-        ensures { λ r. let t = lent image segments sections info rebases binds index in
-            ⌜ protocolLeft r ≡ protocolStepOf t (protocolWalk self) [] ⌝ }
+        ensures { λ r. let t = under (self .setting) (lent image segments sections info rebases binds index) in
+            ⌜ (protocolLeft r ≡ protocolStepOf t (protocolWalk self) []) × (r .walk .setting ≡ self .setting) ⌝ }
     {
-        match next_slot(
+        let slots = self.slots;
+        let setting = self.setting;
+        let taken = slots.next(
             image,
             segments,
             sections,
@@ -508,28 +241,13 @@ impl ProtocolWalk {
             rebases,
             binds,
             index,
-            Lists::Protocols,
-            self.slot,
-        ) {
-            SlotStep::Address(va) => self.take(
-                image,
-                segments,
-                sections,
-                info,
-                rebases,
-                binds,
-                index,
-                va,
-            ),
-            SlotStep::Dropped => ProtocolStepped {
-                step: ProtocolStep::Dropped,
-                walk: self.past(),
-            },
-            SlotStep::Finished => ProtocolStepped {
-                step: ProtocolStep::Finished,
-                walk: self,
-            },
-            SlotStep::Refused(k) => self.refused(k),
+            setting,
+        );
+        let step = taken.step;
+        let slots = taken.slots;
+        ProtocolStepped {
+            step,
+            walk: ProtocolWalk { slots, setting },
         }
     }
 }

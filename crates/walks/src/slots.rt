@@ -2,6 +2,7 @@
 use pointers::question::Asked;
 use pointers::question::ask;
 use pointers::section::ObjcSection;
+use pointers::setting::Setting;
 use pointers::slot::slot_or_0;
 use reads::answer::Missing;
 use reads::answer::Word;
@@ -15,7 +16,7 @@ ghost use Prim.Native.Nat.{_+_, _^_, _≤_, _<_, max};
 ghost use lib.ListN.{length, getD, take, set};
 ghost use Rattle.reads.specs.Reference.{before, after};
 ghost use Rattle.reads.specs.Answer.{wordOutcome};
-ghost use Rattle.pointers.specs.Tables.{lent};
+ghost use Rattle.pointers.specs.Tables.{lent, under};
 ghost use Rattle.pointers.specs.Question.{askedOutcome};
 ghost use Rattle.walks.specs.Slots.{sectionSlots, slotsOf, addressIn, among, slotFits, ledgerFits, askedLedger, slotTaken, metBelow, firstMet, nextSlot, nextNew, slotOutcome, slotWalk, Room};
 
@@ -101,9 +102,10 @@ fn address_in(
     rebases: &[u64],
     binds: &[u64],
     index: &[u32],
+    setting: Setting,
     slot: u64,
 ) -> Word
-    ensures { λ r. let t = lent image segments sections info rebases binds index in
+    ensures { λ r. let t = under setting (lent image segments sections info rebases binds index) in
         ⌜ wordOutcome r ≡ addressIn t slot ⌝ }
 {
     match slot_or_0(image, segments, rebases, index, slot) {
@@ -211,18 +213,29 @@ fn take_slot(
     rebases: &[u64],
     binds: &[u64],
     index: &[u32],
+    setting: Setting,
     lists: Lists,
     k: u64,
 ) -> SlotStep
     requires { ⌜ k ≤ length (slotsOf lists (now sections)) ⌝ }
-    ensures { λ r. let t = lent image segments sections info rebases binds index in
+    ensures { λ r. let t = under setting (lent image segments sections info rebases binds index) in
         ⌜ slotOutcome r ≡ slotTaken t (slotsOf lists (before sections)) k ⌝ }
 {
     if k == slot_count(sections, lists) {
         return SlotStep::Finished;
     }
     let at = slot_at(sections, lists, k);
-    match address_in(image, segments, sections, info, rebases, binds, index, at) {
+    match address_in(
+        image,
+        segments,
+        sections,
+        info,
+        rebases,
+        binds,
+        index,
+        setting,
+        at,
+    ) {
         Word::Value(va) => SlotStep::Address(va),
         Word::Missing(m) => match m {
             Missing::Absent(_) => SlotStep::Dropped,
@@ -240,10 +253,11 @@ pub(crate) fn next_slot(
     rebases: &[u64],
     binds: &[u64],
     index: &[u32],
+    setting: Setting,
     lists: Lists,
     slot: u64,
 ) -> SlotStep
-    ensures { λ r. let t = lent image segments sections info rebases binds index in
+    ensures { λ r. let t = under setting (lent image segments sections info rebases binds index) in
         ⌜ slotOutcome r ≡ nextSlot t (slotsOf lists (before sections)) slot ⌝ }
 {
     match ask(image, segments, sections, info, rebases, binds, index) {
@@ -259,6 +273,7 @@ pub(crate) fn next_slot(
                 rebases,
                 binds,
                 index,
+                setting,
                 lists,
                 slot,
             )
@@ -289,10 +304,11 @@ impl SlotWalk {
         rebases: &[u64],
         binds: &[u64],
         index: &[u32],
+        setting: Setting,
         lists: Lists,
         words: usize,
     ) -> Asked
-        ensures { λ r. let t = lent image segments sections info rebases binds index in
+        ensures { λ r. let t = under setting (lent image segments sections info rebases binds index) in
             ⌜ askedOutcome r ≡ askedLedger t (slotsOf lists (before sections)) (self .slot) (self .used) words ⌝ }
     {
         match ask(image, segments, sections, info, rebases, binds, index) {
@@ -319,10 +335,11 @@ impl SlotWalk {
         rebases: &[u64],
         binds: &[u64],
         index: &[u32],
+        setting: Setting,
         lists: Lists,
         ledger: &[u64],
     ) -> SlotStep
-        ensures { λ r. let t = lent image segments sections info rebases binds index in
+        ensures { λ r. let t = under setting (lent image segments sections info rebases binds index) in
             ⌜ slotOutcome r ≡ nextNew t (slotsOf lists (before sections)) (self .slot) (self .used) (self .highest) (before ledger) ⌝ }
     {
         match self.ask_ledger(
@@ -333,6 +350,7 @@ impl SlotWalk {
             rebases,
             binds,
             index,
+            setting,
             lists,
             ledger.len(),
         ) {
@@ -345,6 +363,7 @@ impl SlotWalk {
                     rebases,
                     binds,
                     index,
+                    setting,
                     lists,
                     self.slot,
                 );

@@ -8,14 +8,14 @@ use Rattle.reads.proofs.text.read_cstr_at.Tie as tie
 returns : tie.Need-returns
 returns c =
     let a = c .before .before .args in
-    (text-beyond (a .image .now) (a .offset) (c .if1 .taken), read-beyond (a .image .now) (a .offset) (c .if1 .taken))
+    (text-beyond (a .reading) (a .image .now) (a .offset) (c .if1 .taken), read-beyond (a .reading) (a .image .now) (a .offset) (c .if1 .taken))
 
 returns-2 : tie.Need-returns-2
 returns-2 c =
     let d = c .before .before .before in
     let a = d .before .before .args in
     let e = c .before .scan-text .ensures in
-    (c .text-of-scan .ensures ∙ text-scanned (a .image .now) (a .offset) (d .if1 .left) e, read-scanned (a .image .now) (a .offset) (d .if1 .left) e)
+    (c .text-of-scan .ensures ∙ text-scanned (a .reading) (a .image .now) (a .offset) (d .if1 .left) e, read-scanned (a .reading) (a .image .now) (a .offset) (d .if1 .left) e)
 
 pub read-cstr-at-spec : {M : Type 1} → statement M
 read-cstr-at-spec =

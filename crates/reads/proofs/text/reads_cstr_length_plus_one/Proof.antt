@@ -3,6 +3,7 @@ use mathlib.Core.Path.{ap, sym, _∙_}
 use native.Mathlib.Omega.{arith}
 use Rattle.reads.specs.Answer.{textOutcome}
 use Rattle.reads.specs.Text.{lengthPlusOne}
+use Rattle.reads.specs.declared.text.Reading.the-variants.{Old}
 use Rattle.reads.proofs.Texts.{length-plus-one-missed, text-inside}
 use borrow.Author.Needs.{needs}
 use Rattle.reads.proofs.text.reads_cstr_length_plus_one.Statement.{statement}
@@ -13,7 +14,7 @@ add-result c =
     let d = c .before .before .before .before in
     let a = d .before .before .args in
     let t = c .before .before .t .given in
-    omega (arith, text-inside (a .image .now) (a .offset) (t .0 .0) (sym (ap textOutcome (t .1)) ∙ d .read-cstr-at .ensures .0), d .before .before .good .0)
+    omega (arith, text-inside Old (a .image .now) (a .offset) (t .0 .0) (sym (ap textOutcome (t .1)) ∙ d .read-cstr-at .ensures .0), d .before .before .good .0)
 
 returns : tie.Need-returns
 unfolding lengthPlusOne

@@ -1,6 +1,6 @@
 use mathlib.Core.Path.{_≡_, sym, ap, _∙_}
 use Rattle.reads.specs.Answer.{placeOutcome, textOutcome, wordOutcome}
-use Rattle.pointers.specs.Tables.{Tables, tablesOf}
+use Rattle.pointers.specs.Tables.{Tables, tablesOf, under}
 use Rattle.records.specs.Decode.{Decode, run}
 use Rattle.records.proofs.Stages.{rest, past, stops}
 use Rattle.records.specs.Category.{categoryListsOutcome, decodeCategoryOf}
@@ -11,7 +11,7 @@ use Rattle.records.proofs.category.category_of.Tie as tie
 
 -- All that the function is lent, and its definition.
 abbrev tables : tie.Start → Tables
-tables s = tablesOf (s .args .image .now) (s .args .segments .now) (s .args .sections .now) (s .args .info .now) (s .args .rebases .now) (s .args .binds .now) (s .args .index .now)
+tables s = under (s .args .setting) (tablesOf (s .args .image .now) (s .args .segments .now) (s .args .sections .now) (s .args .info .now) (s .args .rebases .now) (s .args .binds .now) (s .args .index .now))
 
 abbrev whole : tie.Start → Decode ObjcCategory
 whole s = decodeCategoryOf (s .args .va) (s .args .wide)

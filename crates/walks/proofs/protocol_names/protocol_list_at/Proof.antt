@@ -1,7 +1,7 @@
 use mathlib.Core.Path.{_≡_, sym, ap, _∙_}
 use Rattle.reads.specs.Answer.{placeOutcome, wordOutcome}
 use Rattle.pointers.specs.Bytes.{u64In}
-use Rattle.pointers.specs.Tables.{Tables, tablesOf}
+use Rattle.pointers.specs.Tables.{Tables, tablesOf, under}
 use Rattle.records.specs.Decode.{Decode, run}
 use Rattle.records.proofs.Stages.{rest, past, stops}
 use Rattle.records.specs.Header.{protocolList·count}
@@ -13,7 +13,7 @@ use Rattle.walks.proofs.protocol_names.protocol_list_at.Tie as tie
 
 -- All that the function is lent, and its definition.
 abbrev tables : tie.Start → Tables
-tables s = tablesOf (s .args .image .now) (s .args .segments .now) (s .args .sections .now) (s .args .info .now) (s .args .rebases .now) (s .args .binds .now) (s .args .index .now)
+tables s = under (s .args .setting) (tablesOf (s .args .image .now) (s .args .segments .now) (s .args .sections .now) (s .args .info .now) (s .args .rebases .now) (s .args .binds .now) (s .args .index .now))
 
 abbrev whole : tie.Start → Decode ProtocolList
 whole s = decodeProtocolList (s .args .va)

@@ -14,11 +14,11 @@ add-slot : tie.Need-add-slot
 add-slot c = let h = slot-below _ _ (sym (c .before .before .before .has-slot .ensures) ∙ c .before .before .if1 .taken) in omega (arith, h .1)
 
 named-requires : tie.Need-named-requires
-named-requires c κs = let h = slot-below _ _ (sym (c .before .before .before .before .has-slot .ensures) ∙ c .before .before .before .if1 .taken) in omega (arith, h .1)
+named-requires c κs = let h = slot-below _ _ (sym (c .before .before .before .before .before .has-slot .ensures) ∙ c .before .before .before .before .if1 .taken) in omega (arith, h .1)
 
 returns : tie.Need-returns
 unfolding stepIn
-returns c = c .named .ensures ∙ ap (named _) (c .before .name-in .ensures) ∙ sym (choose-true _ _ (sym (c .before .before .before .before .before .has-slot .ensures) ∙ c .before .before .before .before .if1 .taken))
+returns c = c .named .ensures ∙ ap (named _) (c .before .name-in .ensures) ∙ sym (choose-true _ _ (sym (c .before .before .before .before .before .before .has-slot .ensures) ∙ c .before .before .before .before .before .if1 .taken))
 
 returns-2 : tie.Need-returns-2
 unfolding stepIn

@@ -1,0 +1,9 @@
+use borrow.Author.Needs.{needs}
+use Rattle.walks.proofs.protocol_names.ProtocolNameWalk.under.Statement.{statement}
+use Rattle.walks.proofs.protocol_names.ProtocolNameWalk.under.Tie as tie
+
+returns : tie.Need-returns
+returns c = rw (c .under .ensures)
+
+pub under-spec : {M : Type 1} → statement M
+under-spec = tie.close (tie.spec (λ c κs. search needs) returns)
