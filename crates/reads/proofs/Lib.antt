@@ -2,6 +2,7 @@
 pub mod Tests
 pub mod Outcomes
 pub mod Masks
+pub mod LentFiles
 pub mod Numbers
 pub mod Tabulates
 pub mod SegmentRows
