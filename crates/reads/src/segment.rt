@@ -29,6 +29,9 @@ impl Segment {
     // The words of a row.
     pub const WORDS: usize = 5;
 
+    // The word of a row that is the number of its file.
+    pub const FILE: usize = 4;
+
     // Row i of the table.
     pub(crate) fn at(segments: &[u64], i: usize) -> Segment
         requires { ⌜ i < records segmentWords (now segments) ⌝ }
