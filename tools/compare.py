@@ -3,8 +3,8 @@
 
     compare.py [options] LISTER [ORACLE]
 
-LISTER and ORACLE are commands that read a bundle on standard input; ORACLE is target/oracle/oracle if left out. The
-first bundles are the short ones of cases/edges.py, the others seeded. A bundle differs if the listings do, or if one of
+LISTER and ORACLE are commands that read a bundle on standard input; ORACLE, if left out, is target/oracle/ended, which
+lists under the new reading, or with --old target/oracle/oracle, which lists as the Rust does, under the old one. The first bundles are the short ones of cases/edges.py, the others seeded. A bundle differs if the listings do, or if one of
 the two prints nothing, ends by a signal, has status 70 (the oracle's own check) or 101 (a Rust panic), or is over the
 time limit; other statuses are not compared. A differing bundle is stored with both listings. Status 0 if all agree.
 """
@@ -55,10 +55,12 @@ def main():
     parser.add_argument("--limit", type=float, default=60, help="seconds for a bundle (60)")
     parser.add_argument("--keep", default=os.path.join(ROOT, "target", "differ"), help="folder for differing bundles")
     parser.add_argument("--coverage", action="store_true", help="print what the second listings show")
+    parser.add_argument("--old", action="store_true", help="LISTER lists under the old reading")
     parser.add_argument("lister", metavar="LISTER")
-    parser.add_argument("oracle", metavar="ORACLE", nargs="?",
-                        default=shlex.quote(os.path.join(ROOT, "target", "oracle", "oracle")))
+    parser.add_argument("oracle", metavar="ORACLE", nargs="?")
     options = parser.parse_args()
+    if options.oracle is None:
+        options.oracle = shlex.quote(os.path.join(ROOT, "target", "oracle", "oracle" if options.old else "ended"))
     os.makedirs(options.keep, exist_ok=True)
     end = options.first + options.count
     batches = [(options, range(k, min(end, k + options.batch))) for k in range(options.first, end, options.batch)]

@@ -17,7 +17,7 @@ from collections import Counter
 import cases
 from lister import run
 
-FIELDS = {"I": "nn", "C": "nnnno", "M": "nnnno", "R": "nnnnt", "P": "nnnt", "K": "nnto", "m": "nttxn", "v": "nttxnxx",
+FIELDS = {"I": "nnn", "C": "nnnno", "M": "nnnno", "R": "nnnnt", "P": "nnnt", "K": "nnto", "m": "nttxn", "v": "nttxnxx",
           "p": "ntt", "q": "nt", "E": "nn"}
 LISTS = {"C": "class", "M": "metaclass", "P": "protocol", "K": "category"}
 FORMS = ["legacy", "small indirect", "small direct"]

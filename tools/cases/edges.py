@@ -780,8 +780,84 @@ def bind_names():
         yield "names order %d" % k, bundle(*binds, segments=64 * (k & 1), present=1 + (k >> 1 & 1))
 
 
+# -- the last string of the image, by how it ends (note 12); last, so that the bundles before keep their numbers
+
+ENDS = {"zero": b"end\0", "image": b"end", "nothing": b"", "past": None, "character": b"end\xe2\x82", "bad byte": b"e\xffd",
+        "character, zero": b"end\xe2\x82\0", "whole character": "endé".encode(), "space": b" "}
+
+
+def ends():
+    def class_name(s):
+        ro = s.add(s.class_ro())
+        s.section(CLASSES, s.words(0, 0, 0, 0, ro))
+        return ro + 24
+
+    def superclass_name(s):
+        ro = s.add(s.class_ro(name="Above"))
+        above = s.words(0, 0, 0, 0, ro)
+        s.section(CLASSES, s.words(0, above, 0, 0, s.add(s.class_ro())))
+        return ro + 24
+
+    def listed(field, body, at):
+        def make(s):
+            made = s.add(body(s))
+            s.with_ro(**{field: made})
+            return made + 8 + at
+        return make
+
+    def direct_selector(s):
+        methods = s.add(struct.pack("<2I6i", 0xC000000C, 2, 0, 0, 0, 0, 0, 0))
+        s.with_ro(methods=methods)
+        return lambda a: struct.pack_into("<2i", s.b.image, methods + 8 - s.BASE, a - methods - 8, a - methods - 12)
+
+    def protocol_name(s):
+        protocol = s.add(s.protocol(72))
+        s.section(PROTOCOLS, protocol)
+        return protocol + 8
+
+    def listed_protocol_name(s):
+        protocol = s.add(s.protocol(72))
+        s.with_ro(protocols=s.words(2, s.add(s.protocol(72, "First")), protocol))
+        return protocol + 8
+
+    def bound_protocol_name(s):     # the bind stands for a protocol whose name has no end
+        protocol = s.add(s.protocol(72))
+        names = s.words(1, protocol)
+        s.with_ro(protocols=names)
+        s.bind(names + 8, "_OBJC_PROTOCOL_$_Bound")
+        return protocol + 8
+
+    def category_name(s):
+        category = s.add(s.category(False))
+        s.section(CATEGORIES, category)
+        return category
+
+    makers = {"class name": class_name, "superclass name": superclass_name,
+              "selector": listed("methods", lambda s: s.methods("legacy"), 24),
+              "types": listed("methods", lambda s: s.methods("legacy"), 8), "direct selector": direct_selector,
+              "ivar name": listed("ivars", lambda s: s.ivars(), 8), "ivar type": listed("ivars", lambda s: s.ivars(), 16),
+              "property name": listed("properties", lambda s: s.properties(), 0),
+              "attributes": listed("properties", lambda s: s.properties(), 8), "protocol name": protocol_name,
+              "listed protocol name": listed_protocol_name, "bound protocol name": bound_protocol_name,
+              "category name": category_name}
+    for what, maker in makers.items():
+        for how, tail in ENDS.items():
+            s = Sketch()
+            slot = maker(s)
+            a = s.BASE + len(s.b.image) + (tail is None)
+            if callable(slot):
+                slot(a)
+            else:
+                s.rebase(slot, a)
+            n = len(s.b.image)
+            s.b.image.extend(tail or b"")
+            s.own = False           # a segment with room past the image's end
+            s.b.segments.append((s.BASE, n + 64, 0, n + 64))
+            yield "%s ends by %s" % (what, how), s.pack()
+
+
 FAMILIES = [lengths, refused, cuts, list_heads, windows, lookups, protocol_sizes, masks, chains, prefixes, zeros,
-            texts, alignments, relatives, sections, info, ranges, entries, differences, aligned, bind_names]
+            texts, alignments, relatives, sections, info, ranges, entries, differences, aligned, bind_names, ends]
 
 
 def edges():

@@ -1,9 +1,9 @@
 #!/usr/bin/env python3
 """Chooses bundles of cases.py, and stores them with the oracle's listings for crates/replay.
 
-    stored.py [ORACLE [FOLDER]]
+    stored.py [ORACLE [ENDED [FOLDER]]]
 
-ORACLE is target/oracle/oracle and FOLDER crates/replay if left out. Chosen are, the smallest where there is a choice:
+ORACLE is target/oracle/oracle, ENDED target/oracle/ended and FOLDER crates/replay if left out. Chosen are, the smallest where there is a choice:
 
 - the edges of NAMED;
 - of each family of edges both sides of each kind of boundary: two bundles next to each other, whose names differ in one
@@ -15,7 +15,7 @@ ORACLE is target/oracle/oracle and FOLDER crates/replay if left out. Chosen are,
 
 FOLDER/data/cases has the number of cases as a word, then for each case its title, which is its number and name, and its
 bundle, each with its length in front as a word; words are little-endian. FOLDER/stdout has for each case the line
-"# TITLE" and the listing.
+"# TITLE", ORACLE's listing, under the old reading of texts, and ENDED's, under the new.
 """
 import os
 import random
@@ -28,7 +28,7 @@ from collections import Counter, defaultdict
 
 import cases
 import coverage
-from edges import WAYS
+from edges import ENDS, WAYS
 from image import well_formed
 from lister import run
 
@@ -41,7 +41,12 @@ NAMED = ["diamond", "empty", "length 406", "length 408", "total 32768", "total 3
          "offset of 64 bits", "bound slot holds 0", "bound slot holds 1", "alignment word 3", "alignment word 28",
          "alignment word 3f", "alignment word 40", "alignment word ff", "alignment word 100", "alignment word fffffffe",
          "alignment word ffffffff", "ivar offset 0", "ivar offset 1", "ivar offset 8", "ivar offset 80000000",
-         "bound name e228 at 0", "bound name e282 at 1", "names order 12", "names order 10"]
+         "bound name e228 at 0", "bound name e282 at 1", "names order 12", "names order 10",
+         *["selector ends by " + how for how in ENDS], "types ends by image", "direct selector ends by image",
+         "class name ends by image", "superclass name ends by nothing", "ivar name ends by bad byte",
+         "ivar type ends by character", "property name ends by character", "attributes ends by nothing",
+         "protocol name ends by image", "listed protocol name ends by image", "bound protocol name ends by nothing",
+         "category name ends by whole character"]
 LONG = ("texts", "alignments", "prefixes", "protocol names", "protocol list cap")   # long bundles, or long walks
 
 
@@ -121,22 +126,26 @@ def choice(list_bundle):
 
 
 def main(args):
-    command = shlex.split(args[0]) if args else [os.path.join(ROOT, "target", "oracle", "oracle")]
-    folder = args[1] if len(args) > 1 else os.path.join(ROOT, "crates", "replay")
+    commands = [shlex.split(arg) for arg in args[:2]]
+    commands += [[os.path.join(ROOT, "target", "oracle", name)] for name in ("oracle", "ended")[len(commands):]]
+    folder = args[2] if len(args) > 2 else os.path.join(ROOT, "crates", "replay")
     with tempfile.TemporaryDirectory() as room:
-        def list_bundle(bundle):
-            path = os.path.join(room, "bundle")
-            cases.write(path, bundle)
-            listing, _, fault = run(command, path, 60)
-            return listing if not fault else sys.exit("the oracle: " + fault)
-        chosen, listings = choice(list_bundle)
+        def lister(command):
+            def list_bundle(bundle):
+                path = os.path.join(room, "bundle")
+                cases.write(path, bundle)
+                listing, _, fault = run(command, path, 60)
+                return listing if not fault else sys.exit("the oracle: " + fault)
+            return list_bundle
+        chosen, listings = choice(lister(commands[0]))
+        named = [cases.named(number) for number in chosen]
+        ended = [lister(commands[1])(bundle) for _, bundle in named]
     data, answers = [struct.pack("<Q", len(chosen))], []
-    for number in chosen:
-        name, bundle = cases.named(number)
+    for number, (name, bundle), new in zip(chosen, named, ended):
         title = ("%d %s" % (number, name)).encode()
         for part in (title, bundle):
             data += [struct.pack("<Q", len(part)), part]
-        answers += [b"# ", title, b"\n", listings[number]]
+        answers += [b"# ", title, b"\n", listings[number], new]
     os.makedirs(os.path.join(folder, "data"), exist_ok=True)
     cases.write(os.path.join(folder, "data", "cases"), b"".join(data))
     cases.write(os.path.join(folder, "stdout"), b"".join(answers))

@@ -19,7 +19,7 @@ use Rattle.pointers.specs.Open.{opening}
 use Rattle.pointers.specs.Section.{sectionAt}
 use Rattle.pointers.specs.Slot.{rebaseAt, stored, resolve, pointerAt, pointerOr0At}
 use Rattle.pointers.specs.Symbol.{ascii}
-use Rattle.pointers.specs.Tables.{Tables, tablesOf, withIndex}
+use Rattle.pointers.specs.Tables.{Tables, tablesOf, withIndex, readingNew}
 use Rattle.pointers.proofs.OpenedTables.{opened-info}
 use Rattle.records.specs.Ask.{evenList, entrySize}
 use Rattle.records.specs.List.{methodRows, listAt, decodeList}
@@ -160,7 +160,7 @@ pub cases-hold : AllHold cases
 cases-hold = both-hold listing-cases edge-cases listing-holds edges-hold
 
 -- The steps of the listing over these tables say the five lines and settle the two entries, with any ledger that has a word.
-pub hub-steps-say : (l : List ℕ) → 1 ≤ length l → Lists hub l five-lines (event 0 0 (withRow 0) ∷ event 0 0 (withoutRow 1 Unmapped) ∷ [])
+pub hub-steps-say : (l : List ℕ) → 1 ≤ length l → Lists readingNew hub l five-lines (event 0 0 (withRow 0) ∷ event 0 0 (withoutRow 1 Unmapped) ∷ [])
 hub-steps-say l room =
     let classes : slotCount (hub .sections) 0 1 ≡ 1 = unfold slotCount sectionAt choose in refl in
     let categories : slotCount (hub .sections) 2 3 ≡ 0 = unfold slotCount sectionAt choose in refl in

@@ -4,24 +4,29 @@ use mathlib.Core.Path.{_≡_, sym, ap, _∙_}
 use lib.Arith.{digits-div, digits-mod}
 use Rattle.walks.specs.Sections.{Walk}
 use Rattle.walks.specs.Slots.{slotWalk}
+use Rattle.walks.specs.declared.slots.SlotWalk.{SlotWalk}
+use Rattle.pointers.specs.declared.setting.Setting.{Setting}
 use Rattle.walks.specs.declared.sections.CategoryWalk.{CategoryWalk}
 use Rattle.walks.specs.declared.sections.ClassWalk.{ClassWalk}
 use Rattle.walks.specs.declared.sections.ProtocolWalk.{ProtocolWalk}
-use Rattle.listing.specs.Listing.{SectionWalk, State}
+use Rattle.listing.specs.Listing.{Begun, SectionWalk, State}
 use Rattle.listing.specs.ListingAnswer.{sectionWalkOf, stateOf}
 use Rattle.listing.specs.declared.at.At.{At}
 use Rattle.listing.specs.declared.listing.Listing.{Listing}
 use Rattle.listing.specs.declared.section.Section.{Section}
 
 -- Each walk, back from its state.
-abbrev classBack : Walk → ClassWalk
-classBack w = record { slots = slotWalk (w .slot) (w .used) (w .highest); meta = w .waiting }
+abbrev slotsBack : Walk → SlotWalk
+slotsBack w = slotWalk (w .slot) (w .used) (w .highest)
 
-abbrev protocolBack : Walk → ProtocolWalk
-protocolBack w = record { slot = w .slot }
+abbrev classBack : Begun → ClassWalk
+classBack b = record { slots = record { slots = slotsBack (b .walk); meta = b .walk .waiting }; setting = b .setting }
 
-abbrev categoryBack : Walk → CategoryWalk
-categoryBack w = record { slots = slotWalk (w .slot) (w .used) (w .highest) }
+abbrev protocolBack : Begun → ProtocolWalk
+protocolBack b = record { slots = record { slot = b .walk .slot }; setting = b .setting }
+
+abbrev categoryBack : Begun → CategoryWalk
+categoryBack b = record { slots = record { slots = slotsBack (b .walk) }; setting = b .setting }
 
 abbrev sectionBack : SectionWalk → Section
 sectionBack x =
@@ -30,14 +35,16 @@ sectionBack x =
 section-same : (x y : Section) → sectionWalkOf x ≡ sectionWalkOf y → x ≡ y
 section-same x y e = ap sectionBack e
 
-abbrev listingOf : At → Section → ℕ → ℕ → ℕ → Listing
-listingOf place section records high low = record { at = place; section = section; records = records; «settled_high» = high; «settled_low» = low }
+abbrev listingOf : Setting → At → Section → ℕ → ℕ → ℕ → Listing
+listingOf u place section records high low = record { setting = u; at = place; section = section; records = records; «settled_high» = high; «settled_low» = low }
 
-listing-same : {a b : At} {x y : Section} {i j h k m n : ℕ} → a ≡ b → x ≡ y → i ≡ j → h ≡ k → m ≡ n → listingOf a x i h m ≡ listingOf b y j k n
-listing-same p q r s u = cc
+listing-same : {v w : Setting} {a b : At} {x y : Section} {i j h k m n : ℕ} → v ≡ w → a ≡ b → x ≡ y → i ≡ j → h ≡ k → m ≡ n
+    → listingOf v a x i h m ≡ listingOf w b y j k n
+listing-same o p q r s u = cc
 
 pub state-determines : (r s : Listing) → r .«settled_low» < 2 ^ 64 → s .«settled_low» < 2 ^ 64 → stateOf r ≡ stateOf s → r ≡ s
 state-determines r s p q e =
+    let under : r .setting ≡ s .setting = ap (λ (x : State). x .setting) e in
     let place : r .at ≡ s .at = ap (λ (x : State). x .at) e in
     let walk = section-same (r .section) (s .section) (ap (λ (x : State). x .section) e) in
     let records : r .records ≡ s .records = ap (λ (x : State). x .records) e in
@@ -50,4 +57,4 @@ state-determines r s p q e =
     sym (digits-mod (r .«settled_high») {m = 2 ^ 64} {r = r .«settled_low»} p)
     ∙ ap (λ (n : ℕ). n % 2 ^ 64) settled
     ∙ digits-mod (s .«settled_high») {m = 2 ^ 64} {r = s .«settled_low»} q in
-    listing-same place walk records high low
+    listing-same under place walk records high low

@@ -55,34 +55,34 @@ drop-next (suc n) (b ∷ l) e = drop-next n l e
 module _ (t : Tables) (o : Opened t) (Over : State → List ℕ → Type 0) (k : ListKind) (list n : ℕ) (w : Owner) (sec : SectionWalk) (r : ℕ) (l : List ℕ) where
   -- The state at entry p, with c entries settled so far.
   abbrev atEntry : ℕ → ℕ → State
-  atEntry p c = state (inList w n (fieldWalk.Rows (walkOf list k p))) sec r c
+  atEntry p c = state (t .setting) (inList w n (fieldWalk.Rows (walkOf (t .setting) list k p))) sec r c
 
-  step-by : (p c : ℕ) (x : RowLeft) → nextOf t (walkOf list k p) ≡ x → listingStep t (atEntry p c) l ≡ afterRow (atEntry p c) l w n x
+  step-by : (p c : ℕ) (x : RowLeft) → nextOf t (walkOf (t .setting) list k p) ≡ x → listingStep t (atEntry p c) l ≡ afterRow (atEntry p c) l w n x
   unfolding stepAt
   step-by p c x e = ap (λ (y : RowLeft). afterRow (atEntry p c) l w n y) e
 
-  events-by : (p c : ℕ) (x : RowLeft) → nextOf t (walkOf list k p) ≡ x → eventsIn t (atEntry p c) ≡ settledIn (r - 1) n x
+  events-by : (p c : ℕ) (x : RowLeft) → nextOf t (walkOf (t .setting) list k p) ≡ x → eventsIn t (atEntry p c) ≡ settledIn (r - 1) n x
   unfolding eventsAt
   events-by p c x e = ap (λ (y : RowLeft). settledIn (r - 1) n y) e
 
-  module _ (xs : List Line) (es : List Event) (c′ : ℕ) (below : c′ < 2 ^ 128) (later : Steps t Over (state (enter w (suc n)) sec r c′) l xs es) where
+  module _ (xs : List Line) (es : List Event) (c′ : ℕ) (below : c′ < 2 ^ 128) (later : Steps t Over (state (t .setting) (enter (t .setting) w (suc n)) sec r c′) l xs es) where
     -- An absent list.
     rest-absent : (why : Reason) → listAt t k list ≡ absent why → Steps t Over (atEntry 0 c′) l xs es
     unfolding plainStep
     rest-absent why e =
         let zero-fits : 0 ≤ countOf (listAt t k list) = omega arith in
-        let next : nextOf t (walkOf list k 0) ≡ hands (absent why) (walkOf list k 0) =
+        let next : nextOf t (walkOf (t .setting) list k 0) ≡ hands (absent why) (walkOf (t .setting) list k 0) =
         opened-step t o k list 0 zero-fits ∙ rw (opened-unrefused t o k list 0 zero-fits, e) refl in
         silent (step-by 0 c′ _ next) (events-by 0 c′ _ next) later
 
     module _ (h : Layout) (there : listAt t k list ≡ value h) where
       next-finished : (p : ℕ) → p ≤ h .count → firstReadable (imageIn t) h p ≡ none
-          → nextOf t (walkOf list k p) ≡ hands (value rowsFinished) (walkOf list k (h .count))
-      next-finished p u e = opened-step t o k list p (within-count t o k list h there p u) ∙ ap (shown k list) (step-finished t o k list h there p u e)
+          → nextOf t (walkOf (t .setting) list k p) ≡ hands (value rowsFinished) (walkOf (t .setting) list k (h .count))
+      next-finished p u e = opened-step t o k list p (within-count t o k list h there p u) ∙ ap (shown (t .setting) k list) (step-finished t o k list h there p u e)
 
       next-settles : (p j : ℕ) → p ≤ h .count → firstReadable (imageIn t) h p ≡ some j
-          → nextOf t (walkOf list k p) ≡ shown k list (settling j (rowAt t (h .kind) (entryAddress h j)))
-      next-settles p j u e = opened-step t o k list p (within-count t o k list h there p u) ∙ ap (shown k list) (step-value t o k list h there p j u e)
+          → nextOf t (walkOf (t .setting) list k p) ≡ shown (t .setting) k list (settling j (rowAt t (h .kind) (entryAddress h j)))
+      next-settles p j u e = opened-step t o k list p (within-count t o k list h there p u) ∙ ap (shown (t .setting) k list) (step-value t o k list h there p j u e)
 
       -- What comes from entry p on, where the entries from there are zs and give these lines.
       abbrev EntriesCome : ℕ → ℕ → List Entry → List Line → Type 0
@@ -90,7 +90,7 @@ module _ (t : Tables) (o : Opened t) (Over : State → List ℕ → Type 0) (k :
 
       entry-comes : (p c j : ℕ) (mine zs : List Entry) (first ys : List Line) (v : Outcome Row) → rowAt t (h .kind) (entryAddress h j) ≡ v
           → ofValue v (λ row. value (rowLine n row ∷ [])) ≡ value first → entryBy j v ≡ value mine
-          → nextOf t (walkOf list k p) ≡ shown k list (settling j v)
+          → nextOf t (walkOf (t .setting) list k p) ≡ shown (t .setting) k list (settling j v)
           → c + 1 ≤ c′ → EntriesCome (suc j) (c + 1) zs ys → EntriesCome p c (mine ++ zs) (first ++ ys)
       entry-comes p c j mine zs first ys (value row) d a b e u more =
           let m : (c + 1) % 2 ^ 128 ≡ c + 1 = mod-eq-of-lt (less (2 ^ 128) (c + 1) c′ u below) in
@@ -153,9 +153,9 @@ module _ (t : Tables) (o : Opened t) (Over : State → List ℕ → Type 0) (k :
 -- The steps over one list of protocol names.
 module _ (t : Tables) (o : Opened t) (Over : State → List ℕ → Type 0) (list n : ℕ) (w : Owner) (sec : SectionWalk) (r c : ℕ) (l : List ℕ) where
   abbrev atName : ℕ → State
-  atName i = state (inList w n (fieldWalk.Names (walkAt list i))) sec r c
+  atName i = state (t .setting) (inList w n (fieldWalk.Names (walkAt (t .setting) list i))) sec r c
 
-  name-by : (i : ℕ) (x : NameLeft) → nextName t (walkAt list i) ≡ x → listingStep t (atName i) l ≡ afterName (atName i) l w n i x
+  name-by : (i : ℕ) (x : NameLeft) → nextName t (walkAt (t .setting) list i) ≡ x → listingStep t (atName i) l ≡ afterName (atName i) l w n i x
   unfolding stepAt
   name-by i x e = ap (λ (y : NameLeft). afterName (atName i) l w n i y) e
 
@@ -163,7 +163,7 @@ module _ (t : Tables) (o : Opened t) (Over : State → List ℕ → Type 0) (lis
   unfolding eventsAt
   no-event i = refl
 
-  module _ (xs : List Line) (es : List Event) (later : Steps t Over (state (enter w (suc n)) sec r c) l xs es) where
+  module _ (xs : List Line) (es : List Event) (later : Steps t Over (state (t .setting) (enter (t .setting) w (suc n)) sec r c) l xs es) where
     module _ (p : ProtocolList) (there : protocolListAt t list ≡ value p) where
       -- What comes from slot i on, with these names.
       abbrev NamesCome : ℕ → List Text → Type 0
@@ -172,10 +172,10 @@ module _ (t : Tables) (o : Opened t) (Over : State → List ℕ → Type 0) (lis
       names-end : (i : ℕ) → i ≤ p .count → hasSlot p i ≡ false → NamesCome i []
       unfolding stepIn
       names-end i u e =
-          let next : nextName t (walkAt list i) ≡ hands (value namesFinished) (walkAt list (p .count)) = next-in t o (walkAt list i) p there u ∙ choose-false _ _ e in
+          let next : nextName t (walkAt (t .setting) list i) ≡ hands (value namesFinished) (walkAt (t .setting) list (p .count)) = next-in t o (walkAt (t .setting) list i) p there u ∙ choose-false _ _ e in
           silent (name-by i _ next) (no-event i) later
 
-      name-comes : (i : ℕ) {v : Outcome Text} {first : List Text} (names : List Text) → Held v first → nextName t (walkAt list i) ≡ named (walkAt list i) v
+      name-comes : (i : ℕ) {v : Outcome Text} {first : List Text} (names : List Text) → Held v first → nextName t (walkAt (t .setting) list i) ≡ named (walkAt (t .setting) list i) v
           → NamesCome (i + 1) names → NamesCome i (first ++ names)
       name-comes i names (held-one name) e more = saying (name-by i _ e) (no-event i) more
       name-comes i names (held-none why) e more = telling (name-by i _ e) (no-event i) more
@@ -188,8 +188,8 @@ module _ (t : Tables) (o : Opened t) (Over : State → List ℕ → Type 0) (lis
       names-come (suc q) i names u a =
           by-choose (λ (os : List (Outcome Text)). gather present os ≡ value names → NamesCome i names)
           (λ e given.
-          let next : nextName t (walkAt list i) ≡ named (walkAt list i) (nameIn t (slotIn p i)) =
-          next-in t o (walkAt list i) p there (omega arith) ∙ choose-true _ _ e in
+          let next : nextName t (walkAt (t .setting) list i) ≡ named (walkAt (t .setting) list i) (nameIn t (slotIn p i)) =
+          next-in t o (walkAt (t .setting) list i) p there (omega arith) ∙ choose-true _ _ e in
           let parts = gather-parts present (nameIn t (slotIn p i)) (slotNames t p (i + 1) q) given in
           rw (parts .whole)
           (name-comes i (parts .second) (present-held (nameIn t (slotIn p i)) (parts .ofFirst)) next (names-come q (i + 1) (parts .second) (omega arith) (parts .ofSecond))))
@@ -203,7 +203,7 @@ module _ (t : Tables) (o : Opened t) (Over : State → List ℕ → Type 0) (lis
         → ofValue v (λ p. gather present (slotNames t p 0 (p .count))) ≡ value names → Steps t Over (atName 0) l (map (nameLine n) names ++ xs) es
     list-comes (value p) e names a = names-come p e (p .count) 0 names (omega arith) a
     list-comes (absent why) e names a =
-        let next = next-absent t o (walkAt list 0) why e (omega arith) in
+        let next = next-absent t o (walkAt (t .setting) list 0) why e (omega arith) in
         let none : names ≡ [] = cc in
         rw none (silent (name-by 0 _ next) (no-event 0) later)
     list-comes (number k) e names a = let z : _≡_ {A = ℕ} 0 1 = cc in absurd (omega arith)
@@ -217,10 +217,10 @@ module _ (t : Tables) (o : Opened t) (Over : State → List ℕ → Type 0) (lis
 
 -- A record's lists, from list n on, and then the section goes on.
 module _ (t : Tables) (o : Opened t) (Over : State → List ℕ → Type 0) (w : Owner) (sec : SectionWalk) (r : ℕ) (l : List ℕ) (xs : List Line) (es : List Event) (c′ : ℕ)
-    (below : c′ < 2 ^ 128) (later : Steps t Over (state place.Section sec r c′) l xs es) where
+    (below : c′ < 2 ^ 128) (later : Steps t Over (state (t .setting) place.Section sec r c′) l xs es) where
   pub rest-fields : (fs : List Field) (n c : ℕ) → drop n (ownerFields w) ≡ fs → (ys : List Line) (gs : List Event)
       → fieldsLines t n fs ≡ value ys → fieldEvents t (r - 1) n fs ≡ value gs → c′ ≡ c + length gs
-      → Steps t Over (state (enter w n) sec r c) l (ys ++ xs) (gs ++ es)
+      → Steps t Over (state (t .setting) (enter (t .setting) w n) sec r c) l (ys ++ xs) (gs ++ es)
   unfolding fieldsLines
   rest-fields [] n c e ys gs a b d =
       let none : ys ≡ [] = cc in

@@ -22,6 +22,7 @@ use Rattle.records.specs.declared.list.ListKind.the-variants.{Ivars, Properties
 use Rattle.records.proofs.HubImage.{counted}
 use Rattle.walks.proofs.HubRun.{hub, hub-methods, slot-stored, up, row-0, row-1, hub-class-record, hub-class, hub-ro, hub-ro-of, hub-superclass}
 use Rattle.records.proofs.ListCases.{hub-two}
+use Rattle.pointers.specs.Tables.{readingNew}
 use Rattle.listing.specs.PlainListing as plain
 use Rattle.listing.specs.declared.at.Record.the-variants as aRecord
 use Rattle.listing.specs.declared.line.Line.{Line}
@@ -94,10 +95,10 @@ hub-settling = rw hub-fields (rw (hub-methods, hub-two, row-0, row-1, no-list hu
 pub hub-events : plain.plainEvents hub ≡ value (plain.event 0 0 (plain.withRow 0) ∷ plain.event 0 0 (plain.withoutRow 1 Unmapped) ∷ [])
 hub-events = rw hub-records hub-settling
 
--- I 0 0, the lines of the class, and E 1 2.
+-- I 0 0 1, the lines of the class, and E 1 2.
 abbrev pub five-lines : List Line
 five-lines =
-    line.Info (infoOf 0 0)
+    plain.infoLine (infoOf 0 0) readingNew
     ∷ class-line
     ∷ line.Ro hub-class-ro
     ∷ row-line

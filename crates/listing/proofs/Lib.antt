@@ -17,6 +17,7 @@ pub mod SectionRests
 pub mod Bounds
 pub mod RecordLines
 pub mod WholeListing
+pub mod LoanSettings
 pub mod Demand3
 pub mod EmptyLists
 pub mod LittleEndian

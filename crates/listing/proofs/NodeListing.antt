@@ -24,7 +24,7 @@ use Rattle.pointers.specs.Question.{question, imageFits, wholeRows, sectionFits
 use Rattle.pointers.specs.Section.{sectionAt}
 use Rattle.pointers.specs.Slot.{rebaseAt, bindAt, symbolOf, stored, resolve, pointerAt, pointerOr0At}
 use Rattle.pointers.specs.Symbol.{ascii}
-use Rattle.pointers.specs.Tables.{Tables, tablesOf, imageIn, withIndex}
+use Rattle.pointers.specs.Tables.{Tables, tablesOf, imageIn, withIndex, readingNew}
 use Rattle.pointers.proofs.Chains.{rebase-last-wins, bind-last-wins}
 use Rattle.records.specs.Category.{decodeCategoryLists, decodeCategoryProperties, decodeCategoryOf, decodeCategory, categoryAt, categoryClassName}
 use Rattle.records.specs.Class.{bitsOf, decodeData, decodeClass, classAt, decodeRoLists, decodeClassRo, decodeRoOf, roOf, decodeRoData, decodeClassName, decodeNonzeroClassName, decodeBoundName, decodeClassNameOf, superclassName}
@@ -177,10 +177,10 @@ two-methods = record { base = 0x1160; size = 24; count = 2; kind = Legacy }
 abbrev go-row : Row
 go-row = row.Method (methodOf (textOf 0x1C9 2) (textOf 0x1CC 1) (imp.At 0x2000) kind.Legacy)
 
--- The twelve lines: I 0 0; C, R; M, R and its row m 0 2:go 1:v 2000 0; P; K, the row once for each of its two fields, q 2 5:Walks; E 4 6.
+-- The twelve lines: I 0 0 1; C, R; M, R and its row m 0 2:go 1:v 2000 0; P; K, the row once for each of its two fields, q 2 5:Walks; E 4 6.
 abbrev pub twelve-lines : List Line
 twelve-lines =
-    line.Info (infoOf 0 0)
+    plain.infoLine (infoOf 0 0) readingNew
     ∷ plain.classLine node-class named.Nothing
     ∷ line.Ro node-ro
     ∷ plain.classLine meta-class named.Nothing
@@ -393,7 +393,7 @@ module _ (before : List ℕ) where
     node-opened = record { indexBefore = before; gave = infoOf 0 0; accepted = rw accepts; left = rw accepts }
 
     -- The steps of the listing, with any ledger that has a word, say the twelve lines and settle the six entries.
-    pub node-steps-say : (l : List ℕ) → 1 ≤ length l → Lists (node before) l twelve-lines six-events
+    pub node-steps-say : (l : List ℕ) → 1 ≤ length l → Lists readingNew (node before) l twelve-lines six-events
     node-steps-say l room =
         let one : slotCount node-sections 0 1 ≡ 1 = unfold slotCount sectionAt choose in refl in
         let other : slotCount node-sections 2 3 ≡ 1 = unfold slotCount sectionAt choose in refl in

@@ -17,9 +17,9 @@ unfoldable pub walkLeft : Walk → ℕ
 walkLeft w = 2 * (2 ^ 64 - w .slot) + choose (eqb (w .waiting) 0) 0 1
 
 abbrev pub stageWeight : SectionWalk → ℕ → ℕ
-stageWeight x zero = 2 * 2 ^ 70 + walkLeft (x .classesAt)
-stageWeight x (suc zero) = 2 ^ 70 + walkLeft (x .protocolsAt)
-stageWeight x (suc (suc n)) = walkLeft (x .categoriesAt)
+stageWeight x zero = 2 * 2 ^ 70 + walkLeft (x .classesAt .walk)
+stageWeight x (suc zero) = 2 ^ 70 + walkLeft (x .protocolsAt .walk)
+stageWeight x (suc (suc n)) = walkLeft (x .categoriesAt .walk)
 
 abbrev pub sectionWeight : SectionWalk → ℕ
 sectionWeight x = stageWeight x (x .stage)
@@ -54,9 +54,9 @@ goesOn (number k) = false
 
 -- The numbers that a state counts up fit their words.
 abbrev pub slotIn : SectionWalk → ℕ → ℕ
-slotIn x zero = x .classesAt .slot
-slotIn x (suc zero) = x .protocolsAt .slot
-slotIn x (suc (suc n)) = x .categoriesAt .slot
+slotIn x zero = x .classesAt .walk .slot
+slotIn x (suc zero) = x .protocolsAt .walk .slot
+slotIn x (suc (suc n)) = x .categoriesAt .walk .slot
 
 abbrev pub slotOf : SectionWalk → ℕ
 slotOf x = slotIn x (x .stage)

@@ -105,5 +105,5 @@ module _ (t : Tables) where
   rest-settled (saying e f r) (suc n) h = events-next _ _ n e f ∙ rw (rest-settled r n (sym (answer-next _ _ n e) ∙ h))
 
   -- What is left at the start is the whole.
-  pub rest-lists : {l : List ℕ} {xs : List Line} {es : List Event} → Rest t start l xs es → Lists t l xs es
+  pub rest-lists : {l : List ℕ} {xs : List Line} {es : List Event} → Rest t (start (t .setting)) l xs es → Lists (t .setting) t l xs es
   rest-lists r = record { most = stepCount r; answered = rest-answered r; ends = rest-ends r; saidLines = rest-said r; settledEvents = rest-settled r }

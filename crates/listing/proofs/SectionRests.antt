@@ -43,42 +43,42 @@ module _ (t : Tables) (o : Opened t) (Over : State → List ℕ → Type 0) (sec
   one-record = mod-eq-of-lt few
 
   class-said : (k : ObjcClass) (name : Named) → nameOrNone (superclassName t k) ≡ value name
-      → listingStep t (state (place.Record (aRecord.Class k)) sec r c) l ≡ leaves (value (says (classLine k name))) (state (place.Ro k) sec (r + 1) c) l
+      → listingStep t (state (t .setting) (place.Record (aRecord.Class k)) sec r c) l ≡ leaves (value (says (classLine k name))) (state (t .setting) (place.Ro k) sec (r + 1) c) l
   unfolding stepAt
   class-said k name e = rw (opened-asked t o, e, one-record)
 
   protocol-said : (p : ObjcProtocol)
-      → listingStep t (state (place.Record (aRecord.Protocol p)) sec r c) l ≡ leaves (value (says (line.Protocol p))) (state (enter (anOwner.Protocol p) 0) sec (r + 1) c) l
+      → listingStep t (state (t .setting) (place.Record (aRecord.Protocol p)) sec r c) l ≡ leaves (value (says (line.Protocol p))) (state (t .setting) (enter (t .setting) (anOwner.Protocol p) 0) sec (r + 1) c) l
   unfolding stepAt
   protocol-said p = rw (opened-asked t o, one-record)
 
   category-said : (k : ObjcCategory) (name : Named) → nameOrNone (categoryClassName t k) ≡ value name
-      → listingStep t (state (place.Record (aRecord.Category k)) sec r c) l
-      ≡ leaves (value (says (categoryLine k name))) (state (enter (anOwner.Category k) 0) sec (r + 1) c) l
+      → listingStep t (state (t .setting) (place.Record (aRecord.Category k)) sec r c) l
+      ≡ leaves (value (says (categoryLine k name))) (state (t .setting) (enter (t .setting) (anOwner.Category k) 0) sec (r + 1) c) l
   unfolding stepAt
   category-said k name e = rw (opened-asked t o, e, one-record)
 
   -- Its own lines, and then its lists, or the section goes on where it has none.
   module _ (ys : List Line) (es : List Event) (fs : List Field)
-      (lists : (w : Owner) → ownerFields w ≡ fs → Steps t Over (state (enter w 0) sec (r + 1) c) l ys es)
-      (none : fs ≡ [] → Steps t Over (state place.Section sec (r + 1) c) l ys es) where
+      (lists : (w : Owner) → ownerFields w ≡ fs → Steps t Over (state (t .setting) (enter (t .setting) w 0) sec (r + 1) c) l ys es)
+      (none : fs ≡ [] → Steps t Over (state (t .setting) place.Section sec (r + 1) c) l ys es) where
     ro-comes : (k : ObjcClass) (v : Outcome ClassRo) → roOf t k ≡ v → (ros : List Line) → ofValue v (λ ro. value (line.Ro ro ∷ [])) ≡ value ros
-        → ofValue v (λ ro. value (roFields ro)) ≡ value fs → Steps t Over (state (place.Ro k) sec (r + 1) c) l (ros ++ ys) es
+        → ofValue v (λ ro. value (roFields ro)) ≡ value fs → Steps t Over (state (t .setting) (place.Ro k) sec (r + 1) c) l (ros ++ ys) es
     unfolding stepAt eventsAt
     ro-comes k (value ro) e ros a b =
-        let said : listingStep t (state (place.Ro k) sec (r + 1) c) l ≡ leaves (value (says (line.Ro ro))) (state (enter (anOwner.Class ro) 0) sec (r + 1) c) l =
+        let said : listingStep t (state (t .setting) (place.Ro k) sec (r + 1) c) l ≡ leaves (value (says (line.Ro ro))) (state (t .setting) (enter (t .setting) (anOwner.Class ro) 0) sec (r + 1) c) l =
         rw (opened-asked t o, e) in
         let own : ros ≡ line.Ro ro ∷ [] = cc in
         let fields : roFields ro ≡ fs = cc in
         rw own (saying said refl (lists (anOwner.Class ro) fields))
     ro-comes k (absent why) e ros a b =
-        let said : listingStep t (state (place.Ro k) sec (r + 1) c) l ≡ leaves (value (lacks (absence.Record why))) (state place.Section sec (r + 1) c) l = rw (opened-asked t o, e) in
+        let said : listingStep t (state (t .setting) (place.Ro k) sec (r + 1) c) l ≡ leaves (value (lacks (absence.Record why))) (state (t .setting) place.Section sec (r + 1) c) l = rw (opened-asked t o, e) in
         let own : ros ≡ [] = cc in
         let fields : fs ≡ [] = cc in
         rw own (telling said refl (none fields))
     ro-comes k (number i) e ros a b = let z : _≡_ {A = ℕ} 0 1 = cc in absurd (omega arith)
 
-    own-comes : (x : Record) (own : List Line) → ownLines t x ≡ value own → recordFields t x ≡ value fs → Steps t Over (state (place.Record x) sec r c) l (own ++ ys) es
+    own-comes : (x : Record) (own : List Line) → ownLines t x ≡ value own → recordFields t x ≡ value fs → Steps t Over (state (t .setting) (place.Record x) sec r c) l (own ++ ys) es
     unfolding ownLines recordFields eventsAt
     own-comes (aRecord.Class k) own a b =
         let name = then-came (nameOrNone (superclassName t k)) _ own a in
@@ -96,15 +96,15 @@ module _ (t : Tables) (o : Opened t) (Over : State → List ℕ → Type 0) (sec
         rw mine (saying (category-said k (name .0) (name .1)) refl (lists (anOwner.Category k) fields))
 
   -- The whole record, with c′ entries settled after it.
-  module _ (c′ : ℕ) (below : c′ < 2 ^ 128) (xs : List Line) (es : List Event) (later : Steps t Over (state place.Section sec (r + 1) c′) l xs es) where
+  module _ (c′ : ℕ) (below : c′ < 2 ^ 128) (xs : List Line) (es : List Event) (later : Steps t Over (state (t .setting) place.Section sec (r + 1) c′) l xs es) where
     lists-come : (fs : List Field) (ys : List Line) (gs : List Event) → fieldsLines t 0 fs ≡ value ys → fieldEvents t r 0 fs ≡ value gs → c′ ≡ c + length gs
-        → (w : Owner) → ownerFields w ≡ fs → Steps t Over (state (enter w 0) sec (r + 1) c) l (ys ++ xs) (gs ++ es)
+        → (w : Owner) → ownerFields w ≡ fs → Steps t Over (state (t .setting) (enter (t .setting) w 0) sec (r + 1) c) l (ys ++ xs) (gs ++ es)
     lists-come fs ys gs a b d w e =
         let back : r + 1 - 1 ≡ r = omega arith in
         rest-fields t o Over w sec (r + 1) l xs es c′ below later fs 0 c e ys gs a (rw back b) d
 
     no-lists : (fs : List Field) (ys : List Line) (gs : List Event) → fieldsLines t 0 fs ≡ value ys → fieldEvents t r 0 fs ≡ value gs → c′ ≡ c + length gs
-        → fs ≡ [] → Steps t Over (state place.Section sec (r + 1) c) l (ys ++ xs) (gs ++ es)
+        → fs ≡ [] → Steps t Over (state (t .setting) place.Section sec (r + 1) c) l (ys ++ xs) (gs ++ es)
     unfolding fieldsLines fieldEvents
     no-lists fs ys gs a b d e =
         let lines : value [] ≡ value ys = rw e at a in
@@ -116,7 +116,7 @@ module _ (t : Tables) (o : Opened t) (Over : State → List ℕ → Type 0) (sec
         rw (none, nothing) (rw same at later)
 
     record-comes : (x : Record) (zs : List Line) (gs : List Event) → linesOf t x ≡ value zs → recordEvents t r x ≡ value gs → c′ ≡ c + length gs
-        → Steps t Over (state (place.Record x) sec r c) l (zs ++ xs) (gs ++ es)
+        → Steps t Over (state (t .setting) (place.Record x) sec r c) l (zs ++ xs) (gs ++ es)
     unfolding linesOf recordEvents
     record-comes x zs gs a b d =
         let parts = joined-parts (ownLines t x) (andThen (recordFields t x) (fieldsLines t 0)) a in
@@ -136,21 +136,21 @@ module _ {A : Type 0} (t : Tables) (step : Walk → List ℕ → sections.Left A
     (is : (w : Walk) (l : List ℕ) → good l → sectionStep t (led l) (inWalk w) ≡ sectionLeaves f inWalk (step w l .answer) (step w l .walk) (led (step w l .ledger))) where
   -- The listing's step, by the walk's.
   pub step-of : (w v : Walk) (l m : List ℕ) (a : Outcome (sections.Step A)) → good l → step w l ≡ sections.leaves a v m → (r c : ℕ)
-      → listingStep t (state place.Section (inWalk w) r c) (led l) ≡ onSection (state place.Section (inWalk w) r c) (sectionLeaves f inWalk a v (led m))
+      → listingStep t (state (t .setting) place.Section (inWalk w) r c) (led l) ≡ onSection (state (t .setting) place.Section (inWalk w) r c) (sectionLeaves f inWalk a v (led m))
   unfolding stepAt
   step-of w v l m a g e r c =
-      ap (onSection (state place.Section (inWalk w) r c))
+      ap (onSection (state (t .setting) place.Section (inWalk w) r c))
       (is w l g ∙ ap (λ (x : sections.Left A). sectionLeaves f inWalk (x .answer) (x .walk) (led (x .ledger))) e)
 
   module _ (o : Opened t) (Over : State → List ℕ → Type 0) (keeps : (w : Walk) (l : List ℕ) → good l → good (step w l .ledger))
       (xs : List Line) (es : List Event) (r′ c′ : ℕ) (few : r′ < 2 ^ 64) (below : c′ < 2 ^ 128)
-      (later : (w : Walk) (l : List ℕ) → good l → step w l ≡ sections.leaves (value finished) w l → Steps t Over (state place.Section (inWalk w) r′ c′) (led l) xs es) where
+      (later : (w : Walk) (l : List ℕ) → good l → step w l ≡ sections.leaves (value finished) w l → Steps t Over (state (t .setting) place.Section (inWalk w) r′ c′) (led l) xs es) where
     good-after : (w v : Walk) (l m : List ℕ) (a : Outcome (sections.Step A)) → good l → step w l ≡ sections.leaves a v m → good m
     good-after w v l m a g e = subst (λ (x : sections.Left A). good (x .ledger)) e (keeps w l g)
 
     pub section-comes : {n : ℕ} {w : Walk} {l : List ℕ} {rs : List A} → Gives step n w l rs → good l → (r c : ℕ) (zs : List Line) (gs : List Event)
         → gather (linesOf t) (map f rs) ≡ value zs → eventsFrom t r (map f rs) ≡ value gs → r′ ≡ r + length rs → c′ ≡ c + length gs
-        → Steps t Over (state place.Section (inWalk w) r c) (led l) (zs ++ xs) (gs ++ es)
+        → Steps t Over (state (t .setting) place.Section (inWalk w) r c) (led l) (zs ++ xs) (gs ++ es)
     unfolding gather eventsFrom eventsAt
     section-comes {w = w} {l = l} (plainSections.ended e) g r c zs gs a b d h =
         let none : zs ≡ [] = cc in

@@ -21,7 +21,7 @@ use Rattle.walks.specs.Slots.{slotCount}
 use Rattle.walks.proofs.Gathers.{gather-append, Known, there-known}
 use Rattle.walks.proofs.OpenedSections.{classes-there, categories-there, protocols-there}
 use Rattle.walks.proofs.PlainWalks.{class-run, protocol-run, category-run}
-use Rattle.listing.specs.PlainListing.{versionAndFlags, endLine, plainRecords, linesOf, Event, eventsFrom, plainEvents, plainListing}
+use Rattle.listing.specs.PlainListing.{versionAndFlags, infoLine, endLine, plainRecords, linesOf, Event, eventsFrom, plainEvents, plainListing}
 use Rattle.listing.specs.Listing.{classes, protocols, categories, State, state, start, leaves, says, ended, sectionStep, sectionLeaves, stepAt, listingStep}
 use Rattle.listing.specs.ListingRun.{eventsAt, Lists}
 use Rattle.listing.specs.declared.at.At.the-variants as place
@@ -142,45 +142,45 @@ module _ (t : Tables) (o : Opened t) where
   below = rw settled-in-all at (events-few t o _ events-in-all)
 
   abbrev info : Line
-  info = line.Info (versionAndFlags (t .info))
+  info = infoLine (versionAndFlags (t .info)) (t .setting)
 
   -- With room for the classes: the listing comes to the first step of the category walk, with a ledger as long.
   module _ (l : List ℕ) (classRoom : slotCount (t .sections) 0 1 ≤ length l) (Over : State → List ℕ → Type 0) (xs : List Line) (es : List Event)
-      (later : (m : List ℕ) → length m ≡ length l → Steps t Over (state place.Section (categories atStart) r₂ c₂) m xs es) where
+      (later : (m : List ℕ) → length m ≡ length l → Steps t Over (state (t .setting) place.Section (categories (t .setting) atStart) r₂ c₂) m xs es) where
     abbrev Kept : List ℕ → Type 0
     Kept m = length m ≡ length l
 
     -- The listing's ledger stays as it is while the protocols are walked.
     module _ (m : List ℕ) (g : Kept m) where
-      is-protocols : (w : Walk) (n : List ℕ) → n ≡ [] → sectionStep t m (protocols w)
-          ≡ sectionLeaves aRecord.Protocol protocols (protocolStepOf t w n .answer) (protocolStepOf t w n .walk) m
+      is-protocols : (w : Walk) (n : List ℕ) → n ≡ [] → sectionStep t m (protocols (t .setting) w)
+          ≡ sectionLeaves aRecord.Protocol (protocols (t .setting)) (protocolStepOf t w n .answer) (protocolStepOf t w n .walk) m
       is-protocols w n h = rw h
 
       protocols-end : (w : Walk) (n : List ℕ) → n ≡ [] → protocolStepOf t w n ≡ sections.leaves (value finished) w n
-          → Steps t Over (state place.Section (protocols w) r₂ c₂) m xs es
+          → Steps t Over (state (t .setting) place.Section (protocols (t .setting) w) r₂ c₂) m xs es
       unfolding eventsAt
       protocols-end w n h e =
-          silent (step-of t (protocolStepOf t) aRecord.Protocol protocols (λ _. m) (λ k. k ≡ []) is-protocols w w n n (value finished) h e r₂ c₂) refl (later m g)
+          silent (step-of t (protocolStepOf t) aRecord.Protocol (protocols (t .setting)) (λ _. m) (λ k. k ≡ []) is-protocols w w n n (value finished) h e r₂ c₂) refl (later m g)
 
-      protocols-come : Steps t Over (state place.Section (protocols atStart) r₁ c₁) m (ofProtocols .lines ++ xs) (ofProtocols .events ++ es)
+      protocols-come : Steps t Over (state (t .setting) place.Section (protocols (t .setting) atStart) r₁ c₁) m (ofProtocols .lines ++ xs) (ofProtocols .events ++ es)
       protocols-come =
-          section-comes t (protocolStepOf t) aRecord.Protocol protocols (λ _. m) (λ k. k ≡ []) is-protocols o Over (λ w n h. protocol-step-keeps t w n ∙ h)
+          section-comes t (protocolStepOf t) aRecord.Protocol (protocols (t .setting)) (λ _. m) (λ k. k ≡ []) is-protocols o Over (λ w n h. protocol-step-keeps t w n ∙ h)
           xs es r₂ c₂ (omega (arith, few)) (less (2 ^ 128) c₂ c₃ (omega arith) below) protocols-end
           (protocol-run t (opened-asked t o) [] (theProtocols .known) (theProtocols .is) .2) refl r₁ c₁ (ofProtocols .lines) (ofProtocols .events) (ofProtocols .ofLines) (ofProtocols .ofEvents) refl refl
 
     classes-end : (w : Walk) (m : List ℕ) → Kept m → stepOf sections.classes t w m ≡ sections.leaves (value finished) w m
-        → Steps t Over (state place.Section (classes w) r₁ c₁) m (ofProtocols .lines ++ xs) (ofProtocols .events ++ es)
+        → Steps t Over (state (t .setting) place.Section (classes (t .setting) w) r₁ c₁) m (ofProtocols .lines ++ xs) (ofProtocols .events ++ es)
     unfolding eventsAt
     classes-end w m g e =
-        silent (step-of t (stepOf sections.classes t) aRecord.Class classes (λ n. n) Kept (λ v n h. refl) w w m m (value finished) g e r₁ c₁) refl (protocols-come m g)
+        silent (step-of t (stepOf sections.classes t) aRecord.Class (classes (t .setting)) (λ n. n) Kept (λ v n h. refl) w w m m (value finished) g e r₁ c₁) refl (protocols-come m g)
 
-    pub to-categories : Steps t Over start l (info ∷ (ofClasses .lines ++ (ofProtocols .lines ++ xs))) (ofClasses .events ++ (ofProtocols .events ++ es))
+    pub to-categories : Steps t Over (start (t .setting)) l (info ∷ (ofClasses .lines ++ (ofProtocols .lines ++ xs))) (ofClasses .events ++ (ofProtocols .events ++ es))
     unfolding stepAt eventsAt
     to-categories =
         let h : c₁ ≤ c₃ = omega arith in
-        let first : listingStep t start l ≡ leaves (value (says info)) (state place.Section (classes atStart) 0 0) l = rw (opened-asked t o) in
+        let first : listingStep t (start (t .setting)) l ≡ leaves (value (says info)) (state (t .setting) place.Section (classes (t .setting) atStart) 0 0) l = rw (opened-asked t o) in
         saying first refl
-        (section-comes t (stepOf sections.classes t) aRecord.Class classes (λ n. n) Kept (λ v n g. refl) o Over (λ w n g. step-keeps-length sections.classes t w n ∙ g)
+        (section-comes t (stepOf sections.classes t) aRecord.Class (classes (t .setting)) (λ n. n) Kept (λ v n g. refl) o Over (λ w n g. step-keeps-length sections.classes t w n ∙ g)
         (ofProtocols .lines ++ xs) (ofProtocols .events ++ es) r₁ c₁ (omega (arith, few)) (less (2 ^ 128) c₁ c₃ h below) classes-end
         (class-run t (opened-asked t o) l classRoom (theClasses .known) (theClasses .is) .2) refl 0 0 (ofClasses .lines) (ofClasses .events) (ofClasses .ofLines) (ofClasses .ofEvents) (omega arith) (omega arith))
 
@@ -190,17 +190,17 @@ module _ (t : Tables) (o : Opened t) where
     end = endLine r₃ c₃
 
     categories-end : (w : Walk) (m : List ℕ) → length m ≡ length l → stepOf sections.categories t w m ≡ sections.leaves (value finished) w m
-        → Rest t (state place.Section (categories w) r₃ c₃) m (end ∷ []) []
+        → Rest t (state (t .setting) place.Section (categories (t .setting) w) r₃ c₃) m (end ∷ []) []
     unfolding stepAt eventsAt
     categories-end w m g e =
-        let stays : listingStep t (state place.End (categories w) r₃ c₃) m ≡ leaves (value ended) (state place.End (categories w) r₃ c₃) m = rw (opened-asked t o) in
-        saying (step-of t (stepOf sections.categories t) aRecord.Category categories (λ n. n) (λ n. length n ≡ length l) (λ v n h. refl) w w m m (value finished) g e r₃ c₃) refl
+        let stays : listingStep t (state (t .setting) place.End (categories (t .setting) w) r₃ c₃) m ≡ leaves (value ended) (state (t .setting) place.End (categories (t .setting) w) r₃ c₃) m = rw (opened-asked t o) in
+        saying (step-of t (stepOf sections.categories t) aRecord.Category (categories (t .setting)) (λ n. n) (λ n. length n ≡ length l) (λ v n h. refl) w w m m (value finished) g e r₃ c₃) refl
         (over stays refl)
 
     categories-come : (m : List ℕ) → length m ≡ length l
-        → Rest t (state place.Section (categories atStart) r₂ c₂) m (ofCategories .lines ++ (end ∷ [])) (ofCategories .events ++ [])
+        → Rest t (state (t .setting) place.Section (categories (t .setting) atStart) r₂ c₂) m (ofCategories .lines ++ (end ∷ [])) (ofCategories .events ++ [])
     categories-come m g =
-        section-comes t (stepOf sections.categories t) aRecord.Category categories (λ n. n) (λ n. length n ≡ length l) (λ v n h. refl) o _
+        section-comes t (stepOf sections.categories t) aRecord.Category (categories (t .setting)) (λ n. n) (λ n. length n ≡ length l) (λ v n h. refl) o _
         (λ w n h. step-keeps-length sections.categories t w n ∙ h) (end ∷ []) [] r₃ c₃ few below categories-end
         (category-run t (opened-asked t o) m (rw g categoryRoom) (theCategories .known) (theCategories .is) .2) g r₂ c₂ (ofCategories .lines) (ofCategories .events) (ofCategories .ofLines) (ofCategories .ofEvents) refl refl
 
@@ -218,15 +218,15 @@ module _ (t : Tables) (o : Opened t) where
           append-assoc (ofProtocols .lines) (ofCategories .lines) (end ∷ []),
         )
 
-    pub whole-rest : (zs : List Line) (gs : List Event) → plainListing t ≡ value zs → plainEvents t ≡ value gs → Rest t start l zs gs
+    pub whole-rest : (zs : List Line) (gs : List Event) → plainListing t ≡ value zs → plainEvents t ≡ value gs → Rest t (start (t .setting)) l zs gs
     whole-rest zs gs a b =
         let lines : zs ≡ info ∷ (ofClasses .lines ++ (ofProtocols .lines ++ (ofCategories .lines ++ (end ∷ [])))) = cc (in-all) in
         let events : gs ≡ ofClasses .events ++ (ofProtocols .events ++ ofCategories .events) = cc (events-in-all) in
         let last : ofCategories .events ++ [] ≡ ofCategories .events = append-nil (ofCategories .events) in
         rw (lines, events)
-        (subst (λ (es : List Event). Rest t start l (info ∷ (ofClasses .lines ++ (ofProtocols .lines ++ (ofCategories .lines ++ (end ∷ []))))) (ofClasses .events ++ (ofProtocols .events ++ es))) last
+        (subst (λ (es : List Event). Rest t (start (t .setting)) l (info ∷ (ofClasses .lines ++ (ofProtocols .lines ++ (ofCategories .lines ++ (end ∷ []))))) (ofClasses .events ++ (ofProtocols .events ++ es))) last
         (to-categories l classRoom _ (ofCategories .lines ++ (end ∷ [])) (ofCategories .events ++ []) categories-come))
 
     -- The whole listing, with a ledger long enough.
-    pub lists-with-room : (zs : List Line) (gs : List Event) → plainListing t ≡ value zs → plainEvents t ≡ value gs → Lists t l zs gs
+    pub lists-with-room : (zs : List Line) (gs : List Event) → plainListing t ≡ value zs → plainEvents t ≡ value gs → Lists (t .setting) t l zs gs
     lists-with-room zs gs a b = rest-lists t (whole-rest zs gs a b)

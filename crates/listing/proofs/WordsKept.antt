@@ -15,7 +15,8 @@ use Rattle.reads.proofs.Outcomes.{then-came}
 use Rattle.reads.proofs.Tests.{by-choose}
 use Rattle.pointers.specs.Question.{question, asked, guarded}
 use Rattle.pointers.specs.Section.{sectionAt}
-use Rattle.pointers.specs.Tables.{Tables, imageIn}
+use Rattle.pointers.specs.Tables.{Tables, imageIn, under}
+use Rattle.pointers.specs.declared.setting.Setting.{Setting}
 use Rattle.pointers.proofs.Rooms.{asked-tables, tables-room}
 use Rattle.records.specs.Category.{categoryClassName}
 use Rattle.records.specs.Class.{roOf, superclassName}
@@ -27,11 +28,11 @@ use Rattle.records.specs.declared.list.Layout.{Layout}
 use Rattle.records.specs.declared.row.Row.{Row}
 use Rattle.records.proofs.Headers.{list-least, least-12}
 use Rattle.walks.specs.Handed.{overList, countBy, fromCursor}
-use Rattle.walks.specs.ProtocolNames.{protocolListAt, slotIn, nameIn, ReachedName, nameReached, namePassed, namesFinished, NameLeft, named, stepIn, overNames, nextName}
+use Rattle.walks.specs.ProtocolNames.{protocolListAt, slotIn, nameIn, ReachedName, nameReached, namePassed, namesFinished, NameLeft, named, stepIn, overNames, nextNameUnder, nextName}
 use Rattle.walks.specs.Sections as sections
 use Rattle.walks.specs.Sections.{Walk, Step, found, passed, dropped, finished, Kind, stepBy, stepOf, protocolStepOf}
 use Rattle.walks.specs.Slots.{slotsOf, askedSlot, askedLedger}
-use Rattle.walks.specs.Walk.{ReachedRow, rowReached, rowSkipped, rowsFinished, RowLeft, settles, searched, overRows, nextOf}
+use Rattle.walks.specs.Walk.{ReachedRow, rowReached, rowSkipped, rowsFinished, RowLeft, settles, searched, overRows, nextUnder, nextOf}
 use Rattle.walks.specs.declared.list_walk.ListWalk.{ListWalk}
 use Rattle.walks.specs.declared.protocol_names.ProtocolList.{ProtocolList}
 use Rattle.walks.specs.declared.protocol_names.ProtocolNameWalk.{ProtocolNameWalk}
@@ -43,7 +44,7 @@ use Rattle.walks.proofs.SlotLaws.{pair-length, section-length, slot-room, Answe
 use Rattle.walks.proofs.Steps.{found-fits}
 use Rattle.listing.specs.PlainListing.{Field, rowList, nameList, nameOrNone}
 use Rattle.listing.specs.Listing as steps
-use Rattle.listing.specs.Listing.{ownerFields, atFirst, enter, SectionWalk, walks, State, onward, asRecord, sectionStep, afterSection, bySection, onSection, recordStep, byRo, byRow, byName, listStep, stepAt, listingStep}
+use Rattle.listing.specs.Listing.{Begun, begun, ownerFields, atFirst, enter, SectionWalk, walks, State, onward, asRecord, sectionStep, afterSection, bySection, onSection, recordStep, byRo, byRow, byName, listStep, stepAt, listingStep}
 use Rattle.listing.specs.declared.at.At.{At}
 use Rattle.listing.specs.declared.at.At.the-variants as place
 use Rattle.listing.specs.declared.at.FieldWalk.{FieldWalk}
@@ -142,12 +143,15 @@ module _ (t : Tables) (w : ListWalk) where
   list-low (absent r) e = record { low = tt }
   list-low (number k) e = record { low = tt }
 
-  rows-low : RowsLow (nextOf t w)
-  unfolding nextOf overRows fromCursor
-  rows-low =
+  under-rows-low : RowsLow (nextUnder t w)
+  unfolding nextUnder overRows fromCursor
+  under-rows-low =
       by-asked RowsLow w (λ n. record { low = tt }) (asked t)
       (by-asked RowsLow w (λ n. record { low = tt }) (question 10 (leb (w .cursor) (countBy (λ (h : Layout). h .count) (listAt t (w .kind) (w .list)))))
       (list-low (listAt t (w .kind) (w .list)) refl))
+
+rows-low : (t : Tables) (w : ListWalk) → RowsLow (nextOf t w)
+rows-low t w = under-rows-low (under (w .setting) t) w
 
 -- A protocol slot that is taken has an address of 64 bits.
 abbrev NameLow : Outcome ReachedName → ℕ → Type 0
@@ -171,20 +175,23 @@ module _ (t : Tables) (w : ProtocolNameWalk) where
   name-slot-low l =
       by-choose NamesLow (λ e. named-low (omega (arith, slot-below l (w .cursor) e .1)) (nameIn t (slotIn l (w .cursor)))) (λ e. record { low = tt })
 
-  names-low : NamesLow (nextName t w)
-  unfolding nextName overNames
-  names-low =
+  under-names-low : NamesLow (nextNameUnder t w)
+  unfolding nextNameUnder overNames
+  under-names-low =
       by-asked NamesLow w (λ n. record { low = tt }) (asked t)
       (by-cursor NamesLow w (λ n. record { low = tt }) (w .cursor) (λ (l : ProtocolList). l .count) (stepIn t w) name-slot-low (λ r. record { low = tt })
       (protocolListAt t (w .list)))
 
-first-low : (o : Owner) (n : ℕ) (fs : List Field) → cursorOf (atFirst o n fs) < 2 ^ 64
-first-low o n [] = omega arith
-first-low o n (rowList k va ∷ fs) = omega arith
-first-low o n (nameList va ∷ fs) = omega arith
+names-low : (t : Tables) (w : ProtocolNameWalk) → NamesLow (nextName t w)
+names-low t w = under-names-low (under (w .setting) t) w
 
-enter-low : (o : Owner) (n : ℕ) → cursorOf (enter o n) < 2 ^ 64
-enter-low o n = first-low o n (drop n (ownerFields o))
+first-low : (u : Setting) (o : Owner) (n : ℕ) (fs : List Field) → cursorOf (atFirst u o n fs) < 2 ^ 64
+first-low u o n [] = omega arith
+first-low u o n (rowList k va ∷ fs) = omega arith
+first-low u o n (nameList va ∷ fs) = omega arith
+
+enter-low : (u : Setting) (o : Owner) (n : ℕ) → cursorOf (enter u o n) < 2 ^ 64
+enter-low u o n = first-low u o n (drop n (ownerFields o))
 
 -- What a step owes.
 record Keeps (x : steps.Left) : Type 0 where
@@ -194,7 +201,7 @@ module _ (s : State) (l : List ℕ) (h : InWords s) where
   refuses : (k : ℕ) → Keeps (steps.leaves (number k) s l)
   refuses k = record { keeps = never }
 
-  in-section : (at : At) (r c : ℕ) → cursorOf at < 2 ^ 64 → InWords (steps.state at (s .section) r c)
+  in-section : (at : At) (r c : ℕ) → cursorOf at < 2 ^ 64 → InWords (steps.state (s .setting) at (s .section) r c)
   in-section at r c g = record { slot = h .slot; cursor = g }
 
   onward-keeps : {A : Type 0} (o : Outcome A) (go : A → steps.Left) → ((a : A) → Keeps (go a)) → Keeps (onward s l o go)
@@ -205,12 +212,12 @@ module _ (s : State) (l : List ℕ) (h : InWords s) where
   record-keeps : (t : Tables) (x : Record) → Keeps (recordStep t s l x)
   record-keeps t (aRecord.Class c) =
       onward-keeps (nameOrNone (guarded t (superclassName t c))) _ (λ name. record { keeps = λ e. in-section _ _ _ (omega arith) })
-  record-keeps t (aRecord.Protocol p) = onward-keeps (asked t) _ (λ u. record { keeps = λ e. in-section _ _ _ (enter-low (anOwner.Protocol p) 0) })
+  record-keeps t (aRecord.Protocol p) = onward-keeps (asked t) _ (λ u. record { keeps = λ e. in-section _ _ _ (enter-low (s .setting) (anOwner.Protocol p) 0) })
   record-keeps t (aRecord.Category c) =
-      onward-keeps (nameOrNone (guarded t (categoryClassName t c))) _ (λ name. record { keeps = λ e. in-section _ _ _ (enter-low (anOwner.Category c) 0) })
+      onward-keeps (nameOrNone (guarded t (categoryClassName t c))) _ (λ name. record { keeps = λ e. in-section _ _ _ (enter-low (s .setting) (anOwner.Category c) 0) })
 
   ro-keeps : (o : Outcome ClassRo) → Keeps (byRo s l o)
-  ro-keeps (value r) = record { keeps = λ e. in-section _ _ _ (enter-low (anOwner.Class r) 0) }
+  ro-keeps (value r) = record { keeps = λ e. in-section _ _ _ (enter-low (s .setting) (anOwner.Class r) 0) }
   ro-keeps (absent r) = record { keeps = λ e. in-section _ _ _ (omega arith) }
   ro-keeps (number k) = refuses k
 
@@ -218,15 +225,15 @@ module _ (s : State) (l : List ℕ) (h : InWords s) where
     row-keeps : (v : ListWalk) (x : Outcome ReachedRow) → RowLow x (v .cursor) → Keeps (byRow s l o n v x)
     row-keeps v (value (rowReached r)) m = record { keeps = λ e. in-section _ _ _ m }
     row-keeps v (value (rowSkipped j r)) m = record { keeps = λ e. in-section _ _ _ m }
-    row-keeps v (value rowsFinished) m = record { keeps = λ e. in-section _ _ _ (enter-low o (suc n)) }
-    row-keeps v (absent r) m = record { keeps = λ e. in-section _ _ _ (enter-low o (suc n)) }
+    row-keeps v (value rowsFinished) m = record { keeps = λ e. in-section _ _ _ (enter-low (s .setting) o (suc n)) }
+    row-keeps v (absent r) m = record { keeps = λ e. in-section _ _ _ (enter-low (s .setting) o (suc n)) }
     row-keeps v (number k) m = refuses k
 
     name-keeps : (i : ℕ) (v : ProtocolNameWalk) (x : Outcome ReachedName) → NameLow x (v .cursor) → Keeps (byName s l o n i v x)
     name-keeps i v (value (nameReached name)) m = record { keeps = λ e. in-section _ _ _ m }
     name-keeps i v (value (namePassed r)) m = record { keeps = λ e. in-section _ _ _ m }
-    name-keeps i v (value namesFinished) m = record { keeps = λ e. in-section _ _ _ (enter-low o (suc n)) }
-    name-keeps i v (absent r) m = record { keeps = λ e. in-section _ _ _ (enter-low o (suc n)) }
+    name-keeps i v (value namesFinished) m = record { keeps = λ e. in-section _ _ _ (enter-low (s .setting) o (suc n)) }
+    name-keeps i v (absent r) m = record { keeps = λ e. in-section _ _ _ (enter-low (s .setting) o (suc n)) }
     name-keeps i v (number k) m = refuses k
 
     list-keeps : (t : Tables) (x : FieldWalk) → Keeps (listStep t s l o n x)
@@ -237,7 +244,7 @@ module _ (s : State) (l : List ℕ) (h : InWords s) where
   after-keeps : (m : List ℕ) (x : SectionWalk) → slotOf x < 2 ^ 64 → Keeps (afterSection s m x)
   after-keeps m x = go (x .stage) (x .classesAt) (x .protocolsAt) (x .categoriesAt)
     where
-      go : (n : ℕ) (c p k : Walk) → slotOf (walks n c p k) < 2 ^ 64 → Keeps (afterSection s m (walks n c p k))
+      go : (n : ℕ) (c p k : Begun) → slotOf (walks n c p k) < 2 ^ 64 → Keeps (afterSection s m (walks n c p k))
       go zero c p k low = record { keeps = λ e. record { slot = omega arith; cursor = omega arith } }
       go (suc zero) c p k low = record { keeps = λ e. record { slot = omega arith; cursor = omega arith } }
       go (suc (suc n)) c p k low = record { keeps = λ e. record { slot = low; cursor = omega arith } }
@@ -254,26 +261,26 @@ module _ (s : State) (l : List ℕ) (h : InWords s) where
   walk-keeps : (t : Tables) (x : SectionWalk) → s .section ≡ x → Keeps (onSection s (sectionStep t l x))
   walk-keeps t x = go (x .stage) (x .classesAt) (x .protocolsAt) (x .categoriesAt)
     where
-      go : (n : ℕ) (c p k : Walk) → s .section ≡ walks n c p k → Keeps (onSection s (sectionStep t l (walks n c p k)))
+      go : (n : ℕ) (c p k : Begun) → s .section ≡ walks n c p k → Keeps (onSection s (sectionStep t l (walks n c p k)))
       go zero c p k e =
-          let low : c .slot < 2 ^ 64 = rw e at (h .slot) in
-          let x = stepOf sections.classes t c l in
-          section-keeps aRecord.Class (x .ledger) (walks 0 (x .walk) p k) (step-low sections.classes t c l low) (x .answer)
+          let low : c .walk .slot < 2 ^ 64 = rw e at (h .slot) in
+          let x = stepOf sections.classes (under (c .setting) t) (c .walk) l in
+          section-keeps aRecord.Class (x .ledger) (walks 0 (begun (c .setting) (x .walk)) p k) (step-low sections.classes (under (c .setting) t) (c .walk) l low) (x .answer)
       go (suc zero) c p k e =
-          let low : p .slot < 2 ^ 64 = rw e at (h .slot) in
-          let x = protocolStepOf t p [] in
-          section-keeps aRecord.Protocol l (walks 1 c (x .walk) k) (protocol-low t p [] low) (x .answer)
+          let low : p .walk .slot < 2 ^ 64 = rw e at (h .slot) in
+          let x = protocolStepOf (under (p .setting) t) (p .walk) [] in
+          section-keeps aRecord.Protocol l (walks 1 c (begun (p .setting) (x .walk)) k) (protocol-low (under (p .setting) t) (p .walk) [] low) (x .answer)
       go (suc (suc n)) c p k e =
-          let low : k .slot < 2 ^ 64 = rw e at (h .slot) in
-          let x = stepOf sections.categories t k l in
-          section-keeps aRecord.Category (x .ledger) (walks (suc (suc n)) c p (x .walk)) (step-low sections.categories t k l low) (x .answer)
+          let low : k .walk .slot < 2 ^ 64 = rw e at (h .slot) in
+          let x = stepOf sections.categories (under (k .setting) t) (k .walk) l in
+          section-keeps aRecord.Category (x .ledger) (walks (suc (suc n)) c p (begun (k .setting) (x .walk))) (step-low sections.categories (under (k .setting) t) (k .walk) l low) (x .answer)
 
   at-keeps : (t : Tables) (a : At) → Keeps (stepAt t s l a)
   unfolding stepAt
   at-keeps t place.Info = onward-keeps (asked t) _ (λ u. record { keeps = λ e. in-section _ _ _ (omega arith) })
   at-keeps t place.Section = walk-keeps t (s .section) refl
-  at-keeps t (place.Record x) = record-keeps t x
-  at-keeps t (place.Ro c) = ro-keeps (guarded t (roOf t c))
+  at-keeps t (place.Record x) = record-keeps (under (s .setting) t) x
+  at-keeps t (place.Ro c) = ro-keeps (guarded t (roOf (under (s .setting) t) c))
   at-keeps t (place.List n x) = list-keeps (x .owner) n t (x .walk)
   at-keeps t place.End = onward-keeps (asked t) _ (λ u. record { keeps = never })
 

@@ -3,7 +3,10 @@ use Prim.Native.Nat.{ℕ, _+_, _*_, _^_}
 use mathlib.Core.List.{List}
 use Rattle.reads.specs.Outcome.{Outcome, value, number}
 use Rattle.walks.specs.Sections.{Step, found, passed, dropped, finished, classWalk, categoryWalk, protocolWalk}
-use Rattle.listing.specs.Listing.{SectionWalk, walks, SectionLeft, State, state, Answer, says, lacks, nothing, ended, Left, leaves}
+use Rattle.listing.specs.Listing.{Begun, begun, SectionWalk, walks, SectionLeft, State, state, Answer, says, lacks, nothing, ended, Left, leaves}
+use Rattle.walks.specs.declared.sections.CategoryWalk.{CategoryWalk}
+use Rattle.walks.specs.declared.sections.ClassWalk.{ClassWalk}
+use Rattle.walks.specs.declared.sections.ProtocolWalk.{ProtocolWalk}
 use Rattle.listing.specs.declared.at.Record.{Record}
 use Rattle.listing.specs.declared.line.Named.{Named}
 use Rattle.listing.specs.declared.listing.Listed.{Listed}
@@ -17,8 +20,18 @@ use Rattle.listing.specs.declared.section.SectionStepped.{SectionStepped
 use Rattle.listing.specs.declared.section.Taken.{Taken}
 use Rattle.listing.specs.declared.section.Taken.the-variants as taken
 
+-- Each walk of a section.
+abbrev pub classBegun : ClassWalk → Begun
+classBegun w = begun (w .setting) (classWalk w)
+
+abbrev pub protocolBegun : ProtocolWalk → Begun
+protocolBegun w = begun (w .setting) (protocolWalk w)
+
+abbrev pub categoryBegun : CategoryWalk → Begun
+categoryBegun w = begun (w .setting) (categoryWalk w)
+
 abbrev pub sectionWalkOf : Section → SectionWalk
-sectionWalkOf s = walks (s .stage) (classWalk (s .classes)) (protocolWalk (s .protocols)) (categoryWalk (s .categories))
+sectionWalkOf s = walks (s .stage) (classBegun (s .classes)) (protocolBegun (s .protocols)) (categoryBegun (s .categories))
 
 abbrev pub takenOf : Taken → Outcome (Step Record)
 takenOf (taken.Record x) = value (found x)
@@ -37,7 +50,7 @@ nameAnswered (name.Refused k) = number k
 
 -- The entries settled are a number of two words.
 abbrev pub stateOf : Listing → State
-stateOf s = state (s .at) (sectionWalkOf (s .section)) (s .records) (s .«settled_high» * 2 ^ 64 + s .«settled_low»)
+stateOf s = state (s .setting) (s .at) (sectionWalkOf (s .section)) (s .records) (s .«settled_high» * 2 ^ 64 + s .«settled_low»)
 
 abbrev pub saidOf : Said → Outcome Answer
 saidOf (said.Line x) = value (says x)

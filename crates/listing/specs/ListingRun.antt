@@ -7,7 +7,8 @@ use lib.ListN.{length}
 use Rattle.reads.specs.Segment.{segmentWords}
 use Rattle.reads.specs.Table.{records}
 use Rattle.reads.specs.Outcome.{Outcome, value, number, andThen}
-use Rattle.pointers.specs.Tables.{Tables}
+use Rattle.pointers.specs.Tables.{Tables, under}
+use Rattle.pointers.specs.declared.setting.Setting.{Setting}
 use Rattle.walks.specs.Gather.{joined, ofValue}
 use Rattle.walks.specs.Walk.{ReachedRow, rowReached, rowSkipped, rowsFinished, RowLeft, nextOf}
 use Rattle.listing.specs.PlainListing.{endLine, withRow, withoutRow, Event, event, plainRecords, plainEvents, plainListing, recordLineCount}
@@ -76,33 +77,33 @@ eventsBy t zero s l = value []
 eventsBy t (suc n) s l =
     joined (settledAt t s (listingStep t s l .answer)) (eventsBy t n (listingStep t s l .state) (listingStep t s l .ledger))
 
--- No step of the listing gives a number.
-abbrev pub GivesNoNumber : Tables → List ℕ → Type 0
-GivesNoNumber t l = (n k : ℕ) → answerAt t n start l ≡ number k → ⊥
+-- No step of a listing that began under a setting gives a number.
+abbrev pub GivesNoNumber : Setting → Tables → List ℕ → Type 0
+GivesNoNumber u t l = (n k : ℕ) → answerAt t n (start u) l ≡ number k → ⊥
 
 -- A step that no question refuses.
 pub data Answered : Outcome Answer → Type 0 where
   is-said : (x : Answer) → Answered (value x)
 
--- From the start, with a ledger: no step refuses; from some step on each says that the listing has ended; and where one says so, the steps
+-- From the start under a setting, with a ledger: no step refuses; from some step on each says that the listing has ended; and where one says so, the steps
 -- before it have said exactly these lines and settled exactly these entries.
-pub record Lists (t : Tables) (l : List ℕ) (lines : List Line) (events : List Event) : Type 0 where
+pub record Lists (u : Setting) (t : Tables) (l : List ℕ) (lines : List Line) (events : List Event) : Type 0 where
   pub most : ℕ
-  pub answered : (n : ℕ) → Answered (answerAt t n start l)
-  pub ends : (n : ℕ) → most ≤ n → answerAt t n start l ≡ value ended
-  pub saidLines : (n : ℕ) → answerAt t n start l ≡ value ended → linesBy t n start l ≡ value lines
-  pub settledEvents : (n : ℕ) → answerAt t n start l ≡ value ended → eventsBy t n start l ≡ value events
+  pub answered : (n : ℕ) → Answered (answerAt t n (start u) l)
+  pub ends : (n : ℕ) → most ≤ n → answerAt t n (start u) l ≡ value ended
+  pub saidLines : (n : ℕ) → answerAt t n (start u) l ≡ value ended → linesBy t n (start u) l ≡ value lines
+  pub settledEvents : (n : ℕ) → answerAt t n (start u) l ≡ value ended → eventsBy t n (start u) l ≡ value events
 
--- Demand 3 of the listing, with a ledger: the plain definitions give records, lines and events, no number; the steps say the lines of the
+-- Demand 3 of a listing that began under a setting, with a ledger: under that setting the plain definitions give records, lines and events, no number; the steps say the lines of the
 -- plain listing, their settling steps are one for one its events, the last line is E with R and the number of settling steps, R the records, as
 -- many as there are record lines; and that number is at most 6 x R x S x floor(n / 12), S the segments and n the image's length.
-pub record ListsWhole (t : Tables) (l : List ℕ) : Type 0 where
+pub record ListsWhole (u : Setting) (t : Tables) (l : List ℕ) : Type 0 where
   pub recordsListed : List Record
   pub linesBefore : List Line
   pub events : List Event
-  pub plainRecorded : plainRecords t ≡ value recordsListed
-  pub plainLines : plainListing t ≡ value (linesBefore ++ (endLine (length recordsListed) (length events) ∷ []))
-  pub plainSettling : plainEvents t ≡ value events
-  pub steps : Lists t l (linesBefore ++ (endLine (length recordsListed) (length events) ∷ [])) events
+  pub plainRecorded : plainRecords (under u t) ≡ value recordsListed
+  pub plainLines : plainListing (under u t) ≡ value (linesBefore ++ (endLine (length recordsListed) (length events) ∷ []))
+  pub plainSettling : plainEvents (under u t) ≡ value events
+  pub steps : Lists u t l (linesBefore ++ (endLine (length recordsListed) (length events) ∷ [])) events
   pub recordLines : recordLineCount linesBefore ≡ length recordsListed
   pub bound : length events ≤ 6 * (length recordsListed * (records segmentWords (t .segments) * (length (t .image) / 12)))

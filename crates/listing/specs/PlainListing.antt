@@ -12,6 +12,7 @@ use Rattle.reads.specs.declared.answer.Reason.{Reason}
 use Rattle.pointers.specs.ImageInfo.{infoOf}
 use Rattle.pointers.specs.Tables.{Tables, imageIn}
 use Rattle.pointers.specs.declared.imageinfo.ImageInfo.{ImageInfo}
+use Rattle.pointers.specs.declared.setting.Setting.{Setting}
 use Rattle.records.specs.Category.{categoryClassName}
 use Rattle.records.specs.Class.{roOf, superclassName}
 use Rattle.records.specs.List.{listAt, entryAddress}
@@ -38,6 +39,10 @@ use Rattle.listing.specs.declared.line.Named.the-variants as named
 -- I: version and flags. Question 4 has found 8 bytes there.
 abbrev pub versionAndFlags : List ℕ → ImageInfo
 versionAndFlags info = infoOf (wordIn info 4 (placeAt 0) 0) (wordIn info 4 (placeAt 0) 4)
+
+-- And 0 or 1 for the reading, which the setting holds (document 02, note 12).
+abbrev pub infoLine : ImageInfo → Setting → Line
+infoLine i u = line.Info (record { info = i; reading = u .reading })
 
 -- A name, or none; a number stays.
 abbrev pub nameOrNone : Outcome Text → Outcome Named
@@ -191,7 +196,7 @@ plainListing t =
     andThen (gather (linesOf t) records) (λ lines.
     andThen (eventsFrom t 0 records) (λ events.
     value
-    (line.Info (versionAndFlags (t .info))
+    (infoLine (versionAndFlags (t .info)) (t .setting)
     ∷ (lines ++ (endLine (length records) (length events) ∷ []))))))
 
 -- The record lines among lines: C, M, P and K.

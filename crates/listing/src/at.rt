@@ -4,6 +4,7 @@ use records::class::ClassRo;
 use records::class::ObjcClass;
 use records::list::ListKind;
 use records::protocol::ObjcProtocol;
+use pointers::setting::Setting;
 use walks::list_walk::ListWalk;
 use walks::protocol_names::ProtocolNameWalk;
 ghost use mathlib.Core.Path.{_≡_};
@@ -51,83 +52,85 @@ pub enum At {
 }
 
 impl Owner {
-    // The start of list n, a list of rows.
-    fn row_list(self, n: u16, kind: ListKind, list: u64) -> At
-        ensures { λ r. ⌜ r ≡ atField self n (rowList kind list) ⌝ }
+    // The start of list n, a list of rows, under a setting.
+    fn row_list(self, setting: Setting, n: u16, kind: ListKind, list: u64) -> At
+        ensures { λ r. ⌜ r ≡ atField setting self n (rowList kind list) ⌝ }
     {
+        let reading = setting.reading;
         At::List(
             n,
             ListAt {
-                walk: FieldWalk::Rows(ListWalk::new(list, kind)),
+                walk: FieldWalk::Rows(ListWalk::under(reading, list, kind)),
                 owner: self,
             },
         )
     }
 
     // The start of list n, a list of protocol names.
-    fn name_list(self, n: u16, list: u64) -> At
-        ensures { λ r. ⌜ r ≡ atField self n (nameList list) ⌝ }
+    fn name_list(self, setting: Setting, n: u16, list: u64) -> At
+        ensures { λ r. ⌜ r ≡ atField setting self n (nameList list) ⌝ }
     {
+        let reading = setting.reading;
         At::List(
             n,
             ListAt {
-                walk: FieldWalk::Names(ProtocolNameWalk::new(list)),
+                walk: FieldWalk::Names(ProtocolNameWalk::under(reading, list)),
                 owner: self,
             },
         )
     }
 
     // List n of a class: methods, ivars, properties, protocols.
-    fn class_list(self, ro: ClassRo, n: u16) -> At
-        ensures { λ r. ⌜ r ≡ atFirst self n (drop n (roFields ro)) ⌝ }
+    fn class_list(self, setting: Setting, ro: ClassRo, n: u16) -> At
+        ensures { λ r. ⌜ r ≡ atFirst setting self n (drop n (roFields ro)) ⌝ }
     {
         match n {
-            0 => self.row_list(n, ListKind::Methods, ro.methods),
-            1 => self.row_list(n, ListKind::Ivars, ro.ivars),
-            2 => self.row_list(n, ListKind::Properties, ro.properties),
-            3 => self.name_list(n, ro.protocols),
+            0 => self.row_list(setting, n, ListKind::Methods, ro.methods),
+            1 => self.row_list(setting, n, ListKind::Ivars, ro.ivars),
+            2 => self.row_list(setting, n, ListKind::Properties, ro.properties),
+            3 => self.name_list(setting, n, ro.protocols),
             _ => At::Section,
         }
     }
 
     // List n of a protocol: as stored, with class properties sixth and protocols last.
-    fn protocol_list(self, protocol: ObjcProtocol, n: u16) -> At
-        ensures { λ r. ⌜ r ≡ atFirst self n (drop n (protocolFields protocol)) ⌝ }
+    fn protocol_list(self, setting: Setting, protocol: ObjcProtocol, n: u16) -> At
+        ensures { λ r. ⌜ r ≡ atFirst setting self n (drop n (protocolFields protocol)) ⌝ }
     {
         match n {
-            0 => self.row_list(n, ListKind::Methods, protocol.instance_methods),
-            1 => self.row_list(n, ListKind::Methods, protocol.class_methods),
-            2 => self.row_list(n, ListKind::Methods, protocol.optional_instance_methods),
-            3 => self.row_list(n, ListKind::Methods, protocol.optional_class_methods),
-            4 => self.row_list(n, ListKind::Properties, protocol.instance_properties),
-            5 => self.row_list(n, ListKind::Properties, protocol.class_properties),
-            6 => self.name_list(n, protocol.protocols),
+            0 => self.row_list(setting, n, ListKind::Methods, protocol.instance_methods),
+            1 => self.row_list(setting, n, ListKind::Methods, protocol.class_methods),
+            2 => self.row_list(setting, n, ListKind::Methods, protocol.optional_instance_methods),
+            3 => self.row_list(setting, n, ListKind::Methods, protocol.optional_class_methods),
+            4 => self.row_list(setting, n, ListKind::Properties, protocol.instance_properties),
+            5 => self.row_list(setting, n, ListKind::Properties, protocol.class_properties),
+            6 => self.name_list(setting, n, protocol.protocols),
             _ => At::Section,
         }
     }
 
     // List n of a category: methods, class methods, protocols, properties, class properties.
-    fn category_list(self, category: ObjcCategory, n: u16) -> At
-        ensures { λ r. ⌜ r ≡ atFirst self n (drop n (categoryFields category)) ⌝ }
+    fn category_list(self, setting: Setting, category: ObjcCategory, n: u16) -> At
+        ensures { λ r. ⌜ r ≡ atFirst setting self n (drop n (categoryFields category)) ⌝ }
     {
         match n {
-            0 => self.row_list(n, ListKind::Methods, category.instance_methods),
-            1 => self.row_list(n, ListKind::Methods, category.class_methods),
-            2 => self.name_list(n, category.protocols),
-            3 => self.row_list(n, ListKind::Properties, category.instance_properties),
-            4 => self.row_list(n, ListKind::Properties, category.class_properties),
+            0 => self.row_list(setting, n, ListKind::Methods, category.instance_methods),
+            1 => self.row_list(setting, n, ListKind::Methods, category.class_methods),
+            2 => self.name_list(setting, n, category.protocols),
+            3 => self.row_list(setting, n, ListKind::Properties, category.instance_properties),
+            4 => self.row_list(setting, n, ListKind::Properties, category.class_properties),
             _ => At::Section,
         }
     }
 
     // The start of list n; the section goes on where the record has no such list.
-    pub(crate) fn enter(self, n: u16) -> At
-        ensures { λ r. ⌜ r ≡ enter self n ⌝ }
+    pub(crate) fn enter(self, setting: Setting, n: u16) -> At
+        ensures { λ r. ⌜ r ≡ enter setting self n ⌝ }
     {
         match self {
-            Owner::Class(ro) => self.class_list(ro, n),
-            Owner::Protocol(protocol) => self.protocol_list(protocol, n),
-            Owner::Category(category) => self.category_list(category, n),
+            Owner::Class(ro) => self.class_list(setting, ro, n),
+            Owner::Protocol(protocol) => self.protocol_list(setting, protocol, n),
+            Owner::Category(category) => self.category_list(setting, category, n),
         }
     }
 
@@ -135,11 +138,11 @@ impl Owner {
     const MOST_LISTS: u16 = 7;
 
     // The start of the list after list n.
-    pub(crate) fn enter_after(self, n: u16) -> At
-        ensures { λ r. ⌜ r ≡ enter self (suc n) ⌝ }
+    pub(crate) fn enter_after(self, setting: Setting, n: u16) -> At
+        ensures { λ r. ⌜ r ≡ enter setting self (suc n) ⌝ }
     {
         if n < Owner::MOST_LISTS {
-            return self.enter(n + 1);
+            return self.enter(setting, n + 1);
         }
         At::Section
     }

@@ -1,5 +1,6 @@
 // The lines of a listing (document 01, "The program's listing"): each line's fields, which a program only prints.
 use pointers::imageinfo::ImageInfo;
+use reads::text::Reading;
 use reads::text::Text;
 use records::category::ObjcCategory;
 use records::class::ClassRo;
@@ -11,6 +12,12 @@ use records::row::Row;
 pub enum Named {
     Text(Text),
     Nothing,
+}
+
+// I: the image info, and the reading of the listing.
+pub struct InfoLine {
+    pub info: ImageInfo,
+    pub reading: Reading,
 }
 
 // C or M, by `class.is_meta`: a class or metaclass, and its superclass's name.
@@ -45,7 +52,7 @@ pub struct EndLine {
 }
 
 pub enum Line {
-    Info(ImageInfo),
+    Info(InfoLine),
     Class(ClassLine),
     Ro(ClassRo),
     Protocol(ObjcProtocol),

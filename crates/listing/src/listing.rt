@@ -11,6 +11,7 @@ use crate::at::Record;
 use crate::line::CategoryLine;
 use crate::line::ClassLine;
 use crate::line::EndLine;
+use crate::line::InfoLine;
 use crate::line::Line;
 use crate::line::NameLine;
 use crate::line::Named;
@@ -21,9 +22,11 @@ use crate::section::Taken;
 use pointers::imageinfo::ImageInfo;
 use pointers::question::Asked;
 use pointers::question::ask;
+use pointers::setting::Setting;
 use reads::answer::Missing;
 use reads::place::Place;
 use reads::place::u32_in;
+use reads::text::Reading;
 use reads::text::TextAnswer;
 use records::category::ObjcCategory;
 use records::class::ClassRoAnswer;
@@ -41,7 +44,7 @@ ghost use Rattle.reads.specs.Answer.{textOutcome};
 ghost use Rattle.reads.specs.Outcome.{value, number};
 ghost use Rattle.reads.specs.Reference.{before, after};
 ghost use Rattle.pointers.specs.Question.{asked};
-ghost use Rattle.pointers.specs.Tables.{lent};
+ghost use Rattle.pointers.specs.Tables.{lent, under, readingNew, readingUnder};
 ghost use Rattle.records.specs.Class.{classRoOutcome};
 ghost use Rattle.walks.specs.ProtocolNames.{nameLeft};
 ghost use Rattle.walks.specs.Walk.{rowLeft};
@@ -50,8 +53,9 @@ ghost use Rattle.listing.specs.declared.at.At.the-variants as place;
 ghost use Rattle.listing.specs.Listing.{enter, start, goTo, inSection, withRecord, withEntry, carried, says, lacks, nothing, leaves, onward, afterSection, onSection, recordSaid, classSaid, categorySaid, recordStep, byRo, afterRow, afterName, listStep, stepAt, listingStep};
 ghost use Rattle.listing.specs.ListingAnswer.{sectionWalkOf, sectionLeftOf, nameAnswered, stateOf, leftOf};
 
-// Where the listing stands; the records so far; the entries settled so far, high x 2^64 + low.
+// The setting that the listing began with; where it stands; the records so far; the entries settled so far, high x 2^64 + low.
 pub struct Listing {
+    setting: Setting,
     at: At,
     section: Section,
     records: u64,
@@ -113,13 +117,22 @@ fn carried(high: u64, low: u64) -> u64
 }
 
 impl Listing {
-    // The listing before its first line.
+    // The listing before its first line, under the new reading.
     pub fn new() -> Listing
-        ensures { λ r. ⌜ stateOf r ≡ start ⌝ }
+        ensures { λ r. ⌜ stateOf r ≡ start readingNew ⌝ }
     {
+        Listing::under(Reading::New)
+    }
+
+    // The same under either reading.
+    pub fn under(reading: Reading) -> Listing
+        ensures { λ r. ⌜ stateOf r ≡ start (readingUnder reading) ⌝ }
+    {
+        let setting = Setting::under(reading);
         Listing {
+            setting,
             at: At::Info,
-            section: Section::at_stage(Section::CLASSES),
+            section: Section::at_stage(setting, Section::CLASSES),
             records: 0,
             settled_high: 0,
             settled_low: 0,
@@ -131,7 +144,9 @@ impl Listing {
         ensures { λ r. ⌜ stateOf r ≡ goTo (stateOf self) at ⌝ }
     {
         let section = self.section;
+        let setting = self.setting;
         Listing {
+            setting,
             at,
             section,
             records: self.records,
@@ -144,7 +159,9 @@ impl Listing {
     fn in_section(self, at: At, section: Section) -> Listing
         ensures { λ r. ⌜ stateOf r ≡ inSection (stateOf self) at (sectionWalkOf section) ⌝ }
     {
+        let setting = self.setting;
         Listing {
+            setting,
             at,
             section,
             records: self.records,
@@ -158,7 +175,9 @@ impl Listing {
         ensures { λ r. ⌜ stateOf r ≡ withRecord (stateOf self) at ⌝ }
     {
         let section = self.section;
+        let setting = self.setting;
         Listing {
+            setting,
             at,
             section,
             records: std::num::wrapping_add_u64(self.records, 1),
@@ -172,8 +191,10 @@ impl Listing {
         ensures { λ r. ⌜ stateOf r ≡ withEntry (stateOf self) at ⌝ }
     {
         let section = self.section;
+        let setting = self.setting;
         let settled_low = std::num::wrapping_add_u64(self.settled_low, 1);
         Listing {
+            setting,
             at,
             section,
             records: self.records,
@@ -258,7 +279,12 @@ impl Listing {
             ⌜ ((l : List ℕ) → leftOf r l ≡ stepAt t (stateOf self) l place.Info) ⌝ }
     {
         let listing = self.go_to(At::Section);
-        let line = Line::Info(version_and_flags(info));
+        let setting = self.setting;
+        let reading = setting.reading;
+        let line = Line::Info(InfoLine {
+            info: version_and_flags(info),
+            reading,
+        });
         let listed = listing.says(line);
         self.if_asked(
             image,
@@ -289,15 +315,16 @@ impl Listing {
     fn after_section(self, section: Section) -> Listed
         ensures { λ r. ⌜ ((l : List ℕ) → leftOf r l ≡ afterSection (stateOf self) l (sectionWalkOf section)) ⌝ }
     {
+        let setting = self.setting;
         let stage = section.stage;
         match stage {
             Section::CLASSES => {
-                let first = Section::at_stage(Section::PROTOCOLS);
+                let first = Section::at_stage(setting, Section::PROTOCOLS);
                 let listing = self.in_section(At::Section, first);
                 listing.nothing()
             }
             Section::PROTOCOLS => {
-                let first = Section::at_stage(Section::CATEGORIES);
+                let first = Section::at_stage(setting, Section::CATEGORIES);
                 let listing = self.in_section(At::Section, first);
                 listing.nothing()
             }
@@ -396,7 +423,8 @@ impl Listing {
                     category,
                     class_name,
                 });
-                let lists = Owner::Category(category).enter(0);
+                let setting = self.setting;
+                let lists = Owner::Category(category).enter(setting, 0);
                 self.record_said(line, lists)
             }
             NameAnswer::Refused(k) => self.refused(k),
@@ -415,9 +443,10 @@ impl Listing {
         index: &[u32],
         found: Record,
     ) -> Listed
-        ensures { λ r. let t = lent image segments sections info rebases binds index in
+        ensures { λ r. let t = under (self .setting) (lent image segments sections info rebases binds index) in
             ⌜ ((l : List ℕ) → leftOf r l ≡ recordStep t (stateOf self) l found) ⌝ }
     {
+        let setting = self.setting;
         match found {
             Record::Class(class) => {
                 let name = class.superclass_name(
@@ -433,7 +462,7 @@ impl Listing {
                 self.class_said(class, name)
             }
             Record::Protocol(protocol) => {
-                let lists = Owner::Protocol(protocol).enter(0);
+                let lists = Owner::Protocol(protocol).enter(setting, 0);
                 let listed = self.record_said(Line::Protocol(protocol), lists);
                 self.if_asked(
                     image,
@@ -469,7 +498,8 @@ impl Listing {
         match answer {
             ClassRoAnswer::Ro(ro) => {
                 let owner = Owner::Class(ro);
-                let lists = owner.enter(0);
+                let setting = self.setting;
+                let lists = owner.enter(setting, 0);
                 let listing = self.go_to(lists);
                 listing.says(Line::Ro(ro))
             }
@@ -485,9 +515,10 @@ impl Listing {
 
     // The list after list n of a record.
     fn next_list(self, owner: Owner, n: u16) -> Listed
-        ensures { λ r. ⌜ ((l : List ℕ) → leftOf r l ≡ leaves (value nothing) (goTo (stateOf self) (enter owner (suc n))) l) ⌝ }
+        ensures { λ r. ⌜ ((l : List ℕ) → leftOf r l ≡ leaves (value nothing) (goTo (stateOf self) (enter (self .setting) owner (suc n))) l) ⌝ }
     {
-        let lists = owner.enter_after(n);
+        let setting = self.setting;
+        let lists = owner.enter_after(setting, n);
         let listing = self.go_to(lists);
         listing.nothing()
     }
@@ -652,6 +683,7 @@ impl Listing {
                 found,
             ),
             At::Ro(class) => {
+                let setting = self.setting;
                 let answer = class.ro(image, segments, sections, info, rebases, binds, index, setting);
                 self.ro_said(answer)
             }

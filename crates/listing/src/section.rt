@@ -1,5 +1,6 @@
 // The section walks one after the other: classes, protocols, categories.
 use crate::at::Record;
+use pointers::setting::Setting;
 use reads::answer::Reason;
 use walks::sections::CategoryStep;
 use walks::sections::CategoryWalk;
@@ -12,10 +13,10 @@ ghost use mathlib.Core.List.{List};
 ghost use Prim.Native.Nat.{ℕ};
 ghost use Rattle.reads.specs.Reference.{before, after};
 ghost use Rattle.pointers.specs.Tables.{lent};
-ghost use Rattle.walks.specs.Sections.{classWalk, categoryWalk, protocolWalk, classStep, categoryStep, protocolStep};
+ghost use Rattle.walks.specs.Sections.{classStep, categoryStep, protocolStep};
 ghost use Rattle.listing.specs.declared.at.Record.the-variants as aRecord;
 ghost use Rattle.listing.specs.Listing.{stageStart, withClasses, withProtocols, withCategories, asRecord, classesStep, protocolsStep, categoriesStep, sectionStep};
-ghost use Rattle.listing.specs.ListingAnswer.{sectionWalkOf, takenOf, sectionLeftOf};
+ghost use Rattle.listing.specs.ListingAnswer.{classBegun, protocolBegun, categoryBegun, sectionWalkOf, takenOf, sectionLeftOf};
 
 // The section walks side by side, and which is under way: 0, 1, and from 2 on the last. The others stand at their starts, or where a state
 // that no step handed back has them. The stage is a word, so that no hole stands before the walks (docs/PERFORMANCE.md).
@@ -89,21 +90,22 @@ impl Section {
 
     pub(crate) const CATEGORIES: u64 = 2;
 
-    // A stage, with every walk before its first slot.
-    pub(crate) fn at_stage(stage: u64) -> Section
-        ensures { λ r. ⌜ sectionWalkOf r ≡ stageStart stage ⌝ }
+    // A stage, with every walk before its first slot, under a setting.
+    pub(crate) fn at_stage(setting: Setting, stage: u64) -> Section
+        ensures { λ r. ⌜ sectionWalkOf r ≡ stageStart setting stage ⌝ }
     {
+        let reading = setting.reading;
         Section {
             stage,
-            classes: ClassWalk::new(),
-            protocols: ProtocolWalk::new(),
-            categories: CategoryWalk::new(),
+            classes: ClassWalk::under(reading),
+            protocols: ProtocolWalk::under(reading),
+            categories: CategoryWalk::under(reading),
         }
     }
 
-    // The class walk stands elsewhere.
+    // Another class walk.
     fn with_classes(self, classes: ClassWalk) -> Section
-        ensures { λ r. ⌜ sectionWalkOf r ≡ withClasses (sectionWalkOf self) (classWalk classes) ⌝ }
+        ensures { λ r. ⌜ sectionWalkOf r ≡ withClasses (sectionWalkOf self) (classBegun classes) ⌝ }
     {
         let protocols = self.protocols;
         let categories = self.categories;
@@ -115,9 +117,9 @@ impl Section {
         }
     }
 
-    // The protocol walk stands elsewhere.
+    // Another protocol walk.
     fn with_protocols(self, protocols: ProtocolWalk) -> Section
-        ensures { λ r. ⌜ sectionWalkOf r ≡ withProtocols (sectionWalkOf self) (protocolWalk protocols) ⌝ }
+        ensures { λ r. ⌜ sectionWalkOf r ≡ withProtocols (sectionWalkOf self) (protocolBegun protocols) ⌝ }
     {
         let classes = self.classes;
         let categories = self.categories;
@@ -129,9 +131,9 @@ impl Section {
         }
     }
 
-    // The category walk stands elsewhere.
+    // Another category walk.
     fn with_categories(self, categories: CategoryWalk) -> Section
-        ensures { λ r. ⌜ sectionWalkOf r ≡ withCategories (sectionWalkOf self) (categoryWalk categories) ⌝ }
+        ensures { λ r. ⌜ sectionWalkOf r ≡ withCategories (sectionWalkOf self) (categoryBegun categories) ⌝ }
     {
         let classes = self.classes;
         let protocols = self.protocols;

@@ -12,11 +12,13 @@ use lib.Seq.{drop-append-le, drop-drop, drop-length, take-add}
 use borrow.Author.Tests.{leb-true, leb-false}
 use Rattle.reads.specs.Outcome.{Outcome, value, absent, number, choose}
 use Rattle.reads.proofs.Tests.{by-choose}
-use Rattle.pointers.specs.Tables.{Tables}
-use Rattle.listing.specs.Listing.{Answer, says, lacks, nothing, ended, listingStep}
+use Rattle.pointers.specs.Tables.{Tables, under}
+use Rattle.pointers.specs.declared.setting.Setting.{Setting}
+use Rattle.listing.specs.Listing.{Left, Answer, says, lacks, nothing, ended, listingStep}
 use Rattle.listing.proofs.Falls.{falls-to}
+use Rattle.listing.proofs.LoanSettings.{loan-step}
 use Rattle.listing.proofs.Remaining.{remaining, goesOn, InWords}
-use Rattle.printing.specs.Pieces.{ifOn, Standing, stepped, moved, waiting, comesBy, pastBy, enough, toCome, past, pieces}
+use Rattle.printing.specs.Pieces.{ifOn, Standing, standing, stepped, moved, waiting, comesBy, pastBy, enough, toCome, past, pieces}
 use Rattle.printing.proofs.Puts.{drop-append}
 use Rattle.listing.proofs.WordsKept.{words-kept}
 
@@ -44,6 +46,22 @@ on-same o {x} {y} z f = go (goesOn o) refl
     go : (b : Bool) → goesOn o ≡ b → ifOn o x z ≡ ifOn o y z
     go true e = rw (on-yes o x z e, on-yes o y z e) (f e)
     go false e = rw (on-no o x z e, on-no o y z e)
+
+-- What is to come does not depend on the setting of what is lent.
+module _ (u : Setting) (t : Tables) where
+  stepped-under : (p : Standing) → stepped (under u t) p ≡ stepped t p
+  stepped-under p = ap (λ (x : Left). standing (x .answer) 0 (x .state) (x .ledger)) (loan-step u t (p .state) (p .ledger))
+
+  comes-under : (n : ℕ) (p : Standing) → comesBy (under u t) n p ≡ comesBy t n p
+  unfolding comesBy
+  comes-under zero p = refl
+  comes-under (suc n) p =
+      ap (λ (q : Standing). waiting t p ++ ifOn (p .said) (comesBy (under u t) n q) []) (stepped-under p)
+      ∙ ap (λ (text : List ℕ). waiting t p ++ ifOn (p .said) text []) (comes-under n (stepped t p))
+
+  pub come-under : (p : Standing) → toCome (under u t) p ≡ toCome t p
+  unfolding toCome
+  come-under p = comes-under (enough p) p
 
 -- Where the listing goes on, the numbers of its state fit their words.
 pub record Sound (p : Standing) : Type 0 where

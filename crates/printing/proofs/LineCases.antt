@@ -17,6 +17,7 @@ use Rattle.records.specs.declared.method.Method.{Method}
 use Rattle.records.specs.declared.method.MethodKind.the-variants as kind
 use Rattle.records.specs.declared.row.Row.the-variants as row
 use Rattle.records.proofs.HubImage.{bytes, counted}
+use Rattle.reads.specs.declared.text.Reading.the-variants.{New}
 use Rattle.listing.specs.declared.line.Line.{Line}
 use Rattle.listing.specs.declared.line.Line.the-variants as line
 use Rattle.listing.specs.declared.line.Named.{Named}
@@ -120,7 +121,7 @@ refused-13-text = refl
 -- ◆ the listing's lines.
 abbrev hubLines : List Line
 hubLines =
-    line.Info (record { version = 0; flags = 0 })
+    line.Info (record { info = record { version = 0; flags = 0 }; reading = New })
     ∷ line.Class
     (record {
       class = record { address = 0x1000; isa = 0; «superclass_address» = 0; bits = 0x1028; «is_meta» = false };
@@ -147,7 +148,7 @@ hubLines =
 -- ◆ its text.
 pub hub-text :
     flatMap (lineText bytes) hubLines
-    ≡ ended (ascii "I 0 0")
+    ≡ ended (ascii "I 0 0 1")
     ++ ended (ascii "C 1000 0 0 1028 8:NSObject")
     ++ ended (ascii "R 1028 0 8 8 3:Hub")
     ++ ended (ascii "m 0 2:up 1:v 2000 0")

@@ -24,7 +24,7 @@ use Rattle.listing.specs.declared.line.Line.the-variants as line
 use Rattle.listing.specs.declared.line.Named.{Named}
 use Rattle.listing.specs.declared.line.Named.the-variants as named
 use Rattle.printing.specs.Buffer.{places, hexText, decimalText}
-use Rattle.printing.specs.LineText.{noneField, numberField, stringField, textField, textFields, namedField, impField, offsetField, alignmentField, alignedField, kindNumber, infoText, classText, roText, protocolText, categoryText, methodText, ivarText, propertyText, rowText, nameText, endText, fieldsText, lineText, refusedText}
+use Rattle.printing.specs.LineText.{noneField, numberField, stringField, textField, textFields, namedField, impField, offsetField, alignmentField, alignedField, kindNumber, readingNumber, infoText, classText, roText, protocolText, categoryText, methodText, ivarText, propertyText, rowText, nameText, endText, fieldsText, lineText, refusedText}
 use Rattle.printing.specs.Pieces.{saidText}
 
 places-few : (b k n : ℕ) → places b k n ≤ suc k
@@ -104,7 +104,7 @@ module _ (image : List ℕ) where
 
   fields-short : (x : Line) → Short (fieldsText image x)
   unfolding infoText classText roText protocolText categoryText nameText endText
-  fields-short (line.Info i) = simp length-append (omega (arith, number-short (i .version), number-short (i .flags)))
+  fields-short (line.Info i) = simp length-append (omega (arith, number-short (i .info .version), number-short (i .info .flags), number-short (readingNumber (i .reading))))
   fields-short (line.Class l) =
       simp length-append
       (omega (

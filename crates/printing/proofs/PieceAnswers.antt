@@ -20,6 +20,7 @@ use Rattle.listing.specs.declared.listing.Listing.{Listing}
 use Rattle.listing.specs.declared.absence.Absence.{Absence}
 use Rattle.listing.specs.declared.listing.Said.{Said}
 use Rattle.listing.specs.declared.listing.Said.the-variants as said
+use Rattle.pointers.specs.declared.setting.Setting.{Setting}
 use Rattle.printing.specs.Buffer.{Buffer, putAll}
 use Rattle.printing.specs.LineText.{lineText, refusedText}
 use Rattle.printing.specs.Pieces.{saidText, standing, stepped, begun, further}
@@ -28,15 +29,15 @@ use Rattle.printing.specs.declared.pieces.Progress.{Progress}
 use Rattle.printing.proofs.Puts.{put-empty}
 
 -- The start, by opening's answer.
-module _ (s : Listing) (e : stateOf s ≡ start) (a : ImageInfoAnswer) where
-  pub begun-listing : (i : ImageInfo) → a ≡ info.Info i → (λ (l : List ℕ). standing (value nothing) 0 (stateOf s) l) ≡ begun (infoOutcome a)
+module _ {u : Setting} (s : Listing) (e : stateOf s ≡ start u) (a : ImageInfoAnswer) where
+  pub begun-listing : (i : ImageInfo) → a ≡ info.Info i → (λ (l : List ℕ). standing (value nothing) 0 (stateOf s) l) ≡ begun u (infoOutcome a)
   begun-listing i g = rw (g, e)
 
   module _ (m : Missing) (g : a ≡ info.Missing m) where
-    pub begun-absent : (r : Reason) → m ≡ Absent r → (λ (l : List ℕ). standing (value ended) 0 (stateOf s) l) ≡ begun (infoOutcome a)
+    pub begun-absent : (r : Reason) → m ≡ Absent r → (λ (l : List ℕ). standing (value ended) 0 (stateOf s) l) ≡ begun u (infoOutcome a)
     begun-absent r h = rw (g, h, e)
 
-    pub begun-refused : (k : ℕ) → m ≡ Refused k → (λ (l : List ℕ). standing (number k) 0 (stateOf s) l) ≡ begun (infoOutcome a)
+    pub begun-refused : (k : ℕ) → m ≡ Refused k → (λ (l : List ℕ). standing (number k) 0 (stateOf s) l) ≡ begun u (infoOutcome a)
     begun-refused k h = rw (g, h, e)
 
 -- A step of the code's listing.

@@ -1,4 +1,4 @@
--- The text that is to come after a bundle was decoded and opened is the bundle's text, whatever the words, the index and the ledger held.
+-- Under either reading the text that is to come after a bundle was decoded and opened is the bundle's text, whatever the words, the index and the ledger held.
 use Prim.Native.Nat.{ℕ, _+_, _*_, _≤_, _<_}
 use mathlib.Core.Path.{_≡_, refl, sym, ap, _∙_, subst}
 use mathlib.Core.Bool.{true, false}
@@ -9,7 +9,9 @@ use lib.Seq.{length-take-le, take-at}
 use Rattle.reads.specs.Outcome.{Outcome, value, absent, number, andThen}
 use Rattle.pointers.specs.Open.{Opened, opening, openedIndex}
 use Rattle.reads.specs.Table.{records}
-use Rattle.pointers.specs.Tables.{Tables, withIndex}
+use Rattle.pointers.specs.Tables.{Tables, under, withIndex}
+use Rattle.pointers.specs.declared.setting.Setting.{Setting}
+use Rattle.pointers.proofs.OpenedTables.{opened-under}
 use Rattle.pointers.specs.declared.imageinfo.ImageInfo.{ImageInfo}
 use Rattle.walks.specs.Slots.{slotCount}
 use Rattle.walks.proofs.Gathers.{there-known}
@@ -29,7 +31,7 @@ use Rattle.printing.specs.LineText.{lineText, refusedText}
 use Rattle.printing.specs.Pieces.{Standing, standing, toCome, begun, pieces}
 use Rattle.printing.proofs.BundleOpens.{opening-same, index-whole, index-long, image-length, index-most, index-asks, counted-by}
 use Rattle.printing.proofs.BundleParts.{decoded-bundled}
-use Rattle.printing.proofs.Comes.{Sound, come-step, pieces-text}
+use Rattle.printing.proofs.Comes.{Sound, come-under, come-step, pieces-text}
 use Rattle.listing.proofs.WordsKept.{words-kept}
 
 -- What is left of a listing comes as the text of its lines.
@@ -57,33 +59,33 @@ module _ (t : Tables) where
       ∙ come-step t (made (leaves (value (says x)) v m)) (record { words = k })
       ∙ ap (λ (text : List ℕ). lineText (t .image) x ++ text) (rest-comes r (k refl))
 
-start-words : InWords start
-start-words = record { slot = omega arith; cursor = omega arith }
+start-words : (u : Setting) → InWords (start u)
+start-words u = record { slot = omega arith; cursor = omega arith }
 
-begun-sound : (o : Outcome ImageInfo) (l : List ℕ) → Sound (begun o l)
-begun-sound o l = record { words = λ e. start-words }
+begun-sound : (u : Setting) (o : Outcome ImageInfo) (l : List ℕ) → Sound (begun u o l)
+begun-sound u o l = record { words = λ e. start-words u }
 
 -- A ledger of 8,192 words is always enough for an image of at most 32,768 bytes.
 module _ (t : Tables) (o : Opened t) (short : length (t .image) ≤ 32768) (l : List ℕ) (long : length l ≡ 8192) where
   room : (first second : ℕ) → first < 5 → second < 5 → slotCount (t .sections) first second ≤ length l
   room first second a b = omega (arith, pair-slots t o first second a b)
 
-  listing-comes : toCome t (begun (value (o .gave)) l) ≡ listingText (t .image) (plainListing t)
+  listing-comes : toCome t (begun (t .setting) (value (o .gave)) l) ≡ listingText (t .image) (plainListing t)
   listing-comes =
       let lines = there-known (listing-there t o) in
       let events = there-known (plain-events-there t o) in
       let rest = whole-rest t o l (room 0 1 (omega arith) (omega arith)) (room 2 3 (omega arith) (omega arith)) (lines .known) (events .known) (lines .is) (events .is) in
-      come-step t (begun (value (o .gave)) l) (begun-sound (value (o .gave)) l)
-      ∙ rest-comes t rest start-words
+      come-step t (begun (t .setting) (value (o .gave)) l) (begun-sound (t .setting) (value (o .gave)) l)
+      ∙ rest-comes t rest (start-words (t .setting))
       ∙ ap (listingText (t .image)) (sym (lines .is))
 
 -- A number that refuses comes as its text, and nothing comes where nothing was said.
-over-comes : (t : Tables) (o : Outcome ImageInfo) (l : List ℕ) → goesOn (begun o l .said) ≡ false → toCome t (begun o l) ≡ openedText t o
-over-comes t (value info) l e = let z : _≡_ {A = ℕ} 0 1 = cc in absurd (omega arith)
-over-comes t (absent r) l e = come-step t (begun (absent r) l) (begun-sound (absent r) l)
-over-comes t (number k) l e = come-step t (begun (number k) l) (begun-sound (number k) l) ∙ append-nil (refusedText k)
+over-comes : (u : Setting) (t v : Tables) (o : Outcome ImageInfo) (l : List ℕ) → goesOn (begun u o l .said) ≡ false → toCome t (begun u o l) ≡ openedText v o
+over-comes u t v (value info) l e = let z : _≡_ {A = ℕ} 0 1 = cc in absurd (omega arith)
+over-comes u t v (absent r) l e = come-step t (begun u (absent r) l) (begun-sound u (absent r) l)
+over-comes u t v (number k) l e = come-step t (begun u (number k) l) (begun-sound u (number k) l) ∙ append-nil (refusedText k)
 
-module _ (bytes : List ℕ) (c : Counts) (a : Accepted bytes c) (more index l : List ℕ) (room : 10240 ≤ length index) (long : length l ≡ 8192) where
+module _ (u : Setting) (bytes : List ℕ) (c : Counts) (a : Accepted bytes c) (more index l : List ℕ) (room : 10240 ≤ length index) (long : length l ≡ 8192) where
   abbrev wordsRead : List ℕ
   wordsRead = wordsFrom bytes segmentsAt (tableWords c) ++ more
 
@@ -129,21 +131,23 @@ module _ (bytes : List ℕ) (c : Counts) (a : Accepted bytes c) (more index l : 
         (index-long (bundled bytes c zeros) old (asks old old-long) info old-opens ∙ old-long)
         ∙ index-same)
 
-    opened-comes : toCome read (begun (value info) l) ≡ openedText tablesSaid (value info)
+    opened-comes : toCome read (begun u (value info) l) ≡ openedText (under u tablesSaid) (value info)
     opened-comes =
-        ap (λ (t : Tables). toCome t (begun (value info) l)) read-said
-        ∙ listing-comes tablesSaid (record { indexBefore = zeros; gave = info; accepted = e; left = refl }) (image-length bytes c a) l long
+        let o : Opened tablesSaid = record { indexBefore = zeros; gave = info; accepted = e; left = refl } in
+        ap (λ (t : Tables). toCome t (begun u (value info) l)) read-said
+        ∙ sym (come-under u tablesSaid (begun u (value info) l))
+        ∙ listing-comes (under u tablesSaid) (opened-under u o) (image-length bytes c a) l long
 
-  accepted-comes : toCome read (begun (opening (tablesIn bytes c wordsRead index)) l) ≡ openedText tablesSaid (opening (bundled bytes c zeros))
+  accepted-comes : toCome read (begun u (opening (tablesIn bytes c wordsRead index)) l) ≡ openedText (under u tablesSaid) (opening (bundled bytes c zeros))
   accepted-comes = rw opens-same (go (opening (bundled bytes c zeros)) refl)
     where
-      go : (o : Outcome ImageInfo) → opening (bundled bytes c zeros) ≡ o → toCome read (begun o l) ≡ openedText tablesSaid o
+      go : (o : Outcome ImageInfo) → opening (bundled bytes c zeros) ≡ o → toCome read (begun u o l) ≡ openedText (under u tablesSaid) o
       go (value info) e = opened-comes info e
-      go (absent r) e = over-comes read (absent r) l refl
-      go (number k) e = over-comes read (number k) l refl
+      go (absent r) e = over-comes u read (under u tablesSaid) (absent r) l refl
+      go (number k) e = over-comes u read (under u tablesSaid) (number k) l refl
 
 -- What comes of a bundle that was decoded and then opened.
-module _ (bytes words index l : List ℕ) where
+module _ (u : Setting) (bytes words index l : List ℕ) where
   abbrev wordsDecoded : List ℕ
   wordsDecoded = wordsAfter bytes words
 
@@ -151,18 +155,18 @@ module _ (bytes words index l : List ℕ) where
   opened = indexAfter bytes wordsDecoded index
 
   module _ (room : 10240 ≤ length index) (long : length l ≡ 8192) where
-    pub printed : toCome (tablesLent bytes wordsDecoded opened) (begun (openingIn bytes wordsDecoded index) l) ≡ bundleText bytes
+    pub printed : toCome (tablesLent bytes wordsDecoded opened) (begun u (openingIn bytes wordsDecoded index) l) ≡ bundleText u bytes
     unfolding bundleText bundleOpening
     printed =
         counted-by bytes
         (λ (o : Outcome Counts). toCome (tablesBy bytes o (wordsBy bytes o words) (indexBy bytes o (wordsBy bytes o words) index))
-        (begun (openingBy bytes o (wordsBy bytes o words) index) l)
-        ≡ openedText (withIndex (bundleTables bytes) (openedIndex (bundleTables bytes))) (andThen o (λ c. opening (bundleTables bytes))))
-        (λ a. accepted-comes bytes (countsOf bytes) a (drop (tableWords (countsOf bytes)) words) index l room long)
-        (over-comes _ (number 13) l refl)
+        (begun u (openingBy bytes o (wordsBy bytes o words) index) l)
+        ≡ openedText (under u (withIndex (bundleTables bytes) (openedIndex (bundleTables bytes)))) (andThen o (λ c. opening (bundleTables bytes))))
+        (λ a. accepted-comes u bytes (countsOf bytes) a (drop (tableWords (countsOf bytes)) words) index l room long)
+        (over-comes u _ (under u (withIndex (bundleTables bytes) (openedIndex (bundleTables bytes)))) (number 13) l refl)
 
     -- The pieces that are handed out, one after the other, are the bundle's text.
-    pub printed-pieces : (k : ℕ) → pieces (tablesLent bytes wordsDecoded opened) 4096 k (begun (openingIn bytes wordsDecoded index) l) ≡ take (k * 4096) (bundleText bytes)
+    pub printed-pieces : (k : ℕ) → pieces (tablesLent bytes wordsDecoded opened) 4096 k (begun u (openingIn bytes wordsDecoded index) l) ≡ take (k * 4096) (bundleText u bytes)
     printed-pieces k =
-        pieces-text (tablesLent bytes wordsDecoded opened) 4096 k (begun (openingIn bytes wordsDecoded index) l) (begun-sound (openingIn bytes wordsDecoded index) l)
+        pieces-text (tablesLent bytes wordsDecoded opened) 4096 k (begun u (openingIn bytes wordsDecoded index) l) (begun-sound u (openingIn bytes wordsDecoded index) l)
         ∙ ap (take (k * 4096)) printed

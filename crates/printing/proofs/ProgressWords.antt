@@ -42,7 +42,7 @@ at-in-words at.End vs p = omega arith
 pub in-words : (p : Progress) (vs : List Val) → Is progress-type.the-row p vs → InWords (stateOf (p .listing))
 in-words p vs h =
     let l = h .1 .1 .1 .1 .0 in
-    record { slot = section-in-words (p .listing .section) _ (l .1 .1 .1 .0); cursor = at-in-words (p .listing .at) _ (l .1 .1 .0) }
+    record { slot = section-in-words (p .listing .section) _ (l .1 .1 .1 .1 .0); cursor = at-in-words (p .listing .at) _ (l .1 .1 .1 .0) }
 
 pub progress-sound : (p : Progress) (l : List ℕ) (vs : List Val) → Is progress-type.the-row p vs → Sound (standingOf p l)
 progress-sound p l vs h = record { words = λ e. in-words p vs h }

@@ -1,12 +1,13 @@
--- What the program prints of a bundle (document 01, "The program's listing"): `refused` and the number of the first question that says no,
--- 13 or one of opening's; or the lines of the plain listing.
+-- What is printed of a bundle (document 01, "The program's listing"): `refused` and the number of the first question that says no, 13 or one
+-- of opening's; or the lines of the plain listing, under a setting, which holds the reading (document 02, note 12).
 use Prim.Native.Nat.{ℕ, _+_}
 use mathlib.Core.List.{List, [], flatMap}
 use lib.ListN.{replicate}
 use Rattle.reads.specs.Outcome.{Outcome, value, absent, number, andThen}
 use Rattle.pointers.specs.Open.{opening, openedIndex}
-use Rattle.pointers.specs.Tables.{Tables, withIndex}
+use Rattle.pointers.specs.Tables.{Tables, under, withIndex}
 use Rattle.pointers.specs.declared.imageinfo.ImageInfo.{ImageInfo}
+use Rattle.pointers.specs.declared.setting.Setting.{Setting}
 use Rattle.listing.specs.Bundle.{countsOf, bundleCounts, bundled}
 use Rattle.listing.specs.PlainListing.{plainListing}
 use Rattle.listing.specs.declared.bundle.Counts.{Counts}
@@ -46,5 +47,5 @@ openedText t (value info) = listingText (t .image) (plainListing t)
 openedText t (absent r) = []
 openedText t (number k) = refusedText k
 
-unfoldable pub bundleText : List ℕ → List ℕ
-bundleText bytes = openedText (withIndex (bundleTables bytes) (openedIndex (bundleTables bytes))) (bundleOpening bytes)
+unfoldable pub bundleText : Setting → List ℕ → List ℕ
+bundleText u bytes = openedText (under u (withIndex (bundleTables bytes) (openedIndex (bundleTables bytes)))) (bundleOpening bytes)

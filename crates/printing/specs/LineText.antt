@@ -9,7 +9,8 @@ use Rattle.reads.specs.Outcome.{choose}
 use Rattle.reads.specs.Place.{part}
 use Rattle.reads.specs.declared.text.Text.{Text}
 use Rattle.pointers.specs.Symbol.{ascii}
-use Rattle.pointers.specs.declared.imageinfo.ImageInfo.{ImageInfo}
+use Rattle.reads.specs.declared.text.Reading.{Reading}
+use Rattle.reads.specs.declared.text.Reading.the-variants as reading
 use Rattle.records.specs.declared.class.ClassRo.{ClassRo}
 use Rattle.records.specs.declared.ivar.Aligned.{Aligned}
 use Rattle.records.specs.declared.ivar.Aligned.the-variants as aligned
@@ -30,6 +31,7 @@ use Rattle.records.specs.declared.row.Row.the-variants as row
 use Rattle.listing.specs.declared.line.CategoryLine.{CategoryLine}
 use Rattle.listing.specs.declared.line.ClassLine.{ClassLine}
 use Rattle.listing.specs.declared.line.EndLine.{EndLine}
+use Rattle.listing.specs.declared.line.InfoLine.{InfoLine}
 use Rattle.listing.specs.declared.line.Line.{Line}
 use Rattle.listing.specs.declared.line.Line.the-variants as line
 use Rattle.listing.specs.declared.line.NameLine.{NameLine}
@@ -88,9 +90,14 @@ abbrev pub classLetter : Bool → ℕ
 classLetter true = 77
 classLetter false = 67
 
--- I version flags.
-unfoldable pub infoText : ImageInfo → List ℕ
-infoText i = ascii "I" ++ (numberField (i .version) ++ numberField (i .flags))
+-- 0 under the old reading, 1 under the new (document 02, note 12).
+abbrev pub readingNumber : Reading → ℕ
+readingNumber reading.Old = 0
+readingNumber reading.New = 1
+
+-- I version flags reading.
+unfoldable pub infoText : InfoLine → List ℕ
+infoText i = ascii "I" ++ (numberField (i .info .version) ++ (numberField (i .info .flags) ++ numberField (readingNumber (i .reading))))
 
 -- C or M: address, isa, superclass, bits, superclass name.
 unfoldable pub classText : List ℕ → ClassLine → List ℕ

@@ -8,6 +8,7 @@ use lib.ListN.{length, take, drop}
 use Rattle.reads.specs.Outcome.{Outcome, value, absent, number, choose}
 use Rattle.pointers.specs.Tables.{Tables}
 use Rattle.pointers.specs.declared.imageinfo.ImageInfo.{ImageInfo}
+use Rattle.pointers.specs.declared.setting.Setting.{Setting}
 use Rattle.listing.specs.Listing.{State, start, Answer, says, lacks, nothing, ended, listingStep}
 use Rattle.listing.specs.ListingAnswer.{stateOf, saidOf}
 use Rattle.listing.proofs.Remaining.{remaining}
@@ -87,14 +88,14 @@ toCome t p = comesBy t (enough p) p
 unfoldable pub past : Tables → Standing → ℕ → Standing
 past t p k = pastBy t (enough p) p k
 
--- The start, by what opening gave: the listing's first step is to come, or the number that refused.
+-- The start under a setting, by what opening gave: the listing's first step is to come, or the number that refused.
 abbrev pub begunBy : Outcome ImageInfo → Outcome Answer
 begunBy (value info) = value nothing
 begunBy (absent r) = value ended
 begunBy (number k) = number k
 
-abbrev pub begun : Outcome ImageInfo → List ℕ → Standing
-begun o l = standing (begunBy o) 0 start l
+abbrev pub begun : Setting → Outcome ImageInfo → List ℕ → Standing
+begun u o l = standing (begunBy o) 0 (start u) l
 
 -- What a call hands out: a piece of at most n bytes to the front of a buffer, and how long it is.
 pub record Handed : Type 0 where

@@ -5,13 +5,14 @@ use listing::listing::Listing;
 use listing::listing::Said;
 use pointers::imageinfo::ImageInfoAnswer;
 use reads::answer::Missing;
+use reads::text::Reading;
 ghost use Prim.Native.Nat.{_<_, _^_};
 ghost use mathlib.Core.Path.{_≡_};
 ghost use lib.ListN.{length, drop};
 ghost use lib.Seq.{paste};
 ghost use Rattle.reads.specs.Reference.{before, after};
 ghost use Rattle.pointers.specs.ImageInfo.{infoOutcome};
-ghost use Rattle.pointers.specs.Tables.{lent};
+ghost use Rattle.pointers.specs.Tables.{lent, readingNew, readingUnder};
 ghost use Rattle.listing.specs.ListingAnswer.{saidOf};
 ghost use Rattle.listing.proofs.Remaining.{goesOn};
 ghost use Rattle.printing.specs.Buffer.{buffer, putAll};
@@ -57,11 +58,18 @@ fn goes_on(said: Said) -> bool
 }
 
 impl Progress {
-    // The start, by what opening answered.
+    // The start under the new reading, by what opening answered.
     pub fn new(answer: ImageInfoAnswer) -> Progress
-        ensures { λ r. ⌜ standingOf r ≡ begun (infoOutcome answer) ⌝ }
+        ensures { λ r. ⌜ standingOf r ≡ begun readingNew (infoOutcome answer) ⌝ }
     {
-        let listing = Listing::new();
+        Progress::under(Reading::New, answer)
+    }
+
+    // The same under either reading.
+    pub fn under(reading: Reading, answer: ImageInfoAnswer) -> Progress
+        ensures { λ r. ⌜ standingOf r ≡ begun (readingUnder reading) (infoOutcome answer) ⌝ }
+    {
+        let listing = Listing::under(reading);
         match answer {
             ImageInfoAnswer::Info(_) => Progress {
                 said: Said::Nothing,

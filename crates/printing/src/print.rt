@@ -9,11 +9,12 @@ use crate::buffer::hex_of_two;
 use listing::line::CategoryLine;
 use listing::line::ClassLine;
 use listing::line::EndLine;
+use listing::line::InfoLine;
 use listing::line::Line;
 use listing::line::NameLine;
 use listing::line::Named;
 use listing::line::RowLine;
-use pointers::imageinfo::ImageInfo;
+use reads::text::Reading;
 use reads::text::Text;
 use records::class::ClassRo;
 use records::ivar::Aligned;
@@ -30,7 +31,7 @@ ghost use mathlib.Core.List.{_∷_};
 ghost use mathlib.Core.Path.{_≡_};
 ghost use Rattle.reads.specs.Reference.{before, after};
 ghost use Rattle.printing.specs.Buffer.{buffer, putAll};
-ghost use Rattle.printing.specs.LineText.{noneField, numberField, stringField, textField, textFields, namedField, impField, offsetField, alignmentField, alignedField, kindNumber, classLetter, infoText, classText, roText, protocolText, categoryText, methodText, ivarText, propertyText, rowText, nameText, endText, fieldsText, lineText, refusedText};
+ghost use Rattle.printing.specs.LineText.{noneField, numberField, stringField, textField, textFields, namedField, impField, offsetField, alignmentField, alignedField, kindNumber, classLetter, readingNumber, infoText, classText, roText, protocolText, categoryText, methodText, ivarText, propertyText, rowText, nameText, endText, fieldsText, lineText, refusedText};
 
 // A field that is none.
 fn none(out: &mut [u8], w: Window) -> Window
@@ -150,12 +151,25 @@ fn kind_number(kind: MethodKind) -> u64
     }
 }
 
+// 0 under the old reading, 1 under the new.
+fn reading_number(reading: Reading) -> u64
+    ensures { λ r. ⌜ r ≡ readingNumber reading ⌝ }
+{
+    match reading {
+        Reading::Old => 0,
+        Reading::New => 1,
+    }
+}
+
 // I: version, flags.
-fn info(i: ImageInfo, out: &mut [u8], w: Window) -> Window
+fn info(i: InfoLine, out: &mut [u8], w: Window) -> Window
     ensures { λ r. ⌜ buffer (after out) r ≡ putAll (buffer (before out) w) (infoText i) ⌝ }
 {
-    let a = start(b'I', i.version as u64, out, w);
-    number(i.flags as u64, out, a)
+    let info = i.info;
+    let reading = i.reading;
+    let a = start(b'I', info.version as u64, out, w);
+    let b = number(info.flags as u64, out, a);
+    number(reading_number(reading), out, b)
 }
 
 // C of a class, M of a metaclass.

@@ -1,13 +1,14 @@
 // The listings of stored bundles. The file `cases` has the number of cases as a word, then for each case its title and its bundle, each with
-// its length in front as a word; words are little-endian. Printed are a line with the title and the bundle's listing. Nothing else is decided
-// here.
+// its length in front as a word; words are little-endian. Printed are a line with the title, the bundle's listing under the old reading of
+// texts, and the one under the new. Nothing else is decided here.
 use libc::STDOUT_FILENO;
 use printing::bundle::decode;
-use printing::bundle::next_piece;
 use printing::bundle::open;
 use printing::pieces::Progress;
+use printing::write::write_pieces;
 use reads::answer::Word;
 use reads::place::read_u64_le_at;
+use reads::text::Reading;
 ghost use Prim.Native.Nat.{_≤_};
 ghost use lib.ListN.{length};
 ghost use Rattle.reads.specs.Reference.{after};
@@ -69,33 +70,24 @@ fn write_title(title: &[u8]) -> bool {
     io::write_all(STDOUT_FILENO, b"\n")
 }
 
-// Writes all pieces that are still to come: whether all were written.
-fn write_pieces(
-    start: Progress,
+// The listing of a bundle under a reading: whether it was written.
+fn write_under(
+    reading: Reading,
     input: &[u8; 32769],
     n: usize,
-    words: &[u64; 4096],
-    index: &[u32; 10240],
+    words: &mut [u64; 4096],
+    index: &mut [u32; 10240],
     ledger: &mut [u64; 8192],
     out: &mut [u8; 4096],
 ) -> bool {
-    let mut progress = start;
-    loop {
-        let piece = next_piece(progress, input, n, words, index, ledger, out);
-        let len = piece.len;
-        progress = piece.progress;
-        if len == 0 {
-            return true;
-        }
-        let text: &[u8] = out;
-        if !io::write_all(STDOUT_FILENO, &text[0..len]) {
-            return false;
-        }
-    }
+    decode(input, n, words);
+    let start = Progress::under(reading, open(input, n, words, index));
+    let written = write_pieces(STDOUT_FILENO, start, input, n, words, index, ledger, out);
+    written.whole
 }
 
-// The listing of a bundle: whether it was written.
-fn write_listing(
+// Both listings of a bundle, first under the old reading.
+fn write_listings(
     input: &[u8; 32769],
     n: usize,
     words: &mut [u64; 4096],
@@ -103,12 +95,13 @@ fn write_listing(
     ledger: &mut [u64; 8192],
     out: &mut [u8; 4096],
 ) -> Replayed {
-    decode(input, n, words);
-    let progress = Progress::new(open(input, n, words, index));
-    if write_pieces(progress, input, n, words, index, ledger, out) {
-        return Replayed::Whole;
+    if !write_under(Reading::Old, input, n, words, index, ledger, out) {
+        return Replayed::Unwritten;
     }
-    Replayed::Unwritten
+    if !write_under(Reading::New, input, n, words, index, ledger, out) {
+        return Replayed::Unwritten;
+    }
+    Replayed::Whole
 }
 
 // A case after its title.
@@ -121,7 +114,7 @@ fn replay_bundle(
     out: &mut [u8; 4096],
 ) -> Replayed {
     match read_part(fd, input) {
-        Part::Bytes(n) => write_listing(input, n, words, index, ledger, out),
+        Part::Bytes(n) => write_listings(input, n, words, index, ledger, out),
         Part::Cut => Replayed::Cut,
     }
 }

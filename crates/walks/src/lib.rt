@@ -2,6 +2,6 @@
 // Rust, whose iterators these are.
 pub mod list_walk;
 pub mod protocol_names;
-pub(crate) mod section_slots;
+pub mod section_slots;
 pub mod sections;
 pub mod slots;

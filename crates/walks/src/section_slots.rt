@@ -31,7 +31,7 @@ ghost use Rattle.reads.specs.Outcome.{value};
 ghost use Rattle.walks.specs.Sections.{walk, atStart, passed, dropped, leaves, stays, metaOf, classes, categories, takeWaiting, nextWaiting, takeNew, stepOf, takeProtocol, protocolStepOf, classSlots, classTaken, categorySlots, categoryTaken, protocolSlots, protocolTaken};
 
 // Where a walk over classes stands: the slots, and the address of the metaclass that waits (0: none).
-pub(crate) struct ClassSlots {
+pub struct ClassSlots {
     slots: SlotWalk,
     meta: u64,
 }
@@ -43,7 +43,7 @@ pub(crate) struct ClassTaken {
 }
 
 // Where a walk over categories stands: the slots.
-pub(crate) struct CategorySlots {
+pub struct CategorySlots {
     slots: SlotWalk,
 }
 
@@ -54,7 +54,7 @@ pub(crate) struct CategoryTaken {
 }
 
 // Where a walk over protocols stands: the next slot.
-pub(crate) struct ProtocolSlots {
+pub struct ProtocolSlots {
     slot: u64,
 }
 

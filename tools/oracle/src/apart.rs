@@ -1,5 +1,5 @@
 //! What the Rust does not give, computed apart from document 01 alone ("Reading rules", "Lists", "Rows") and, of ivars,
-//! note 8: the addresses of a record's lists, which are private there; the readable entries, which line E counts; the
+//! note 8 (and, under the new reading, note 12): the addresses of a record's lists, which are private there; the readable entries, which line E counts; the
 //! rows at indices that the Rust, which tries each index in turn, would reach too late; which alignment words are none,
 //! and whether an offset is aligned.
 
@@ -97,6 +97,9 @@ impl<'a> Apart<'a> {
             return None;
         }
         let tail = &self.image[off as usize..];
+        if cfg!(ended) && !tail.contains(&0) {
+            return None;
+        }
         core::str::from_utf8(tail.split(|&b| b == 0).next().unwrap()).ok()
     }
 

@@ -1,4 +1,5 @@
-//! Lists a bundle as objclist does, through the Rust's own iterators over an `ObjcRuntime` built from the same tables.
+//! Lists a bundle as objclist does, through the Rust's own iterators over an `ObjcRuntime` built from the same tables:
+//! under the old reading of texts, which is the Rust's, or, built with the cfg `ended`, under the new one.
 //!
 //!     oracle [--whole] [--apart] [--bare] <BUNDLE
 //!
@@ -18,6 +19,8 @@ mod macros;
 mod apart;
 mod binary;
 mod bundle;
+#[cfg(ended)]
+mod ended;
 mod line;
 mod objc;
 mod ptrauth;
@@ -215,7 +218,8 @@ fn main() -> ExitCode {
         faults: Vec::new(),
     };
     let info = rt.image_info();
-    listing.print(Line::new('I').hex(info.version).hex(info.flags));
+    // The reading: 0 old, 1 new.
+    listing.print(Line::new('I').hex(info.version).hex(info.flags).hex(u64::from(cfg!(ended))));
     for class in rt.classes() {
         listing.class(&class);
     }

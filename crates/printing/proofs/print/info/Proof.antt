@@ -1,3 +1,4 @@
+use mathlib.Core.Path.{sym}
 use Rattle.printing.specs.LineText.{infoText}
 use Rattle.printing.proofs.Puts.{then-put}
 use borrow.Author.Needs.{needs}
@@ -7,9 +8,12 @@ use Rattle.printing.proofs.print.info.Tie as tie
 returns : tie.Need-returns
 unfolding infoText
 returns c =
-    let at-number = c .before .before in
+    let at-last = c .before .before in
+    let at-reading = at-last .before .before in
+    let at-number = at-reading .before .before .before in
     let at-start = at-number .before .before .before .before .before in
-    then-put _ _ _ (at-start .start .ensures) (at-number .number .ensures)
+    rw (sym (at-reading .reading-number .ensures))
+    (then-put _ _ _ (at-start .start .ensures) (then-put _ _ _ (at-number .number .ensures) (at-last .number2 .ensures)))
 
 pub info-spec : {M : Type 1} → statement M
 info-spec =
@@ -18,6 +22,8 @@ info-spec =
     (λ c. search needs)
     (λ c κs. search needs)
     (λ c. search needs)
+    (λ c κs. search needs)
+    (λ c κs. search needs)
     (λ c κs. search needs)
     (λ c. search needs)
     returns)

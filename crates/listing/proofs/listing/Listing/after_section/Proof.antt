@@ -7,19 +7,19 @@ use Rattle.listing.proofs.listing.Listing.after_section.Tie as tie
 
 returns : tie.Need-returns
 returns c =
-    let a = c .before .before .before .before .args in
+    let a = c .before .before .before .before .before .args in
     λ l. after-stage (stateOf (a .self)) l (sectionWalkOf (a .section)) (c .before .before .before .match .keys1)
     (rw (c .nothing .ensures l, c .before .in-section .ensures, c .before .before .at-stage .ensures))
 
 returns-2 : tie.Need-returns-2
 returns-2 c =
-    let a = c .before .before .before .before .args in
+    let a = c .before .before .before .before .before .args in
     λ l. after-stage (stateOf (a .self)) l (sectionWalkOf (a .section)) (c .before .before .before .match .keys2)
     (rw (c .nothing2 .ensures l, c .before .in-section2 .ensures, c .before .before .at-stage2 .ensures))
 
 returns-3 : tie.Need-returns-3
 returns-3 c =
-    let a = c .before .before .before .before .args in
+    let a = c .before .before .before .before .before .args in
     λ l. after-last (stateOf (a .self)) l (sectionWalkOf (a .section)) (omega arith)
     (rw (c .says .ensures l, c .before .in-section3 .ensures, c .before .before .end .ensures))
 

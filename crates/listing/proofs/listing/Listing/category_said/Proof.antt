@@ -3,7 +3,7 @@ use Rattle.listing.proofs.listing.Listing.category_said.Statement.{stat
 use Rattle.listing.proofs.listing.Listing.category_said.Tie as tie
 
 returns : tie.Need-returns
-returns c = λ l. rw (← c .before .before .before .before .before .name-or-none .ensures, c .before .before .before .class-name .given .1, ← c .before .enter .ensures) (c .record-said .ensures l)
+returns c = λ l. rw (← c .before .before .before .before .before .before .name-or-none .ensures, c .before .before .before .before .class-name .given .1, ← c .before .enter .ensures) (c .record-said .ensures l)
 
 returns-2 : tie.Need-returns-2
 returns-2 c = λ l. rw (← c .before .before .before .before .name-or-none .ensures, c .before .before .k .given .1) (c .refused .ensures l)

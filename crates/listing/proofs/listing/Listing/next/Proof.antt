@@ -15,7 +15,7 @@ unfolding stepAt
 returns-3 c = step-at _ _ _ (c .before .before .at .given .1) (c .record-step .ensures _)
 
 returns-4 : tie.Need-returns-4
-returns-4 c = step-at _ _ _ (c .before .before .before .at2 .given .1) (step-ro _ _ _ _ (c .before .ro .ensures) (c .ro-said .ensures _))
+returns-4 c = step-at _ _ _ (c .before .before .before .before .at2 .given .1) (step-ro _ _ _ _ (c .before .ro .ensures) (c .ro-said .ensures _))
 
 returns-5 : tie.Need-returns-5
 unfolding stepAt

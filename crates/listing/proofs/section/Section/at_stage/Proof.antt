@@ -3,7 +3,11 @@ use Rattle.listing.proofs.section.Section.at_stage.Statement.{statement
 use Rattle.listing.proofs.section.Section.at_stage.Tie as tie
 
 returns : tie.Need-returns
-returns c = rw (c .new3 .ensures, c .before .new2 .ensures, c .before .before .new .ensures)
+returns c = 
+    let categories = c .under3 .ensures in
+    let protocols = c .before .under2 .ensures in
+    let classes = c .before .before .under .ensures in
+    rw (categories .0, categories .1, protocols .0, protocols .1, classes .0, classes .1)
 
 pub at-stage-spec : {M : Type 1} → statement M
 at-stage-spec = tie.close (tie.spec (λ c κs. search needs) (λ c κs. search needs) (λ c κs. search needs) returns)

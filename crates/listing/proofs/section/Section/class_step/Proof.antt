@@ -3,7 +3,7 @@ use Rattle.listing.proofs.section.Section.class_step.Statement.{stateme
 use Rattle.listing.proofs.section.Section.class_step.Tie as tie
 
 returns : tie.Need-returns
-returns c = rw (c .with-classes .ensures, c .before .class-taken .ensures, ← c .before .before .before .before .before .next .ensures)
+returns c = rw (c .with-classes .ensures, c .before .class-taken .ensures, c .before .before .before .before .before .next .ensures .1, ← c .before .before .before .before .before .next .ensures .0)
 
 pub class-step-spec : {M : Type 1} → statement M
 class-step-spec = tie.close (tie.spec (λ c κs. search needs) (λ c κs. search needs) (λ c κs. search needs) (λ c. search needs) returns)

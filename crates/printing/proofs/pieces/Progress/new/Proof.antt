@@ -1,35 +1,6 @@
 use borrow.Author.Needs.{needs}
-use Rattle.printing.proofs.PieceAnswers.{begun-listing, begun-absent, begun-refused}
 use Rattle.printing.proofs.pieces.Progress.new.Statement.{statement}
 use Rattle.printing.proofs.pieces.Progress.new.Tie as tie
 
-returns : tie.Need-returns
-returns c =
-    let at-new = c .before .before in
-    begun-listing (at-new .new .result) (at-new .new .ensures) _ _ (c .enum-told .given .1)
-
-returns-2 : tie.Need-returns-2
-returns-2 c =
-    let at-answer = c .before .before .before in
-    let at-new = at-answer .before .before in
-    begun-absent (at-new .new .result) (at-new .new .ensures) _ _ (at-answer .answer .given .1) _ (c .enum-told2 .given .1)
-
-returns-3 : tie.Need-returns-3
-returns-3 c =
-    let at-m = c .before in
-    let at-answer = at-m .before .before .before in
-    let at-new = at-answer .before .before in
-    begun-refused (at-new .new .result) (at-new .new .ensures) _ _ (at-answer .answer .given .1) _ (at-m .m .given .1)
-
 pub new-spec : {M : Type 1} → statement M
-new-spec =
-    tie.close
-    (tie.spec
-    (λ c κs. search needs)
-    (λ c. search needs)
-    (λ c. search needs)
-    (λ c. search needs)
-    (λ c. search needs)
-    returns
-    returns-2
-    returns-3)
+new-spec = tie.close (tie.spec (λ c κs. search needs) (λ c. c .under .ensures))
