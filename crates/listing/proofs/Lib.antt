@@ -17,10 +17,14 @@ pub mod SectionRests
 pub mod Bounds
 pub mod RecordLines
 pub mod WholeListing
+pub mod DecodedListing
 pub mod LoanSettings
 pub mod Demand3
+pub mod ListedAsBefore
+pub mod RecordsAsBefore
 pub mod EmptyLists
 pub mod LittleEndian
 pub mod NodeListing
+pub mod EndingCases
 pub mod HubListing
 pub mod Cases

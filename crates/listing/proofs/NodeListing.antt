@@ -211,13 +211,13 @@ six-events =
     ∷ []
 
 module _ (before : List ℕ) where
-  no-rebase : (a : ℕ) → rebaseAt [] (indexed [] [] before) a ≡ absent NoRecord
+  pub no-rebase : (a : ℕ) → rebaseAt [] (indexed [] [] before) a ≡ absent NoRecord
   unfolding rebaseAt lastAmong
   no-rebase a = rw (rebase-last-wins [] [] before a)
 
-  no-bind : (a : ℕ) → bindAt node-files [] [] (indexed [] [] before) a ≡ absent NoRecord
+  pub no-bind : (files : List (List ℕ)) (a : ℕ) → bindAt files [] [] (indexed [] [] before) a ≡ absent NoRecord
   unfolding bindAt lastAmong
-  no-bind a = rw (bind-last-wins [] [] before a)
+  no-bind files a = rw (bind-last-wins [] [] before a)
 
   -- The records.
   the-class : classAt (node before) 0x1000 false ≡ value node-class
@@ -278,11 +278,11 @@ module _ (before : List ℕ) where
 
   node-superclass : superclassName (node before) node-class ≡ absent NullAddress
   unfolding decodeClassNameOf decodeNonzeroClassName decodeBoundName symbolOf sum64 nonzero choose
-  node-superclass = rw (no-bind 0x1008)
+  node-superclass = rw (no-bind node-files 0x1008)
 
   meta-superclass : superclassName (node before) meta-class ≡ absent NullAddress
   unfolding decodeClassNameOf decodeNonzeroClassName decodeBoundName symbolOf sum64 nonzero choose
-  meta-superclass = rw (no-bind 0x1030)
+  meta-superclass = rw (no-bind node-files 0x1030)
 
   category-class : categoryClassName (node before) extra-category ≡ value (textOf 1 0 4)
   unfolding fileOf decodeClassNameOf decodeNonzeroClassName decodeClassName decodeRoData pickedIn picked pickedWide mapped dataArm64e data64 pointerAt textIn textFrom text utf8 judge resolve readable readableAt lookup rows ends holds placed sum64 stored word stripped le nonzero choose node-bytes

@@ -1,10 +1,10 @@
 // Where a listing stands: before a line that is due, in a section, in a list of a record, or at its end.
+use pointers::setting::Setting;
 use records::category::ObjcCategory;
 use records::class::ClassRo;
 use records::class::ObjcClass;
 use records::list::ListKind;
 use records::protocol::ObjcProtocol;
-use pointers::setting::Setting;
 use walks::list_walk::ListWalk;
 use walks::protocol_names::ProtocolNameWalk;
 ghost use mathlib.Core.Path.{_≡_};
@@ -100,9 +100,24 @@ impl Owner {
         match n {
             0 => self.row_list(setting, n, ListKind::Methods, protocol.instance_methods),
             1 => self.row_list(setting, n, ListKind::Methods, protocol.class_methods),
-            2 => self.row_list(setting, n, ListKind::Methods, protocol.optional_instance_methods),
-            3 => self.row_list(setting, n, ListKind::Methods, protocol.optional_class_methods),
-            4 => self.row_list(setting, n, ListKind::Properties, protocol.instance_properties),
+            2 => self.row_list(
+                setting,
+                n,
+                ListKind::Methods,
+                protocol.optional_instance_methods,
+            ),
+            3 => self.row_list(
+                setting,
+                n,
+                ListKind::Methods,
+                protocol.optional_class_methods,
+            ),
+            4 => self.row_list(
+                setting,
+                n,
+                ListKind::Properties,
+                protocol.instance_properties,
+            ),
             5 => self.row_list(setting, n, ListKind::Properties, protocol.class_properties),
             6 => self.name_list(setting, n, protocol.protocols),
             _ => At::Section,
@@ -117,7 +132,12 @@ impl Owner {
             0 => self.row_list(setting, n, ListKind::Methods, category.instance_methods),
             1 => self.row_list(setting, n, ListKind::Methods, category.class_methods),
             2 => self.name_list(setting, n, category.protocols),
-            3 => self.row_list(setting, n, ListKind::Properties, category.instance_properties),
+            3 => self.row_list(
+                setting,
+                n,
+                ListKind::Properties,
+                category.instance_properties,
+            ),
             4 => self.row_list(setting, n, ListKind::Properties, category.class_properties),
             _ => At::Section,
         }

@@ -683,7 +683,16 @@ impl Listing {
             ),
             At::Ro(class) => {
                 let setting = self.setting;
-                let answer = class.ro(files, segments, sections, info, rebases, binds, index, setting);
+                let answer = class.ro(
+                    files,
+                    segments,
+                    sections,
+                    info,
+                    rebases,
+                    binds,
+                    index,
+                    setting,
+                );
                 self.ro_said(answer)
             }
             At::List(n, list) => self.list_step(

@@ -18,6 +18,7 @@ pub mod Rows
 pub mod Grammar
 pub mod Passes
 pub mod Texts
+pub mod Endings
 pub mod FirstBad
 pub mod TwosLaws
 pub mod Modulo

@@ -10,6 +10,7 @@ pub mod Spot
 pub mod Breaks
 pub mod Utf8
 pub mod Text
+pub mod Endings
 pub mod Pass
 pub mod Signed
 pub mod Relative

@@ -30,7 +30,7 @@ pub enum Reason {
     OddList,
     // A list's entry size is below the least.
     ShortEntry,
-    // A LEB128 number of more than 64 bits.
+    // A LEB128 number of more than 64 bits, or a text outside the grammar of type encodings.
     Malformed,
 }
 

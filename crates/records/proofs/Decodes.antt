@@ -2,7 +2,7 @@
 -- it, it gives no number; over any tables none but 9, 7 and 14.
 use Prim.Native.Nat.{ℕ}
 use mathlib.Core.Bool.{Bool}
-use Rattle.reads.specs.Outcome.{Unrefused, is-value}
+use Rattle.reads.specs.Outcome.{Outcome, Unrefused, is-value, is-absent}
 use Rattle.reads.proofs.Unrefused.{unrefused-then, unrefused-else, unrefused-first, unrefused-choose, sum-unrefused, nonzero-unrefused, readable-unrefused, word-unrefused, text-in-unrefused, picked-unrefused}
 use Rattle.pointers.specs.Tables.{Tables, imageIn}
 use Rattle.pointers.specs.Open.{Opened}
@@ -12,13 +12,24 @@ use Rattle.pointers.proofs.OpenedTables.{opened-info, rebase-unrefused, symbol-
 use Rattle.pointers.proofs.LookupNumbers.{numbers-then, numbers-else, numbers-first, numbers-choose, info-unrefused, rebase-numbers, symbol-numbers, slot-numbers, pointer-numbers, pointer-or-0-numbers}
 use Rattle.records.proofs.Headers.{even-unrefused, size-unrefused}
 use Rattle.records.specs.Ask.{pickedIn, Ask, sum64, nonzero, even, atLeast, readable, u32In, u64In, i32In, u64At, picked, pickedAt, slot, rebase, pointer, pointerOr0, string, symbol, info, answer}
-use Rattle.records.specs.Decode.{Decode, made, asked, after, either, eitherFirst, chosen, run}
+use Rattle.records.specs.Decode.{Decode, made, asked, after, either, eitherFirst, chosen, trial, given, lacking, triedOf, run}
 use Rattle.records.specs.Class.{classAt, roOf, classNameOf, decodeClass, decodeRoOf, decodeClassNameOf}
 use Rattle.records.specs.Protocol.{protocolAt, decodeProtocol}
 use Rattle.records.specs.Category.{categoryAt, decodeCategory}
 use Rattle.records.specs.Row.{rowAt, decodeRow}
 use Rattle.records.specs.declared.class.ObjcClass.{ObjcClass}
 use Rattle.records.specs.declared.list.RowKind.{RowKind}
+
+-- A trial is refused only where what is tried is.
+unrefused-tried : {A : Type 0} {o : Outcome A} → Unrefused o → Unrefused (triedOf o)
+unrefused-tried (is-value a) = is-value (given a)
+unrefused-tried (is-absent r) = is-value (lacking r)
+
+numbers-tried : {A : Type 0} {o : Outcome A} → LookupOutcome o → LookupOutcome (triedOf o)
+numbers-tried (lookups.unrefused u) = lookups.unrefused (unrefused-tried u)
+numbers-tried lookups.is-9 = lookups.is-9
+numbers-tried lookups.is-7 = lookups.is-7
+numbers-tried lookups.is-14 = lookups.is-14
 
 module _ (t : Tables) (o : Opened t) where
   answer-unrefused : (q : Ask) → Unrefused (answer t q)
@@ -49,6 +60,7 @@ module _ (t : Tables) (o : Opened t) where
   unrefused (either d e) = unrefused-else (unrefused d) (unrefused e)
   unrefused (eitherFirst d e) = unrefused-first (unrefused d) (unrefused e)
   unrefused (chosen b d e) = unrefused-choose b (unrefused d) (unrefused e)
+  unrefused (trial d) = unrefused-tried (unrefused d)
 
   -- In the form in which walks take it.
   pub class-unrefused : (va : ℕ) (m : Bool) → Unrefused (classAt t va m)
@@ -99,6 +111,7 @@ module _ (t : Tables) where
   numbers (either d e) = numbers-else (numbers d) (numbers e)
   numbers (eitherFirst d e) = numbers-first (numbers d) (numbers e)
   numbers (chosen b d e) = numbers-choose b (numbers d) (numbers e)
+  numbers (trial d) = numbers-tried (numbers d)
 
   -- A row's number is 9, 7 or 14.
   pub row-number : (k : RowKind) (va : ℕ) → LookupOutcome (rowAt t k va)

@@ -14,7 +14,7 @@ use Rattle.reads.proofs.Breakpoints.{can-read-until-break, unreadable-past-brea
 use Rattle.reads.proofs.LeastAbove.{next-break-above, above-falls}
 use Rattle.records.specs.List.{least, entryAddress, entry}
 use Rattle.records.specs.Search.{entryOf, firstReadable, searchBudget}
-use Rattle.records.specs.Tries.{ahead, Tried}
+use Rattle.records.specs.Tries.{ahead, Leads}
 use Rattle.records.specs.declared.list.Entry.{Entry}
 use Rattle.records.specs.declared.list.Layout.{Layout}
 use Rattle.records.specs.declared.list.Try.{Try}
@@ -114,7 +114,7 @@ module _ (m : Image) (h : Layout) (i : ℕ) where
   ahead-few = omega (arith, above-few m (least (h .kind)) (entryAddress h i))
 
 -- What trying an index leaves, by the case that came.
-module _ (m : Image) (h : Layout) (i : ℕ) (r : Try) (tried : Tried m h i r) where
+module _ (m : Image) (h : Layout) (i : ℕ) (r : Try) (tried : Leads m h i r) where
   pub stopped : (entry : Entry) → r ≡ Stop entry → entryOf entry ≡ firstReadable m h i
   stopped entry e = rw e at tried
 

@@ -7,6 +7,8 @@ pub mod Readables
 pub mod Stages
 pub mod NearFields
 pub mod Decodes
+pub mod Asks
+pub mod Readings
 pub mod HubImage
 pub mod ListCases
 pub mod RowCases

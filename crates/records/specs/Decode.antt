@@ -3,7 +3,8 @@
 use Prim.Native.Nat.{ℕ}
 use mathlib.Core.Bool.{Bool}
 use lib.IntN.{ℤ}
-use Rattle.reads.specs.Outcome.{Outcome, value, andThen, orElse, orFirst, choose, textOf}
+use Rattle.reads.specs.Outcome.{Outcome, value, absent, number, andThen, orElse, orFirst, choose, textOf}
+use Rattle.reads.specs.declared.answer.Reason.{Reason}
 use Rattle.reads.specs.declared.place.Place.{Place}
 use Rattle.reads.specs.declared.text.Text.{Text}
 use Rattle.pointers.specs.Tables.{Tables}
@@ -11,8 +12,19 @@ use Rattle.pointers.specs.declared.imageinfo.ImageInfo.{ImageInfo}
 use Rattle.records.specs.Ask as asks
 use Rattle.records.specs.Ask.{Ask, Answer, answer}
 
+-- What a definition gives where no question refuses: a value, or the reason for which it is absent.
+pub data Tried (A : Type 0) : Type 0 where
+  given : A → Tried A
+  lacking : Reason → Tried A
+
+-- Absent is no end: it is what was given. A number stays.
+abbrev pub triedOf : {A : Type 0} → Outcome A → Outcome (Tried A)
+triedOf (value a) = value (given a)
+triedOf (absent r) = value (lacking r)
+triedOf (number k) = number k
+
 -- A value; an answer; what comes after another; the second where the first is absent, with the second's reason where both are, or with
--- the first's; one of two by a test. (A type that varies between
+-- the first's; one of two by a test; a trial of another, after which a definition goes on whether or not that is absent. (A type that varies between
 -- constructors is an index, and antt does not read an index backwards into an argument: definitions are written with the words below, which
 -- it does.)
 pub data Decode : Type 0 → Type 1 where
@@ -22,6 +34,7 @@ pub data Decode : Type 0 → Type 1 where
   either : {A : Type 0} → Decode A → Decode A → Decode A
   eitherFirst : {A : Type 0} → Decode A → Decode A → Decode A
   chosen : {A : Type 0} → Bool → Decode A → Decode A → Decode A
+  trial : {A : Type 0} → Decode A → Decode (Tried A)
 
 abbrev pub run : {A : Type 0} → Tables → Decode A → Outcome A
 run t (made a) = value a
@@ -30,6 +43,7 @@ run t (after d f) = andThen (run t d) (λ a. run t (f a))
 run t (either d e) = orElse (run t d) (run t e)
 run t (eitherFirst d e) = orFirst (run t d) (run t e)
 run t (chosen b d e) = choose b (run t d) (run t e)
+run t (trial d) = triedOf (run t d)
 
 -- The words of definitions.
 abbrev pub done : {A : Type 0} → A → Decode A
@@ -46,6 +60,9 @@ elseFirst d e = eitherFirst d e
 
 abbrev pub when : {A : Type 0} → Bool → Decode A → Decode A → Decode A
 when b d e = chosen b d e
+
+abbrev pub tried : {A : Type 0} → Decode A → Decode (Tried A)
+tried d = trial d
 
 -- "or 0"; a missing text is "".
 abbrev pub or0 : Decode ℕ → Decode ℕ

@@ -2,6 +2,8 @@
 pub mod Header
 pub mod Ask
 pub mod Decode
+pub mod Asks
+pub mod Readings
 pub mod Near
 pub mod Class
 pub mod Protocol

@@ -14,6 +14,6 @@ unfoldable pub ahead : Image → Layout → ℕ → ℕ
 ahead m h i = above (breaksOf m (least (h .kind))) (entryAddress h i)
 
 -- The search's answer, or a later index from which the answer is the same and fewer breakpoints lie ahead.
-abbrev pub Tried : Image → Layout → ℕ → Try → Type 0
-Tried m h i (Stop entry) = entryOf entry ≡ firstReadable m h i
-Tried m h i (Go j) = (firstReadable m h j ≡ firstReadable m h i) × (ahead m h j < ahead m h i)
+abbrev pub Leads : Image → Layout → ℕ → Try → Type 0
+Leads m h i (Stop entry) = entryOf entry ≡ firstReadable m h i
+Leads m h i (Go j) = (firstReadable m h j ≡ firstReadable m h i) × (ahead m h j < ahead m h i)

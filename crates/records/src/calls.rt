@@ -74,7 +74,17 @@ pub fn decode_class_ro(
         ⌜ classRoOutcome r ≡ guarded t (classRoAt t va) ⌝ }
 {
     match ask(files, segments, sections, info, rebases, binds, index) {
-        Asked::Yes => class_ro_at(files, segments, sections, info, rebases, binds, index, setting, va),
+        Asked::Yes => class_ro_at(
+            files,
+            segments,
+            sections,
+            info,
+            rebases,
+            binds,
+            index,
+            setting,
+            va,
+        ),
         Asked::Refused(k) => ClassRoAnswer::Missing(Missing::Refused(k)),
     }
 }
@@ -95,7 +105,17 @@ pub fn decode_class_name(
         ⌜ textOutcome r ≡ guarded t (classNameAt t va) ⌝ }
 {
     match ask(files, segments, sections, info, rebases, binds, index) {
-        Asked::Yes => class_name_at(files, segments, sections, info, rebases, binds, index, setting, va),
+        Asked::Yes => class_name_at(
+            files,
+            segments,
+            sections,
+            info,
+            rebases,
+            binds,
+            index,
+            setting,
+            va,
+        ),
         Asked::Refused(k) => TextAnswer::Missing(Missing::Refused(k)),
     }
 }
@@ -149,7 +169,17 @@ impl ObjcClass {
             ⌜ classRoOutcome r ≡ guarded t (roOf t self) ⌝ }
     {
         match ask(files, segments, sections, info, rebases, binds, index) {
-            Asked::Yes => ro_of(files, segments, sections, info, rebases, binds, index, setting, self),
+            Asked::Yes => ro_of(
+                files,
+                segments,
+                sections,
+                info,
+                rebases,
+                binds,
+                index,
+                setting,
+                self,
+            ),
             Asked::Refused(k) => ClassRoAnswer::Missing(Missing::Refused(k)),
         }
     }
@@ -171,7 +201,17 @@ pub fn decode_protocol(
         ⌜ protocolOutcome r ≡ guarded t (protocolAt t va) ⌝ }
 {
     match ask(files, segments, sections, info, rebases, binds, index) {
-        Asked::Yes => protocol_at(files, segments, sections, info, rebases, binds, index, setting, va),
+        Asked::Yes => protocol_at(
+            files,
+            segments,
+            sections,
+            info,
+            rebases,
+            binds,
+            index,
+            setting,
+            va,
+        ),
         Asked::Refused(k) => ProtocolAnswer::Missing(Missing::Refused(k)),
     }
 }
@@ -192,7 +232,17 @@ pub fn decode_category(
         ⌜ categoryOutcome r ≡ guarded t (categoryAt t va) ⌝ }
 {
     match ask(files, segments, sections, info, rebases, binds, index) {
-        Asked::Yes => category_at(files, segments, sections, info, rebases, binds, index, setting, va),
+        Asked::Yes => category_at(
+            files,
+            segments,
+            sections,
+            info,
+            rebases,
+            binds,
+            index,
+            setting,
+            va,
+        ),
         Asked::Refused(k) => CategoryAnswer::Missing(Missing::Refused(k)),
     }
 }

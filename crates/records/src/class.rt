@@ -361,7 +361,17 @@ pub fn ro_of(
         ⌜ classRoOutcome r ≡ roOf t class ⌝ }
 {
     match Address::pick(segments, class.bits) {
-        Word::Value(va) => class_ro_at(files, segments, sections, info, rebases, binds, index, setting, va),
+        Word::Value(va) => class_ro_at(
+            files,
+            segments,
+            sections,
+            info,
+            rebases,
+            binds,
+            index,
+            setting,
+            va,
+        ),
         Word::Missing(m) => ClassRoAnswer::Missing(m),
     }
 }

@@ -26,7 +26,7 @@ ghost use Rattle.pointers.specs.Tables.{lent, under};
 ghost use Rattle.records.specs.Ask.{evenList, entrySize};
 ghost use Rattle.records.specs.List.{layoutOutcome, least, methodRows, rowsOf, sizeOf, mustBeEven, listAt};
 ghost use Rattle.records.specs.Search.{entryOf, firstReadable, searchBudget};
-ghost use Rattle.records.specs.Tries.{ahead, Tried};
+ghost use Rattle.records.specs.Tries.{ahead, Leads};
 
 // Bits of a method list's first word that are not its entry size (objc-runtime-new.h, entsize_list_tt<method_t, ..>).
 const METHOD_LIST_FLAG_MASK: u32 = 0xFFFF_0003;
@@ -224,7 +224,7 @@ fn can_read(files: &[&[u8]], segments: &[u64], k: u64, va: u64) -> bool
 // Tries index i: the entry there is the answer, or none from there on is, or the search goes on at the first entry whose
 // address reaches the next breakpoint.
 fn try_at(files: &[&[u8]], segments: &[u64], h: Layout, i: u64) -> Try
-    ensures { λ r. ⌜ Tried (lentImage files segments) h i r ⌝ }
+    ensures { λ r. ⌜ Leads (lentImage files segments) h i r ⌝ }
 {
     let count = h.count as u64;
     if count <= i {

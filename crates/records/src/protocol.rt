@@ -124,7 +124,17 @@ fn class_properties_at(
         ⌜ wordOutcome r ≡ classPropertiesAt t va p ⌝ }
 {
     if SIZE_WITH_CLASS_PROPERTIES <= u32_in(files, p, OWN_SIZE) {
-        return trailing_at(files, segments, sections, info, rebases, binds, index, setting, va);
+        return trailing_at(
+            files,
+            segments,
+            sections,
+            info,
+            rebases,
+            binds,
+            index,
+            setting,
+            va,
+        );
     }
     Word::Value(0)
 }

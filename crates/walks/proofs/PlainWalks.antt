@@ -273,33 +273,33 @@ module _ {A : Type 0} (k : Kind A) (t : Tables) (yes : asked t ≡ value tt) whe
 
 -- The protocol walk: a step for each slot.
 module _ (t : Tables) (yes : asked t ≡ value tt) where
-  abbrev protocolSlots : List ℕ
-  protocolSlots = slotsOf Protocols (t .sections)
+  abbrev slotsThere : List ℕ
+  slotsThere = slotsOf Protocols (t .sections)
 
-  module _ (at : ℕ) (l : List ℕ) (g : at ≤ length protocolSlots) where
+  module _ (at : ℕ) (l : List ℕ) (g : at ≤ length slotsThere) where
     abbrev there : Walk
     there = walk at 0 0 0
 
-    protocol-slot : protocolStepOf t there l ≡ bySlot there l (takeProtocol t there l) (slotTaken t protocolSlots at)
+    protocol-slot : protocolStepOf t there l ≡ bySlot there l (takeProtocol t there l) (slotTaken t slotsThere at)
     protocol-slot =
-        sym (protocol-step t at l (ap (bySlot there l (takeProtocol t there l)) (next-on t protocolSlots at yes (slot-fits protocolSlots at 0 g (omega arith)) refl)))
+        sym (protocol-step t at l (ap (bySlot there l (takeProtocol t there l)) (next-on t slotsThere at yes (slot-fits slotsThere at 0 g (omega arith)) refl)))
 
-    protocol-end : at ≡ length protocolSlots → protocolStepOf t there l ≡ leaves (value finished) there l
-    protocol-end e = protocol-slot ∙ rw (← taken-none t protocolSlots at e)
+    protocol-end : at ≡ length slotsThere → protocolStepOf t there l ≡ leaves (value finished) there l
+    protocol-end e = protocol-slot ∙ rw (← taken-none t slotsThere at e)
 
-    module _ (u : at < length protocolSlots) where
-      protocol-taken : protocolStepOf t there l ≡ bySlot there l (takeProtocol t there l) (takenBy (addressIn t (getD protocolSlots at 0)))
-      protocol-taken = protocol-slot ∙ rw (← taken-by t protocolSlots at {x = takenBy (addressIn t (getD protocolSlots at 0))} (λ e. absurd (omega arith)) refl refl refl)
+    module _ (u : at < length slotsThere) where
+      protocol-taken : protocolStepOf t there l ≡ bySlot there l (takeProtocol t there l) (takenBy (addressIn t (getD slotsThere at 0)))
+      protocol-taken = protocol-slot ∙ rw (← taken-by t slotsThere at {x = takenBy (addressIn t (getD slotsThere at 0))} (λ e. absurd (omega arith)) refl refl refl)
 
-      protocol-dropped : (why : Reason) → addressIn t (getD protocolSlots at 0) ≡ absent why → protocolStepOf t there l ≡ leaves (value dropped) (walk (at + 1) 0 0 0) l
+      protocol-dropped : (why : Reason) → addressIn t (getD slotsThere at 0) ≡ absent why → protocolStepOf t there l ≡ leaves (value dropped) (walk (at + 1) 0 0 0) l
       protocol-dropped why e = protocol-taken ∙ rw e
 
-      protocol-found : (a : ℕ) (p : ObjcProtocol) → addressIn t (getD protocolSlots at 0) ≡ value a → protocolAt t a ≡ value p
+      protocol-found : (a : ℕ) (p : ObjcProtocol) → addressIn t (getD slotsThere at 0) ≡ value a → protocolAt t a ≡ value p
           → protocolStepOf t there l ≡ leaves (value (found p)) (walk (at + 1) 0 0 0) l
       unfolding takeProtocol
       protocol-found a p e d = protocol-taken ∙ rw (e, d)
 
-      protocol-passed : (a : ℕ) (why : Reason) → addressIn t (getD protocolSlots at 0) ≡ value a → protocolAt t a ≡ absent why
+      protocol-passed : (a : ℕ) (why : Reason) → addressIn t (getD slotsThere at 0) ≡ value a → protocolAt t a ≡ absent why
           → protocolStepOf t there l ≡ leaves (value (passed why)) (walk (at + 1) 0 0 0) l
       unfolding takeProtocol
       protocol-passed a why e d = protocol-taken ∙ rw (e, d)
@@ -309,31 +309,31 @@ module _ (t : Tables) (yes : asked t ≡ value tt) where
   protocolIn a = ofValue (addressIn t a) (λ p. present (protocolAt t p))
 
   -- One slot is taken, then the walk goes on and gives the records rs.
-  module _ (n at : ℕ) (l : List ℕ) (u : at < length protocolSlots) (rs : List ObjcProtocol) (later : Gives (protocolStepOf t) n (walk (at + 1) 0 0 0) l rs) where
+  module _ (n at : ℕ) (l : List ℕ) (u : at < length slotsThere) (rs : List ObjcProtocol) (later : Gives (protocolStepOf t) n (walk (at + 1) 0 0 0) l rs) where
     abbrev Next : List ObjcProtocol → Type 0
     Next ps = Gives (protocolStepOf t) (suc n) (walk at 0 0 0) l (ps ++ rs)
 
-    by-protocol : (a : ℕ) → addressIn t (getD protocolSlots at 0) ≡ value a → {o : Outcome ObjcProtocol} {ps : List ObjcProtocol} → protocolAt t a ≡ o → Held o ps → Next ps
+    by-protocol : (a : ℕ) → addressIn t (getD slotsThere at 0) ≡ value a → {o : Outcome ObjcProtocol} {ps : List ObjcProtocol} → protocolAt t a ≡ o → Held o ps → Next ps
     by-protocol a e d (held-one p) = giving (protocol-found at l (omega arith) u a p e d) later
     by-protocol a e d (held-none why) = passing (protocol-passed at l (omega arith) u a why e d) later
 
-    next-protocol : (o : Outcome ℕ) → addressIn t (getD protocolSlots at 0) ≡ o → (ps : List ObjcProtocol) → ofValue o (λ p. present (protocolAt t p)) ≡ value ps → Next ps
+    next-protocol : (o : Outcome ℕ) → addressIn t (getD slotsThere at 0) ≡ o → (ps : List ObjcProtocol) → ofValue o (λ p. present (protocolAt t p)) ≡ value ps → Next ps
     next-protocol (value a) e ps f = by-protocol a e refl (present-held (protocolAt t a) f)
     next-protocol (absent why) e ps f = let none : ps ≡ [] = cc in rw none (dropping (protocol-dropped at l (omega arith) u why e) later)
     next-protocol (number k) e ps f = let z : _≡_ {A = ℕ} 0 1 = cc in absurd (omega arith)
 
   -- All slots from one on.
-  protocol-runs : (n at : ℕ) (l : List ℕ) → at + n ≡ length protocolSlots → (rs : List ObjcProtocol) → gather protocolIn (drop at protocolSlots) ≡ value rs
+  protocol-runs : (n at : ℕ) (l : List ℕ) → at + n ≡ length slotsThere → (rs : List ObjcProtocol) → gather protocolIn (drop at slotsThere) ≡ value rs
       → Gives (protocolStepOf t) n (walk at 0 0 0) l rs
   unfolding protocolIn
   protocol-runs zero at l e rs f =
-      let none : rs ≡ [] = gather-none protocolIn (rw (drop-of-length-le protocolSlots {i = at} (omega arith)) at f) in
+      let none : rs ≡ [] = gather-none protocolIn (rw (drop-of-length-le slotsThere {i = at} (omega arith)) at f) in
       rw none (ended (protocol-end at l (omega arith) (omega arith)))
   protocol-runs (suc n) at l e rs f =
-      let parts = gather-parts protocolIn (getD protocolSlots at 0) (drop (at + 1) protocolSlots) (rw (slots-from protocolSlots at (omega arith)) at f) in
+      let parts = gather-parts protocolIn (getD slotsThere at 0) (drop (at + 1) slotsThere) (rw (slots-from slotsThere at (omega arith)) at f) in
       rw (parts .whole)
       (next-protocol n at l (omega arith) (parts .second) (protocol-runs n (at + 1) l (omega arith) (parts .second) (parts .ofSecond))
-      (addressIn t (getD protocolSlots at 0)) refl (parts .first) (parts .ofFirst))
+      (addressIn t (getD slotsThere at 0)) refl (parts .first) (parts .ofFirst))
 
 -- Where no question refuses the tables and the plain definition gives records, no number, the walk is a run that gives exactly these.
 module _ (t : Tables) (yes : asked t ≡ value tt) (l : List ℕ) where

@@ -216,7 +216,17 @@ fn name_in(
     ensures { λ r. let t = under setting (lent files segments sections info rebases binds index) in
         ⌜ textOutcome r ≡ nameIn t slot ⌝ }
 {
-    match protocol_name_in(files, segments, sections, info, rebases, binds, index, setting, slot) {
+    match protocol_name_in(
+        files,
+        segments,
+        sections,
+        info,
+        rebases,
+        binds,
+        index,
+        setting,
+        slot,
+    ) {
         TextAnswer::Found(name) => TextAnswer::Found(name),
         TextAnswer::Missing(m) => match m {
             Missing::Absent(why) => text_because(
@@ -328,7 +338,17 @@ impl ProtocolNameWalk {
         if has_slot(list, self.cursor) {
             let slot = list.base + 8 * self.cursor;
             let setting = self.setting;
-            let name = name_in(files, segments, sections, info, rebases, binds, index, setting, slot);
+            let name = name_in(
+                files,
+                segments,
+                sections,
+                info,
+                rebases,
+                binds,
+                index,
+                setting,
+                slot,
+            );
             return self.named(name);
         }
         self.at(NameStep::Finished, list.count)
@@ -350,7 +370,17 @@ impl ProtocolNameWalk {
     {
         let list = self.list;
         let setting = self.setting;
-        match protocol_list_at(files, segments, sections, info, rebases, binds, index, setting, list) {
+        match protocol_list_at(
+            files,
+            segments,
+            sections,
+            info,
+            rebases,
+            binds,
+            index,
+            setting,
+            list,
+        ) {
             ProtocolListAnswer::List(list) => {
                 if list.count < self.cursor {
                     return self.refused(10);

@@ -231,7 +231,16 @@ impl ClassSlots {
             Lists::Classes,
             len,
         ) {
-            Asked::Yes => self.take_meta(files, segments, sections, info, rebases, binds, index, setting),
+            Asked::Yes => self.take_meta(
+                files,
+                segments,
+                sections,
+                info,
+                rebases,
+                binds,
+                index,
+                setting,
+            ),
             Asked::Refused(k) => self.refused(k),
         }
     }
@@ -254,7 +263,17 @@ impl ClassSlots {
     {
         if self.meta != 0 {
             let len = ledger.len();
-            return self.next_meta(files, segments, sections, info, rebases, binds, index, setting, len);
+            return self.next_meta(
+                files,
+                segments,
+                sections,
+                info,
+                rebases,
+                binds,
+                index,
+                setting,
+                len,
+            );
         }
         let slots = self.slots;
         match slots.next_new(
@@ -350,7 +369,17 @@ impl CategorySlots {
             ⌜ categoryTaken r (after ledger) ≡ takeNew categories t (categorySlots self) (before ledger) va ⌝ }
     {
         let slots = self.slots;
-        match category_at(files, segments, sections, info, rebases, binds, index, setting, va) {
+        match category_at(
+            files,
+            segments,
+            sections,
+            info,
+            rebases,
+            binds,
+            index,
+            setting,
+            va,
+        ) {
             CategoryAnswer::Category(category) => CategoryTaken {
                 step: CategoryStep::Record(category),
                 slots: CategorySlots {
@@ -460,7 +489,17 @@ impl ProtocolSlots {
             ⌜ protocolTaken r ≡ takeProtocol t (protocolSlots self) [] va ⌝ }
     {
         let slots = self.past();
-        match protocol_at(files, segments, sections, info, rebases, binds, index, setting, va) {
+        match protocol_at(
+            files,
+            segments,
+            sections,
+            info,
+            rebases,
+            binds,
+            index,
+            setting,
+            va,
+        ) {
             ProtocolAnswer::Protocol(protocol) => ProtocolTaken {
                 step: ProtocolStep::Record(protocol),
                 slots,

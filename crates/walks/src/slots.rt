@@ -225,7 +225,17 @@ fn take_slot(
         return SlotStep::Finished;
     }
     let at = slot_at(sections, lists, k);
-    match address_in(files, segments, sections, info, rebases, binds, index, setting, at) {
+    match address_in(
+        files,
+        segments,
+        sections,
+        info,
+        rebases,
+        binds,
+        index,
+        setting,
+        at,
+    ) {
         Word::Value(va) => SlotStep::Address(va),
         Word::Missing(m) => match m {
             Missing::Absent(_) => SlotStep::Dropped,

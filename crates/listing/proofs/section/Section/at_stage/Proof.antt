@@ -3,7 +3,7 @@ use Rattle.listing.proofs.section.Section.at_stage.Statement.{statement
 use Rattle.listing.proofs.section.Section.at_stage.Tie as tie
 
 returns : tie.Need-returns
-returns c = 
+returns c =
     let categories = c .under3 .ensures in
     let protocols = c .before .under2 .ensures in
     let classes = c .before .before .under .ensures in
