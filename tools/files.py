@@ -73,7 +73,7 @@ def copies(rng, b):
 
 def moved(rng, b):
     k = rng.randrange(1, 4)
-    images = [bytes(rng.randrange(min(16, len(b.image)))) for _ in range(4)]
+    images = [bytes(rng.randrange(min(16, len(b.image)) + 1)) for _ in range(4)]
     images[k] = b.image
     return over(b, images, [(*s[:4], k) for s in b.segments], [(*x[:3], k) for x in b.binds])
 
