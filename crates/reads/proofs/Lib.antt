@@ -19,6 +19,8 @@ pub mod Grammar
 pub mod Passes
 pub mod Texts
 pub mod Endings
+pub mod OneImage
+pub mod OneFile
 pub mod FirstBad
 pub mod TwosLaws
 pub mod Modulo
