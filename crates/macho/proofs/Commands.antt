@@ -5,7 +5,7 @@ use mathlib.Core.Bool.{Bool, true, false, _&&_}
 use mathlib.Core.List.{List, [], _∷_}
 use native.Mathlib.Omega.{arith}
 use lib.Dec.{eqb, leb}
-use lib.ListN.{length}
+use lib.ListN.{length, drop}
 use borrow.Author.Tests.{le-leb, lt-leb, leb-true, eq-eqb, ne-eqb, eqb-true}
 use Rattle.reads.specs.Outcome.{choose}
 use Rattle.reads.proofs.Tests.{both-true, choose-true, choose-false}
@@ -104,8 +104,10 @@ pub record Finds (kind : ℕ) (cmds : List ℕ) (k a : ℕ) (r : Found) : Type 0
   pub kinded : r .here ≡ true → cmd cmds (r .at) ≡ kind
   pub fewer : r .here ≡ true → r .left < k
   pub none : r .here ≡ false → ofKind kind cmds k a ≡ []
+  pub rest : ofKind kind cmds (r .left) (r .next) ≡ drop 1 (ofKind kind cmds k a)
 
 nothing : (kind : ℕ) (cmds : List ℕ) (k a : ℕ) → ofKind kind cmds k a ≡ [] → Finds kind cmds k a foundNone
+unfolding ofKind
 nothing kind cmds k a e =
     record {
       more = λ t. let q : _≡_ {A = ℕ} 0 1 = cc in absurd (omega arith);
@@ -113,6 +115,7 @@ nothing kind cmds k a e =
       kinded = λ t. let q : _≡_ {A = ℕ} 0 1 = cc in absurd (omega arith);
       fewer = λ t. let q : _≡_ {A = ℕ} 0 1 = cc in absurd (omega arith);
       none = λ t. e;
+      rest = rw e;
     }
 
 -- The kinds of the commands from a on, by the first of them.
@@ -145,6 +148,7 @@ finds kind cmds (suc k) a = go (fits cmds a) (eqb (cmd cmds a) kind) refl refl (
           kinded = λ t. eqb-true (cmd cmds a) kind g;
           fewer = λ t. omega arith;
           none = λ t. let q : _≡_ {A = ℕ} 0 1 = cc in absurd (omega arith);
+          rest = sym (ap (λ (l : List ℕ). drop 1 l) (kinds-here kind cmds k a e g));
         })
     go true false e g later =
         rw (e, g)
@@ -154,6 +158,7 @@ finds kind cmds (suc k) a = go (fits cmds a) (eqb (cmd cmds a) kind) refl refl (
           kinded = later .kinded;
           fewer = λ t. omega (arith, later .fewer t);
           none = λ t. kinds-next kind cmds k a e g ∙ later .none t;
+          rest = later .rest ∙ sym (ap (λ (l : List ℕ). drop 1 l) (kinds-next kind cmds k a e g));
         })
 
 pub finds-by : (kind : ℕ) (cmds : List ℕ) (k a : ℕ) (r : Found) → r ≡ firstOf kind cmds k a → Finds kind cmds k a r

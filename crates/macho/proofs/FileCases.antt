@@ -14,7 +14,7 @@ use Rattle.pointers.specs.Symbol.{ascii, starts}
 use Rattle.macho.specs.Number.{numberAt}
 use Rattle.macho.specs.Commands.{headed, sectioned, fits, allFit, askedCommands, ofKind}
 use Rattle.macho.specs.Segments.{segmentRows, written}
-use Rattle.macho.specs.Sections.{headersFrom, sectionsOf, named, firstNamed, sectionRows, padded}
+use Rattle.macho.specs.Sections.{headersFrom, sectionsOf, named, firstNamed, sectionRows}
 use Rattle.macho.specs.FileTables.{fileTables}
 use Rattle.macho.specs.OpenFile.{segmentTableWords, askedLent, askedFile, openingFile, segmentsLeft}
 
@@ -36,7 +36,7 @@ command size vmaddr vmsize fileoff filesize sections =
 
 -- section_64.
 section : List ℕ → ℕ → ℕ → ℕ → List ℕ
-section name addr size offset = padded name ++ replicate 16 0 ++ u64 addr ++ u64 size ++ u32 offset ++ replicate 28 0
+section name addr size offset = name ++ replicate (16 - length name) 0 ++ replicate 16 0 ++ u64 addr ++ u64 size ++ u32 offset ++ replicate 28 0
 
 -- A name that another starts with (__objc_catlist and __objc_catlist2), and a name twice (__objc_classlist).
 sections : ℕ → ℕ → List ℕ
