@@ -71,10 +71,13 @@ module _ (file segments sections rebases binds index : List ℕ) (asked : askedF
           × ((ss ≡ segmentsLeft file segments sections rebases binds index)
           × ((cs ≡ sectionsLeft file segments sections rebases binds index) × (xs ≡ indexLeft file segments sections rebases binds index)))
       unfolding segmentsLeft sectionsLeft
-      filled k ss cs xs p g h l =
-          (rw (opening-by, there, p, b, f, c, n),
-          (g ∙ rw (c, n) (sym (left-by (written (segmentTable file) segments) segments ∙ rw there)),
-          (h ∙ rw (c, n) (sym (left-by (sectionTable file) sections ∙ rw there)), index-left xs l)))
+      filled k ss cs xs p g h l = (
+        rw (opening-by, there, p, b, f, c, n),
+        (
+          g ∙ rw (c, n) (sym (left-by (written (segmentTable file) segments) segments ∙ rw there)),
+          (h ∙ rw (c, n) (sym (left-by (sectionTable file) sections ∙ rw there)), index-left xs l),
+        ),
+      )
 
     module _ (m : Missing) (g : w ≡ info.Missing m) where
       gone : opening (fileTables file rebases binds index) ≡ missed m

@@ -2,8 +2,8 @@
 use crate::loader::MAGIC;
 use crate::loader::MH_MAGIC_64;
 use crate::loader::NCMDS;
-use crate::loader::SIZEOFCMDS;
 use crate::loader::SIZEOF_MACH_HEADER_64;
+use crate::loader::SIZEOFCMDS;
 use crate::number::field32;
 ghost use mathlib.Core.Path.{_≡_};
 ghost use Prim.Native.Nat.{_<_, _^_};

@@ -18,6 +18,7 @@ ghost use Rattle.macho.specs.Segments.{segmentRow, segmentTableOf, writt
 
 // The most segments that question 2 takes, and the words that are lent for them.
 pub(crate) const MOST_SEGMENTS: u64 = 64;
+
 pub(crate) const SEGMENT_TABLE_WORDS: usize = 64 * Segment::WORDS;
 
 // How many segments there are.

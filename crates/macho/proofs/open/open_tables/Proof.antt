@@ -20,7 +20,7 @@ open-part-requires c κs = omega (arith, c .before .before .before .before .befo
 returns : tie.Need-returns
 returns c = let a = c .before .before .before .before .before .before .before .before .before .before .before .before .before .before .before .before .before .before .before .args in
     let es : take (segmentWords * c .before .before .before .before .before .before .before .before .before .segment-count .result) (c .before .before .before .before .before .before .before .before .before .before .before .write-segments .last .1 .1 .0) ≡ segmentTableOf (a .cmds .now) (a .count) =
-        laws.segments-back _ (segmentsOf (a .cmds .now) (a .count)) _ _ _ (c .before .before .before .before .before .before .before .before .before .segment-count .ensures) (c .before .before .before .before .before .before .before .before .before .before .before .write-segments .ensures) in
+    laws.segments-back _ (segmentsOf (a .cmds .now) (a .count)) _ _ _ (c .before .before .before .before .before .before .before .before .before .segment-count .ensures) (c .before .before .before .before .before .before .before .before .before .before .before .write-segments .ensures) in
     let ec : c .before .before .before .before .before .before .before .write-sections .last .1 .1 .0 ≡ sectionTableOf (a .cmds .now) (a .count) = c .before .before .before .before .before .before .before .write-sections .ensures in
     (rw (es, ec) at (c .before .before .open-part .ensures .0), rw (es, ec) at (c .before .before .open-part .ensures .1))
 
