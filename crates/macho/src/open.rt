@@ -7,8 +7,6 @@ use crate::header::range_of;
 use crate::section::IMAGE_INFO;
 use crate::section::section_named;
 use crate::section::write_sections;
-use crate::segment::MOST_SEGMENTS;
-use crate::segment::SEGMENT_TABLE_WORDS;
 use crate::segment::segment_count;
 use crate::segment::write_segments;
 use pointers::imageinfo::ImageInfo;
@@ -32,6 +30,11 @@ ghost use Rattle.macho.specs.Commands.{segmentsOf};
 ghost use Rattle.macho.specs.Segments.{segmentTableOf};
 ghost use Rattle.macho.specs.Sections.{sectionTableOf};
 ghost use Rattle.macho.specs.OpenFile.{fileOutcome, askedLent, askedFile, openingFile, segmentsLeft, sectionsLeft, indexLeft};
+
+// The most segments that question 2 takes, and the words that are lent for them.
+const MOST_SEGMENTS: u64 = 64;
+
+pub const SEGMENT_TABLE_WORDS: usize = 64 * Segment::WORDS;
 
 // An opened file: how many segments it has, its image info, and where the bytes of that lie in the file. Later calls are lent the rows
 // of these segments, the section table, and those bytes.

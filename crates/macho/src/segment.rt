@@ -16,11 +16,6 @@ ghost use Rattle.reads.specs.Segment.{segmentWords};
 ghost use Rattle.macho.specs.Commands.{segmentsOf};
 ghost use Rattle.macho.specs.Segments.{segmentRow, segmentTableOf, written};
 
-// The most segments that question 2 takes, and the words that are lent for them.
-pub(crate) const MOST_SEGMENTS: u64 = 64;
-
-pub(crate) const SEGMENT_TABLE_WORDS: usize = 64 * Segment::WORDS;
-
 // How many segments there are.
 pub(crate) fn segment_count(cmds: &[u8], count: u64) -> u64
     ensures { λ r. ⌜ r ≡ length (segmentsOf (before cmds) count) ⌝ }
