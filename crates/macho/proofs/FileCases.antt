@@ -9,13 +9,12 @@ use Rattle.reads.specs.Place.{le}
 use Rattle.pointers.specs.ImageInfo.{infoOf, imageInfo}
 use Rattle.pointers.specs.Open.{askedOpening, opening}
 use Rattle.pointers.specs.Question.{question, imageFits, wholeRows, sectionFits, every, sectionTable, infoWhole, namesInside, namesUtf8, indexFits, askedTables, askedIndex}
-use Rattle.pointers.specs.Tables.{tablesOf}
 use Rattle.pointers.specs.Symbol.{ascii, starts}
 use Rattle.macho.specs.Number.{numberAt}
 use Rattle.macho.specs.Commands.{headed, sectioned, fits, allFit, askedCommands, ofKind}
 use Rattle.macho.specs.Segments.{segmentRows, written}
 use Rattle.macho.specs.Sections.{headersFrom, sectionsOf, named, firstNamed, sectionRows}
-use Rattle.macho.specs.FileTables.{fileTables}
+use Rattle.macho.specs.FileTables.{overFile, fileTables}
 use Rattle.macho.specs.OpenFile.{segmentTableWords, askedLent, askedFile, openingFile, segmentsLeft}
 
 -- Numbers in little-endian order.
@@ -65,7 +64,7 @@ length-good = refl
 
 -- The tables: both segments; the first __objc_classlist; no __objc_catlist, though __objc_catlist2 starts with that name.
 pub tables-case : (rebases binds index : List ℕ) → fileTables good rebases binds index
-    ≡ tablesOf good
+    ≡ overFile good
     (0 ∷ 0x1000 ∷ 0 ∷ 0x240 ∷ 0x1000 ∷ 0x2000 ∷ 0x240 ∷ 0x40 ∷ [])
     (1 ∷ 0x1000 ∷ 16 ∷ 0 ∷ 0 ∷ 0 ∷ 0 ∷ 0 ∷ 0 ∷ 0 ∷ 0 ∷ 0 ∷ 1 ∷ 0x1040 ∷ 0 ∷ [])
     (0 ∷ 0 ∷ 0 ∷ 0 ∷ 0x40 ∷ 0 ∷ 0 ∷ 0 ∷ [])

@@ -9,7 +9,6 @@ use Rattle.reads.specs.Place.{part}
 use Rattle.reads.specs.declared.answer.Missing.{Missing}
 use Rattle.reads.specs.declared.answer.Missing.the-variants.{Absent, Refused}
 use Rattle.reads.proofs.Outcomes.{missed-then}
-use Rattle.pointers.specs.Tables.{tablesOf}
 use Rattle.pointers.specs.ImageInfo.{infoOutcome}
 use Rattle.pointers.specs.Index.{indexed}
 use Rattle.pointers.specs.Open.{opening, leftBy, openedIndex}
@@ -21,7 +20,7 @@ use Rattle.macho.specs.Loader.{ncmds}
 use Rattle.macho.specs.Commands.{commandBytes, segmentsOf}
 use Rattle.macho.specs.Segments.{segmentTableOf, written}
 use Rattle.macho.specs.Sections.{sectionNamed, infoName, sectionTableOf}
-use Rattle.macho.specs.FileTables.{segmentTable, sectionTable, fileTables}
+use Rattle.macho.specs.FileTables.{segmentTable, sectionTable, overFile, fileTables}
 use Rattle.macho.specs.OpenFile.{askedFile, openedFile, openingFile, segmentsLeft, sectionsLeft, indexLeft}
 use Rattle.macho.specs.declared.open.OpenedFile.{OpenedFile}
 use Rattle.macho.specs.declared.section.Section.{Section}
@@ -47,12 +46,12 @@ module _ (file segments sections rebases binds index : List ℕ) (asked : askedF
   module _
       (cmds : List ℕ) (count : ℕ) (s : Section) (body : List ℕ)
       (c : cmds ≡ commandBytes file) (n : count ≡ ncmds file) (f : s ≡ sectionNamed cmds count infoName) (b : body ≡ part file (s .offset) (s .size))
-      (w : ImageInfoAnswer) (e : infoOutcome w ≡ opening (tablesOf file (segmentTableOf cmds count) (sectionTableOf cmds count) body rebases binds index)) where
-    same : tablesOf file (segmentTableOf cmds count) (sectionTableOf cmds count) body rebases binds index ≡ fileTables file rebases binds index
+      (w : ImageInfoAnswer) (e : infoOutcome w ≡ opening (overFile file (segmentTableOf cmds count) (sectionTableOf cmds count) body rebases binds index)) where
+    same : overFile file (segmentTableOf cmds count) (sectionTableOf cmds count) body rebases binds index ≡ fileTables file rebases binds index
     unfolding fileTables
     same = rw (b, f, c, n)
 
-    index-left : (l : List ℕ) → l ≡ openedIndex (tablesOf file (segmentTableOf cmds count) (sectionTableOf cmds count) body rebases binds index)
+    index-left : (l : List ℕ) → l ≡ openedIndex (overFile file (segmentTableOf cmds count) (sectionTableOf cmds count) body rebases binds index)
         → l ≡ indexLeft file segments sections rebases binds index
     unfolding indexLeft fileTables
     index-left l g = g ∙ ap openedIndex same ∙ opened-index-by (fileTables file rebases binds index) ∙ sym (left-by (indexed rebases binds index) index)
@@ -66,7 +65,7 @@ module _ (file segments sections rebases binds index : List ℕ) (asked : askedF
 
       -- The four promises, with what the code then wrote.
       pub filled : (k : ℕ) (ss cs xs : List ℕ) → k ≡ length (segmentsOf cmds count) → ss ≡ written (segmentTableOf cmds count) segments
-          → cs ≡ sectionTableOf cmds count → xs ≡ openedIndex (tablesOf file (segmentTableOf cmds count) (sectionTableOf cmds count) body rebases binds index)
+          → cs ≡ sectionTableOf cmds count → xs ≡ openedIndex (overFile file (segmentTableOf cmds count) (sectionTableOf cmds count) body rebases binds index)
           → (value (record { segments = k; info = i; «info_at» = s .offset; «info_len» = length body }) ≡ openingFile file segments sections rebases binds index)
           × ((ss ≡ segmentsLeft file segments sections rebases binds index)
           × ((cs ≡ sectionsLeft file segments sections rebases binds index) × (xs ≡ indexLeft file segments sections rebases binds index)))
@@ -86,7 +85,7 @@ module _ (file segments sections rebases binds index : List ℕ) (asked : askedF
       kept : (new old : List ℕ) → old ≡ leftBy (openingFile file segments sections rebases binds index) new old
       kept new old = left-missing ImageInfo m new old ∙ sym (left-by new old ∙ rw gone)
 
-      pub refused : (xs : List ℕ) → xs ≡ openedIndex (tablesOf file (segmentTableOf cmds count) (sectionTableOf cmds count) body rebases binds index)
+      pub refused : (xs : List ℕ) → xs ≡ openedIndex (overFile file (segmentTableOf cmds count) (sectionTableOf cmds count) body rebases binds index)
           → (missed m ≡ openingFile file segments sections rebases binds index)
           × ((segments ≡ segmentsLeft file segments sections rebases binds index)
           × ((sections ≡ sectionsLeft file segments sections rebases binds index) × (xs ≡ indexLeft file segments sections rebases binds index)))

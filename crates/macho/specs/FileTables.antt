@@ -26,6 +26,10 @@ infoSection file = sectionNamed (commandBytes file) (ncmds file) infoName
 abbrev pub infoBytes : List ℕ → List ℕ
 infoBytes file = part file (infoSection file .offset) (infoSection file .size)
 
+-- Tables over one file.
+abbrev pub overFile : List ℕ → List ℕ → List ℕ → List ℕ → List ℕ → List ℕ → List ℕ → Tables
+overFile file segments sections info rebases binds index = tablesOf file segments sections info rebases binds index
+
 -- The tables for the file, with the rebases, the binds and the index that are lent.
 unfoldable pub fileTables : List ℕ → List ℕ → List ℕ → List ℕ → Tables
-fileTables file rebases binds index = tablesOf file (segmentTable file) (sectionTable file) (infoBytes file) rebases binds index
+fileTables file rebases binds index = overFile file (segmentTable file) (sectionTable file) (infoBytes file) rebases binds index

@@ -9,14 +9,14 @@ use Rattle.reads.specs.Outcome.{Outcome, value, andThen}
 use Rattle.reads.specs.Answer.{missed}
 use Rattle.reads.specs.Segment.{segmentWords}
 use Rattle.reads.specs.Place.{part}
-use Rattle.pointers.specs.Tables.{Tables, tablesOf, sectionTableWords}
+use Rattle.pointers.specs.Tables.{Tables, sectionTableWords}
 use Rattle.pointers.specs.Question.{question, imageFits}
 use Rattle.pointers.specs.Index.{indexed}
 use Rattle.pointers.specs.Open.{opening, leftBy}
 use Rattle.pointers.specs.declared.imageinfo.ImageInfo.{ImageInfo}
 use Rattle.macho.specs.Commands.{askedCommands}
 use Rattle.macho.specs.Segments.{written}
-use Rattle.macho.specs.FileTables.{fileSegments, segmentTable, sectionTable, infoSection, infoBytes, fileTables}
+use Rattle.macho.specs.FileTables.{fileSegments, segmentTable, sectionTable, infoSection, infoBytes, overFile, fileTables}
 use Rattle.macho.specs.declared.open.OpenedFile.{OpenedFile}
 use Rattle.macho.specs.declared.open.FileAnswer.{FileAnswer}
 use Rattle.macho.specs.declared.open.FileAnswer.the-variants as answer
@@ -68,7 +68,7 @@ indexLeft file segments sections rebases binds index =
 -- What later calls are lent of an opened file.
 abbrev pub laterTables : List ℕ → List ℕ → List ℕ → List ℕ → List ℕ → List ℕ → OpenedFile → Tables
 laterTables file segments sections rebases binds index o =
-    tablesOf file
+    overFile file
     (take (segmentWords * o .segments) (segmentsLeft file segments sections rebases binds index))
     (sectionsLeft file segments sections rebases binds index)
     (part file (o .«info_at») (o .«info_len»)) rebases binds

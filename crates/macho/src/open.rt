@@ -22,13 +22,13 @@ ghost use Prim.Native.Nat.{_≤_};
 ghost use lib.ListN.{length, take};
 ghost use Rattle.reads.specs.Reference.{before, after};
 ghost use Rattle.reads.specs.Outcome.{value};
-ghost use Rattle.pointers.specs.Tables.{tablesOf};
 ghost use Rattle.pointers.specs.Question.{askedOutcome};
 ghost use Rattle.pointers.specs.ImageInfo.{infoOutcome};
 ghost use Rattle.pointers.specs.Open.{opening, openedIndex};
 ghost use Rattle.macho.specs.Commands.{segmentsOf};
 ghost use Rattle.macho.specs.Segments.{segmentTableOf};
 ghost use Rattle.macho.specs.Sections.{sectionTableOf};
+ghost use Rattle.macho.specs.FileTables.{overFile};
 ghost use Rattle.macho.specs.OpenFile.{fileOutcome, askedLent, askedFile, openingFile, segmentsLeft, sectionsLeft, indexLeft};
 
 // The most segments that question 2 takes, and the words that are lent for them.
@@ -91,9 +91,9 @@ fn open_part(
     index: &mut [u32],
 ) -> ImageInfoAnswer
     requires { ⌜ words ≤ length (now segments) ⌝ }
-    ensures outcome { λ r. let t = tablesOf (before file) (take words (before segments)) (before sections) (before info) (before rebases) (before binds) (before index) in
+    ensures outcome { λ r. let t = overFile (before file) (take words (before segments)) (before sections) (before info) (before rebases) (before binds) (before index) in
         ⌜ infoOutcome r ≡ opening t ⌝ }
-    ensures contents { λ _. let t = tablesOf (before file) (take words (before segments)) (before sections) (before info) (before rebases) (before binds) (before index) in
+    ensures contents { λ _. let t = overFile (before file) (take words (before segments)) (before sections) (before info) (before rebases) (before binds) (before index) in
         ⌜ after index ≡ openedIndex t ⌝ }
 {
     open(
@@ -118,9 +118,9 @@ fn open_tables(
     index: &mut [u32],
 ) -> ImageInfoAnswer
     requires { ⌜ length (segmentsOf (now cmds) count) ≤ 64 ⌝ }
-    ensures outcome { λ r. let t = tablesOf (before file) (segmentTableOf (before cmds) count) (sectionTableOf (before cmds) count) (before info) (before rebases) (before binds) (before index) in
+    ensures outcome { λ r. let t = overFile (before file) (segmentTableOf (before cmds) count) (sectionTableOf (before cmds) count) (before info) (before rebases) (before binds) (before index) in
         ⌜ infoOutcome r ≡ opening t ⌝ }
-    ensures contents { λ _. let t = tablesOf (before file) (segmentTableOf (before cmds) count) (sectionTableOf (before cmds) count) (before info) (before rebases) (before binds) (before index) in
+    ensures contents { λ _. let t = overFile (before file) (segmentTableOf (before cmds) count) (sectionTableOf (before cmds) count) (before info) (before rebases) (before binds) (before index) in
         ⌜ after index ≡ openedIndex t ⌝ }
 {
     let mut segments = [0u64; SEGMENT_TABLE_WORDS];
