@@ -48,8 +48,8 @@ impl ImageInfo {
         if body.len() < 8 {
             return ImageInfoAnswer::Missing(Missing::Absent(Reason::Unreadable));
         }
-        let version = u32_from(body, 0);
-        let flags = u32_from(body, 4);
+        let version = u32_from(body, 0, 0);
+        let flags = u32_from(body, 0, 4);
         ImageInfoAnswer::Info(ImageInfo { version, flags })
     }
 

@@ -4,7 +4,7 @@ use mathlib.Core.Path.{_≡_, refl, ap, sym, subst, _∙_}
 use mathlib.Core.Bool.{Bool, true, false}
 use mathlib.Core.List.{List, [], _∷_, _++_, reverse, reverse-append}
 use native.Mathlib.Omega.{arith}
-use borrow.Author.Tests.{le-leb, lt-leb, leb-true, leb-false}
+use borrow.Author.Tests.{le-leb, lt-leb, leb-true}
 use denote.Ref.{RefT, now}
 use lib.Dec.{leb}
 use lib.ListN.{length, take, drop, getD, length-take, length-drop, length-reverse}
@@ -18,7 +18,7 @@ use Rattle.reads.specs.Answer.{placeOutcome}
 use Rattle.reads.specs.declared.place.Place.{Place}
 use Rattle.reads.specs.declared.place.Placed.{Placed}
 use Rattle.reads.specs.declared.place.Placed.the-variants as placed
-use Rattle.reads.proofs.LentFiles.{lent-below, lent-by-bytes, file-lent}
+use Rattle.reads.proofs.LentFiles.{lent-below, lent-by-bytes, file-lent, file-not-lent}
 
 -- x after n bytes: times 256 for each.
 abbrev pub scaled : ℕ → ℕ → ℕ
@@ -126,31 +126,16 @@ module _ (bs : List ℕ) (k offset : ℕ) where
   unfolding leIn choose
   le-outside h = simp (lt-leb _ _ h)
 
--- Numbers at i bytes from a place, by the test that the code makes.
-module _ (fs : List (RefT (List ℕ))) (p : Place) (i k n : ℕ) (b : Bool) (t : b ≡ leb (p .offset + i + k) n) (l : n ≡ length (fileOf (filesLent fs) (p .file))) where
-  module _ (y : b ≡ true) where
-    pub inside-room : p .offset + i + k ≤ n
-    inside-room = leb-true (p .offset + i + k) n (sym t ∙ y)
-
-    inside-number : 0 < k → p .file < length (filesLent fs)
-    inside-number h = lent-by-bytes fs (p .file) (omega (arith, l, inside-room))
-
-    pub inside-lent : 0 < k → p .file < length fs
-    inside-lent h = lent-below fs (p .file) (inside-number h)
-
-    pub inside-holds : (d : RefT (List ℕ)) → 0 < k → p .offset + i + k ≤ length (now (getD fs (p .file) d))
-    inside-holds d h = rw (file-lent fs (p .file) d (inside-number h)) (omega (arith, l, inside-room))
-
-    pub inside-word : (d : RefT (List ℕ)) → 0 < k → le (part (now (getD fs (p .file) d)) (p .offset + i) k) ≡ wordIn (filesLent fs) k p i
-    unfolding wordIn
-    inside-word d h =
-        ap (λ (bs : List ℕ). le (part bs (p .offset + i) k)) (file-lent fs (p .file) d (inside-number h))
-        ∙ le-inside (fileOf (filesLent fs) (p .file)) k (p .offset + i) (omega (arith, l, inside-room))
-
-  pub outside-word : b ≡ false → 0 ≡ wordIn (filesLent fs) k p i
+-- Numbers at i bytes from a place: those of its file, which has none where it is not lent.
+module _ (fs : List (RefT (List ℕ))) (p : Place) (i k : ℕ) where
+  pub word-lent : (d : RefT (List ℕ)) → p .file < length (filesLent fs) → leIn (now (getD fs (p .file) d)) k (p .offset + i) ≡ wordIn (filesLent fs) k p i
   unfolding wordIn
-  outside-word y =
-      le-outside (fileOf (filesLent fs) (p .file)) k (p .offset + i) (omega (arith, l, leb-false (p .offset + i + k) n (sym t ∙ y)))
+  word-lent d h = ap (λ (bs : List ℕ). leIn bs k (p .offset + i)) (file-lent fs (p .file) d h)
+
+  pub word-not-lent : 0 < k → length (filesLent fs) ≤ p .file → 0 ≡ wordIn (filesLent fs) k p i
+  unfolding wordIn
+  word-not-lent some h =
+      le-outside [] k (p .offset + i) (omega arith) ∙ ap (λ (bs : List ℕ). leIn bs k (p .offset + i)) (file-not-lent fs (p .file) h)
 
 -- The number at i bytes from a place is the one at the place i bytes on.
 pub word-in-on : (files : List (List ℕ)) (k file offset i : ℕ) → wordIn files k (placeAt file offset) i ≡ wordIn files k (placeAt file (offset + i)) 0

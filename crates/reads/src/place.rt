@@ -3,6 +3,7 @@ use crate::answer::Missing;
 use crate::answer::Reason;
 use crate::answer::Word;
 use crate::files::file_len;
+use crate::files::is_lent;
 use crate::segment::vm_to_file_offset_in;
 ghost use mathlib.Core.Path.{_≡_};
 ghost use Prim.Native.Nat.{_+_, _≤_, _<_, _^_};
@@ -224,50 +225,48 @@ fn lies_in(n: u64, from: u64, i: u64, k: u64) -> bool
     k <= n - from - i
 }
 
+// The number of four bytes at i bytes from an offset of one slice; 0 where they do not lie in it.
+pub fn u32_from(bytes: &[u8], offset: u64, i: u64) -> u32
+    ensures { λ r. ⌜ r ≡ leIn (before bytes) 4 (offset + i) ⌝ }
+{
+    if lies_in(bytes.len() as u64, offset, i, 4) {
+        let at = (offset + i) as usize;
+        return le4(bytes, at) as u32;
+    }
+    0
+}
+
+// The number of eight.
+pub fn u64_from(bytes: &[u8], offset: u64, i: u64) -> u64
+    ensures { λ r. ⌜ r ≡ leIn (before bytes) 8 (offset + i) ⌝ }
+{
+    if lies_in(bytes.len() as u64, offset, i, 8) {
+        let at = (offset + i) as usize;
+        return le8(bytes, at);
+    }
+    0
+}
+
 // The number of four bytes at i bytes from a place; 0 where they do not lie in its file.
 pub fn u32_in(files: &[&[u8]], p: Place, i: u64) -> u32
     ensures { λ r. ⌜ r ≡ wordIn (filesOf files) 4 p i ⌝ }
 {
-    if lies_in(file_len(files, p.file), p.offset, i, 4) {
-        let f = p.file as usize;
-        let bytes = files[f];
-        let at = (p.offset + i) as usize;
-        return le4(bytes, at) as u32;
+    if !is_lent(files, p.file) {
+        return 0;
     }
-    0
+    let f = p.file as usize;
+    let bytes = files[f];
+    u32_from(bytes, p.offset, i)
 }
 
 // The number of eight.
 pub fn u64_in(files: &[&[u8]], p: Place, i: u64) -> u64
     ensures { λ r. ⌜ r ≡ wordIn (filesOf files) 8 p i ⌝ }
 {
-    if lies_in(file_len(files, p.file), p.offset, i, 8) {
-        let f = p.file as usize;
-        let bytes = files[f];
-        let at = (p.offset + i) as usize;
-        return le8(bytes, at);
+    if !is_lent(files, p.file) {
+        return 0;
     }
-    0
-}
-
-// The number of four bytes at an offset of one slice; 0 where they do not lie in it.
-pub fn u32_from(bytes: &[u8], offset: u64) -> u32
-    ensures { λ r. ⌜ r ≡ leIn (before bytes) 4 offset ⌝ }
-{
-    if lies_in(bytes.len() as u64, offset, 0, 4) {
-        let at = offset as usize;
-        return le4(bytes, at) as u32;
-    }
-    0
-}
-
-// The number of eight.
-pub fn u64_from(bytes: &[u8], offset: u64) -> u64
-    ensures { λ r. ⌜ r ≡ leIn (before bytes) 8 offset ⌝ }
-{
-    if lies_in(bytes.len() as u64, offset, 0, 8) {
-        let at = offset as usize;
-        return le8(bytes, at);
-    }
-    0
+    let f = p.file as usize;
+    let bytes = files[f];
+    u64_from(bytes, p.offset, i)
 }
