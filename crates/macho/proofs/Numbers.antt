@@ -9,23 +9,16 @@ use lib.ListN.{length, take, drop, getD, length-drop, drop-of-length-le}
 use lib.Seq.{take-all, take-nil}
 use borrow.Author.Tests.{le-leb, lt-leb}
 use Rattle.reads.specs.Place.{part}
-use Rattle.reads.proofs.Numbers.{le-part, le-one}
-use Rattle.reads.proofs.Tests.{choose-true, choose-false}
-use Rattle.macho.specs.Number.{numberAt, u16At}
+use Rattle.reads.proofs.Numbers.{le-part, le-one, le-inside}
+use Rattle.macho.specs.Number.{u16At}
 use Rattle.macho.specs.Loader.{magic}
 use Rattle.macho.specs.Commands.{headed}
 
--- k bytes that do not lie in the bytes.
-pub number-out : (k : ℕ) (bytes : List ℕ) (at : ℕ) → length bytes < at + k → 0 ≡ numberAt k bytes at
-unfolding numberAt
-number-out k bytes at h = sym (choose-false _ _ (lt-leb (at + k) (length bytes) h))
-
--- Two bytes that do.
+-- Two bytes that lie in the bytes.
 pub u16-in : (bytes : List ℕ) (at : ℕ) → at + 2 ≤ length bytes → getD bytes at 0 + getD bytes (at + 1) 0 * 0x100 ≡ u16At bytes at
-unfolding numberAt
 u16-in bytes at h =
     omega (arith, le-part bytes at 1 1 (omega arith), le-one bytes at (omega arith), le-one bytes (at + 1) (omega arith))
-    ∙ sym (choose-true _ _ (le-leb (at + 2) (length bytes) h))
+    ∙ le-inside bytes 2 at h
 
 module _ (file : List ℕ) where
   pub headed-short : length file < 32 → false ≡ headed file

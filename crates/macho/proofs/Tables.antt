@@ -16,8 +16,8 @@ use Rattle.macho.specs.Segments.{segmentRow, segmentRows, written}
 use Rattle.macho.specs.Sections.{headersFrom, sectionsOf, sectionAt, sectionNone, named, firstNamed, sectionRow, sectionRows}
 use Rattle.macho.specs.declared.section.Section.{Section}
 
-pub four-put : (t : List ℕ) (i a b c d : ℕ) → set (set (set (set t i a) (i + 1) b) (i + 2) c) (i + 3) d ≡ sets t i (a ∷ b ∷ c ∷ d ∷ [])
-four-put t i a b c d = simp towards-suc
+pub five-put : (t : List ℕ) (i a b c d e : ℕ) → set (set (set (set (set t i a) (i + 1) b) (i + 2) c) (i + 3) d) (i + 4) e ≡ sets t i (a ∷ b ∷ c ∷ d ∷ e ∷ [])
+five-put t i a b c d e = simp towards-suc
 
 pub three-put : (t : List ℕ) (i a b c : ℕ) → set (set (set t i a) (i + 1) b) (i + 2) c ≡ sets t i (a ∷ b ∷ c ∷ [])
 three-put t i a b c = simp towards-suc

@@ -1,6 +1,6 @@
 -- The tables that loader.h defines for a file (document 02, note 3).
 use Prim.Native.Nat.{ℕ}
-use mathlib.Core.List.{List}
+use mathlib.Core.List.{List, [], _∷_}
 use Rattle.reads.specs.Place.{part}
 use Rattle.pointers.specs.Tables.{Tables, tablesOf}
 use Rattle.macho.specs.Loader.{ncmds}
@@ -26,9 +26,9 @@ infoSection file = sectionNamed (commandBytes file) (ncmds file) infoName
 abbrev pub infoBytes : List ℕ → List ℕ
 infoBytes file = part file (infoSection file .offset) (infoSection file .size)
 
--- Tables over one file.
+-- Tables over one file, which has number 0.
 abbrev pub overFile : List ℕ → List ℕ → List ℕ → List ℕ → List ℕ → List ℕ → List ℕ → Tables
-overFile file segments sections info rebases binds index = tablesOf file segments sections info rebases binds index
+overFile file segments sections info rebases binds index = tablesOf (file ∷ []) segments sections info rebases binds index
 
 -- The tables for the file, with the rebases, the binds and the index that are lent.
 unfoldable pub fileTables : List ℕ → List ℕ → List ℕ → List ℕ → Tables

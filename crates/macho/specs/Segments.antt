@@ -5,8 +5,9 @@ use lib.ListN.{length, drop}
 use Rattle.macho.specs.Loader.{vmaddr, vmsize, fileoff, filesize}
 use Rattle.macho.specs.Commands.{segmentsOf}
 
+-- vmaddr, vmsize, fileoff, filesize, and the file number (document 02, note 6): 0, that of the file itself.
 abbrev pub segmentRow : List ℕ → ℕ → List ℕ
-segmentRow cmds a = vmaddr cmds a ∷ vmsize cmds a ∷ fileoff cmds a ∷ filesize cmds a ∷ []
+segmentRow cmds a = vmaddr cmds a ∷ vmsize cmds a ∷ fileoff cmds a ∷ filesize cmds a ∷ 0 ∷ []
 
 -- The rows of the segment commands that stand at the offsets given.
 unfoldable pub segmentRows : List ℕ → List ℕ → List ℕ

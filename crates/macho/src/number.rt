@@ -1,11 +1,9 @@
 // Numbers in bytes, in little-endian order: at i bytes from an offset, 0 where they do not lie in the bytes.
-use reads::place::Place;
-use reads::place::u32_in;
-use reads::place::u64_in;
+use reads::place::u32_from;
 ghost use mathlib.Core.Path.{_≡_};
 ghost use Prim.Native.Nat.{_+_, _<_, _^_};
 ghost use Rattle.reads.specs.Reference.{before};
-ghost use Rattle.macho.specs.Number.{u16At, u32At, u64At};
+ghost use Rattle.macho.specs.Number.{u16At, u32At};
 
 fn wide(x: u8) -> u16
     ensures { λ r. ⌜ (r ≡ x) × (r < 256) ⌝ }
@@ -13,6 +11,7 @@ fn wide(x: u8) -> u16
     x as u16
 }
 
+// The number of two bytes.
 pub fn u16_at(bytes: &[u8], at: u64, i: u64) -> u16
     ensures { λ r. ⌜ r ≡ u16At (before bytes) (at + i) ⌝ }
 {
@@ -30,23 +29,9 @@ pub fn u16_at(bytes: &[u8], at: u64, i: u64) -> u16
     wide(bytes[first]) + wide(bytes[first + 1]) * 0x100
 }
 
-pub fn u32_at(bytes: &[u8], at: u64, i: u64) -> u32
-    ensures { λ r. ⌜ r ≡ u32At (before bytes) (at + i) ⌝ }
-{
-    let p = Place { offset: at };
-    u32_in(bytes, p, i)
-}
-
-pub fn u64_at(bytes: &[u8], at: u64, i: u64) -> u64
-    ensures { λ r. ⌜ r ≡ u64At (before bytes) (at + i) ⌝ }
-{
-    let p = Place { offset: at };
-    u64_in(bytes, p, i)
-}
-
-// The number of four bytes, in a word of 64 bits.
+// The number of four, in a word of 64 bits.
 pub fn field32(bytes: &[u8], at: u64, i: u64) -> u64
     ensures { λ r. ⌜ (r ≡ u32At (before bytes) (at + i)) × (r < 2 ^ 32) ⌝ }
 {
-    u32_at(bytes, at, i) as u64
+    u32_from(bytes, at, i) as u64
 }

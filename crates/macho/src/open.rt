@@ -54,7 +54,7 @@ pub enum FileAnswer {
 fn ask_lent(file: &[u8], segments: usize, sections: usize) -> Asked
     ensures { λ r. ⌜ askedOutcome r ≡ askedLent (before file) segments sections ⌝ }
 {
-    if !image_fits(file.len()) {
+    if !image_fits(file.len() as u64) {
         return Asked::Refused(1);
     }
     if segments != SEGMENT_TABLE_WORDS {
@@ -96,8 +96,9 @@ fn open_part(
     ensures contents { λ _. let t = overFile (before file) (take words (before segments)) (before sections) (before info) (before rebases) (before binds) (before index) in
         ⌜ after index ≡ openedIndex t ⌝ }
 {
+    let files = [file];
     open(
-        file,
+        &files,
         &segments[0..words],
         sections,
         info,

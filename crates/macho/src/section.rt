@@ -10,9 +10,9 @@ use crate::loader::SIZEOF_NAME;
 use crate::loader::SIZEOF_SECTION_64;
 use crate::loader::SIZEOF_SEGMENT_COMMAND_64;
 use crate::number::field32;
-use crate::number::u64_at;
 use pointers::section::ObjcSection;
 use pointers::symbol::starts_with;
+use reads::place::u64_from;
 ghost use mathlib.Core.Path.{_≡_};
 ghost use Prim.Native.Nat.{_+_, _*_, _≤_};
 ghost use lib.ListN.{length};
@@ -53,8 +53,8 @@ fn section_at(cmds: &[u8], at: u64) -> Section
 {
     Section {
         present: 1,
-        addr: u64_at(cmds, at, ADDR),
-        size: u64_at(cmds, at, SIZE),
+        addr: u64_from(cmds, at, ADDR),
+        size: u64_from(cmds, at, SIZE),
         offset: field32(cmds, at, OFFSET),
     }
 }

@@ -5,7 +5,7 @@ use crate::loader::FILESIZE;
 use crate::loader::LC_SEGMENT_64;
 use crate::loader::VMADDR;
 use crate::loader::VMSIZE;
-use crate::number::u64_at;
+use reads::place::u64_from;
 use reads::segment::Segment;
 ghost use mathlib.Core.Path.{_≡_};
 ghost use Prim.Native.Nat.{_+_, _*_, _≤_};
@@ -15,6 +15,9 @@ ghost use Rattle.reads.specs.Reference.{before, after};
 ghost use Rattle.reads.specs.Segment.{segmentWords};
 ghost use Rattle.macho.specs.Commands.{segmentsOf};
 ghost use Rattle.macho.specs.Segments.{segmentRow, segmentTableOf, written};
+
+// The file number of every segment: the file itself is the only one that is lent.
+const FILE: u64 = 0;
 
 // How many segments there are.
 pub(crate) fn segment_count(cmds: &[u8], count: u64) -> u64
@@ -39,10 +42,11 @@ fn put_segment(cmds: &[u8], at: u64, table: &mut [u64], i: usize)
     requires { ⌜ i + segmentWords ≤ length (now table) ⌝ }
     ensures { λ _. ⌜ after table ≡ sets (before table) i (segmentRow (before cmds) at) ⌝ }
 {
-    table[i] = u64_at(cmds, at, VMADDR);
-    table[i + 1] = u64_at(cmds, at, VMSIZE);
-    table[i + 2] = u64_at(cmds, at, FILEOFF);
-    table[i + 3] = u64_at(cmds, at, FILESIZE);
+    table[i] = u64_from(cmds, at, VMADDR);
+    table[i + 1] = u64_from(cmds, at, VMSIZE);
+    table[i + 2] = u64_from(cmds, at, FILEOFF);
+    table[i + 3] = u64_from(cmds, at, FILESIZE);
+    table[i + 4] = FILE;
 }
 
 // Writes the row of each segment, in command order.

@@ -12,10 +12,10 @@ use Rattle.macho.proofs.open.open_tables.Statement.{statement}
 use Rattle.macho.proofs.open.open_tables.Tie as tie
 
 write-segments-requires : tie.Need-write-segments-requires
-write-segments-requires c κs = omega (arith, c .before .before .before .before .before .before .before .pre, length-replicate {A = ℕ} 256 0)
+write-segments-requires c κs = omega (arith, c .before .before .before .before .before .before .before .pre, length-replicate {A = ℕ} 320 0)
 
 open-part-requires : tie.Need-open-part-requires
-open-part-requires c κs = omega (arith, c .before .before .before .before .before .before .before .before .before .before .before .before .before .before .before .before .pre, c .before .before .before .before .before .before .segment-count .ensures, c .before .before .before .before .before .before .before .before .write-segments .kept .1 .1 .0, length-replicate {A = ℕ} 256 0)
+open-part-requires c κs = omega (arith, c .before .before .before .before .before .before .before .before .before .before .before .before .before .before .before .before .pre, c .before .before .before .before .before .before .segment-count .ensures, c .before .before .before .before .before .before .before .before .write-segments .kept .1 .1 .0, length-replicate {A = ℕ} 320 0)
 
 returns : tie.Need-returns
 returns c = let a = c .before .before .before .before .before .before .before .before .before .before .before .before .before .before .before .before .before .before .before .args in

@@ -15,11 +15,14 @@ slice-write-table-3 c = simp length-set (omega arith)
 slice-write-table-4 : tie.Need-slice-write-table-4
 slice-write-table-4 c = simp length-set (omega arith)
 
+slice-write-table-5 : tie.Need-slice-write-table-5
+slice-write-table-5 c = simp length-set (omega arith)
+
 same-length : tie.Need-same-length
 same-length c = simp length-set
 
 returns : tie.Need-returns
-returns c = laws.four-put (c .before .before .before .before .before .before .args .table .now) (c .before .before .before .before .before .before .args .i) (c .before .before .before .u64-at .result) (c .before .before .u64-at2 .result) (c .before .u64-at3 .result) (c .u64-at4 .result) ∙ rw (c .before .before .before .u64-at .ensures, c .before .before .u64-at2 .ensures, c .before .u64-at3 .ensures, c .u64-at4 .ensures)
+returns c = laws.five-put (c .before .before .before .before .before .before .args .table .now) (c .before .before .before .before .before .before .args .i) (c .before .before .before .u64-from .result) (c .before .before .u64-from2 .result) (c .before .u64-from3 .result) (c .u64-from4 .result) 0 ∙ rw (c .before .before .before .u64-from .ensures, c .before .before .u64-from2 .ensures, c .before .u64-from3 .ensures, c .u64-from4 .ensures)
 
 pub put-segment-spec : {M : Type 1} → statement M
 put-segment-spec =
@@ -40,5 +43,8 @@ put-segment-spec =
     (λ c. search needs)
     (λ c. search needs)
     slice-write-table-4
+    (λ c. search needs)
+    (λ c. search needs)
+    slice-write-table-5
     same-length
     returns)
