@@ -119,7 +119,7 @@ pub fn made(number: u64) -> (Vec<u8>, Lent) {
     }
     let g = &mut g;
     let whole = 64 * SEGMENT_WORDS;
-    let segments = if g.one_in(24) { g.of_these(&[0, 4, whole - 1, whole + 1, 2 * whole]) } else { whole };
+    let segments = if g.one_in(24) { g.of_these(&[0, 256, whole - 1, whole + 1, 2 * whole]) } else { whole };
     let sections = if g.one_in(24) { g.of_these(&[0, 14, 16]) } else { 15 };
     let slot = |g: &mut Random| g.of_these(&[0x1000, 0x1008, 0x1000 + 8 * 4096, 0xFFFF_FFFF_FFFF_FFF8]) + g.below(4);
     let mut rebases = Vec::new();
@@ -134,8 +134,8 @@ pub fn made(number: u64) -> (Vec<u8>, Lent) {
         let n = file.len() as u64;
         let offset = if g.one_in(24) { g.of_these(&[n, n + 1, u64::MAX]) } else { n.saturating_sub(1 + g.below(60)) };
         let len = if g.one_in(24) { g.of_these(&[61, u64::MAX]) } else { g.below(8).min(n.saturating_sub(offset)) };
-        binds.extend([slot(g), offset, len]);
-        binds.resize(binds.len().next_multiple_of(BIND_WORDS), 0);
+        let file = if g.one_in(24) { g.of_these(&[1, 4, u64::MAX]) } else { 0 };
+        binds.extend([slot(g), offset, len, file]);
     }
     if g.one_in(24) {
         binds.push(1);

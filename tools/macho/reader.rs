@@ -1,8 +1,8 @@
 //! A second reader, from loader.h: each struct is read field by field in the order of its declaration. Then the questions of opening a file, in
 //! their order, and the words that it leaves.
 
-pub const SEGMENT_WORDS: usize = 4;
-pub const BIND_WORDS: usize = 3;
+pub const SEGMENT_WORDS: usize = 5;
+pub const BIND_WORDS: usize = 4;
 pub const NAMES: [&str; 5] = ["__objc_classlist", "__objc_nlclslist", "__objc_catlist", "__objc_nlcatlist", "__objc_protolist"];
 
 struct Fields<'a>(&'a [u8]);
@@ -126,12 +126,13 @@ pub fn open(file: &[u8], lent: &mut Lent) -> Result<[u64; 5], u64> {
     let (rebases, binds) = (lent.rebases.len() / 2, lent.binds.len() / BIND_WORDS);
     ask(5, lent.rebases.len() % 2 == 0)?;
     ask(6, lent.binds.len() % BIND_WORDS == 0)?;
+    ask(18, lent.binds.chunks(BIND_WORDS).all(|b| b[3] == 0))?;
     let names: Vec<_> = lent.binds.chunks(BIND_WORDS).map(|b| (b[1], b[2])).collect();
     ask(7, names.iter().all(|(o, l)| o.checked_add(*l).is_some_and(|end| end <= n)))?;
     ask(14, names.iter().all(|(o, l)| std::str::from_utf8(&file[*o as usize..(o + l) as usize]).is_ok()))?;
     ask(8, lent.index.len() >= 8192 + rebases + binds)?;
     for (i, s) in found.iter().enumerate() {
-        lent.segments[SEGMENT_WORDS * i..][..4].copy_from_slice(&[s.vmaddr, s.vmsize, s.fileoff, s.filesize]);
+        lent.segments[SEGMENT_WORDS * i..][..SEGMENT_WORDS].copy_from_slice(&[s.vmaddr, s.vmsize, s.fileoff, s.filesize, 0]);
     }
     for (i, s) in five.iter().enumerate() {
         lent.sections[3 * i..3 * i + 3].copy_from_slice(&s.map_or([0; 3], |s| [1, s.addr, s.size]));
