@@ -60,14 +60,7 @@ fn image_base(cmds: &[u8], count: u64) -> u64
 }
 
 // How many records the fixup data has for each table: the walk is lent no room.
-fn count_records(
-    file: &[u8],
-    body: &[u8],
-    cmds: &[u8],
-    count: u64,
-    at: u32,
-    base: u64,
-) -> Walked
+fn count_records(file: &[u8], body: &[u8], cmds: &[u8], count: u64, at: u32, base: u64) -> Walked
     ensures { λ w. ⌜ stateOf w [] [] ≡ told (walkOf (before file) (before body) (before cmds) at base (segmentsOf (before cmds) count)) (state 0 0 [] []) ⌝ }
 {
     let mut none = [0u64; 0];

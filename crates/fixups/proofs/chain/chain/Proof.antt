@@ -10,7 +10,7 @@ use Rattle.fixups.proofs.chain.chain.Statement.{statement}
 use Rattle.fixups.proofs.chain.chain.Tie as tie
 
 abbrev Inv-loop : tie.InvT-loop
-Inv-loop file body f s page start r b rebases₀ binds₀ size o₀ rebased₀ bound₀ rebases binds o rebased bound = 
+Inv-loop file body f s page start r b rebases₀ binds₀ size o₀ rebased₀ bound₀ rebases binds o rebased bound =
     (told (chainAt file body f s page start) (state r b rebases₀ binds₀) ≡ told (chainAt file body f s page o) (state rebased bound rebases binds))
     × (length rebases ≡ length rebases₀) × (length binds ≡ length binds₀)
 
@@ -33,13 +33,19 @@ returns c = let a = c .before .before .before .before .before .before .before .b
 
 add-o : tie.Need-add-o Inv-loop μ-loop
 add-o c = let a = c .before .before .before .before .before .before .before .before .before .before .before .before .before .before .before .before .before .before .args in let l = c .before .before .before .before .before .before .before .before .before .before .before .before .loop in
-    omega (arith, laws.small (a .file .now) (a .body .now) (a .f) (a .s) (a .page) (l .o) (state (l .rebased) (l .bound) (l .rebases) (l .binds)) (omega arith)
-    (c .before .before .before .before .before .before .before .before .visit-slot .result) (c .before .before .before .before .before .before .before .before .visit-slot .last .1 .1 .1 .1 .1 .1 .1 .0) (c .before .before .before .before .before .before .before .before .visit-slot .last .1 .1 .1 .1 .1 .1 .1 .1 .0) (c .before .before .before .before .before .before .before .before .visit-slot .ensures) _ _ _ (c .before .before .x .given .1))
+    omega (
+      arith,
+      laws.small (a .file .now) (a .body .now) (a .f) (a .s) (a .page) (l .o) (state (l .rebased) (l .bound) (l .rebases) (l .binds)) (omega arith)
+          (c .before .before .before .before .before .before .before .before .visit-slot .result) (c .before .before .before .before .before .before .before .before .visit-slot .last .1 .1 .1 .1 .1 .1 .1 .0) (c .before .before .before .before .before .before .before .before .visit-slot .last .1 .1 .1 .1 .1 .1 .1 .1 .0) (c .before .before .before .before .before .before .before .before .visit-slot .ensures) _ _ _ (c .before .before .x .given .1),
+    )
 
 loop-again : tie.Need-loop-again Inv-loop μ-loop
-loop-again c = let a = c .before .before .before .before .before .before .before .before .before .before .before .before .before .before .before .before .before .before .args in let l = c .before .before .before .before .before .before .before .before .before .before .before .before .loop in
-    (l .inv .0 ∙ sym (laws.onto (a .file .now) (a .body .now) (a .f) (a .s) (a .page) (l .o) (state (l .rebased) (l .bound) (l .rebases) (l .binds)) (omega arith)
-    (c .before .before .before .before .before .before .before .before .visit-slot .result) _ _ (c .before .before .before .before .before .before .before .before .visit-slot .ensures) _ _ _ (c .before .before .x .given .1) (c .if1 .left)), (c .before .before .before .before .before .before .before .before .visit-slot .kept .1 .1 .1 .1 .1 .1 .1 .0) ∙ l .inv .1, (c .before .before .before .before .before .before .before .before .visit-slot .kept .1 .1 .1 .1 .1 .1 .1 .1 .0) ∙ l .inv .2)
+loop-again c = let a = c .before .before .before .before .before .before .before .before .before .before .before .before .before .before .before .before .before .before .args in let l = c .before .before .before .before .before .before .before .before .before .before .before .before .loop in (
+  l .inv .0 ∙ sym (laws.onto (a .file .now) (a .body .now) (a .f) (a .s) (a .page) (l .o) (state (l .rebased) (l .bound) (l .rebases) (l .binds)) (omega arith)
+      (c .before .before .before .before .before .before .before .before .visit-slot .result) _ _ (c .before .before .before .before .before .before .before .before .visit-slot .ensures) _ _ _ (c .before .before .x .given .1) (c .if1 .left)),
+  (c .before .before .before .before .before .before .before .before .visit-slot .kept .1 .1 .1 .1 .1 .1 .1 .0) ∙ l .inv .1,
+  (c .before .before .before .before .before .before .before .before .visit-slot .kept .1 .1 .1 .1 .1 .1 .1 .1 .0) ∙ l .inv .2,
+)
 
 same-length-3 : tie.Need-same-length-3 Inv-loop μ-loop
 same-length-3 c = (c .before .before .before .before .before .before .before .visit-slot .kept .1 .1 .1 .1 .1 .1 .1 .0) ∙ c .before .before .before .before .before .before .before .before .before .before .before .loop .inv .1

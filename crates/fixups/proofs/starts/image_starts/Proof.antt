@@ -14,7 +14,7 @@ use Rattle.fixups.proofs.starts.image_starts.Statement.{statement}
 use Rattle.fixups.proofs.starts.image_starts.Tie as tie
 
 abbrev Inv-loop : tie.InvT-loop
-Inv-loop file body cmds count f rebases₀ binds₀ starts total first i₀ left₀ at₀ rebased₀ bound₀ rebases binds i left at rebased bound = 
+Inv-loop file body cmds count f rebases₀ binds₀ starts total first i₀ left₀ at₀ rebased₀ bound₀ rebases binds i left at rebased bound =
     (told (imageStarts file body cmds f (segmentsOf cmds count)) (state 0 0 rebases₀ binds₀)
     ≡ told (infosFrom file body cmds f (total - i) i (ofKind segmentKind cmds left at)) (state rebased bound rebases binds))
     × (length rebases ≡ length rebases₀) × (length binds ≡ length binds₀) × (i ≤ total)
@@ -28,10 +28,13 @@ returns c = let a = c .before .before .before .before .before .before .before .a
 
 loop-holds : tie.Need-loop-holds Inv-loop μ-loop
 loop-holds c = let a = c .before .before .before .before .before .before .before .before .args in
-    let e : c .before .before .wide32 .result ≡ a .f .starts = c .before .before .wide32 .ensures .0 in
-    (ap (λ x. told x (state 0 0 (a .rebases .now) (a .binds .now)))
-    (laws.starts-in (a .file .now) (a .body .now) (a .cmds .now) (a .f) (segmentsOf (a .cmds .now) (a .count)) (c .u32-at .result) (omega arith) (rw e at (c .u32-at .ensures))),
-    refl, refl, omega arith)
+    let e : c .before .before .wide32 .result ≡ a .f .starts = c .before .before .wide32 .ensures .0 in (
+      ap (λ x. told x (state 0 0 (a .rebases .now) (a .binds .now)))
+          (laws.starts-in (a .file .now) (a .body .now) (a .cmds .now) (a .f) (segmentsOf (a .cmds .now) (a .count)) (c .u32-at .result) (omega arith) (rw e at (c .u32-at .ensures))),
+      refl,
+      refl,
+      omega arith,
+    )
 
 same-length : tie.Need-same-length Inv-loop μ-loop
 same-length c = c .before .before .before .loop .inv .1
@@ -47,9 +50,12 @@ returns-2 c = let a = c .before .before .before .before .before .before .before 
 loop-again : tie.Need-loop-again Inv-loop μ-loop
 loop-again c = let a = c .before .before .before .before .before .before .before .before .before .before .before .before .before .before .before .before .before .before .before .before .before .before .before .before .args in let l = c .before .before .before .before .before .before .before .before .before .before .before .before .before .before .before .loop in let s = state (l .rebased) (l .bound) (l .rebases) (l .binds) in
     let h = laws.infos-more (a .file .now) (a .body .now) (a .cmds .now) (a .f) (c .before .before .before .before .before .before .before .before .before .before .before .before .before .before .before .before .u32-at .result) (l .i) (c .before .before .before .before .before .before .before .before .before .before .before .before .before .before .before .before .before .before .wide32 .result + 4 + 4 * c .before .before .before .before .before .before .before .before .before .before .before .before .before .wide322 .result) (omega arith) (omega (arith, c .before .before .before .before .before .before .before .before .before .before .before .before .before .before .before .before .before .before .wide32 .ensures .0, c .before .before .before .before .before .before .before .before .before .before .before .before .before .wide322 .ensures .0))
-        (c .before .before .before .before .before .before .before .before .before .before .u32-at2 .result) (l .left) (l .at) (c .before .before .before .before .before .before .before .before .before .before .before .find .result) (omega arith) (c .before .before .before .before .before .before .before .before .before .before .u32-at2 .ensures) (finds-by segmentKind (a .cmds .now) (l .left) (l .at) (c .before .before .before .before .before .before .before .before .before .before .before .find .result) (c .before .before .before .before .before .before .before .before .before .before .before .find .ensures)) in
-    (l .inv .0 ∙ ap (λ x. told x s) h ∙ then _ _ s (c .before .before .before .before .before .before .before .segment-info .result) (c .before .before .before .before .before .before .before .segment-info .last .1 .1 .1 .1 .1 .1 .1 .1 .1 .0) (c .before .before .before .before .before .before .before .segment-info .last .1 .1 .1 .1 .1 .1 .1 .1 .1 .1 .0) (c .before .before .before .before .before .before .before .segment-info .ensures) _ _ (c .before .x .given .1),
-    (c .before .before .before .before .before .before .before .segment-info .kept .1 .1 .1 .1 .1 .1 .1 .1 .1 .0) ∙ l .inv .1, (c .before .before .before .before .before .before .before .segment-info .kept .1 .1 .1 .1 .1 .1 .1 .1 .1 .1 .0) ∙ l .inv .2, omega arith)
+    (c .before .before .before .before .before .before .before .before .before .before .u32-at2 .result) (l .left) (l .at) (c .before .before .before .before .before .before .before .before .before .before .before .find .result) (omega arith) (c .before .before .before .before .before .before .before .before .before .before .u32-at2 .ensures) (finds-by segmentKind (a .cmds .now) (l .left) (l .at) (c .before .before .before .before .before .before .before .before .before .before .before .find .result) (c .before .before .before .before .before .before .before .before .before .before .before .find .ensures)) in (
+      l .inv .0 ∙ ap (λ x. told x s) h ∙ then _ _ s (c .before .before .before .before .before .before .before .segment-info .result) (c .before .before .before .before .before .before .before .segment-info .last .1 .1 .1 .1 .1 .1 .1 .1 .1 .0) (c .before .before .before .before .before .before .before .segment-info .last .1 .1 .1 .1 .1 .1 .1 .1 .1 .1 .0) (c .before .before .before .before .before .before .before .segment-info .ensures) _ _ (c .before .x .given .1),
+      (c .before .before .before .before .before .before .before .segment-info .kept .1 .1 .1 .1 .1 .1 .1 .1 .1 .0) ∙ l .inv .1,
+      (c .before .before .before .before .before .before .before .segment-info .kept .1 .1 .1 .1 .1 .1 .1 .1 .1 .1 .0) ∙ l .inv .2,
+      omega arith,
+    )
 
 same-length-3 : tie.Need-same-length-3 Inv-loop μ-loop
 same-length-3 c = (c .before .before .before .before .before .before .before .segment-info .kept .1 .1 .1 .1 .1 .1 .1 .1 .1 .0) ∙ c .before .before .before .before .before .before .before .before .before .before .before .before .before .before .before .loop .inv .1
@@ -60,7 +66,7 @@ same-length-4 c = (c .before .before .before .before .before .before .before .se
 returns-3 : tie.Need-returns-3 Inv-loop μ-loop
 returns-3 c = let a = c .before .before .before .before .before .before .before .before .before .before .before .before .before .before .before .before .before .before .before .before .before .before .before .before .args in let l = c .before .before .before .before .before .before .before .before .before .before .before .before .before .before .before .loop in let s = state (l .rebased) (l .bound) (l .rebases) (l .binds) in
     let h = laws.infos-more (a .file .now) (a .body .now) (a .cmds .now) (a .f) (c .before .before .before .before .before .before .before .before .before .before .before .before .before .before .before .before .u32-at .result) (l .i) (c .before .before .before .before .before .before .before .before .before .before .before .before .before .before .before .before .before .before .wide32 .result + 4 + 4 * c .before .before .before .before .before .before .before .before .before .before .before .before .before .wide322 .result) (omega arith) (omega (arith, c .before .before .before .before .before .before .before .before .before .before .before .before .before .before .before .before .before .before .wide32 .ensures .0, c .before .before .before .before .before .before .before .before .before .before .before .before .before .wide322 .ensures .0))
-        (c .before .before .before .before .before .before .before .before .before .before .u32-at2 .result) (l .left) (l .at) (c .before .before .before .before .before .before .before .before .before .before .before .find .result) (omega arith) (c .before .before .before .before .before .before .before .before .before .before .u32-at2 .ensures) (finds-by segmentKind (a .cmds .now) (l .left) (l .at) (c .before .before .before .before .before .before .before .before .before .before .before .find .result) (c .before .before .before .before .before .before .before .before .before .before .before .find .ensures)) in
+    (c .before .before .before .before .before .before .before .before .before .before .u32-at2 .result) (l .left) (l .at) (c .before .before .before .before .before .before .before .before .before .before .before .find .result) (omega arith) (c .before .before .before .before .before .before .before .before .before .before .u32-at2 .ensures) (finds-by segmentKind (a .cmds .now) (l .left) (l .at) (c .before .before .before .before .before .before .before .before .before .before .before .find .result) (c .before .before .before .before .before .before .before .before .before .before .before .find .ensures)) in
     sym (l .inv .0 ∙ ap (λ x. told x s) h ∙ stops _ _ s (c .before .before .before .before .before .before .before .segment-info .result) (c .before .before .before .before .before .before .before .segment-info .last .1 .1 .1 .1 .1 .1 .1 .1 .1 .0) (c .before .before .before .before .before .before .before .segment-info .last .1 .1 .1 .1 .1 .1 .1 .1 .1 .1 .0) (c .before .before .before .before .before .before .before .segment-info .ensures) _ (c .before .k .given .1))
 
 same-length-5 : tie.Need-same-length-5 Inv-loop μ-loop

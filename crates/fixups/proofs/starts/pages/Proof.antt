@@ -11,7 +11,7 @@ use Rattle.fixups.proofs.starts.pages.Statement.{statement}
 use Rattle.fixups.proofs.starts.pages.Tie as tie
 
 abbrev Inv-loop : tie.InvT-loop
-Inv-loop file body f s at count r b rebases₀ binds₀ p₀ rebased₀ bound₀ rebases binds p rebased bound = 
+Inv-loop file body f s at count r b rebases₀ binds₀ p₀ rebased₀ bound₀ rebases binds p rebased bound =
     (told (pagesFrom file body f s at count 0) (state r b rebases₀ binds₀) ≡ told (pagesFrom file body f s at (count - p) p) (state rebased bound rebases binds))
     × (length rebases ≡ length rebases₀) × (length binds ≡ length binds₀) × (p ≤ count)
 
@@ -22,11 +22,14 @@ loop-holds : tie.Need-loop-holds Inv-loop μ-loop
 loop-holds c = (rw (whole (c .before .before .before .before .args .count)), refl, refl, omega arith)
 
 loop-again : tie.Need-loop-again Inv-loop μ-loop
-loop-again c = let a = c .before .before .before .before .before .before .before .before .before .before .before .before .before .before .before .before .args in let l = c .before .before .before .before .before .before .before .before .before .before .before .loop in
-    (l .inv .0 ∙ ap (λ x. told x (state (l .rebased) (l .bound) (l .rebases) (l .binds))) (pages-more (a .file .now) (a .body .now) (a .f) (a .s) (a .at) (a .count) (l .p) (omega arith))
-    ∙ then (pageAt (a .file .now) (a .body .now) (a .f) (a .s) (a .at) (l .p)) (pagesFrom (a .file .now) (a .body .now) (a .f) (a .s) (a .at) (a .count - (l .p + 1)) (l .p + 1))
-    (state (l .rebased) (l .bound) (l .rebases) (l .binds)) (c .before .before .before .before .before .before .before .page .result) (c .before .before .before .before .before .before .before .page .last .1 .1 .1 .1 .1 .1 .1 .1 .0) (c .before .before .before .before .before .before .before .page .last .1 .1 .1 .1 .1 .1 .1 .1 .1 .0) (c .before .before .before .before .before .before .before .page .ensures) _ _ (c .before .x .given .1),
-    (c .before .before .before .before .before .before .before .page .kept .1 .1 .1 .1 .1 .1 .1 .1 .0) ∙ l .inv .1, (c .before .before .before .before .before .before .before .page .kept .1 .1 .1 .1 .1 .1 .1 .1 .1 .0) ∙ l .inv .2, omega arith)
+loop-again c = let a = c .before .before .before .before .before .before .before .before .before .before .before .before .before .before .before .before .args in let l = c .before .before .before .before .before .before .before .before .before .before .before .loop in (
+  l .inv .0 ∙ ap (λ x. told x (state (l .rebased) (l .bound) (l .rebases) (l .binds))) (pages-more (a .file .now) (a .body .now) (a .f) (a .s) (a .at) (a .count) (l .p) (omega arith))
+      ∙ then (pageAt (a .file .now) (a .body .now) (a .f) (a .s) (a .at) (l .p)) (pagesFrom (a .file .now) (a .body .now) (a .f) (a .s) (a .at) (a .count - (l .p + 1)) (l .p + 1))
+      (state (l .rebased) (l .bound) (l .rebases) (l .binds)) (c .before .before .before .before .before .before .before .page .result) (c .before .before .before .before .before .before .before .page .last .1 .1 .1 .1 .1 .1 .1 .1 .0) (c .before .before .before .before .before .before .before .page .last .1 .1 .1 .1 .1 .1 .1 .1 .1 .0) (c .before .before .before .before .before .before .before .page .ensures) _ _ (c .before .x .given .1),
+  (c .before .before .before .before .before .before .before .page .kept .1 .1 .1 .1 .1 .1 .1 .1 .0) ∙ l .inv .1,
+  (c .before .before .before .before .before .before .before .page .kept .1 .1 .1 .1 .1 .1 .1 .1 .1 .0) ∙ l .inv .2,
+  omega arith,
+)
 
 same-length : tie.Need-same-length Inv-loop μ-loop
 same-length c = (c .before .before .before .before .before .before .before .page .kept .1 .1 .1 .1 .1 .1 .1 .1 .0) ∙ c .before .before .before .before .before .before .before .before .before .before .before .loop .inv .1
