@@ -1,6 +1,6 @@
 -- Entries and slots, by the branches of the code.
 use Prim.Native.Nat.{ℕ, _+_, _*_, _/_, _%_, _^_, _≤_, _<_}
-use mathlib.Core.Path.{_≡_, ap}
+use mathlib.Core.Path.{_≡_, _∙_, ap}
 use mathlib.Core.List.{List, [], _∷_}
 use lib.ListN.{length}
 use borrow.Author.Tests.{lt-ltb, le-ltb, le-leb, lt-leb}
@@ -32,14 +32,23 @@ module _ (body : List ℕ) (f : Fixups) (s : Starts) (at w slot : ℕ) (eslot : 
     unfolding entryOf choose
     entry-not k e = simp (le-ltb _ _ h, ← en, e)
 
+-- A record that is put, with the bytes to the next slot.
+module _ (step r b : ℕ) (rs bs : List ℕ) where
+  pub put-rebase-is : (x : Fixup) (slot t n : ℕ) (l : List ℕ) → x ≡ Rebase slot t → part n l ≡ putRow (slot ∷ t ∷ []) (part r rs)
+      → value (stepped step (state n b l bs)) ≡ value (stepped step (put x (state r b rs bs)))
+  unfolding put putRow
+  put-rebase-is x slot t n l q e = rw q (ap (λ (p : Part). value (stepped step (record { rebases = p; binds = part b bs }))) e)
+
+  pub put-bind-is : (x : Fixup) (slot o z n : ℕ) (l : List ℕ) → x ≡ Bind slot o z → part n l ≡ putRow (slot ∷ o ∷ z ∷ 0 ∷ []) (part b bs)
+      → value (stepped step (state r n rs l)) ≡ value (stepped step (put x (state r b rs bs)))
+  unfolding put putRow
+  put-bind-is x slot o z n l q e = rw q (ap (λ (p : Part). value (stepped step (record { rebases = part r rs; binds = p }))) e)
+
 abbrev pub after : State → Met → Outcome Stepped
 after st m = value (stepped (m .step) (put (m .fixup) st))
 
-module _ (file body : List ℕ) (f : Fixups) (s : Starts) (at r b : ℕ) (rs bs : List ℕ) where
-  abbrev here : State
-  here = state r b rs bs
-
-  pub visit-out : length file < s .fileoff + at + 8 → number 20 ≡ andThen (visitOf file body f s at) (after here)
+module _ (file body : List ℕ) (f : Fixups) (s : Starts) (at : ℕ) (st : State) where
+  pub visit-out : length file < s .fileoff + at + 8 → number 20 ≡ andThen (visitOf file body f s at) (after st)
   unfolding visitOf choose
   visit-out h = simp (lt-leb (s .fileoff + at + 8) (length file) h)
 
@@ -48,15 +57,10 @@ module _ (file body : List ℕ) (f : Fixups) (s : Starts) (at r b : ℕ) (rs bs 
     unfolding visitOf choose
     visit-in = rw (ee, ew) (simp (le-leb (s .fileoff + at + 8) (length file) h))
 
-    pub visit-not : (k : ℕ) → e ≡ Refused k → number k ≡ andThen (visitOf file body f s at) (after here)
+    pub visit-not : (k : ℕ) → e ≡ Refused k → number k ≡ andThen (visitOf file body f s at) (after st)
     visit-not k q = rw (visit-in, q)
 
-    pub visit-rebase : (x : Fixup) (slot t n : ℕ) (l : List ℕ) → e ≡ At x → x ≡ Rebase slot t → part n l ≡ putRow (slot ∷ t ∷ []) (part r rs)
-        → value (stepped (w / 2 ^ 51 % 2 ^ 12 * 4) (state n b l bs)) ≡ andThen (visitOf file body f s at) (after here)
-    unfolding put putRow stepOf
-    visit-rebase x slot t n l q qx ep = rw (visit-in, q, qx) (ap (λ (p : Part). value (stepped (w / 2 ^ 51 % 2 ^ 12 * 4) (record { rebases = p; binds = part b bs }))) ep)
-
-    pub visit-bind : (x : Fixup) (slot o z n : ℕ) (l : List ℕ) → e ≡ At x → x ≡ Bind slot o z → part n l ≡ putRow (slot ∷ o ∷ z ∷ 0 ∷ []) (part b bs)
-        → value (stepped (w / 2 ^ 51 % 2 ^ 12 * 4) (state r n rs l)) ≡ andThen (visitOf file body f s at) (after here)
-    unfolding put putRow stepOf
-    visit-bind x slot o z n l q qx ep = rw (visit-in, q, qx) (ap (λ (p : Part). value (stepped (w / 2 ^ 51 % 2 ^ 12 * 4) (record { rebases = part r rs; binds = p }))) ep)
+    pub visit-put : (x : Fixup) (o : Outcome Stepped) → e ≡ At x → o ≡ value (stepped (w / 2 ^ 51 % 2 ^ 12 * 4) (put x st))
+        → o ≡ andThen (visitOf file body f s at) (after st)
+    unfolding stepOf
+    visit-put x o q g = g ∙ rw (visit-in, q)

@@ -80,6 +80,30 @@ fn entry_at(body: &[u8], f: Fixups, s: Starts, at: u64, word: u64) -> Entry
     }
 }
 
+// Puts a record into its table, where there is room for it.
+fn put_fixup(x: Fixup, step: u64, r: u64, b: u64, rebases: &mut [u64], binds: &mut [u64]) -> Visit
+    ensures { λ v. ⌜ steppedOf v (after rebases) (after binds) ≡ value (stepped step (put x (state r b (before rebases) (before binds)))) ⌝ }
+{
+    match x {
+        Fixup::Rebase(slot, target) => {
+            let next = put_rebase(rebases, r, slot, target);
+            Visit::Slot {
+                rebases: next,
+                binds: b,
+                step,
+            }
+        }
+        Fixup::Bind(slot, name, len) => {
+            let next = put_bind(binds, b, slot, name, len);
+            Visit::Slot {
+                rebases: r,
+                binds: next,
+                step,
+            }
+        }
+    }
+}
+
 // One slot of a chain.
 fn visit_slot(
     file: &[u8],
@@ -106,24 +130,7 @@ fn visit_slot(
     let word = u64_at(file, s.fileoff, at);
     let step = word / 0x8_0000_0000_0000 % 0x1000 * 4;
     match entry_at(body, f, s, at, word) {
-        Entry::At(x) => match x {
-            Fixup::Rebase(slot, target) => {
-                let next = put_rebase(rebases, r, slot, target);
-                Visit::Slot {
-                    rebases: next,
-                    binds: b,
-                    step,
-                }
-            }
-            Fixup::Bind(slot, name, len) => {
-                let next = put_bind(binds, b, slot, name, len);
-                Visit::Slot {
-                    rebases: r,
-                    binds: next,
-                    step,
-                }
-            }
-        },
+        Entry::At(x) => put_fixup(x, step, r, b, rebases, binds),
         Entry::Refused(k) => Visit::Refused(k),
     }
 }

@@ -24,6 +24,7 @@ use crate::fixup_chains::SYMBOLS_OFFSET;
 use crate::fixup_chains::SYMBOLS_UNCOMPRESSED;
 use crate::name::wide16;
 use crate::name::wide32;
+use macho::command::Found;
 use macho::command::find;
 use macho::loader::FILEOFF;
 use macho::loader::LC_SEGMENT_64;
@@ -166,13 +167,12 @@ fn segment_starts(
     )
 }
 
-// One seg_info_offset, of the segment whose command stands at `command`, if it is here; 0 has no starts.
+// One seg_info_offset, of the segment whose command was looked for; 0 has no starts.
 fn segment_info(
     file: &[u8],
     body: &[u8],
     cmds: &[u8],
-    here: bool,
-    command: u64,
+    found: Found,
     f: Fixups,
     offset: u32,
     r: u64,
@@ -181,17 +181,17 @@ fn segment_info(
     binds: &mut [u64],
 ) -> Walked
     ensures { λ w. ⌜ stateOf w (after rebases) (after binds)
-        ≡ told (choose (eqb offset 0) (value []) (choose here (segmentStarts (before file) (before body) (before cmds) f (f .starts + offset) command) (number 19)))
+        ≡ told (choose (eqb offset 0) (value []) (choose (found .here) (segmentStarts (before file) (before body) (before cmds) f (f .starts + offset) (found .at)) (number 19)))
         (state r b (before rebases) (before binds)) ⌝ }
 {
     if offset == 0 {
         return Walked::Counts(r, b);
     }
-    if !here {
+    if !found.here {
         return Walked::Refused(19);
     }
     let at = wide32(f.starts) + wide32(offset);
-    segment_starts(file, body, cmds, f, at, command, r, b, rebases, binds)
+    segment_starts(file, body, cmds, f, at, found.at, r, b, rebases, binds)
 }
 
 // The starts of the image, segment by segment.
@@ -224,14 +224,14 @@ fn image_starts(
             return Walked::Refused(19);
         }
         let found = find(cmds, LC_SEGMENT_64, left, at);
+        let offset = u32_at(body, first, next);
         match segment_info(
             file,
             body,
             cmds,
-            found.here,
-            found.at,
+            found,
             f,
-            u32_at(body, first, next),
+            offset,
             rebased,
             bound,
             rebases,

@@ -1,34 +1,30 @@
 use native.Mathlib.Omega.{arith}
-use Rattle.fixups.proofs.Visits.{visit-out, visit-not, visit-rebase, visit-bind}
+use Rattle.fixups.specs.Tables.{state}
+use Rattle.fixups.proofs.Visits.{visit-out, visit-not, visit-put}
 use borrow.Author.Needs.{needs}
 use Rattle.fixups.proofs.chain.visit_slot.Statement.{statement}
 use Rattle.fixups.proofs.chain.visit_slot.Tie as tie
 
 returns : tie.Need-returns
-returns c = let a = c .before .before .before .before .before .before .args in visit-out (a .file .now) (a .body .now) (a .f) (a .s) (a .at) (a .r) (a .b) (a .rebases .now) (a .binds .now) (omega arith)
+returns c = let a = c .before .before .before .before .before .before .args in visit-out (a .file .now) (a .body .now) (a .f) (a .s) (a .at) (state (a .r) (a .b) (a .rebases .now) (a .binds .now)) (omega arith)
 
 returns-2 : tie.Need-returns-2
-returns-2 c = let a = c .before .before .before .before .before .before .before .before .args in visit-out (a .file .now) (a .body .now) (a .f) (a .s) (a .at) (a .r) (a .b) (a .rebases .now) (a .binds .now) (omega arith)
+returns-2 c = let a = c .before .before .before .before .before .before .before .before .args in visit-out (a .file .now) (a .body .now) (a .f) (a .s) (a .at) (state (a .r) (a .b) (a .rebases .now) (a .binds .now)) (omega arith)
 
 same-length : tie.Need-same-length
-same-length c = (c .before .before .put-rebase .kept .0)
+same-length c = (c .before .before .before .before .put-fixup .kept .1 .1 .1 .1 .0)
+
+same-length-2 : tie.Need-same-length-2
+same-length-2 c = (c .before .before .before .before .put-fixup .kept .1 .1 .1 .1 .1 .0)
 
 returns-3 : tie.Need-returns-3
 returns-3 c = let a = c .before .before .before .before .before .before .before .before .before .before .before .before .before .before .before .before .before .before .before .before .args in
-    visit-rebase (a .file .now) (a .body .now) (a .f) (a .s) (a .at) (a .r) (a .b) (a .rebases .now) (a .binds .now)
-    (c .before .before .before .before .before .before .before .before .before .before .before .u64-at .result) (c .before .before .before .before .before .before .before .before .before .before .entry-at .result) (omega arith) (c .before .before .before .before .before .before .before .before .before .before .before .u64-at .ensures) (c .before .before .before .before .before .before .before .before .before .before .entry-at .ensures) _ _ _ _ _ (c .before .before .before .before .before .before .before .before .x .given .1) (c .before .before .before .before .before .x2 .given .1) (c .before .before .put-rebase .ensures)
-
-same-length-2 : tie.Need-same-length-2
-same-length-2 c = (c .before .before .put-bind .kept .0)
+    visit-put (a .file .now) (a .body .now) (a .f) (a .s) (a .at) (state (a .r) (a .b) (a .rebases .now) (a .binds .now))
+    (c .before .before .before .before .before .before .before .before .before .before .before .u64-at .result) (c .before .before .before .before .before .before .before .before .before .before .entry-at .result) (omega arith) (c .before .before .before .before .before .before .before .before .before .before .before .u64-at .ensures) (c .before .before .before .before .before .before .before .before .before .before .entry-at .ensures) _ _ (c .before .before .before .before .before .before .before .before .x .given .1) (c .before .before .before .before .put-fixup .ensures)
 
 returns-4 : tie.Need-returns-4
-returns-4 c = let a = c .before .before .before .before .before .before .before .before .before .before .before .before .before .before .before .before .before .before .before .before .args in
-    visit-bind (a .file .now) (a .body .now) (a .f) (a .s) (a .at) (a .r) (a .b) (a .rebases .now) (a .binds .now)
-    (c .before .before .before .before .before .before .before .before .before .before .before .u64-at .result) (c .before .before .before .before .before .before .before .before .before .before .entry-at .result) (omega arith) (c .before .before .before .before .before .before .before .before .before .before .before .u64-at .ensures) (c .before .before .before .before .before .before .before .before .before .before .entry-at .ensures) _ _ _ _ _ _ (c .before .before .before .before .before .before .before .before .x .given .1) (c .before .before .before .before .before .x3 .given .1) (c .before .before .put-bind .ensures)
-
-returns-5 : tie.Need-returns-5
-returns-5 c = let a = c .before .before .before .before .before .before .before .before .before .before .before .before .before .args in
-    visit-not (a .file .now) (a .body .now) (a .f) (a .s) (a .at) (a .r) (a .b) (a .rebases .now) (a .binds .now)
+returns-4 c = let a = c .before .before .before .before .before .before .before .before .before .before .before .before .before .args in
+    visit-not (a .file .now) (a .body .now) (a .f) (a .s) (a .at) (state (a .r) (a .b) (a .rebases .now) (a .binds .now))
     (c .before .before .before .before .u64-at .result) (c .before .before .before .entry-at .result) (omega arith) (c .before .before .before .before .u64-at .ensures) (c .before .before .before .entry-at .ensures) _ (c .before .k .given .1)
 
 pub visit-slot-spec : {M : Type 1} → statement M
@@ -42,13 +38,9 @@ visit-slot-spec =
     (λ c. search needs)
     (λ c κs. search needs)
     (λ c. search needs)
-    (λ c. search needs)
-    (λ c κs. search needs)
-    (λ c. search needs)
     (λ c κs. search needs)
     (λ c. search needs)
     same-length
-    returns-3
     same-length-2
-    returns-4
-    returns-5)
+    returns-3
+    returns-4)

@@ -51,23 +51,23 @@ loop-again : tie.Need-loop-again Inv-loop μ-loop
 loop-again c = let a = c .before .before .before .before .before .before .before .before .before .before .before .before .before .before .before .before .before .before .before .before .before .before .before .before .args in let l = c .before .before .before .before .before .before .before .before .before .before .before .before .before .before .before .loop in let s = state (l .rebased) (l .bound) (l .rebases) (l .binds) in
     let h = laws.infos-more (a .file .now) (a .body .now) (a .cmds .now) (a .f) (c .before .before .before .before .before .before .before .before .before .before .before .before .before .before .before .before .u32-at .result) (l .i) (c .before .before .before .before .before .before .before .before .before .before .before .before .before .before .before .before .before .before .wide32 .result + 4 + 4 * c .before .before .before .before .before .before .before .before .before .before .before .before .before .wide322 .result) (omega arith) (omega (arith, c .before .before .before .before .before .before .before .before .before .before .before .before .before .before .before .before .before .before .wide32 .ensures .0, c .before .before .before .before .before .before .before .before .before .before .before .before .before .wide322 .ensures .0))
     (c .before .before .before .before .before .before .before .before .before .before .u32-at2 .result) (l .left) (l .at) (c .before .before .before .before .before .before .before .before .before .before .before .find .result) (omega arith) (c .before .before .before .before .before .before .before .before .before .before .u32-at2 .ensures) (finds-by segmentKind (a .cmds .now) (l .left) (l .at) (c .before .before .before .before .before .before .before .before .before .before .before .find .result) (c .before .before .before .before .before .before .before .before .before .before .before .find .ensures)) in (
-      l .inv .0 ∙ ap (λ x. told x s) h ∙ then _ _ s (c .before .before .before .before .before .before .before .segment-info .result) (c .before .before .before .before .before .before .before .segment-info .last .1 .1 .1 .1 .1 .1 .1 .1 .1 .0) (c .before .before .before .before .before .before .before .segment-info .last .1 .1 .1 .1 .1 .1 .1 .1 .1 .1 .0) (c .before .before .before .before .before .before .before .segment-info .ensures) _ _ (c .before .x .given .1),
-      (c .before .before .before .before .before .before .before .segment-info .kept .1 .1 .1 .1 .1 .1 .1 .1 .1 .0) ∙ l .inv .1,
-      (c .before .before .before .before .before .before .before .segment-info .kept .1 .1 .1 .1 .1 .1 .1 .1 .1 .1 .0) ∙ l .inv .2,
+      l .inv .0 ∙ ap (λ x. told x s) h ∙ then _ _ s (c .before .before .before .before .before .before .before .segment-info .result) (c .before .before .before .before .before .before .before .segment-info .last .1 .1 .1 .1 .1 .1 .1 .1 .0) (c .before .before .before .before .before .before .before .segment-info .last .1 .1 .1 .1 .1 .1 .1 .1 .1 .0) (c .before .before .before .before .before .before .before .segment-info .ensures) _ _ (c .before .x .given .1),
+      (c .before .before .before .before .before .before .before .segment-info .kept .1 .1 .1 .1 .1 .1 .1 .1 .0) ∙ l .inv .1,
+      (c .before .before .before .before .before .before .before .segment-info .kept .1 .1 .1 .1 .1 .1 .1 .1 .1 .0) ∙ l .inv .2,
       omega arith,
     )
 
 same-length-3 : tie.Need-same-length-3 Inv-loop μ-loop
-same-length-3 c = (c .before .before .before .before .before .before .before .segment-info .kept .1 .1 .1 .1 .1 .1 .1 .1 .1 .0) ∙ c .before .before .before .before .before .before .before .before .before .before .before .before .before .before .before .loop .inv .1
+same-length-3 c = (c .before .before .before .before .before .before .before .segment-info .kept .1 .1 .1 .1 .1 .1 .1 .1 .0) ∙ c .before .before .before .before .before .before .before .before .before .before .before .before .before .before .before .loop .inv .1
 
 same-length-4 : tie.Need-same-length-4 Inv-loop μ-loop
-same-length-4 c = (c .before .before .before .before .before .before .before .segment-info .kept .1 .1 .1 .1 .1 .1 .1 .1 .1 .1 .0) ∙ c .before .before .before .before .before .before .before .before .before .before .before .before .before .before .before .loop .inv .2
+same-length-4 c = (c .before .before .before .before .before .before .before .segment-info .kept .1 .1 .1 .1 .1 .1 .1 .1 .1 .0) ∙ c .before .before .before .before .before .before .before .before .before .before .before .before .before .before .before .loop .inv .2
 
 returns-3 : tie.Need-returns-3 Inv-loop μ-loop
 returns-3 c = let a = c .before .before .before .before .before .before .before .before .before .before .before .before .before .before .before .before .before .before .before .before .before .before .before .before .args in let l = c .before .before .before .before .before .before .before .before .before .before .before .before .before .before .before .loop in let s = state (l .rebased) (l .bound) (l .rebases) (l .binds) in
     let h = laws.infos-more (a .file .now) (a .body .now) (a .cmds .now) (a .f) (c .before .before .before .before .before .before .before .before .before .before .before .before .before .before .before .before .u32-at .result) (l .i) (c .before .before .before .before .before .before .before .before .before .before .before .before .before .before .before .before .before .before .wide32 .result + 4 + 4 * c .before .before .before .before .before .before .before .before .before .before .before .before .before .wide322 .result) (omega arith) (omega (arith, c .before .before .before .before .before .before .before .before .before .before .before .before .before .before .before .before .before .before .wide32 .ensures .0, c .before .before .before .before .before .before .before .before .before .before .before .before .before .wide322 .ensures .0))
     (c .before .before .before .before .before .before .before .before .before .before .u32-at2 .result) (l .left) (l .at) (c .before .before .before .before .before .before .before .before .before .before .before .find .result) (omega arith) (c .before .before .before .before .before .before .before .before .before .before .u32-at2 .ensures) (finds-by segmentKind (a .cmds .now) (l .left) (l .at) (c .before .before .before .before .before .before .before .before .before .before .before .find .result) (c .before .before .before .before .before .before .before .before .before .before .before .find .ensures)) in
-    sym (l .inv .0 ∙ ap (λ x. told x s) h ∙ stops _ _ s (c .before .before .before .before .before .before .before .segment-info .result) (c .before .before .before .before .before .before .before .segment-info .last .1 .1 .1 .1 .1 .1 .1 .1 .1 .0) (c .before .before .before .before .before .before .before .segment-info .last .1 .1 .1 .1 .1 .1 .1 .1 .1 .1 .0) (c .before .before .before .before .before .before .before .segment-info .ensures) _ (c .before .k .given .1))
+    sym (l .inv .0 ∙ ap (λ x. told x s) h ∙ stops _ _ s (c .before .before .before .before .before .before .before .segment-info .result) (c .before .before .before .before .before .before .before .segment-info .last .1 .1 .1 .1 .1 .1 .1 .1 .0) (c .before .before .before .before .before .before .before .segment-info .last .1 .1 .1 .1 .1 .1 .1 .1 .1 .0) (c .before .before .before .before .before .before .before .segment-info .ensures) _ (c .before .k .given .1))
 
 same-length-5 : tie.Need-same-length-5 Inv-loop μ-loop
 same-length-5 c = c .before .loop .inv .1
