@@ -143,8 +143,8 @@ method-line = plain.rowLine 0 the-row
 abbrev strings : {A : Type 0} → Tables → Decode A → List ℕ
 strings t d = stringsAmong (asks t d)
 
-same-offset : (a b : ℕ) → _≡_ {A = Outcome Place} (value (placeAt a)) (value (placeAt b)) → a ≡ b
-same-offset a b e = let p : placeAt a ≡ placeAt b = cc in ap (λ (x : Place). x .offset) p
+same-place : (p q : Place) → _≡_ {A = Outcome Place} (value p) (value q) → p ≡ q
+same-place p q e = cc
 
 module _ (before : List ℕ) where
   -- What both files hold under any setting: the class, and the method list of one entry, which is readable.
@@ -280,8 +280,8 @@ module _ (before : List ℕ) where
   -- A string between offset 0x98 and the zero byte at 0xA0.
   string-ends : (offset va : ℕ) → lookup (rows segments) va ≡ value (placeAt offset) → offset ≤ 0xA0 → StringEnds (imageIn (file before whole)) va
   unfolding bytes
-  string-ends offset va there h other n q l =
-      let same = same-offset other offset (sym q ∙ there) in
+  string-ends offset va there h p n q l =
+      let same = ap (λ (x : Place). x .offset) (same-place p (placeAt offset) (sym q ∙ there)) in
       (0xA0, omega (arith, same), omega arith, refl)
 
   pub whole-ends : StringsEnd (file before whole) (decodeListing sections)

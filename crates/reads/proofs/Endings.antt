@@ -92,7 +92,7 @@ module _ (m : Image) (va : ℕ) where
       there : (p : Place) → (va ≡ 0 → ⊥) → lookup (rows (m .words)) va ≡ value p → textAt Old (m .bytes) (p .offset) ≡ textAt New (m .bytes) (p .offset)
       there p n q =
           elim (decLe (p .offset) (length (m .bytes))) [
-            | yes l ↦ text-same (m .bytes) (p .offset) (h (p .offset) n q l)
+            | yes l ↦ text-same (m .bytes) (p .offset) (h p n q l)
             | no f ↦ sym (text-beyond Old (m .bytes) (p .offset) (omega arith)) ∙ text-beyond New (m .bytes) (p .offset) (omega arith)
           ]
 
@@ -106,4 +106,4 @@ module _ (m : Image) (va : ℕ) where
 
   pub same-ends : textIn Old m va ≡ textIn New m va → StringEnds m va
   unfolding textIn
-  same-ends e offset n q l = same-zero (m .bytes) offset l (rw (nonzero-else va n, q) at e)
+  same-ends e p n q l = same-zero (m .bytes) (p .offset) l (rw (nonzero-else va n, q) at e)

@@ -4,8 +4,9 @@ use mathlib.Core.Path.{_≡_}
 use mathlib.Core.List.{List}
 use lib.ListN.{length, getD}
 use Rattle.reads.specs.Outcome.{value}
-use Rattle.reads.specs.Segment.{rows, placeAt, lookup}
+use Rattle.reads.specs.Segment.{rows, lookup}
 use Rattle.reads.specs.Place.{Image}
+use Rattle.reads.specs.declared.place.Place.{Place}
 
 -- A byte at an offset or behind it is 0.
 abbrev pub ZeroFrom : List ℕ → ℕ → Type 0
@@ -15,4 +16,4 @@ ZeroFrom bytes offset = (i : ℕ) × (offset ≤ i) × (i < length bytes) × (ge
 -- 0, of one that is not mapped, and of one that leads past the image's end: no reading gives a string there.
 abbrev pub StringEnds : Image → ℕ → Type 0
 StringEnds m va =
-    (offset : ℕ) → (va ≡ 0 → ⊥) → lookup (rows (m .words)) va ≡ value (placeAt offset) → offset ≤ length (m .bytes) → ZeroFrom (m .bytes) offset
+    (p : Place) → (va ≡ 0 → ⊥) → lookup (rows (m .words)) va ≡ value p → p .offset ≤ length (m .bytes) → ZeroFrom (m .bytes) (p .offset)

@@ -20,6 +20,11 @@ module _ {A : Type 0} (P : A → Type 0) where
   each-right [] ys h = h
   each-right (x ∷ xs) ys h = each-right xs ys (h .1)
 
+  -- And what follows from it holds of each too.
+  pub each-then : (Q : A → Type 0) → ((a : A) → P a → Q a) → (xs : List A) → Each P xs → Each Q xs
+  each-then Q f [] h = tt
+  each-then Q f (x ∷ xs) h = (f x (h .0), each-then Q f xs (h .1))
+
 -- The same outcome, and the same questions.
 pub record Same {A : Type 0} (o p : Outcome A) (qs rs : List Ask) : Type 0 where
   pub outcome : o ≡ p

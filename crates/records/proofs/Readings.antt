@@ -1,6 +1,6 @@
 -- Where every string that a definition asks for ends, it has one outcome under both readings, its reason included, and asks the same
 -- (document 02, note 12).
-use mathlib.Core.Path.{_≡_, refl, sym}
+use mathlib.Core.Path.{_≡_, refl, sym, subst}
 use mathlib.Core.List.{List, [], _∷_, _++_, append-assoc}
 use Rattle.reads.specs.Endings.{StringEnds}
 use Rattle.reads.proofs.Endings.{string-same}
@@ -9,7 +9,7 @@ use Rattle.records.specs.Ask.{Ask, sum64, nonzero, even, atLeast, readab
 use Rattle.records.specs.Asks.{asks, Within, Each}
 use Rattle.records.specs.Readings.{underOld, underNew, stringOf, stringsAmong, StringsEnd}
 use Rattle.records.specs.Decode.{Decode, run}
-use Rattle.records.proofs.Asks.{each-left, each-right, Same, AnswerAlike, asks-decide, within-asks}
+use Rattle.records.proofs.Asks.{each-left, each-right, each-then, Same, AnswerAlike, asks-decide, within-asks}
 
 -- The strings among two lists of questions.
 pub strings-append : (xs ys : List Ask) → stringsAmong (xs ++ ys) ≡ stringsAmong xs ++ stringsAmong ys
@@ -52,3 +52,9 @@ module _ (t : Tables) where
   pub parts-agree : {A B : Type 0} {d : Decode A} (e : Decode B) → StringsEnd t e → Within (underOld t) d B e
       → Same (run (underOld t) d) (run (underNew t) d) (asks (underOld t) d) (asks (underNew t) d)
   parts-agree {d = d} e h w = asks-decide (underOld t) (underNew t) d (within-asks (underOld t) _ w (same-answers (asks (underOld t) e) h))
+
+  -- Strings that are asked for under the new reading and all end are those that are asked for under the old one.
+  pub ends-under-new : {A : Type 0} (d : Decode A) → Each (StringEnds (imageIn t)) (stringsAmong (asks (underNew t) d)) → StringsEnd t d
+  ends-under-new d h =
+      let alike = each-then (AnswerAlike (underOld t) (underNew t)) (AnswerAlike (underNew t) (underOld t)) (λ q e. sym e) (asks (underNew t) d) (same-answers (asks (underNew t) d) h) in
+      subst (λ qs. Each (StringEnds (imageIn t)) (stringsAmong qs)) (asks-decide (underNew t) (underOld t) d alike .questions) h
