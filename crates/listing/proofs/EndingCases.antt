@@ -241,8 +241,7 @@ module _ (before : List ℕ) where
   pub old-lists : (f : File) → plainListing (underOld (file before f)) ≡ value (lines Old (method-line ∷ []))
   old-lists f = listed-with Old f (old-ro f) _ _ (shown-lines Old f (old-row f)) (shown-entry Old f (old-row f)) .0
 
-  -- The first file: of its strings the name is asked for three times, for line R and for the lists that the class_ro names, once for their lines
-  -- and once for what they settle; selector and types twice. Each ends, and yet the file's last byte is not 0. So the new reading lists the same.
+  -- The strings that the first file is asked for, part by part.
   abbrev old : Tables
   old = underOld (file before whole)
 
@@ -266,6 +265,8 @@ module _ (before : List ℕ) where
   unfolding stringsAmong asks decode.decodeFieldEvents decode.decodeEntries decode.gather decode.decodeIndex decode.decodeIndices decodeList evenList entrySize methodRows bit decodeRow decodeLegacyMethod legacyImp decodeProtocolList pointerAt pointerOr0At wordIn textIn textAt text utf8 judge resolve readable readableAt lookup rows ends holds placed sum64 stored word stripped le nonzero choose bytes
   strings-of-entries = simp (no-rebase before)
 
+  -- The name is asked for three times, for line R and for the lists that the class_ro names, once for their lines and once for what they settle;
+  -- selector and types twice.
   pub strings-asked : stringsAsked (file before whole) (decodeListing sections) ≡ 0x1098 ∷ 0x1098 ∷ 0x109E ∷ 0x109C ∷ 0x1098 ∷ 0x109E ∷ 0x109C ∷ []
   unfolding stringsAmong asks decodeListing decode.gather decode.decodeLinesOf decode.decodeEventsFrom decode.decodeRecordEvents
   strings-asked =
@@ -284,6 +285,7 @@ module _ (before : List ℕ) where
       let same = ap (λ (x : Place). x .offset) (same-place p (placeAt offset) (sym q ∙ there)) in
       (0xA0, omega (arith, same), omega arith, refl)
 
+  -- Each ends, and yet the file's last byte is not 0. So the new reading lists the same.
   pub whole-ends : StringsEnd (file before whole) (decodeListing sections)
   unfolding lookup rows ends holds placed sum64 choose
   whole-ends =
