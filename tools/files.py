@@ -11,7 +11,8 @@ LISTER reads a bundle on standard input. For each bundle of cases.py that one fi
 - parts: the image is cut at segment borders into two to four files, each segment and bind name in the file that holds its
   bytes, with its offset counted there. The listing is the same where no read crosses a border and no section is longer
   than the longest part. Whether a read crosses a border is tried with one file: bytes that were not there before are put
-  between the parts, once zeros and once others; where that changes the listing the bundle is left out, and counted.
+  between the parts, once zeros and once others, with each part in turn at the file's end; where that changes the listing the
+  bundle is left out, and counted.
 
 The last line is `K agree, D differ, L left out`; the status is 0 if all agree.
 """
@@ -100,12 +101,13 @@ def split(b, spans, segments, binds):
     return over(b, [b.image[a:e] for a, e in spans], moved, named)
 
 
-def spread(b, spans, segments, binds, gap):
-    """One file, with bytes between the parts."""
-    image, first = bytearray(), []
-    for a, e in spans:
-        image += gap if a else b""
-        first.append(len(image) - a)
+def spread(b, spans, segments, binds, gap, last):
+    """One file, with bytes between the parts, and one of them at its end."""
+    image, first = bytearray(), [0] * len(spans)
+    for k in [*(k for k in range(len(spans)) if k != last), last]:
+        a, e = spans[k]
+        image += gap if image else b""
+        first[k] = len(image) - a
         image += b.image[a:e]
     moved = [(*s[:2], s[2] + first[k], s[3], 0) for s, k in zip(b.segments, segments)]
     named = [(x[0], x[1] + first[k], x[2], 0) for x, k in zip(b.binds, binds)]
@@ -114,7 +116,8 @@ def spread(b, spans, segments, binds, gap):
 
 def apart(b, cut, whole, listing):
     """Whether no read crosses a border, and no section is longer than the longest part."""
-    tried = [spread(b, *cut, gap) for gap in (bytes(256), bytes(range(1, 256)) + b"\0")]
+    gaps = bytes(256), bytes(range(1, 256)) + b"\0"
+    tried = [spread(b, *cut, gap, last) for gap in gaps for last in range(len(cut[0]))]
     long = max(e - a for a, e in cut[0])
     return all(x and listing(x.pack()) == whole for x in tried) and all(s[2] <= long for s in b.sections if s[0])
 
