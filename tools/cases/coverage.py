@@ -24,7 +24,7 @@ FORMS = ["legacy", "small indirect", "small direct"]
 
 # What a run over enough cases is to show at least once.
 WANTED = (["line " + letter for letter in "ICMRPKmvpqE"]
-          + ["refused %d" % k for k in (2, 3, 7, 13, 14)]
+          + ["refused %d" % k for k in (2, 3, 7, 13, 14, 18)]
           + ["%s list %d: %s" % (record, k, row) for record, rows in
              (("class", "mvpq"), ("metaclass", "mvpq"), ("protocol", "mmmmppq"), ("category", "mmqpp"))
              for k, row in enumerate(rows)]

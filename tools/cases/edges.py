@@ -129,7 +129,7 @@ def diamond():
 
 def lengths():
     whole = diamond().pack()
-    for k in range(len(whole) + 34):
+    for k in range(40, len(whole) + 34):        # those below: `more_lengths`
         yield "length %d" % k, (whole + bytes(34))[:k]
     for i in range(4):
         count = struct.unpack_from("<Q", whole, 8 * i)[0]
@@ -140,8 +140,8 @@ def lengths():
                 yield "count %d %x" % (i, other), whole[:8 * i] + struct.pack("<Q", other & M64) + whole[8 * i + 8:]
     # counts that make the sum right modulo 2^64 together
     for segments, rebases, binds in itertools.product((0, 1 << 58, 1 << 59), (0, 1 << 59, 1 << 60), (0, 1 << 61)):
-        rest = len(whole) - 160 - 32 * segments - 16 * rebases - 24 * binds
-        counts = struct.pack("<4Q", segments, rebases, binds, rest & M64)
+        tables = Bundle.SEGMENT * segments + 16 * rebases + Bundle.BIND * binds
+        counts = struct.pack("<4Q", segments, rebases, binds, (len(whole) - Bundle.HEAD - tables) & M64)
         yield "sum %x %x %x" % (segments, rebases, binds), counts + whole[32:]
     for total in range(32760, 32778):
         b = diamond()
@@ -856,8 +856,59 @@ def ends():
             yield "%s ends by %s" % (what, how), s.pack()
 
 
+# -- several files (note 6); last, so that the bundles before keep their numbers
+
+def more_lengths():
+    """The shortest lengths, and the counts of the other three files."""
+    whole = diamond().pack()
+    for k in range(40):
+        yield "length %d" % k, whole[:k]
+    for i in range(4, 7):
+        for other in [1, M64, 1 << 63, 1 << 32, 32768, 32769, *[1 << k for k in range(24, 64)]]:
+            yield "count %d %x" % (i, other), whole[:8 * i] + struct.pack("<Q", other) + whole[8 * i + 8:]
+    for first, second in itertools.product(range(3, 7), repeat=2):     # lengths that trade with each other, modulo 2^64 too
+        counts = list(struct.unpack_from("<7Q", whole))
+        for by in (1, 191, 1 << 63):
+            if first != second:
+                moved = counts[:]
+                moved[first], moved[second] = (moved[first] - by) & M64, (moved[second] + by) & M64
+                yield "lengths %d %d %x" % (first, second, by), struct.pack("<7Q", *moved) + whole[56:]
+
+
+NUMBERS = (0, 1, 2, 3, 4, 5, 255, 256, 1 << 32, 1 << 63, M64)
+
+
+def file_numbers():
+    """18: file numbers without a lent slice, of segments that no lookup reaches too, and which number comes first."""
+    for number in NUMBERS[4:]:
+        for segment in ((0x1000, 191, 0, 191), (0x9000, 8, 0, 0), (M64, 8, 0, 8)):
+            for at in (0, 1):
+                b = diamond()
+                b.segments.insert(at, (*segment, number))
+                yield "file %x of a segment %x at %d" % (number, segment[0], at), b.pack()
+        for at in (0, 1):
+            b = diamond()
+            b.binds.insert(at, (0x7000, 168, 22, number))
+            yield "file %x of a bind at %d" % (number, at), b.pack()
+    for k in range(64):     # which of 2, 18 of a segment, 3, 18 of a bind, 7 and 14 comes first
+        b = diamond()
+        b.segments += [(0, 0, 0, 0)] * (64 * (k & 1))
+        if k & 2:
+            b.segments.append((0, 0, 0, 0, 4))
+        if k & 4:
+            b.sections[3] = (2, 0, 0)
+        if k & 8:
+            b.binds.append((0, 0, 0, 4))
+        if k & 16:
+            b.binds.append((0, len(b.image), 1))
+        if k & 32:
+            b.binds.insert(0, (0, len(b.image), 2))
+            b.image.extend(b"\xe2(")
+        yield "files order %d" % k, b.pack()
+
+
 FAMILIES = [lengths, refused, cuts, list_heads, windows, lookups, protocol_sizes, masks, chains, prefixes, zeros,
-            texts, alignments, relatives, sections, info, ranges, entries, differences, aligned, bind_names, ends]
+            texts, alignments, relatives, sections, info, ranges, entries, differences, aligned, bind_names, ends, more_lengths, file_numbers]
 
 
 def edges():

@@ -12,23 +12,33 @@ ATTRIBUTES = ['T@"NSString",C,N,V_name', "Ti,R", "TQ,N", "", 'T@"A,B",&,V_x', "T
 
 class Bundle:
     """The tables of a bundle: segments (vmaddr, vmsize, fileoff, filesize), sections (present, vmaddr, length),
-    rebases (slot, target), binds (slot, name offset, name length)."""
+    rebases (slot, target), binds (slot, name offset, name length). The image is file 0, and so are all segments' and
+    binds' file numbers; a segment or bind with one word more has its own."""
+
+    COUNTS = 7                      # segments, rebases, binds, and the bytes of four files
+    HEAD = 8 * COUNTS + 8 + 120     # the counts, the image info and the section table
+    SEGMENT, BIND = 40, 32
 
     def __init__(self):
         self.info = (0, 0)
         self.segments, self.rebases, self.binds = [], [], []
         self.sections = [(0, 0, 0)] * 5
         self.image = bytearray()
+        self.others = [b"", b"", b""]
 
     def size(self):
-        return (160 + 32 * len(self.segments) + 16 * len(self.rebases) + 24 * len(self.binds) + len(self.image))
+        tables = self.SEGMENT * len(self.segments) + 16 * len(self.rebases) + self.BIND * len(self.binds)
+        return self.HEAD + tables + len(self.image) + sum(map(len, self.others))
 
     def pack(self):
-        counts = len(self.segments), len(self.rebases), len(self.binds), len(self.image)
-        out = [struct.pack("<4Q2I", *counts, *self.info)]
-        for table in (self.segments, self.sections, self.rebases, self.binds):
+        files = [bytes(self.image), *self.others]
+        counts = len(self.segments), len(self.rebases), len(self.binds), *map(len, files)
+        out = [struct.pack("<7Q2I", *counts, *self.info)]
+        segments = [(*row, 0)[:5] for row in self.segments]
+        binds = [(*row, 0)[:4] for row in self.binds]
+        for table in (segments, self.sections, self.rebases, binds):
             out += [struct.pack("<%dQ" % len(row), *[word & M64 for word in row]) for row in table]
-        return b"".join(out) + bytes(self.image)
+        return b"".join(out + files)
 
     def fit(self):
         """Cuts the image until the bundle has at most 32,768 bytes."""

@@ -1,4 +1,4 @@
-"""Bundles that a question refuses. A bundle can reach 13, 2, 3, 7 and 14: it is too short for 1, 5 and 6, and holds the 8
+"""Bundles that a question refuses. A bundle can reach 13, 2, 18, 3, 7 and 14: it is too short for 1, 5 and 6, and holds the 8
 bytes of 4; the program lends the index of 8. 9 to 12 are about what a caller lends later."""
 import struct
 
@@ -7,10 +7,10 @@ from image import M64
 
 
 def tables(rng, bundle):
-    """2, 3, 7 or 14, or the bundle at the edge of one, sometimes several at once."""
+    """2, 18, 3, 7 or 14, or the bundle at the edge of one, sometimes several at once."""
     for _ in range(rng.choice([1, 1, 1, 2, 3])):
         n = len(bundle.image)
-        k = rng.randrange(6)
+        k = rng.randrange(7)
         i = rng.randrange(5)
         present, v, length = bundle.sections[i]
         if k == 0:
@@ -27,9 +27,13 @@ def tables(rng, bundle):
             name = rng.choice(NOT_UTF8 + [b"ok", b"\xc3\xa9", b"\xf4\x8f\xbf\xbf", b"\xed\x9f\xbf", b"\xee\x80\x80"])
             bundle.binds.append((rng.choice(U64), n, len(name)))
             bundle.image.extend(name)
+        elif k == 5:
+            table = rng.choice([bundle.segments, bundle.binds])
+            row = rng.choice(table)[:4 if table is bundle.segments else 3] if table else (0, 0, 0, 0)[:4 if table is bundle.segments else 3]
+            table.insert(rng.randrange(len(table) + 1), (*row, rng.choice([0, 4, 5, 1 << 32, M64])))
         elif bundle.binds:
             j = rng.randrange(len(bundle.binds))
-            slot, at, length = bundle.binds[j]
+            slot, at, length = bundle.binds[j][:3]
             bundle.binds[j] = (slot, at, rng.choice([length + 1, n - at + 1, n - at, 0]) & M64)
     bundle.fit()
     return bundle.pack()
@@ -40,21 +44,21 @@ def length(rng, bundle):
     out = bytearray(bundle.pack())
     k = rng.randrange(7)
     if k == 0:
-        return bytes(out[:rng.choice([0, 1, 8, 31, 32, 39, 40, 159, 160, len(out) - 1, len(out) - 8])])
+        return bytes(out[:rng.choice([0, 1, 8, 55, 56, 63, 64, 183, 184, len(out) - 1, len(out) - 8])])
     if k == 1:
         return bytes(out) + bytes(rng.choice([1, 8, 16, 100]))
     if k in (2, 3):     # a count changed; some products pass 64 bits and would come out right modulo 2^64
-        i = rng.randrange(4)
+        i = rng.randrange(7)
         v = struct.unpack_from("<Q", out, 8 * i)[0]
         struct.pack_into("<Q", out, 8 * i, rng.choice([v + 1, v - 1, v + (1 << 59), v + (1 << 60), v + (1 << 61),
                                                        v ^ (1 << 63), M64, 0xFFFFFFFF, 0x100000000]) & M64)
         return bytes(out)
     if k == 4:          # counts that trade with each other: the length is right, the tables are others
-        del bundle.image[len(bundle.image) // 32 * 32:]
+        del bundle.image[len(bundle.image) // 40 * 40:]
         out = bytearray(bundle.pack())
         segments, rebases, binds, n = struct.unpack_from("<4Q", out)
-        if n >= 32:
-            struct.pack_into("<4Q", out, 0, segments + 1, rebases, binds, n - 32)
+        if n >= 40:
+            struct.pack_into("<4Q", out, 0, segments + 1, rebases, binds, n - 40)
         return bytes(out)
     target = rng.choice([32767, 32768, 32768, 32769, 32776, 33000])
     bundle.image.extend(bytes(max(0, target - bundle.size())))

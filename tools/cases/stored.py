@@ -11,7 +11,9 @@ ORACLE is target/oracle/oracle, ENDED target/oracle/ended and FOLDER crates/repl
   way), the kind of a boundary the letters of the lines that differ in more than what they say;
 - for each damage a seed with that damage alone, whose listing is not that of the undamaged bundle, and a seed of each
   other sort;
-- a bundle for each line of coverage.WANTED.
+- a bundle for each line of coverage.WANTED;
+- the diamond and some seeds over several files, by the relations of tools/files.py: their answers are the oracle's for the
+  same image in one file.
 
 FOLDER/data/cases has the number of cases as a word, then for each case its title, which is its number and name, and its
 bundle, each with its length in front as a word; words are little-endian. FOLDER/stdout has for each case the line
@@ -33,8 +35,12 @@ from image import well_formed
 from lister import run
 
 ROOT = os.path.dirname(os.path.dirname(os.path.dirname(os.path.abspath(__file__))))
+sys.path.insert(0, os.path.join(ROOT, "tools"))
+
+import files                # noqa: E402
+
 SEEDS = 16000
-NAMED = ["diamond", "empty", "length 406", "length 408", "total 32768", "total 32769", "segments 65", "order 2",
+NAMED = ["diamond", "empty", "length 446", "length 448", "total 32768", "total 32769", "segments 65", "order 2",
          "order 4", "cut cell vmsize 1 0", "head methods 2f ffffffff", "list methods 1 at +1", "list ivars 1 at +1",
          "protocol names 100001", "bits word, bit 38", "bits word, bit 39", "chain 04213", "prefixes 0",
          "sections from 2^64 - 16", "ranges of UTF-8", "alignment 3", "alignment 100", "alignment ffffffff",
@@ -46,7 +52,10 @@ NAMED = ["diamond", "empty", "length 406", "length 408", "total 32768", "total 3
          "class name ends by image", "superclass name ends by nothing", "ivar name ends by bad byte",
          "ivar type ends by character", "property name ends by character", "attributes ends by nothing",
          "protocol name ends by image", "listed protocol name ends by image", "bound protocol name ends by nothing",
-         "category name ends by whole character"]
+         "category name ends by whole character", "file 4 of a segment 1000 at 1", "file 4 of a segment 9000 at 1",
+         "file ffffffffffffffff of a segment ffffffffffffffff at 0", "file 4 of a bind at 0", "file 4 of a bind at 1",
+         "files order 2", "files order 6", "files order 8", "files order 24", "files order 56", "count 4 1"]
+SPANNING = 24               # bundles over several files, of each relation of tools/files.py
 LONG = ("texts", "alignments", "prefixes", "protocol names", "protocol list cap")   # long bundles, or long walks
 
 
@@ -125,6 +134,27 @@ def choice(list_bundle):
     return sorted(chosen), listings
 
 
+def spanning(listings, list_bundle):
+    """Titles, bundles and old listings of images over several files."""
+    out, edges = [], len(cases.edge_list())
+    for name in ("moved", "copies", "parts"):
+        found = 0
+        for number in [0, *range(edges, edges + SEEDS)]:
+            b = files.unpacked(cases.case(number))
+            if found == SPANNING or b is None or not b.image or len(b.pack()) > 6000 or listings[number].startswith(b"refused"):
+                continue
+            rng = random.Random(number)
+            if name == "parts":
+                cut = files.parts(rng, b)
+                other = files.split(b, *cut) if cut and files.apart(b, cut, listings[number], list_bundle) else None
+            else:
+                other = getattr(files, name)(rng, b)
+            if other:
+                out.append(("%d %s, %s" % (number, cases.name(number), name), other.pack(), b.pack(), listings[number]))
+                found += 1
+    return out
+
+
 def main(args):
     commands = [shlex.split(arg) for arg in args[:2]]
     commands += [[os.path.join(ROOT, "target", "oracle", name)] for name in ("oracle", "ended")[len(commands):]]
@@ -138,18 +168,20 @@ def main(args):
                 return listing if not fault else sys.exit("the oracle: " + fault)
             return list_bundle
         chosen, listings = choice(lister(commands[0]))
-        named = [cases.named(number) for number in chosen]
-        ended = [lister(commands[1])(bundle) for _, bundle in named]
-    data, answers = [struct.pack("<Q", len(chosen))], []
-    for number, (name, bundle), new in zip(chosen, named, ended):
-        title = ("%d %s" % (number, name)).encode()
-        for part in (title, bundle):
+        # title, bundle, the bundle in one file, its listing under the old reading
+        stored = [("%d %s" % (number, cases.name(number)), cases.case(number), cases.case(number), listings[number])
+                  for number in chosen]
+        stored += spanning(listings, lister(commands[0]))
+        ended = [lister(commands[1])(whole) for _, _, whole, _ in stored]
+    data, answers = [struct.pack("<Q", len(stored))], []
+    for (title, bundle, _, old), new in zip(stored, ended):
+        for part in (title.encode(), bundle):
             data += [struct.pack("<Q", len(part)), part]
-        answers += [b"# ", title, b"\n", listings[number], new]
+        answers += [b"# ", title.encode(), b"\n", old, new]
     os.makedirs(os.path.join(folder, "data"), exist_ok=True)
     cases.write(os.path.join(folder, "data", "cases"), b"".join(data))
     cases.write(os.path.join(folder, "stdout"), b"".join(answers))
-    print("%d cases, %d bytes; listings, %d bytes" % (len(chosen), sum(map(len, data)), sum(map(len, answers))))
+    print("%d cases, %d bytes; listings, %d bytes" % (len(stored), sum(map(len, data)), sum(map(len, answers))))
 
 
 if __name__ == "__main__":

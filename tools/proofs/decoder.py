@@ -22,7 +22,7 @@ PURE = ("u32In", "u64In", "i32In")
 NEAR = ("first-slot", "first-slot-or-0", "field", "field-or-0", "ro-lists-at")
 OUT = {"readable": "placeOutcome", "spot-place": "placeOutcome", "whole-category": "placeOutcome", "read-cstr": "textOutcome", "read-cstr-or-empty": "textOutcome",
        "types-at": "textOutcome", "offset-at": "offsetOutcome"}
-SLICES = ("image", "segments", "sections", "info", "rebases", "binds", "index")
+SLICES = ("segments", "sections", "info", "rebases", "binds", "index")
 
 
 def arguments():
@@ -111,7 +111,7 @@ def main():
 
     out = []
     out.append("-- All that the function is lent, and its definition.")
-    out.append("abbrev tables : tie.Start → Tables\ntables s = under (s .args .setting) (tablesOf " + " ".join(f"(s .args .{x} .now)" for x in SLICES) + ")\n")
+    out.append("abbrev tables : tie.Start → Tables\ntables s = under (s .args .setting) (tablesOf (filesLent (s .args .files .now)) " + " ".join(f"(s .args .{x} .now)" for x in SLICES) + ")\n")
     out.append(f"abbrev whole : tie.Start → Decode {a.result}\nwhole s = {a.definition}\n")
     found, k, q = {}, 0, 0
     start_of, rest_of = {}, {}
@@ -162,7 +162,7 @@ def main():
             # the spot was looked up just before: its place is that of the bytes, and fields are then read near it
             spot = next(d for d, (_, b) in enumerate(path) if d > s["at"] and b == "readable-spot") - s["index"]
             is_ = f"{up(spot)} .readable-spot .ensures"
-            near = (f"near : (c : tie.{s['end']}) (reach : ℕ) → reach ≤ SIZE → Near (imageOf (start-{k} c .args .image .now) (start-{k} c .args .segments .now)) "
+            near = (f"near : (c : tie.{s['end']}) (reach : ℕ) → reach ≤ SIZE → Near (imageOf (filesLent (start-{k} c .args .files .now)) (start-{k} c .args .segments .now)) "
                     f"(start-{k} c .args .va) ({up(spot)} .readable-spot .result) reach\n"
                     f"near c reach h = near-placed _ _ _ reach _ ({is_}) ({fact}) h\n")
             near_end = s["end"]
@@ -220,6 +220,7 @@ def main():
     words = sorted(x for x in used if x in PURE)
     if words:
         uses.append(f"use Rattle.pointers.specs.Bytes.{{{', '.join(words)}}}")
+    uses.append("use Rattle.reads.specs.Files.{filesLent}")
     uses.append("use Rattle.pointers.specs.Tables.{Tables, tablesOf, under}")
     own = "Rattle.records.specs" if a.crate == "records" else "Rattle.records.specs"
     laws = "Rattle.records.proofs" if a.crate == "records" else "Rattle.records.proofs"

@@ -1,5 +1,5 @@
 -- How long a listing can be. The settling steps are at most 6 x R x S x floor(n / 12): R the records, S the rows of the segment table, n
--- the image's length (settled-few). Line E's numbers fit: the records in one word, the settling steps in two (records-few, events-few).
+-- the length of the longest file (settled-few). Line E's numbers fit: the records in one word, the settling steps in two (records-few, events-few).
 use Prim.Native.Nat.{ℕ, suc, _*_, _/_, _≤_, _<_, _^_}
 use mathlib.Core.Path.{_≡_, refl, ap, _∙_}
 use mathlib.Core.Bool.{true}
@@ -9,7 +9,9 @@ use native.Mathlib.Omega.{arith}
 use lib.ListN.{length, replicate, length-replicate}
 use lib.Pow.{pow-mono}
 use borrow.Author.Tests.{leb-true}
-use Rattle.reads.specs.Table.{wordOf}
+use Rattle.reads.specs.Files.{longest}
+use Rattle.reads.specs.Segment.{segmentWords}
+use Rattle.reads.specs.Table.{records, wordOf}
 use Rattle.reads.specs.Outcome.{Outcome, value, absent, number}
 use Rattle.reads.proofs.Outcomes.{then-came}
 use Rattle.pointers.specs.Open.{Opened}
@@ -64,7 +66,7 @@ six-lists t (aRecord.Category c) fs e = let same : fs ≡ categoryFields c = cc 
 module _ (t : Tables) (o : Opened t) where
   -- S x floor(n / 12), the most that a walk over one list settles.
   abbrev listMost : ℕ
-  listMost = length (t .segments) / 4 * (length (t .image) / 12)
+  listMost = records segmentWords (t .segments) * (longest (t .files) / 12)
 
   list-few : (k : ListKind) (va : ℕ) (v : Outcome Layout) → listAt t k va ≡ v → (js : List Entry)
       → ofValue v (λ h. gather (entryIn t h) (readables (imageIn t) h)) ≡ value js → length js ≤ listMost
@@ -73,7 +75,7 @@ module _ (t : Tables) (o : Opened t) where
   list-few k va (number i) e js d = let z : _≡_ {A = ℕ} 0 1 = cc in absurd (omega arith)
 
   pub entries-few : (k : ListKind) (va : ℕ) (js : List Entry) → entriesIn t (rowList k va) ≡ value js
-      → length js ≤ length (t .segments) / 4 * (length (t .image) / 12)
+      → length js ≤ records segmentWords (t .segments) * (longest (t .files) / 12)
   unfolding entriesIn
   entries-few k va js e = list-few k va (listAt t k va) refl js e
 
@@ -105,7 +107,7 @@ module _ (t : Tables) (o : Opened t) where
 
   -- D3f.
   pub settled-few : (rs : List Record) (gs : List Event) → plainRecords t ≡ value rs → plainEvents t ≡ value gs
-      → length gs ≤ 6 * (length rs * (length (t .segments) / 4 * (length (t .image) / 12)))
+      → length gs ≤ 6 * (length rs * (records segmentWords (t .segments) * (longest (t .files) / 12)))
   settled-few rs gs r e = records-settle 0 rs gs (rw r at e)
 
 -- A run gives at most a record for each step.
@@ -118,7 +120,7 @@ gives-few (giving e g) = omega (arith, gives-few g)
 run-few : {A : Type 0} {step : Walk → List ℕ → sections.Left A} {k : ℕ} {l : List ℕ} {rs : List A} → Run step k l rs → length rs ≤ k
 run-few r = omega (arith, r .1, gives-few (r .2))
 
--- A present section is no longer than the image (question 3), so it has at most floor(n / 8) slots.
+-- A present section is no longer than the longest file (question 3), so it has at most floor(n / 8) slots.
 module _ (n : ℕ) (ws : List ℕ) (table : sectionTable n ws ≡ true) (i : ℕ) (below : i < 5) where
   abbrev presence : ℕ
   presence = wordOf sectionWords ws i 0
@@ -134,10 +136,10 @@ module _ (n : ℕ) (ws : List ℕ) (table : sectionTable n ws ≡ true) (i : ℕ
 
 -- The records: at most two for each slot of class_list, nlclslist, cat_list and nlcat_list, one for each of proto_list.
 module _ (t : Tables) (o : Opened t) where
-  slots-of : (i : ℕ) → i < 5 → sectionAt (t .sections) i .slots ≤ length (t .image) / 8
-  slots-of i l = section-slots (length (t .image)) (t .sections) (opened-room t o .sectionsFit) i l
+  slots-of : (i : ℕ) → i < 5 → sectionAt (t .sections) i .slots ≤ longest (t .files) / 8
+  slots-of i l = section-slots (longest (t .files)) (t .sections) (opened-room t o .sectionsFit) i l
 
-  pub pair-slots : (first second : ℕ) → first < 5 → second < 5 → slotCount (t .sections) first second ≤ 2 * (length (t .image) / 8)
+  pub pair-slots : (first second : ℕ) → first < 5 → second < 5 → slotCount (t .sections) first second ≤ 2 * (longest (t .files) / 8)
   unfolding slotCount
   pair-slots first second a b = omega (arith, slots-of first a, slots-of second b)
 
@@ -149,21 +151,21 @@ module _ (t : Tables) (o : Opened t) where
   unfolding longLedger
   room k = rw (length-replicate {A = ℕ} k 0) (omega arith)
 
-  classes-few : (cs : List ObjcClass) → plainClasses t ≡ value cs → length cs ≤ 4 * (length (t .image) / 8)
+  classes-few : (cs : List ObjcClass) → plainClasses t ≡ value cs → length cs ≤ 4 * (longest (t .files) / 8)
   classes-few cs e =
       let run = class-run t (opened-asked t o) (longLedger (slotCount (t .sections) 0 1)) (room (slotCount (t .sections) 0 1)) cs e in
       omega (arith, run-few run, pair-slots 0 1 (omega arith) (omega arith))
 
-  categories-few : (cs : List ObjcCategory) → plainCategories t ≡ value cs → length cs ≤ 4 * (length (t .image) / 8)
+  categories-few : (cs : List ObjcCategory) → plainCategories t ≡ value cs → length cs ≤ 4 * (longest (t .files) / 8)
   categories-few cs e =
       let run = category-run t (opened-asked t o) (longLedger (slotCount (t .sections) 2 3)) (room (slotCount (t .sections) 2 3)) cs e in
       omega (arith, run-few run, pair-slots 2 3 (omega arith) (omega arith))
 
-  protocols-few : (ps : List ObjcProtocol) → plainProtocols t ≡ value ps → length ps ≤ length (t .image) / 8
+  protocols-few : (ps : List ObjcProtocol) → plainProtocols t ≡ value ps → length ps ≤ longest (t .files) / 8
   unfolding protocolCount
   protocols-few ps e = omega (arith, run-few (protocol-run t (opened-asked t o) [] ps e), slots-of 4 (omega arith))
 
-  records-slots : (rs : List Record) → plainRecords t ≡ value rs → length rs ≤ 9 * (length (t .image) / 8)
+  records-slots : (rs : List Record) → plainRecords t ≡ value rs → length rs ≤ 9 * (longest (t .files) / 8)
   unfolding plainRecords
   records-slots rs e =
       let all = joined-parts (asEach aRecord.Class (plainClasses t)) _ e in
@@ -192,10 +194,10 @@ module _ (t : Tables) (o : Opened t) where
       let came = then-came (plainRecords t) (eventsFrom t 0) gs e in
       let rs = came .0 in
       let r = opened-room t o in
-      let few : length (t .image) / 12 ≤ 2 ^ 29 = omega (arith, r .imageLength) in
-      let records : length rs ≤ 2 ^ 33 = omega (arith, records-slots rs (came .1), r .imageLength) in
-      let list = mul-le-mul {n₁ = length (t .segments) / 4} {m₁ = length (t .image) / 12} {n₂ = 64} {m₂ = 2 ^ 29} (r .segmentCount) few in
-      let all = mul-le-mul {n₁ = length rs} {n₂ = 2 ^ 33} {m₂ = 64 * 2 ^ 29} records list in
+      let few : longest (t .files) / 12 ≤ 2 ^ 29 = omega (arith, r .imageLength) in
+      let some : length rs ≤ 2 ^ 33 = omega (arith, records-slots rs (came .1), r .imageLength) in
+      let list = mul-le-mul {n₁ = records segmentWords (t .segments)} {m₁ = longest (t .files) / 12} {n₂ = 64} {m₂ = 2 ^ 29} (r .segmentCount) few in
+      let all = mul-le-mul {n₁ = length rs} {n₂ = 2 ^ 33} {m₂ = 64 * 2 ^ 29} some list in
       omega (arith, settled-few t o rs gs (came .1) e, all)
 
   pub events-few : (gs : List Event) → plainEvents t ≡ value gs → length gs < 2 ^ 128

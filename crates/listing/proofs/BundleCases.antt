@@ -4,68 +4,74 @@ use mathlib.Core.Path.{_≡_, refl}
 use mathlib.Core.List.{List, [], _∷_, _++_}
 use lib.ListN.{replicate}
 use Rattle.reads.specs.Outcome.{value, number, choose}
-use Rattle.reads.specs.Place.{le, wordIn}
+use Rattle.reads.specs.Place.{le, leIn}
 use Rattle.pointers.specs.Tables.{tablesOf}
 use Rattle.listing.specs.Bundle.{wordsFrom, bundleFits, bundleCounts, bundled}
 use Rattle.listing.specs.declared.bundle.Counts.{Counts}
 
-abbrev four-counts : ℕ → ℕ → ℕ → ℕ → Counts
-four-counts segments rebases binds image = record { segments = segments; rebases = rebases; binds = binds; image = image }
+abbrev seven-counts : ℕ → ℕ → ℕ → ℕ → ℕ → ℕ → ℕ → Counts
+seven-counts segments rebases binds image0 image1 image2 image3 =
+    record { segments = segments; rebases = rebases; binds = binds; image0 = image0; image1 = image1; image2 = image2; image3 = image3 }
 
 abbrev zeros : ℕ → List ℕ
 zeros k = replicate k 0
 
--- No segment, rebase or bind, and no image: 40 bytes and the section table's 120.
-pub none-of-each : bundleCounts (zeros 160) ≡ value (four-counts 0 0 0 0)
-unfolding bundleCounts bundleFits wordIn le choose
+-- No segment, rebase or bind, and no file with a byte: 64 bytes and the section table's 120.
+pub none-of-each : bundleCounts (zeros 184) ≡ value (seven-counts 0 0 0 0 0 0 0)
+unfolding bundleCounts bundleFits leIn le choose
 none-of-each = refl
 
-pub one-byte-less : bundleCounts (zeros 159) ≡ number 13
-unfolding bundleCounts bundleFits wordIn le choose
+pub one-byte-less : bundleCounts (zeros 183) ≡ number 13
+unfolding bundleCounts bundleFits leIn le choose
 one-byte-less = refl
 
-pub one-byte-more : bundleCounts (zeros 161) ≡ number 13
-unfolding bundleCounts bundleFits wordIn le choose
+pub one-byte-more : bundleCounts (zeros 185) ≡ number 13
+unfolding bundleCounts bundleFits leIn le choose
 one-byte-more = refl
 
 pub no-bytes : bundleCounts [] ≡ number 13
-unfolding bundleCounts bundleFits wordIn le choose
+unfolding bundleCounts bundleFits leIn le choose
 no-bytes = refl
 
--- 2^61 segments: the 2^66 bytes of their table are 0 modulo 2^64.
-pub product-over-64-bits : bundleCounts (zeros 7 ++ (0x20 ∷ zeros 152)) ≡ number 13
-unfolding bundleCounts bundleFits wordIn le choose
+-- 2^61 segments: the 5 x 2^64 bytes of their table are 0 modulo 2^64.
+pub product-over-64-bits : bundleCounts (zeros 7 ++ (0x20 ∷ zeros 176)) ≡ number 13
+unfolding bundleCounts bundleFits leIn le choose
 product-over-64-bits = refl
 
--- One segment, rebase and bind, and three bytes of image. In each part the first byte or word is other than 0.
+-- Lengths of 2^63 in two files: their sum is 0 modulo 2^64.
+pub sum-over-64-bits : bundleCounts (zeros 31 ++ (0x80 ∷ zeros 15 ++ (0x80 ∷ zeros 136))) ≡ number 13
+unfolding bundleCounts bundleFits leIn le choose
+sum-over-64-bits = refl
+
+-- One segment, rebase and bind, and three, none, two and one bytes of the files. In each part the first byte or word is other than 0.
 abbrev one : List ℕ
 one = 1 ∷ zeros 7
 
 abbrev small : List ℕ
-small = one ++ (one ++ (one ++ (3 ∷ zeros 7)))
+small = one ++ (one ++ (one ++ ((3 ∷ zeros 7) ++ (zeros 8 ++ ((2 ∷ zeros 7) ++ one)))))
 
 abbrev small-tables : List ℕ
-small-tables = (2 ∷ zeros 31) ++ ((3 ∷ zeros 119) ++ ((4 ∷ zeros 15) ++ (5 ∷ zeros 23)))
+small-tables = (2 ∷ zeros 39) ++ ((3 ∷ zeros 119) ++ ((4 ∷ zeros 15) ++ (5 ∷ zeros 31)))
 
 abbrev bundle : List ℕ
-bundle = small ++ ((6 ∷ zeros 7) ++ (small-tables ++ (7 ∷ 8 ∷ 9 ∷ [])))
+bundle = small ++ ((6 ∷ zeros 7) ++ (small-tables ++ (7 ∷ 8 ∷ 9 ∷ 10 ∷ 11 ∷ 12 ∷ [])))
 
-pub one-of-each : bundleCounts bundle ≡ value (four-counts 1 1 1 3)
-unfolding bundleCounts bundleFits wordIn le choose
+pub one-of-each : bundleCounts bundle ≡ value (seven-counts 1 1 1 3 0 2 1)
+unfolding bundleCounts bundleFits leIn le choose
 one-of-each = refl
 
-pub parts-of-each : bundled bundle (four-counts 1 1 1 3) [] ≡ tablesOf (7 ∷ 8 ∷ 9 ∷ []) (2 ∷ zeros 3) (3 ∷ zeros 14) (6 ∷ zeros 7) (4 ∷ zeros 1) (5 ∷ zeros 2) []
-unfolding wordsFrom wordIn le choose
+pub parts-of-each : bundled bundle (seven-counts 1 1 1 3 0 2 1) [] ≡ tablesOf ((7 ∷ 8 ∷ 9 ∷ []) ∷ [] ∷ (10 ∷ 11 ∷ []) ∷ (12 ∷ []) ∷ []) (2 ∷ zeros 4) (3 ∷ zeros 14) (6 ∷ zeros 7) (4 ∷ zeros 1) (5 ∷ zeros 3) []
+unfolding wordsFrom leIn le choose
 parts-of-each = refl
 
--- The longest bundle, and one byte of image more.
+-- The longest bundle, and one byte of file 0 more.
 abbrev sized : ℕ → ℕ → ℕ → List ℕ
-sized low high n = zeros 24 ++ (low ∷ high ∷ zeros (134 + n))
+sized low high n = zeros 24 ++ (low ∷ high ∷ zeros (158 + n))
 
-pub longest : bundleCounts (sized 0x60 0x7F 32608) ≡ value (four-counts 0 0 0 32608)
-unfolding bundleCounts bundleFits wordIn le choose
+pub longest : bundleCounts (sized 0x48 0x7F 32584) ≡ value (seven-counts 0 0 0 32584 0 0 0)
+unfolding bundleCounts bundleFits leIn le choose
 longest = refl
 
-pub longer : bundleCounts (sized 0x61 0x7F 32609) ≡ number 13
-unfolding bundleCounts bundleFits wordIn le choose
+pub longer : bundleCounts (sized 0x49 0x7F 32585) ≡ number 13
+unfolding bundleCounts bundleFits leIn le choose
 longer = refl

@@ -6,14 +6,7 @@ use native.Mathlib.Omega.{arith}
 use native.Mathlib.Numerals.{add-one}
 use lib.ListN.{length, take, set}
 use lib.Seq.{take-suc-set}
-use Rattle.reads.specs.Segment.{placeAt}
-use Rattle.reads.specs.Place.{wordIn}
-use Rattle.reads.proofs.Numbers.{word-in-on}
 use Rattle.listing.specs.Bundle.{wordFrom, wordsFrom}
-
--- The word at i bytes from an offset.
-pub word-past : (bytes : List ℕ) (offset i : ℕ) → wordIn bytes 8 (placeAt offset) i ≡ wordFrom bytes (offset + i)
-word-past bytes offset i = word-in-on bytes 8 offset i
 
 pub words-snoc : (bytes : List ℕ) (offset k : ℕ) → wordsFrom bytes offset (suc k) ≡ wordsFrom bytes offset k ++ (wordFrom bytes (offset + 8 * k) ∷ [])
 unfolding wordsFrom
@@ -23,8 +16,8 @@ words-snoc bytes offset (suc k) =
     rw e (ap (λ (l : List ℕ). wordFrom bytes offset ∷ l) (words-snoc bytes (offset + 8) k))
 
 pub words-more : (bytes : List ℕ) (offset i : ℕ) (to : List ℕ) (w : ℕ) → i < length to → take i to ≡ wordsFrom bytes offset i
-    → w ≡ wordIn bytes 8 (placeAt offset) (8 * i) → take (i + 1) (set to i w) ≡ wordsFrom bytes offset (i + 1)
-words-more bytes offset i to w h e f = rw (add-one, take-suc-set to i w h, words-snoc, e, f, word-past) refl
+    → w ≡ wordFrom bytes (offset + 8 * i) → take (i + 1) (set to i w) ≡ wordsFrom bytes offset (i + 1)
+words-more bytes offset i to w h e f = rw (add-one, take-suc-set to i w h, words-snoc, e, f) refl
 
 pub length-words : (bytes : List ℕ) (offset k : ℕ) → length (wordsFrom bytes offset k) ≡ k
 unfolding wordsFrom

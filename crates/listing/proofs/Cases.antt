@@ -7,10 +7,11 @@ use mathlib.Core.List.{List, [], _∷_, _++_}
 use native.Mathlib.Omega.{arith}
 use lib.ListN.{length, replicate}
 use Rattle.reads.specs.Outcome.{Outcome, value, absent, choose, sum64, nonzero, textOf}
-use Rattle.reads.specs.Place.{part, le, readableAt, readable, word, wordIn}
+use Rattle.reads.specs.Files.{fileOf}
+use Rattle.reads.specs.Place.{part, le, readableAt, readable, word, wordIn, leIn}
 use Rattle.reads.specs.Address.{stripped}
 use Rattle.reads.specs.Segment.{rows, ends, holds, placeAt, placed, lookup}
-use Rattle.reads.specs.Text.{text, textAt, textIn}
+use Rattle.reads.specs.Text.{text, textFrom, textIn}
 use Rattle.reads.specs.Utf8.{judge, utf8}
 use Rattle.reads.specs.declared.answer.Reason.the-variants.{Unmapped, ShortEntry}
 use Rattle.pointers.specs.Chain.{followFrom, follow}
@@ -58,19 +59,19 @@ both-hold : (cs ds : List Case) → AllHold cs → AllHold ds → AllHold (cs ++
 both-hold [] ds h g = g
 both-hold (c ∷ cs) ds h g = (h .0, both-hold cs ds (h .1) g)
 
--- ◆ the listing's bundle: one segment, no rebase, one bind, 191 bytes of image; image info 0; segment; sections, of which class_list is
--- present; bind; image.
+-- ◆ the listing's bundle: one segment, no rebase, one bind, 191 bytes of file 0 and none of the others; image info 0; segment; sections, of
+-- which class_list is present; bind; file 0.
 abbrev pub hub-bundle : List ℕ
 hub-bundle =
-    eights (1 ∷ 0 ∷ 1 ∷ 191 ∷ [])
+    eights (1 ∷ 0 ∷ 1 ∷ 191 ∷ 0 ∷ 0 ∷ 0 ∷ [])
     ++ (replicate 8 0
-    ++ (eights (0x1000 ∷ 191 ∷ 0 ∷ 191 ∷ [])
+    ++ (eights (0x1000 ∷ 191 ∷ 0 ∷ 191 ∷ 0 ∷ [])
     ++ (eights (1 ∷ 0x10A0 ∷ 8 ∷ 0 ∷ 0 ∷ 0 ∷ 0 ∷ 0 ∷ 0 ∷ 0 ∷ 0 ∷ 0 ∷ 0 ∷ 0 ∷ 0 ∷ [])
-    ++ (eights (0x1008 ∷ 168 ∷ 22 ∷ [])
+    ++ (eights (0x1008 ∷ 168 ∷ 22 ∷ 0 ∷ [])
     ++ image.bytes))))
 
 abbrev pub hub-counts : Counts
-hub-counts = record { segments = 1; rebases = 0; binds = 1; image = 191 }
+hub-counts = record { segments = 1; rebases = 0; binds = 1; image0 = 191; image1 = 0; image2 = 0; image3 = 0 }
 
 -- The bundle is accepted, its tables are those of `hub`, beside the index that opening leaves, and opening accepts them. The five lines;
 -- the two entries that are settled; the texts that the lines hold.
@@ -88,11 +89,11 @@ listing-cases =
     ∷ []
 
 hub-accepted : bundleCounts hub-bundle ≡ value hub-counts
-unfolding bundleCounts bundleFits wordIn le choose image.counted
+unfolding fileOf bundleCounts bundleFits wordIn leIn le choose image.counted
 hub-accepted = refl
 
 hub-tables : bundled hub-bundle hub-counts (hub .index) ≡ hub
-unfolding wordsFrom wordIn le choose image.counted
+unfolding fileOf wordsFrom wordIn leIn le choose image.counted
 hub-tables = refl
 
 hub-opens : opening (withIndex hub (hub-opened .indexBefore)) ≡ value (infoOf 0 0)
@@ -103,9 +104,9 @@ listing-holds : AllHold listing-cases
 unfolding image.counted
 listing-holds = (hub-accepted, (hub-tables, (hub-opens, (hub-listing, (hub-events, (refl, (refl, (refl, (refl, tt)))))))))
 
--- One segment at 0x1000 that maps the whole image.
+-- One segment at 0x1000 that maps the whole of one file.
 abbrev whole-image : List ℕ → Tables
-whole-image image = tablesOf image (0x1000 ∷ length image ∷ 0 ∷ length image ∷ []) [] [] [] [] []
+whole-image file = tablesOf (file ∷ []) (0x1000 ∷ length file ∷ 0 ∷ length file ∷ 0 ∷ []) [] [] [] [] []
 
 -- The method list at 0x1000 whose header has this entry word and the count 3.
 abbrev method-list : ℕ → Outcome Layout
@@ -116,10 +117,10 @@ layout size kind = record { base = 0x1008; size = size; count = 3; kind = kind }
 
 -- The segment 0x1000, 0x100, 0, 0x80, and a later one.
 abbrev later-segment : List ℕ
-later-segment = 0x1000 ∷ 0x200 ∷ 0 ∷ 0x200 ∷ []
+later-segment = 0x1000 ∷ 0x200 ∷ 0 ∷ 0x200 ∷ 0 ∷ []
 
 abbrev segments : List ℕ
-segments = 0x1000 ∷ 0x100 ∷ 0 ∷ 0x80 ∷ later-segment
+segments = 0x1000 ∷ 0x100 ∷ 0 ∷ 0x80 ∷ 0 ∷ later-segment
 
 -- An ivar at 0x1000 with the alignment 0x100: no offset, the name at 0x1020, no type, size 8.
 abbrev ivar : List ℕ
@@ -128,8 +129,8 @@ ivar = eights (0 ∷ 0x1020 ∷ 0 ∷ []) ++ bytesOf 4 0x100 ++ bytesOf 4 8 ++ a
 abbrev unaligned : Ivar
 unaligned =
     record {
-      name = textOf 0x20 1;
-      «type_encoding» = textOf 0 0;
+      name = textOf 0 0x20 1;
+      «type_encoding» = textOf 0 0 0;
       offset = offset.Nothing;
       size = 8;
       «log2_alignment» = alignment.Nothing;
@@ -142,15 +143,15 @@ edge-cases =
     ∷ case "entry word 23: absent" (method-list 23) (absent ShortEntry)
     ∷ case "entry word 0x8000000C: small" (method-list 0x8000000C) (value (layout 12 rowKind.SmallIndirect))
     ∷ case "entry word 0x80000008: absent" (method-list 0x80000008) (absent ShortEntry)
-    ∷ case "segment 0x1000, 0x100, 0, 0x80: 0x107F gives 0x7F" (lookup (rows segments) 0x107F) (value (placeAt 0x7F))
+    ∷ case "segment 0x1000, 0x100, 0, 0x80: 0x107F gives 0x7F" (lookup (rows segments) 0x107F) (value (placeAt 0 0x7F))
     ∷ case "0x1080: absent" (lookup (rows segments) 0x1080) (absent Unmapped)
-    ∷ case "0x1080: the later-segment segment has it" (lookup (rows later-segment) 0x1080) (value (placeAt 0x80))
+    ∷ case "0x1080: the later-segment segment has it" (lookup (rows later-segment) 0x1080) (value (placeAt 0 0x80))
     ∷ case "alignment 0x100: none" (alignmentOf 0x100) alignment.Nothing
     ∷ case "an ivar with the alignment 0x100: none" (ivarAt (whole-image ivar) 0x1000) (value unaligned)
     ∷ []
 
 edges-hold : AllHold edge-cases
-unfolding decodeList evenList entrySize methodRows bit nonzero readable readableAt lookup rows ends holds placed sum64 wordIn le choose alignmentOf alignedOf decodeOffset decodeIvar resolve rebaseAt follow followFrom stored stripped word pointerAt pointerOr0At textIn textAt text utf8 judge
+unfolding fileOf decodeList evenList entrySize methodRows bit nonzero readable readableAt lookup rows ends holds placed sum64 wordIn leIn le choose alignmentOf alignedOf decodeOffset decodeIvar resolve rebaseAt follow followFrom stored stripped word pointerAt pointerOr0At textIn textFrom text utf8 judge
 edges-hold = (refl, (refl, (refl, (refl, (refl, (refl, (refl, (refl, (refl, tt)))))))))
 
 abbrev pub cases : List Case

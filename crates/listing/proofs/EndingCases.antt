@@ -2,20 +2,21 @@
 -- first a byte that is not 0 follows the selector's zero byte: every string that is asked for ends, and both readings list alike. The second is
 -- cut off before that zero byte: the old reading shows the method, the new one skips it.
 use Prim.Native.Nat.{ℕ, _-_, _≤_}
-use mathlib.Core.Path.{_≡_, refl, sym, ap, _∙_}
+use mathlib.Core.Path.{_≡_, refl, sym, subst, _∙_}
 use mathlib.Core.Bool.{false}
 use mathlib.Core.List.{List, [], _∷_, _++_, append-nil}
 use native.Mathlib.Omega.{arith}
 use lib.ListN.{length, getD, replicate}
 use borrow.Author.Tests.{le-leb}
 use Rattle.reads.specs.Breaks.{canRead}
-use Rattle.reads.specs.Endings.{StringEnds}
+use Rattle.reads.specs.Endings.{ZeroFrom, StringEnds}
 use Rattle.reads.specs.Outcome.{Outcome, value, absent, choose, sum64, nonzero, textOf}
-use Rattle.reads.specs.Place.{le, readableAt, readable, word, wordIn}
+use Rattle.reads.specs.Files.{fileOf, longest}
+use Rattle.reads.specs.Place.{le, readableAt, readable, word, wordIn, leIn}
 use Rattle.reads.specs.Address.{stripped, dataArm64e, data64, mapped, pickedWide, picked}
 use Rattle.reads.specs.Relative.{slotAddress}
 use Rattle.reads.specs.Segment.{rows, ends, holds, placeAt, placed, lookup}
-use Rattle.reads.specs.Text.{text, textAt, textIn}
+use Rattle.reads.specs.Text.{text, textFrom, textIn}
 use Rattle.reads.specs.Utf8.{judge, utf8}
 use Rattle.reads.specs.declared.answer.Reason.{Reason}
 use Rattle.reads.specs.declared.answer.Reason.the-variants.{NullAddress, Unterminated}
@@ -25,7 +26,7 @@ use Rattle.reads.specs.declared.text.Reading.the-variants.{Old, New}
 use Rattle.pointers.specs.ImageInfo.{infoOf, imageInfo, bit}
 use Rattle.pointers.specs.Index.{indexed}
 use Rattle.pointers.specs.Open.{askedOpening, opening, openedIndex, Opened}
-use Rattle.pointers.specs.Question.{question, imageFits, wholeRows, sectionFits, every, sectionTable, infoWhole, namesInside, namesUtf8, indexFits, askedTables, askedIndex}
+use Rattle.pointers.specs.Question.{question, imageFits, wholeRows, segmentFiles, sectionFits, every, sectionTable, infoWhole, bindFiles, namesInside, namesUtf8, indexFits, askedTables, askedIndex}
 use Rattle.pointers.specs.Section.{sectionAt}
 use Rattle.pointers.specs.Slot.{symbolOf, stored, resolve, pointerAt, pointerOr0At}
 use Rattle.pointers.specs.Symbol.{ascii}
@@ -93,13 +94,13 @@ selectorIn cut = ascii "up"
 
 -- The segment is longer than either file.
 abbrev pub segments : List ℕ
-segments = 0x1000 ∷ 256 ∷ 0 ∷ 256 ∷ []
+segments = 0x1000 ∷ 256 ∷ 0 ∷ 256 ∷ 0 ∷ []
 
 abbrev pub sections : List ℕ
 sections = 1 ∷ 0x1070 ∷ 8 ∷ 0 ∷ 0 ∷ 0 ∷ 0 ∷ 0 ∷ 0 ∷ 0 ∷ 0 ∷ 0 ∷ 0 ∷ 0 ∷ 0 ∷ []
 
 abbrev pub file : List ℕ → File → Tables
-file before f = tablesOf (bytes (selectorIn f)) segments sections (replicate 8 0) [] [] (indexed [] [] before)
+file before f = tablesOf (bytes (selectorIn f) ∷ []) segments sections (replicate 8 0) [] [] (indexed [] [] before)
 
 -- C 1000 0 0 1028 - and R 1028 0 8 8 3:Hub
 abbrev the-class : ObjcClass
@@ -115,7 +116,7 @@ the-ro =
       flags = 0;
       «instance_start» = 8;
       «instance_size» = 8;
-      name = textOf 0x98 3;
+      name = textOf 0 0x98 3;
       «ivar_layout_address» = 0;
       methods = 0x1078;
       protocols = 0;
@@ -129,7 +130,7 @@ abbrev one-method : Layout
 one-method = record { base = 0x1080; size = 24; count = 1; kind = Legacy }
 
 abbrev the-row : Row
-the-row = row.Method (methodOf (textOf 0x9E 2) (textOf 0x9C 1) (imp.At 0x2000) kind.Legacy)
+the-row = row.Method (methodOf (textOf 0 0x9E 2) (textOf 0 0x9C 1) (imp.At 0x2000) kind.Legacy)
 
 -- The lines: I 0 0 and the reading, C, R, the method's if it is shown, and E 1 1.
 abbrev pub lines : Reading → List Line → List Line
@@ -143,19 +144,19 @@ method-line = plain.rowLine 0 the-row
 abbrev strings : {A : Type 0} → Tables → Decode A → List ℕ
 strings t d = stringsAmong (asks t d)
 
-same-offset : (a b : ℕ) → _≡_ {A = Outcome Place} (value (placeAt a)) (value (placeAt b)) → a ≡ b
-same-offset a b e = let p : placeAt a ≡ placeAt b = cc in ap (λ (x : Place). x .offset) p
+same-place : (a b : Place) → _≡_ {A = Outcome Place} (value a) (value b) → a ≡ b
+same-place a b e = cc
 
 module _ (before : List ℕ) where
   -- What both files hold under any setting: the class, and the method list of one entry, which is readable.
   module _ (u : Setting) where
     class-addresses : (f : File) → listed (under u (file before f)) Classes ≡ value (0x1000 ∷ [])
-    unfolding listed once without addressesIn gather sectionSlots slotsFrom sectionAt slotAddress decodeAddress resolve readable readableAt lookup rows ends holds placed sum64 stored word stripped le nonzero choose bytes
+    unfolding fileOf listed once without addressesIn gather sectionSlots slotsFrom sectionAt slotAddress decodeAddress resolve readable readableAt lookup rows ends holds placed sum64 stored word stripped le nonzero choose bytes
     class-addresses whole = simp (no-rebase before)
     class-addresses cut = simp (no-rebase before)
 
     class-there : (f : File) → classAt (under u (file before f)) 0x1000 false ≡ value the-class
-    unfolding decodeClass decodeData bitsOf picked pickedWide mapped dataArm64e data64 resolve readable readableAt lookup rows ends holds placed sum64 stored word stripped le nonzero choose bytes
+    unfolding fileOf decodeClass decodeData bitsOf picked pickedWide mapped dataArm64e data64 resolve readable readableAt lookup rows ends holds placed sum64 stored word stripped le nonzero choose bytes
     class-there whole = simp (no-rebase before)
     class-there cut = simp (no-rebase before)
 
@@ -169,35 +170,35 @@ module _ (before : List ℕ) where
 
     superclass-absent : (f : File) → superclassName (under u (file before f)) the-class ≡ absent NullAddress
     unfolding decodeClassNameOf decodeNonzeroClassName decodeBoundName symbolOf sum64 nonzero choose
-    superclass-absent f = rw (no-bind before (bytes (selectorIn f)) 0x1008)
+    superclass-absent f = rw (no-bind before (bytes (selectorIn f) ∷ []) 0x1008)
 
     methods-there : (f : File) → listAt (under u (file before f)) Methods 0x1078 ≡ value one-method
-    unfolding decodeList evenList entrySize methodRows bit wordIn resolve readable readableAt lookup rows ends holds placed sum64 stored word stripped le nonzero choose bytes
+    unfolding fileOf decodeList evenList entrySize methodRows bit wordIn leIn resolve readable readableAt lookup rows ends holds placed sum64 stored word stripped le nonzero choose bytes
     methods-there whole = refl
     methods-there cut = refl
 
     one-readable : (f : File) → readables (imageIn (under u (file before f))) one-method ≡ 0 ∷ []
-    unfolding readables allFrom entry canRead resolve readable readableAt lookup rows ends holds placed sum64 stored word stripped le nonzero choose bytes
+    unfolding fileOf readables allFrom entry canRead resolve readable readableAt lookup rows ends holds placed sum64 stored word stripped le nonzero choose bytes
     one-readable whole = refl
     one-readable cut = refl
 
   -- The class_ro, whose name ends, and the method: in the file that is cut off its selector is there under the old reading alone.
   old-ro : (f : File) → roOf (underOld (file before f)) the-class ≡ value the-ro
-  unfolding decodeRoOf decodeClassRo decodeRoLists picked pickedWide mapped dataArm64e data64 pointerAt pointerOr0At wordIn textIn textAt text utf8 judge resolve readable readableAt lookup rows ends holds placed sum64 stored word stripped le nonzero choose bytes
+  unfolding fileOf decodeRoOf decodeClassRo decodeRoLists picked pickedWide mapped dataArm64e data64 pointerAt pointerOr0At wordIn leIn textIn textFrom text utf8 judge resolve readable readableAt lookup rows ends holds placed sum64 stored word stripped le nonzero choose bytes
   old-ro whole = simp (no-rebase before)
   old-ro cut = simp (no-rebase before)
 
   new-ro : roOf (underNew (file before cut)) the-class ≡ value the-ro
-  unfolding decodeRoOf decodeClassRo decodeRoLists picked pickedWide mapped dataArm64e data64 pointerAt pointerOr0At wordIn textIn textAt text utf8 judge resolve readable readableAt lookup rows ends holds placed sum64 stored word stripped le nonzero choose bytes
+  unfolding fileOf decodeRoOf decodeClassRo decodeRoLists picked pickedWide mapped dataArm64e data64 pointerAt pointerOr0At wordIn leIn textIn textFrom text utf8 judge resolve readable readableAt lookup rows ends holds placed sum64 stored word stripped le nonzero choose bytes
   new-ro = simp (no-rebase before)
 
   old-row : (f : File) → rowAt (underOld (file before f)) Legacy 0x1080 ≡ value the-row
-  unfolding decodeRow decodeLegacyMethod legacyImp pointerAt pointerOr0At textIn textAt text utf8 judge resolve readable readableAt lookup rows ends holds placed sum64 stored word stripped le nonzero choose bytes
+  unfolding fileOf decodeRow decodeLegacyMethod legacyImp pointerAt pointerOr0At textIn textFrom text utf8 judge resolve readable readableAt lookup rows ends holds placed sum64 stored word stripped le nonzero choose bytes
   old-row whole = simp (no-rebase before)
   old-row cut = simp (no-rebase before)
 
   new-row : rowAt (underNew (file before cut)) Legacy 0x1080 ≡ absent Unterminated
-  unfolding decodeRow decodeLegacyMethod legacyImp pointerAt pointerOr0At textIn textAt text utf8 judge resolve readable readableAt lookup rows ends holds placed sum64 stored word stripped le nonzero choose bytes
+  unfolding fileOf decodeRow decodeLegacyMethod legacyImp pointerAt pointerOr0At textIn textFrom text utf8 judge resolve readable readableAt lookup rows ends holds placed sum64 stored word stripped le nonzero choose bytes
   new-row = simp (no-rebase before)
 
   -- The parts of the listing, with the row and without it.
@@ -217,7 +218,7 @@ module _ (before : List ℕ) where
       -- The whole, of the lines of its lists and of what these settle.
       listed-with : (method : List Line) (e : Event) → plain.fieldsLines tables 0 (plain.roFields the-ro) ≡ value method → plain.fieldEvents tables 0 0 (plain.roFields the-ro) ≡ value (e ∷ [])
           → (plainListing tables ≡ value (lines r method)) × (plainEvents tables ≡ value (e ∷ []))
-      unfolding plainListing gather plain.linesOf eventsFrom plain.recordEvents wordIn le choose
+      unfolding fileOf plainListing gather plain.linesOf eventsFrom plain.recordEvents wordIn leIn le choose
       listed-with method e ls es = (rw (records-there (readingUnder r) f, own-there, fields-there, ls, es, append-nil method), rw (records-there (readingUnder r) f, fields-there, es))
 
     shown-lines : rowAt tables Legacy 0x1080 ≡ value the-row → plain.fieldsLines tables 0 (plain.roFields the-ro) ≡ value (method-line ∷ [])
@@ -247,23 +248,23 @@ module _ (before : List ℕ) where
   old = underOld (file before whole)
 
   strings-of-records : strings old (decode.decodeRecords sections) ≡ []
-  unfolding stringsAmong asks decode.gather decode.decodeRecords decode.decodeClasses decode.decodeListed decode.decodeAddresses decode.decodeWithMeta decode.decodeProtocols decode.decodeCategories once without metaOf sectionSlots slotsFrom sectionAt slotAddress decodeAddress decodeClass decodeData bitsOf picked pickedWide mapped dataArm64e data64 resolve readable readableAt lookup rows ends holds placed sum64 stored word stripped le nonzero choose bytes
+  unfolding fileOf stringsAmong asks decode.gather decode.decodeRecords decode.decodeClasses decode.decodeListed decode.decodeAddresses decode.decodeWithMeta decode.decodeProtocols decode.decodeCategories once without metaOf sectionSlots slotsFrom sectionAt slotAddress decodeAddress decodeClass decodeData bitsOf picked pickedWide mapped dataArm64e data64 resolve readable readableAt lookup rows ends holds placed sum64 stored word stripped le nonzero choose bytes
   strings-of-records = simp (no-rebase before)
 
   strings-of-own : strings old (decode.decodeOwnLines the-record) ≡ 0x1098 ∷ []
-  unfolding stringsAmong asks decode.decodeOwnLines decodeClassNameOf decodeNonzeroClassName decodeBoundName symbolOf decodeRoOf decodeClassRo decodeRoLists picked pickedWide mapped dataArm64e data64 pointerAt pointerOr0At wordIn textIn textAt text utf8 judge resolve readable readableAt lookup rows ends holds placed sum64 stored word stripped le nonzero choose bytes
+  unfolding fileOf stringsAmong asks decode.decodeOwnLines decodeClassNameOf decodeNonzeroClassName decodeBoundName symbolOf decodeRoOf decodeClassRo decodeRoLists picked pickedWide mapped dataArm64e data64 pointerAt pointerOr0At wordIn leIn textIn textFrom text utf8 judge resolve readable readableAt lookup rows ends holds placed sum64 stored word stripped le nonzero choose bytes
   strings-of-own = simp (no-rebase before, no-bind before)
 
   strings-of-fields : strings old (decode.decodeFields the-record) ≡ 0x1098 ∷ []
-  unfolding stringsAmong asks decode.decodeFields decodeRoOf decodeClassRo decodeRoLists picked pickedWide mapped dataArm64e data64 pointerAt pointerOr0At wordIn textIn textAt text utf8 judge resolve readable readableAt lookup rows ends holds placed sum64 stored word stripped le nonzero choose bytes
+  unfolding fileOf stringsAmong asks decode.decodeFields decodeRoOf decodeClassRo decodeRoLists picked pickedWide mapped dataArm64e data64 pointerAt pointerOr0At wordIn leIn textIn textFrom text utf8 judge resolve readable readableAt lookup rows ends holds placed sum64 stored word stripped le nonzero choose bytes
   strings-of-fields = simp (no-rebase before)
 
   strings-of-lists : strings old (decode.decodeFieldsLines 0 (plain.roFields the-ro)) ≡ 0x109E ∷ 0x109C ∷ []
-  unfolding stringsAmong asks decode.decodeFieldsLines decode.decodeFieldLines decode.decodeProtocolNames decode.gather decode.decodeIndex decode.decodeIndices decodeList evenList entrySize methodRows bit decodeRow decodeLegacyMethod legacyImp decodeProtocolList pointerAt pointerOr0At wordIn textIn textAt text utf8 judge resolve readable readableAt lookup rows ends holds placed sum64 stored word stripped le nonzero choose bytes
+  unfolding fileOf stringsAmong asks decode.decodeFieldsLines decode.decodeFieldLines decode.decodeProtocolNames decode.gather decode.decodeIndex decode.decodeIndices decodeList evenList entrySize methodRows bit decodeRow decodeLegacyMethod legacyImp decodeProtocolList pointerAt pointerOr0At wordIn leIn textIn textFrom text utf8 judge resolve readable readableAt lookup rows ends holds placed sum64 stored word stripped le nonzero choose bytes
   strings-of-lists = simp (no-rebase before)
 
   strings-of-entries : strings old (decode.decodeFieldEvents 0 0 (plain.roFields the-ro)) ≡ 0x109E ∷ 0x109C ∷ []
-  unfolding stringsAmong asks decode.decodeFieldEvents decode.decodeEntries decode.gather decode.decodeIndex decode.decodeIndices decodeList evenList entrySize methodRows bit decodeRow decodeLegacyMethod legacyImp decodeProtocolList pointerAt pointerOr0At wordIn textIn textAt text utf8 judge resolve readable readableAt lookup rows ends holds placed sum64 stored word stripped le nonzero choose bytes
+  unfolding fileOf stringsAmong asks decode.decodeFieldEvents decode.decodeEntries decode.gather decode.decodeIndex decode.decodeIndices decodeList evenList entrySize methodRows bit decodeRow decodeLegacyMethod legacyImp decodeProtocolList pointerAt pointerOr0At wordIn leIn textIn textFrom text utf8 judge resolve readable readableAt lookup rows ends holds placed sum64 stored word stripped le nonzero choose bytes
   strings-of-entries = simp (no-rebase before)
 
   pub strings-asked : stringsAsked (file before whole) (decodeListing sections) ≡ 0x1098 ∷ 0x1098 ∷ 0x109E ∷ 0x109C ∷ 0x1098 ∷ 0x109E ∷ 0x109C ∷ []
@@ -278,11 +279,11 @@ module _ (before : List ℕ) where
       rw (records, own, named, listed, settled) (simp (strings-append, strings-of-records, strings-of-own, strings-of-fields, strings-of-lists, strings-of-entries))
 
   -- A string between offset 0x98 and the zero byte at 0xA0.
-  string-ends : (offset va : ℕ) → lookup (rows segments) va ≡ value (placeAt offset) → offset ≤ 0xA0 → StringEnds (imageIn (file before whole)) va
-  unfolding bytes
+  string-ends : (offset va : ℕ) → lookup (rows segments) va ≡ value (placeAt 0 offset) → offset ≤ 0xA0 → StringEnds (imageIn (file before whole)) va
+  unfolding fileOf bytes
   string-ends offset va there h other n q l =
-      let same = same-offset other offset (sym q ∙ there) in
-      (0xA0, omega (arith, same), omega arith, refl)
+      let same : other ≡ placeAt 0 offset = same-place other (placeAt 0 offset) (sym q ∙ there) in
+      subst (λ (p : Place). ZeroFrom (fileOf (file before whole .files) (p .file)) (p .offset)) (sym same) (0xA0, omega arith, omega arith, refl)
 
   pub whole-ends : StringsEnd (file before whole) (decodeListing sections)
   unfolding lookup rows ends holds placed sum64 choose
@@ -292,7 +293,7 @@ module _ (before : List ℕ) where
       let types = string-ends 0x9C 0x109C refl (omega arith) in
       rw strings-asked (name, (name, (selector, (types, (name, (selector, (types, tt)))))))
 
-  pub last-byte : getD (file before whole .image) (length (file before whole .image) - 1) 0 ≡ 0x78
+  pub last-byte : getD (bytes (selectorIn whole)) (length (bytes (selectorIn whole)) - 1) 0 ≡ 0x78
   unfolding bytes
   last-byte = refl
 
@@ -313,7 +314,7 @@ module _ (before : List ℕ) where
 
   -- Opening accepts the tables of both, with an index of at least 8,192 words.
   accepts : 8192 ≤ length before → (f : File) → askedOpening (withIndex (file before f) before) ≡ value tt
-  unfolding askedOpening askedTables askedIndex question imageFits wholeRows every sectionFits sectionTable infoWhole namesInside namesUtf8 indexFits choose bytes
+  unfolding askedOpening askedTables askedIndex question imageFits longest segmentFiles wholeRows every sectionFits sectionTable infoWhole bindFiles namesInside namesUtf8 indexFits choose bytes
   accepts enough whole = rw (le-leb 8192 (length before) enough)
   accepts enough cut = rw (le-leb 8192 (length before) enough)
 

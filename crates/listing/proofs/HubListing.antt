@@ -3,7 +3,8 @@
 use mathlib.Core.Path.{_≡_, refl}
 use mathlib.Core.List.{List, [], _∷_}
 use Rattle.reads.specs.Outcome.{value, choose, sum64, nonzero, textOf}
-use Rattle.reads.specs.Place.{le, readableAt, readable, word, wordIn}
+use Rattle.reads.specs.Files.{fileOf}
+use Rattle.reads.specs.Place.{le, readableAt, readable, word, wordIn, leIn}
 use Rattle.reads.specs.Address.{stripped}
 use Rattle.reads.specs.Relative.{slotAddress}
 use Rattle.reads.specs.Segment.{rows, ends, holds, placed, lookup}
@@ -32,7 +33,7 @@ use Rattle.listing.proofs.EmptyLists.{no-list, no-names}
 
 -- class_list holds one address; the other sections are absent.
 hub-listed : listed hub Classes ≡ value (0x1000 ∷ [])
-unfolding listed once without addressesIn gather sectionSlots slotsFrom sectionAt slotAddress decodeAddress stored word stripped readable readableAt lookup rows ends holds placed le nonzero choose sum64 counted
+unfolding fileOf listed once without addressesIn gather sectionSlots slotsFrom sectionAt slotAddress decodeAddress stored word stripped readable readableAt lookup rows ends holds placed le nonzero choose sum64 counted
 hub-listed = rw (slot-stored 0x10A0)
 
 hub-classes : plainClasses hub ≡ value (hub-class-record ∷ [])
@@ -55,7 +56,7 @@ hub-class-ro =
       flags = 0;
       «instance_start» = 8;
       «instance_size» = 8;
-      name = textOf 0x90 3;
+      name = textOf 0 0x90 3;
       «ivar_layout_address» = 0;
       methods = 0x1070;
       protocols = 0;
@@ -66,7 +67,7 @@ hub-class-ro =
 
 -- C 1000 0 0 1028 8:NSObject
 abbrev pub class-line : Line
-class-line = line.Class (record { class = hub-class-record; «superclass_name» = named.Text (textOf 182 8) })
+class-line = line.Class (record { class = hub-class-record; «superclass_name» = named.Text (textOf 0 182 8) })
 
 hub-records : plain.plainRecords hub ≡ value (aRecord.Class hub-class-record ∷ [])
 unfolding plain.plainRecords
@@ -106,5 +107,5 @@ five-lines =
     ∷ []
 
 pub hub-listing : plain.plainListing hub ≡ value five-lines
-unfolding plain.plainListing plain.linesOf gather wordIn le choose
+unfolding fileOf plain.plainListing plain.linesOf gather wordIn leIn le choose
 hub-listing = rw (hub-records, hub-own, hub-fields, hub-lines) (rw hub-settling)

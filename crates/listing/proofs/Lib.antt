@@ -22,6 +22,7 @@ pub mod LoanSettings
 pub mod Demand3
 pub mod ListedAsBefore
 pub mod RecordsAsBefore
+pub mod OneFile
 pub mod EmptyLists
 pub mod LittleEndian
 pub mod NodeListing

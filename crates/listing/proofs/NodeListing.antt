@@ -1,5 +1,5 @@
 -- A second worked listing: a class with its metaclass, a protocol, and a category that names one method list from two fields. The list's
--- second row has no selector, so it is skipped and settled each time.
+-- second row has no selector, so it is skipped and settled each time. The records lie in file 0, the strings in file 1 (document 02, note 6).
 use Prim.Native.Nat.{ℕ, _≤_}
 use mathlib.Core.Path.{_≡_, refl}
 use mathlib.Core.Bool.{true, false}
@@ -8,11 +8,12 @@ use lib.ListN.{length, replicate}
 use borrow.Author.Tests.{le-leb}
 use Rattle.reads.specs.Breaks.{canRead}
 use Rattle.reads.specs.Outcome.{value, absent, choose, sum64, nonzero, textOf}
-use Rattle.reads.specs.Place.{part, le, readableAt, readable, word, wordIn}
+use Rattle.reads.specs.Files.{fileOf, longest}
+use Rattle.reads.specs.Place.{part, le, readableAt, readable, word, wordIn, leIn}
 use Rattle.reads.specs.Address.{stripped, dataArm64e, data64, mapped, pickedWide, picked}
 use Rattle.reads.specs.Relative.{slotAddress}
 use Rattle.reads.specs.Segment.{rows, ends, holds, placed, lookup}
-use Rattle.reads.specs.Text.{text, textAt, textIn}
+use Rattle.reads.specs.Text.{text, textFrom, textIn}
 use Rattle.reads.specs.Utf8.{judge, utf8}
 use Rattle.reads.specs.declared.text.Text.{Text}
 use Rattle.reads.specs.declared.answer.Reason.the-variants.{NullAddress, NoRecord}
@@ -20,7 +21,7 @@ use Rattle.pointers.specs.Chain.{lastAmong}
 use Rattle.pointers.specs.ImageInfo.{infoOf, imageInfo, bit}
 use Rattle.pointers.specs.Index.{indexed}
 use Rattle.pointers.specs.Open.{askedOpening, opening, openedIndex, Opened}
-use Rattle.pointers.specs.Question.{question, imageFits, wholeRows, sectionFits, every, sectionTable, infoWhole, namesInside, namesUtf8, indexFits, askedTables, askedIndex}
+use Rattle.pointers.specs.Question.{question, imageFits, wholeRows, segmentFiles, sectionFits, every, sectionTable, infoWhole, bindFiles, namesInside, namesUtf8, indexFits, askedTables, askedIndex}
 use Rattle.pointers.specs.Section.{sectionAt}
 use Rattle.pointers.specs.Slot.{rebaseAt, bindAt, symbolOf, stored, resolve, pointerAt, pointerOr0At}
 use Rattle.pointers.specs.Symbol.{ascii}
@@ -64,7 +65,7 @@ use Rattle.listing.proofs.EmptyLists.{no-list, no-names}
 use Rattle.listing.proofs.LittleEndian.{fours, eights}
 use Rattle.listing.proofs.WholeListing.{lists-with-room}
 
--- 462 bytes at 0x1000. 0x1000: class_t of the class and, at 0x1028, of its metaclass: isa, superclass, cache, vtable, bits.
+-- 440 bytes of file 0 at 0x1000. 0x1000: class_t of the class and, at 0x1028, of its metaclass: isa, superclass, cache, vtable, bits.
 abbrev class-bytes : List ℕ
 class-bytes = eights (0x1028 ∷ 0 ∷ 0 ∷ 0 ∷ 0x1050 ∷ []) ++ eights (0 ∷ 0 ∷ 0 ∷ 0 ∷ 0x1098 ∷ [])
 
@@ -88,26 +89,30 @@ category-bytes = eights (0x11C3 ∷ 0x1000 ∷ 0x1158 ∷ 0x1158 ∷ 0x1190 ∷ 
 abbrev method-bytes : List ℕ
 method-bytes = fours (24 ∷ 2 ∷ []) ++ eights (0x11C9 ∷ 0x11CC ∷ 0x2000 ∷ []) ++ eights (0 ∷ 0x11CC ∷ 0 ∷ [])
 
--- 0x1190: the protocol list, of one slot; 0x11A0: class_list, proto_list and cat_list; 0x11B8: the strings.
+-- The 22 bytes of file 1, at 0x11B8: the strings.
 abbrev name-bytes : List ℕ
 name-bytes = ascii "Node" ++ 0 ∷ ascii "Walks" ++ 0 ∷ ascii "Extra" ++ 0 ∷ ascii "go" ++ 0 ∷ ascii "v" ++ 0 ∷ []
 
+-- 0x1190: the protocol list, of one slot; 0x11A0: class_list, proto_list and cat_list.
 unfoldable pub node-bytes : List ℕ
-node-bytes = class-bytes ++ ro-bytes ++ protocol-bytes ++ category-bytes ++ method-bytes ++ eights (1 ∷ 0x10E0 ∷ []) ++ eights (0x1000 ∷ 0x10E0 ∷ 0x1128 ∷ []) ++ name-bytes
+node-bytes = class-bytes ++ ro-bytes ++ protocol-bytes ++ category-bytes ++ method-bytes ++ eights (1 ∷ 0x10E0 ∷ []) ++ eights (0x1000 ∷ 0x10E0 ∷ 0x1128 ∷ [])
+
+abbrev pub node-files : List (List ℕ)
+node-files = node-bytes ∷ name-bytes ∷ [] ∷ [] ∷ []
 
 abbrev pub node-segments : List ℕ
-node-segments = 0x1000 ∷ 462 ∷ 0 ∷ 462 ∷ []
+node-segments = 0x1000 ∷ 440 ∷ 0 ∷ 440 ∷ 0 ∷ 0x11B8 ∷ 22 ∷ 0 ∷ 22 ∷ 1 ∷ []
 
 abbrev pub node-sections : List ℕ
 node-sections = 1 ∷ 0x11A0 ∷ 8 ∷ 0 ∷ 0 ∷ 0 ∷ 1 ∷ 0x11B0 ∷ 8 ∷ 0 ∷ 0 ∷ 0 ∷ 1 ∷ 0x11A8 ∷ 8 ∷ []
 
 -- The tables, with the index as opening leaves it over any words.
 abbrev pub node : List ℕ → Tables
-node before = tablesOf node-bytes node-segments node-sections (replicate 8 0) [] [] (indexed [] [] before)
+node before = tablesOf node-files node-segments node-sections (replicate 8 0) [] [] (indexed [] [] before)
 
-pub bytes-462 : length node-bytes ≡ 462
+pub node-lengths : (length node-bytes ≡ 440) × (length name-bytes ≡ 22)
 unfolding node-bytes
-bytes-462 = refl
+node-lengths = (refl, refl)
 
 -- C 1000 1028 0 1050 - and M 1028 0 0 1098 -
 abbrev node-class : ObjcClass
@@ -124,7 +129,7 @@ ro address flags start size methods =
       flags = flags;
       «instance_start» = start;
       «instance_size» = size;
-      name = textOf 0x1B8 4;
+      name = textOf 1 0 4;
       «ivar_layout_address» = 0;
       methods = methods;
       protocols = 0;
@@ -144,7 +149,7 @@ abbrev walks-protocol : ObjcProtocol
 walks-protocol =
     record {
       address = 0x10E0;
-      name = textOf 0x1BD 5;
+      name = textOf 1 5 5;
       protocols = 0;
       «instance_methods» = 0;
       «class_methods» = 0;
@@ -161,7 +166,7 @@ abbrev extra-category : ObjcCategory
 extra-category =
     record {
       address = 0x1128;
-      name = textOf 0x1C3 5;
+      name = textOf 1 11 5;
       «class_address» = 0x1000;
       «instance_methods» = 0x1158;
       «class_methods» = 0x1158;
@@ -175,7 +180,7 @@ abbrev two-methods : Layout
 two-methods = record { base = 0x1160; size = 24; count = 2; kind = Legacy }
 
 abbrev go-row : Row
-go-row = row.Method (methodOf (textOf 0x1C9 2) (textOf 0x1CC 1) (imp.At 0x2000) kind.Legacy)
+go-row = row.Method (methodOf (textOf 1 17 2) (textOf 1 20 1) (imp.At 0x2000) kind.Legacy)
 
 -- The twelve lines: I 0 0 1; C, R; M, R and its row m 0 2:go 1:v 2000 0; P; K, the row once for each of its two fields, q 2 5:Walks; E 4 6.
 abbrev pub twelve-lines : List Line
@@ -187,10 +192,10 @@ twelve-lines =
     ∷ line.Ro meta-ro
     ∷ plain.rowLine 0 go-row
     ∷ line.Protocol walks-protocol
-    ∷ plain.categoryLine extra-category (named.Text (textOf 0x1B8 4))
+    ∷ plain.categoryLine extra-category (named.Text (textOf 1 0 4))
     ∷ plain.rowLine 0 go-row
     ∷ plain.rowLine 1 go-row
-    ∷ plain.nameLine 2 (textOf 0x1BD 5)
+    ∷ plain.nameLine 2 (textOf 1 5 5)
     ∷ line.End (record { records = 4; «settled_high» = 0; «settled_low» = 6 })
     ∷ []
 
@@ -210,37 +215,37 @@ module _ (before : List ℕ) where
   unfolding rebaseAt lastAmong
   no-rebase a = rw (rebase-last-wins [] [] before a)
 
-  pub no-bind : (image : List ℕ) (a : ℕ) → bindAt image [] [] (indexed [] [] before) a ≡ absent NoRecord
+  pub no-bind : (files : List (List ℕ)) (a : ℕ) → bindAt files [] [] (indexed [] [] before) a ≡ absent NoRecord
   unfolding bindAt lastAmong
-  no-bind image a = rw (bind-last-wins [] [] before a)
+  no-bind files a = rw (bind-last-wins [] [] before a)
 
   -- The records.
   the-class : classAt (node before) 0x1000 false ≡ value node-class
-  unfolding decodeClass decodeData bitsOf picked pickedWide mapped dataArm64e data64 resolve readable readableAt lookup rows ends holds placed sum64 stored word stripped le nonzero choose node-bytes
+  unfolding fileOf decodeClass decodeData bitsOf picked pickedWide mapped dataArm64e data64 resolve readable readableAt lookup rows ends holds placed sum64 stored word stripped le nonzero choose node-bytes
   the-class = simp no-rebase
 
   the-meta : classAt (node before) 0x1028 true ≡ value meta-class
-  unfolding decodeClass decodeData bitsOf picked pickedWide mapped dataArm64e data64 resolve readable readableAt lookup rows ends holds placed sum64 stored word stripped le nonzero choose node-bytes
+  unfolding fileOf decodeClass decodeData bitsOf picked pickedWide mapped dataArm64e data64 resolve readable readableAt lookup rows ends holds placed sum64 stored word stripped le nonzero choose node-bytes
   the-meta = simp no-rebase
 
   class-addresses : listed (node before) Classes ≡ value (0x1000 ∷ [])
-  unfolding listed once without addressesIn gather sectionSlots slotsFrom sectionAt slotAddress decodeAddress resolve readable readableAt lookup rows ends holds placed sum64 stored word stripped le nonzero choose node-bytes
+  unfolding fileOf listed once without addressesIn gather sectionSlots slotsFrom sectionAt slotAddress decodeAddress resolve readable readableAt lookup rows ends holds placed sum64 stored word stripped le nonzero choose node-bytes
   class-addresses = simp no-rebase
 
   protocol-address : addressIn (node before) 0x11A8 ≡ value 0x10E0
-  unfolding decodeAddress resolve readable readableAt lookup rows ends holds placed sum64 stored word stripped le nonzero choose node-bytes
+  unfolding fileOf decodeAddress resolve readable readableAt lookup rows ends holds placed sum64 stored word stripped le nonzero choose node-bytes
   protocol-address = simp no-rebase
 
   category-addresses : listed (node before) Categories ≡ value (0x1128 ∷ [])
-  unfolding listed once without addressesIn gather sectionSlots slotsFrom sectionAt slotAddress decodeAddress resolve readable readableAt lookup rows ends holds placed sum64 stored word stripped le nonzero choose node-bytes
+  unfolding fileOf listed once without addressesIn gather sectionSlots slotsFrom sectionAt slotAddress decodeAddress resolve readable readableAt lookup rows ends holds placed sum64 stored word stripped le nonzero choose node-bytes
   category-addresses = simp no-rebase
 
   the-protocol : protocolAt (node before) 0x10E0 ≡ value walks-protocol
-  unfolding decodeProtocol decodeProtocolLists decodeClassProperties pointerAt pointerOr0At wordIn textIn textAt text utf8 judge resolve readable readableAt lookup rows ends holds placed sum64 stored word stripped le nonzero choose node-bytes
+  unfolding fileOf decodeProtocol decodeProtocolLists decodeClassProperties pointerAt pointerOr0At wordIn leIn textIn textFrom text utf8 judge resolve readable readableAt lookup rows ends holds placed sum64 stored word stripped le nonzero choose node-bytes
   the-protocol = simp no-rebase
 
   the-category : categoryAt (node before) 0x1128 ≡ value extra-category
-  unfolding decodeCategory decodeCategoryOf decodeCategoryLists decodeCategoryProperties imageInfo bit pointerOr0At textIn textAt text utf8 judge resolve readable readableAt lookup rows ends holds placed sum64 stored word stripped le nonzero choose node-bytes
+  unfolding fileOf decodeCategory decodeCategoryOf decodeCategoryLists decodeCategoryProperties imageInfo bit pointerOr0At textIn textFrom text utf8 judge resolve readable readableAt lookup rows ends holds placed sum64 stored word stripped le nonzero choose node-bytes
   the-category = simp no-rebase
 
   the-classes : plainClasses (node before) ≡ value (node-class ∷ meta-class ∷ [])
@@ -264,48 +269,48 @@ module _ (before : List ℕ) where
 
   -- Their names and class_ros.
   node-ro-there : roOf (node before) node-class ≡ value node-ro
-  unfolding decodeRoOf decodeClassRo decodeRoLists picked pickedWide mapped dataArm64e data64 pointerAt pointerOr0At wordIn textIn textAt text utf8 judge resolve readable readableAt lookup rows ends holds placed sum64 stored word stripped le nonzero choose node-bytes
+  unfolding fileOf decodeRoOf decodeClassRo decodeRoLists picked pickedWide mapped dataArm64e data64 pointerAt pointerOr0At wordIn leIn textIn textFrom text utf8 judge resolve readable readableAt lookup rows ends holds placed sum64 stored word stripped le nonzero choose node-bytes
   node-ro-there = simp no-rebase
 
   meta-ro-there : roOf (node before) meta-class ≡ value meta-ro
-  unfolding decodeRoOf decodeClassRo decodeRoLists picked pickedWide mapped dataArm64e data64 pointerAt pointerOr0At wordIn textIn textAt text utf8 judge resolve readable readableAt lookup rows ends holds placed sum64 stored word stripped le nonzero choose node-bytes
+  unfolding fileOf decodeRoOf decodeClassRo decodeRoLists picked pickedWide mapped dataArm64e data64 pointerAt pointerOr0At wordIn leIn textIn textFrom text utf8 judge resolve readable readableAt lookup rows ends holds placed sum64 stored word stripped le nonzero choose node-bytes
   meta-ro-there = simp no-rebase
 
   node-superclass : superclassName (node before) node-class ≡ absent NullAddress
   unfolding decodeClassNameOf decodeNonzeroClassName decodeBoundName symbolOf sum64 nonzero choose
-  node-superclass = rw (no-bind node-bytes 0x1008)
+  node-superclass = rw (no-bind node-files 0x1008)
 
   meta-superclass : superclassName (node before) meta-class ≡ absent NullAddress
   unfolding decodeClassNameOf decodeNonzeroClassName decodeBoundName symbolOf sum64 nonzero choose
-  meta-superclass = rw (no-bind node-bytes 0x1030)
+  meta-superclass = rw (no-bind node-files 0x1030)
 
-  category-class : categoryClassName (node before) extra-category ≡ value (textOf 0x1B8 4)
-  unfolding decodeClassNameOf decodeNonzeroClassName decodeClassName decodeRoData pickedIn picked pickedWide mapped dataArm64e data64 pointerAt textIn textAt text utf8 judge resolve readable readableAt lookup rows ends holds placed sum64 stored word stripped le nonzero choose node-bytes
+  category-class : categoryClassName (node before) extra-category ≡ value (textOf 1 0 4)
+  unfolding fileOf decodeClassNameOf decodeNonzeroClassName decodeClassName decodeRoData pickedIn picked pickedWide mapped dataArm64e data64 pointerAt textIn textFrom text utf8 judge resolve readable readableAt lookup rows ends holds placed sum64 stored word stripped le nonzero choose node-bytes
   category-class = simp no-rebase
 
   -- The lists.
   the-methods : listAt (node before) Methods 0x1158 ≡ value two-methods
-  unfolding decodeList evenList entrySize methodRows bit wordIn resolve readable readableAt lookup rows ends holds placed sum64 stored word stripped le nonzero choose node-bytes
+  unfolding fileOf decodeList evenList entrySize methodRows bit wordIn leIn resolve readable readableAt lookup rows ends holds placed sum64 stored word stripped le nonzero choose node-bytes
   the-methods = refl
 
   both-readable : readables (imageIn (node before)) two-methods ≡ 0 ∷ 1 ∷ []
-  unfolding readables allFrom entry canRead resolve readable readableAt lookup rows ends holds placed sum64 stored word stripped le nonzero choose node-bytes
+  unfolding fileOf readables allFrom entry canRead resolve readable readableAt lookup rows ends holds placed sum64 stored word stripped le nonzero choose node-bytes
   both-readable = refl
 
   first-row : rowAt (node before) Legacy 0x1160 ≡ value go-row
-  unfolding decodeRow decodeLegacyMethod legacyImp pointerAt pointerOr0At textIn textAt text utf8 judge resolve readable readableAt lookup rows ends holds placed sum64 stored word stripped le nonzero choose node-bytes
+  unfolding fileOf decodeRow decodeLegacyMethod legacyImp pointerAt pointerOr0At textIn textFrom text utf8 judge resolve readable readableAt lookup rows ends holds placed sum64 stored word stripped le nonzero choose node-bytes
   first-row = simp no-rebase
 
   second-row : rowAt (node before) Legacy 0x1178 ≡ absent NullAddress
-  unfolding decodeRow decodeLegacyMethod legacyImp pointerAt pointerOr0At textIn textAt text utf8 judge resolve readable readableAt lookup rows ends holds placed sum64 stored word stripped le nonzero choose node-bytes
+  unfolding fileOf decodeRow decodeLegacyMethod legacyImp pointerAt pointerOr0At textIn textFrom text utf8 judge resolve readable readableAt lookup rows ends holds placed sum64 stored word stripped le nonzero choose node-bytes
   second-row = simp no-rebase
 
   one-name : protocolListAt (node before) 0x1190 ≡ value (record { base = 0x1198; count = 1 })
-  unfolding decodeProtocolList evenList wordIn resolve readable readableAt lookup rows ends holds placed sum64 stored word stripped le nonzero choose node-bytes
+  unfolding fileOf decodeProtocolList evenList wordIn leIn resolve readable readableAt lookup rows ends holds placed sum64 stored word stripped le nonzero choose node-bytes
   one-name = refl
 
-  its-slots : slotNames (node before) (record { base = 0x1198; count = 1 }) 0 1 ≡ value (textOf 0x1BD 5) ∷ []
-  unfolding slotNames hasSlot decodeNameIn decodeProtocolNameIn decodeProtocolName decodeProtocol decodeProtocolLists decodeClassProperties pointerAt pointerOr0At wordIn textIn textAt text utf8 judge resolve readable readableAt lookup rows ends holds placed sum64 stored word stripped le nonzero choose node-bytes
+  its-slots : slotNames (node before) (record { base = 0x1198; count = 1 }) 0 1 ≡ value (textOf 1 5 5) ∷ []
+  unfolding fileOf slotNames hasSlot decodeNameIn decodeProtocolNameIn decodeProtocolName decodeProtocol decodeProtocolLists decodeClassProperties pointerAt pointerOr0At wordIn leIn textIn textFrom text utf8 judge resolve readable readableAt lookup rows ends holds placed sum64 stored word stripped le nonzero choose node-bytes
   its-slots = simp no-rebase
 
   -- The lines and the settling steps of a field that names the list, and of one that names none.
@@ -333,7 +338,7 @@ module _ (before : List ℕ) where
   unfolding plain.fieldLines protocolNames
   no-name-lines n = rw (no-names (node before))
 
-  name-lines : (n : ℕ) → plain.fieldLines (node before) n (plain.nameList 0x1190) ≡ value (plain.nameLine n (textOf 0x1BD 5) ∷ [])
+  name-lines : (n : ℕ) → plain.fieldLines (node before) n (plain.nameList 0x1190) ≡ value (plain.nameLine n (textOf 1 5 5) ∷ [])
   unfolding plain.fieldLines protocolNames gather
   name-lines n = rw (one-name, its-slots)
 
@@ -361,10 +366,10 @@ module _ (before : List ℕ) where
 
   category-lines : plain.linesOf (node before) (aRecord.Category extra-category)
       ≡ value
-      (plain.categoryLine extra-category (named.Text (textOf 0x1B8 4))
+      (plain.categoryLine extra-category (named.Text (textOf 1 0 4))
       ∷ plain.rowLine 0 go-row
       ∷ plain.rowLine 1 go-row
-      ∷ plain.nameLine 2 (textOf 0x1BD 5)
+      ∷ plain.nameLine 2 (textOf 1 5 5)
       ∷ [])
   unfolding plain.linesOf plain.ownLines plain.recordFields plain.fieldsLines
   category-lines =
@@ -379,13 +384,13 @@ module _ (before : List ℕ) where
   node-events = rw the-records the-settling
 
   pub node-listing : plain.plainListing (node before) ≡ value twelve-lines
-  unfolding plain.plainListing gather wordIn le choose
+  unfolding fileOf plain.plainListing gather wordIn leIn le choose
   node-listing = rw (the-records, node-lines, meta-lines, protocol-lines, category-lines) (rw the-settling)
 
   -- Opening accepts the tables, with an index of at least 8,192 words.
   module _ (enough : 8192 ≤ length before) where
     accepts : askedOpening (withIndex (node before) before) ≡ value tt
-    unfolding askedOpening askedTables askedIndex question imageFits wholeRows every sectionFits sectionTable infoWhole namesInside namesUtf8 indexFits choose node-bytes
+    unfolding askedOpening askedTables askedIndex question imageFits longest segmentFiles wholeRows every sectionFits sectionTable infoWhole bindFiles namesInside namesUtf8 indexFits choose node-bytes
     accepts = rw (le-leb 8192 (length before) enough)
 
     pub node-opened : Opened (node before)
@@ -399,24 +404,24 @@ module _ (before : List ℕ) where
         let other : slotCount node-sections 2 3 ≡ 1 = unfold slotCount sectionAt choose in refl in
         lists-with-room (node before) node-opened l (rw one room) (rw other room) twelve-lines six-events node-listing node-events
 
--- The same as a bundle: one segment, no rebase, no bind, 462 bytes of image; image info 0; segment; sections; image. It is accepted, and its
--- tables are those above.
+-- The same as a bundle: two segments, no rebase, no bind, 440 bytes of file 0 and 22 of file 1; image info 0; segments; sections; the files. It
+-- is accepted, and its tables are those above.
 abbrev pub node-bundle : List ℕ
-node-bundle = eights (1 ∷ 0 ∷ 0 ∷ 462 ∷ []) ++ (replicate 8 0 ++ (eights node-segments ++ (eights node-sections ++ node-bytes)))
+node-bundle = eights (2 ∷ 0 ∷ 0 ∷ 440 ∷ 22 ∷ 0 ∷ 0 ∷ []) ++ (replicate 8 0 ++ (eights node-segments ++ (eights node-sections ++ (node-bytes ++ name-bytes))))
 
 abbrev pub node-counts : Counts
-node-counts = record { segments = 1; rebases = 0; binds = 0; image = 462 }
+node-counts = record { segments = 2; rebases = 0; binds = 0; image0 = 440; image1 = 22; image2 = 0; image3 = 0 }
 
 pub node-accepted : bundleCounts node-bundle ≡ value node-counts
-unfolding bundleCounts bundleFits wordIn le choose node-bytes
+unfolding fileOf bundleCounts bundleFits wordIn leIn le choose node-bytes
 node-accepted = refl
 
 pub node-tables : (before : List ℕ) → bundled node-bundle node-counts (indexed [] [] before) ≡ node before
-unfolding wordsFrom wordIn le choose node-bytes
+unfolding fileOf wordsFrom wordIn leIn le choose node-bytes
 node-tables before = refl
 
 -- The texts that the lines hold.
-pub node-texts : map (λ (x : Text). part node-bytes (x .offset) (x .len)) (textOf 0x1B8 4 ∷ textOf 0x1BD 5 ∷ textOf 0x1C3 5 ∷ textOf 0x1C9 2 ∷ textOf 0x1CC 1 ∷ [])
+pub node-texts : map (λ (x : Text). part (fileOf node-files (x .file)) (x .offset) (x .len)) (textOf 1 0 4 ∷ textOf 1 5 5 ∷ textOf 1 11 5 ∷ textOf 1 17 2 ∷ textOf 1 20 1 ∷ [])
     ≡ ascii "Node" ∷ ascii "Walks" ∷ ascii "Extra" ∷ ascii "go" ∷ ascii "v" ∷ []
-unfolding node-bytes
+unfolding fileOf
 node-texts = refl

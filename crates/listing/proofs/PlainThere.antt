@@ -7,8 +7,7 @@ use lib.ListN.{length}
 use borrow.Author.Tests.{le-leb}
 use Rattle.reads.specs.Outcome.{Outcome, value, Unrefused, is-value, is-absent}
 use Rattle.reads.specs.declared.text.Text.{Text}
-use Rattle.reads.specs.Segment.{placeAt}
-use Rattle.reads.proofs.Numbers.{word-in}
+use Rattle.reads.proofs.Numbers.{le-inside}
 use Rattle.reads.proofs.Tests.{choose-true}
 use Rattle.pointers.specs.ImageInfo.{imageInfo}
 use Rattle.pointers.specs.Open.{Opened}
@@ -109,6 +108,6 @@ module _ (t : Tables) (o : Opened t) where
       let room = opened-room t o .infoBytes in
       let bytes : 8 ≤ length (t .info) = room in
       let parsed : imageInfo (t .info) ≡ value (versionAndFlags (t .info)) =
-      choose-true _ _ (le-leb 8 (length (t .info)) bytes) ∙ rw (word-in (t .info) 4 (placeAt 0) 0 (omega arith), word-in (t .info) 4 (placeAt 0) 4 bytes) in
+      choose-true _ _ (le-leb 8 (length (t .info)) bytes) ∙ rw (le-inside (t .info) 4 0 (omega arith), le-inside (t .info) 4 4 bytes) in
       let given = opened-info t o in
       cc

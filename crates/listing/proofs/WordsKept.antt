@@ -1,5 +1,5 @@
 -- The numbers that a listing's state counts up fit their words after each step that goes on, whatever the tables hold: a slot is below the
--- slots of sections that fit the image, and the address of an entry or of a protocol slot is one of 64 bits.
+-- slots of sections no longer than the longest file, and the address of an entry or of a protocol slot is one of 64 bits.
 use Prim.Native.Nat.{ℕ, zero, suc, _+_, _^_, _≤_, _<_}
 use mathlib.Core.Path.{_≡_, refl, sym}
 use mathlib.Core.Bool.{true}
@@ -9,6 +9,7 @@ use native.Mathlib.Nat.{mul-le-mul-left}
 use native.Mathlib.Omega.{arith}
 use lib.Dec.{leb}
 use lib.ListN.{length, drop}
+use Rattle.reads.specs.Files.{longest}
 use Rattle.reads.specs.Outcome.{Outcome, value, absent, number}
 use Rattle.reads.specs.declared.text.Text.{Text}
 use Rattle.reads.proofs.Outcomes.{then-came}
@@ -61,7 +62,7 @@ use Rattle.listing.proofs.Remaining.{slotOf, cursorOf, goesOn, InWords}
 asked-slots : (t : Tables) → asked t ≡ value tt → (i : ℕ) → i < 5 → sectionAt (t .sections) i .slots < 2 ^ 32
 asked-slots t e i below =
     let room = tables-room t tt (asked-tables t tt e) in
-    omega (arith, room .imageLength, section-slots (length (t .image)) (t .sections) (room .sectionsFit) i below)
+    omega (arith, room .imageLength, section-slots (longest (t .files)) (t .sections) (room .sectionsFit) i below)
 
 lists-few : (t : Tables) → asked t ≡ value tt → (lists : Lists) → length (slotsOf lists (t .sections)) < 2 ^ 33
 lists-few t e Classes = omega (arith, pair-length (t .sections) 0 1, asked-slots t e 0 (omega arith), asked-slots t e 1 (omega arith))

@@ -4,6 +4,7 @@ use Prim.Native.Nat.{ℕ, zero, suc, _-_, _*_, _/_, _≤_}
 use mathlib.Core.Path.{_≡_}
 use mathlib.Core.List.{List, [], _∷_, _++_}
 use lib.ListN.{length}
+use Rattle.reads.specs.Files.{longest}
 use Rattle.reads.specs.Segment.{segmentWords}
 use Rattle.reads.specs.Table.{records}
 use Rattle.reads.specs.Outcome.{Outcome, value, number, andThen}
@@ -96,7 +97,7 @@ pub record Lists (u : Setting) (t : Tables) (l : List ℕ) (lines : List Line) (
 
 -- Demand 3 of a listing that began under a setting, with a ledger: under that setting the plain definitions give records, lines and events, no number; the steps say the lines of the
 -- plain listing, their settling steps are one for one its events, the last line is E with R and the number of settling steps, R the records, as
--- many as there are record lines; and that number is at most 6 x R x S x floor(n / 12), S the segments and n the image's length.
+-- many as there are record lines; and that number is at most 6 x R x S x floor(n / 12), S the segments and n the length of the longest file.
 pub record ListsWhole (u : Setting) (t : Tables) (l : List ℕ) : Type 0 where
   pub recordsListed : List Record
   pub linesBefore : List Line
@@ -106,4 +107,4 @@ pub record ListsWhole (u : Setting) (t : Tables) (l : List ℕ) : Type 0 where
   pub plainSettling : plainEvents (under u t) ≡ value events
   pub steps : Lists u t l (linesBefore ++ (endLine (length recordsListed) (length events) ∷ [])) events
   pub recordLines : recordLineCount linesBefore ≡ length recordsListed
-  pub bound : length events ≤ 6 * (length recordsListed * (records segmentWords (t .segments) * (length (t .image) / 12)))
+  pub bound : length events ≤ 6 * (length recordsListed * (records segmentWords (t .segments) * (longest (t .files) / 12)))

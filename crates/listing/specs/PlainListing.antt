@@ -5,8 +5,7 @@ use mathlib.Core.List.{List, [], _∷_, _++_}
 use mathlib.Core.Option.{Option, none, some}
 use lib.ListN.{length}
 use Rattle.reads.specs.Outcome.{Outcome, value, absent, number, andThen}
-use Rattle.reads.specs.Place.{wordIn}
-use Rattle.reads.specs.Segment.{placeAt}
+use Rattle.reads.specs.Place.{leIn}
 use Rattle.reads.specs.declared.text.Text.{Text}
 use Rattle.reads.specs.declared.answer.Reason.{Reason}
 use Rattle.pointers.specs.ImageInfo.{infoOf}
@@ -38,7 +37,7 @@ use Rattle.listing.specs.declared.line.Named.the-variants as named
 
 -- I: version and flags. Question 4 has found 8 bytes there.
 abbrev pub versionAndFlags : List ℕ → ImageInfo
-versionAndFlags info = infoOf (wordIn info 4 (placeAt 0) 0) (wordIn info 4 (placeAt 0) 4)
+versionAndFlags info = infoOf (leIn info 4 0) (leIn info 4 4)
 
 -- And 0 or 1 for the reading, which the setting holds (document 02, note 12).
 abbrev pub infoLine : ImageInfo → Setting → Line

@@ -3,24 +3,31 @@ use pointers::section::ObjcSection;
 use pointers::table::Bind;
 use pointers::table::Rebase;
 use reads::answer::Missing;
-use reads::place::Place;
-use reads::place::u64_in;
+use reads::place::u64_from;
 use reads::segment::Segment;
 ghost use mathlib.Core.Path.{_≡_};
+ghost use mathlib.Core.Bool.{true};
+ghost use Prim.Native.Nat.{_*_, _<_};
 ghost use lib.ListN.{length};
 ghost use Rattle.reads.specs.Reference.{before, after};
-ghost use Rattle.listing.specs.Bundle.{countsOutcome, wordFrom, wordsFrom, segmentTableWords, rebaseTableWords, bindTableWords, sectionsAt, rebasesAt, bindsAt, imageAt, saidLength, bundleCounts};
+ghost use Rattle.listing.specs.Bundle.{countsOutcome, wordFrom, wordsFrom, segmentTableWords, rebaseTableWords, bindTableWords, sectionsAt, rebasesAt, bindsAt, image0At, image1At, image2At, image3At, saidLength, countsOf, countsFit, bundleCounts};
 
 // Question 13: the longest bundle. A count above it makes the bundle longer.
 const LONGEST: u64 = 32768;
 
-// How many segments, rebases and binds a bundle has, and how many bytes of image. Counts of an accepted bundle fit 32
-// bits, and no sum below passes 64 bits then.
+// The counts in front of a bundle.
+const COUNTS: u64 = 7;
+
+// How many segments, rebases and binds a bundle has, and how many bytes each of the image's four files. Counts of an
+// accepted bundle fit 32 bits, and no sum below passes 64 bits then.
 pub struct Counts {
     pub segments: u32,
     pub rebases: u32,
     pub binds: u32,
-    pub image: u32,
+    pub image0: u32,
+    pub image1: u32,
+    pub image2: u32,
+    pub image3: u32,
 }
 
 pub enum CountsAnswer {
@@ -30,9 +37,9 @@ pub enum CountsAnswer {
 
 impl Counts {
     // Where the image info stands, and after it the segment table.
-    pub const INFO_AT: usize = 32;
+    pub const INFO_AT: usize = 56;
 
-    pub const SEGMENTS_AT: usize = 40;
+    pub const SEGMENTS_AT: usize = 64;
 
     // The words of the segment table.
     pub fn segment_words(self) -> usize
@@ -76,18 +83,39 @@ impl Counts {
         self.rebases_at() + 8 * self.rebase_words()
     }
 
-    // Where the image stands.
-    pub fn image_at(self) -> usize
-        ensures { λ r. ⌜ r ≡ imageAt self ⌝ }
+    // Where file 0 stands.
+    pub fn image0_at(self) -> usize
+        ensures { λ r. ⌜ r ≡ image0At self ⌝ }
     {
         self.binds_at() + 8 * self.bind_words()
+    }
+
+    // Where file 1 stands.
+    pub fn image1_at(self) -> usize
+        ensures { λ r. ⌜ r ≡ image1At self ⌝ }
+    {
+        self.image0_at() + (self.image0 as usize)
+    }
+
+    // Where file 2 stands.
+    pub fn image2_at(self) -> usize
+        ensures { λ r. ⌜ r ≡ image2At self ⌝ }
+    {
+        self.image1_at() + (self.image1 as usize)
+    }
+
+    // Where file 3 stands.
+    pub fn image3_at(self) -> usize
+        ensures { λ r. ⌜ r ≡ image3At self ⌝ }
+    {
+        self.image2_at() + (self.image2 as usize)
     }
 
     // How long the counts say that the bundle is.
     pub fn said_length(self) -> usize
         ensures { λ r. ⌜ r ≡ saidLength self ⌝ }
     {
-        self.image_at() + (self.image as usize)
+        self.image3_at() + (self.image3 as usize)
     }
 }
 
@@ -95,7 +123,7 @@ impl Counts {
 pub fn word_at(bundle: &[u8], offset: u64) -> u64
     ensures { λ r. ⌜ r ≡ wordFrom (before bundle) offset ⌝ }
 {
-    u64_in(bundle, Place { offset }, 0)
+    u64_from(bundle, offset, 0)
 }
 
 // As many words as `to` has, from an offset on.
@@ -106,8 +134,47 @@ pub fn words_at(bundle: &[u8], offset: usize, to: &mut [u64])
     let mut i = 0;
     while i < to.len() {
         let past = (8 * i) as u64;
-        to[i] = u64_in(bundle, Place { offset: from }, past);
+        to[i] = u64_from(bundle, from, past);
         i += 1;
+    }
+}
+
+// Whether each of the seven counts is at most 32,768.
+fn counts_fit(bundle: &[u8]) -> bool
+    ensures { λ r. ⌜ r ≡ countsFit (before bundle) ⌝ }
+{
+    let mut k = 0;
+    while k < COUNTS {
+        if word_at(bundle, 8 * k) > LONGEST {
+            return false;
+        }
+        k += 1;
+    }
+    true
+}
+
+// Count k of seven that fit.
+fn count_at(bundle: &[u8], k: u64) -> u32
+    requires { ⌜ k < 7 ⌝ }
+    requires { ⌜ countsFit (now bundle) ≡ true ⌝ }
+    ensures { λ r. ⌜ r ≡ wordFrom (before bundle) (8 * k) ⌝ }
+{
+    word_at(bundle, 8 * k) as u32
+}
+
+// Seven counts that fit.
+fn counts_of(bundle: &[u8]) -> Counts
+    requires { ⌜ countsFit (now bundle) ≡ true ⌝ }
+    ensures { λ r. ⌜ r ≡ countsOf (before bundle) ⌝ }
+{
+    Counts {
+        segments: count_at(bundle, 0),
+        rebases: count_at(bundle, 1),
+        binds: count_at(bundle, 2),
+        image0: count_at(bundle, 3),
+        image1: count_at(bundle, 4),
+        image2: count_at(bundle, 5),
+        image3: count_at(bundle, 6),
     }
 }
 
@@ -120,28 +187,10 @@ pub fn measure(bundle: &[u8]) -> CountsAnswer
     if n > LONGEST {
         return CountsAnswer::Missing(Missing::Refused(13));
     }
-    let segments = word_at(bundle, 0);
-    let rebases = word_at(bundle, 8);
-    let binds = word_at(bundle, 16);
-    let image = word_at(bundle, 24);
-    if segments > LONGEST {
+    if !counts_fit(bundle) {
         return CountsAnswer::Missing(Missing::Refused(13));
     }
-    if rebases > LONGEST {
-        return CountsAnswer::Missing(Missing::Refused(13));
-    }
-    if binds > LONGEST {
-        return CountsAnswer::Missing(Missing::Refused(13));
-    }
-    if image > LONGEST {
-        return CountsAnswer::Missing(Missing::Refused(13));
-    }
-    let counts = Counts {
-        segments: segments as u32,
-        rebases: rebases as u32,
-        binds: binds as u32,
-        image: image as u32,
-    };
+    let counts = counts_of(bundle);
     let said = counts.said_length();
     if said != bundle.len() {
         return CountsAnswer::Missing(Missing::Refused(13));

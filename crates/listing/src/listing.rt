@@ -24,8 +24,7 @@ use pointers::question::Asked;
 use pointers::question::ask;
 use pointers::setting::Setting;
 use reads::answer::Missing;
-use reads::place::Place;
-use reads::place::u32_in;
+use reads::place::u32_from;
 use reads::text::Reading;
 use reads::text::TextAnswer;
 use records::category::ObjcCategory;
@@ -101,8 +100,8 @@ fn name_or_none(answer: TextAnswer) -> NameAnswer
 fn version_and_flags(info: &[u8]) -> ImageInfo
     ensures { λ r. ⌜ r ≡ versionAndFlags (before info) ⌝ }
 {
-    let version = u32_in(info, Place { offset: 0 }, 0);
-    let flags = u32_in(info, Place { offset: 0 }, 4);
+    let version = u32_from(info, 0, 0);
+    let flags = u32_from(info, 0, 4);
     ImageInfo { version, flags }
 }
 
@@ -246,7 +245,7 @@ impl Listing {
     // The step given, if 1 to 6 and 8 say yes.
     fn if_asked(
         self,
-        image: &[u8],
+        files: &[&[u8]],
         segments: &[u64],
         sections: &[u64],
         info: &[u8],
@@ -255,10 +254,10 @@ impl Listing {
         index: &[u32],
         listed: Listed,
     ) -> Listed
-        ensures { λ r. let t = lent image segments sections info rebases binds index in
+        ensures { λ r. let t = lent files segments sections info rebases binds index in
             ⌜ ((l : List ℕ) → leftOf r l ≡ onward (stateOf self) l (asked t) (λ _. leftOf listed l)) ⌝ }
     {
-        match ask(image, segments, sections, info, rebases, binds, index) {
+        match ask(files, segments, sections, info, rebases, binds, index) {
             Asked::Yes => listed,
             Asked::Refused(k) => self.refused(k),
         }
@@ -267,7 +266,7 @@ impl Listing {
     // I.
     fn info_step(
         self,
-        image: &[u8],
+        files: &[&[u8]],
         segments: &[u64],
         sections: &[u64],
         info: &[u8],
@@ -275,7 +274,7 @@ impl Listing {
         binds: &[u64],
         index: &[u32],
     ) -> Listed
-        ensures { λ r. let t = lent image segments sections info rebases binds index in
+        ensures { λ r. let t = lent files segments sections info rebases binds index in
             ⌜ ((l : List ℕ) → leftOf r l ≡ stepAt t (stateOf self) l place.Info) ⌝ }
     {
         let listing = self.go_to(At::Section);
@@ -287,7 +286,7 @@ impl Listing {
         });
         let listed = listing.says(line);
         self.if_asked(
-            image,
+            files,
             segments,
             sections,
             info,
@@ -363,7 +362,7 @@ impl Listing {
     // A step of the section walk under way.
     fn section_step(
         self,
-        image: &[u8],
+        files: &[&[u8]],
         segments: &[u64],
         sections: &[u64],
         info: &[u8],
@@ -372,12 +371,12 @@ impl Listing {
         index: &[u32],
         ledger: &mut [u64],
     ) -> Listed
-        ensures { λ r. let t = lent image segments sections info rebases binds index in
+        ensures { λ r. let t = lent files segments sections info rebases binds index in
             ⌜ leftOf r (after ledger) ≡ stepAt t (stateOf self) (before ledger) place.Section ⌝ }
     {
         let section = self.section;
         let stepped = section.next(
-            image,
+            files,
             segments,
             sections,
             info,
@@ -434,7 +433,7 @@ impl Listing {
     // The line of a record that the section gave.
     fn record_step(
         self,
-        image: &[u8],
+        files: &[&[u8]],
         segments: &[u64],
         sections: &[u64],
         info: &[u8],
@@ -443,14 +442,14 @@ impl Listing {
         index: &[u32],
         found: Record,
     ) -> Listed
-        ensures { λ r. let t = under (self .setting) (lent image segments sections info rebases binds index) in
+        ensures { λ r. let t = under (self .setting) (lent files segments sections info rebases binds index) in
             ⌜ ((l : List ℕ) → leftOf r l ≡ recordStep t (stateOf self) l found) ⌝ }
     {
         let setting = self.setting;
         match found {
             Record::Class(class) => {
                 let name = class.superclass_name(
-                    image,
+                    files,
                     segments,
                     sections,
                     info,
@@ -465,7 +464,7 @@ impl Listing {
                 let lists = Owner::Protocol(protocol).enter(setting, 0);
                 let listed = self.record_said(Line::Protocol(protocol), lists);
                 self.if_asked(
-                    image,
+                    files,
                     segments,
                     sections,
                     info,
@@ -477,7 +476,7 @@ impl Listing {
             }
             Record::Category(category) => {
                 let name = category.class_name(
-                    image,
+                    files,
                     segments,
                     sections,
                     info,
@@ -586,7 +585,7 @@ impl Listing {
     // A step over list n of a record.
     fn list_step(
         self,
-        image: &[u8],
+        files: &[&[u8]],
         segments: &[u64],
         sections: &[u64],
         info: &[u8],
@@ -596,19 +595,19 @@ impl Listing {
         n: u16,
         at: ListAt,
     ) -> Listed
-        ensures { λ r. let t = lent image segments sections info rebases binds index in
+        ensures { λ r. let t = lent files segments sections info rebases binds index in
             ⌜ ((l : List ℕ) → leftOf r l ≡ listStep t (stateOf self) l (at .owner) n (at .walk)) ⌝ }
     {
         let owner = at.owner;
         let walk = at.walk;
         match walk {
             FieldWalk::Rows(rows) => {
-                let stepped = rows.next(image, segments, sections, info, rebases, binds, index);
+                let stepped = rows.next(files, segments, sections, info, rebases, binds, index);
                 self.row_said(owner, n, stepped)
             }
             FieldWalk::Names(names) => {
                 let slot = names.cursor();
-                let stepped = names.next(image, segments, sections, info, rebases, binds, index);
+                let stepped = names.next(files, segments, sections, info, rebases, binds, index);
                 self.name_said(owner, n, slot, stepped)
             }
         }
@@ -617,7 +616,7 @@ impl Listing {
     // The listing has ended; 1 to 6 and 8 are asked as in every step.
     fn ended(
         self,
-        image: &[u8],
+        files: &[&[u8]],
         segments: &[u64],
         sections: &[u64],
         info: &[u8],
@@ -625,7 +624,7 @@ impl Listing {
         binds: &[u64],
         index: &[u32],
     ) -> Listed
-        ensures { λ r. let t = lent image segments sections info rebases binds index in
+        ensures { λ r. let t = lent files segments sections info rebases binds index in
             ⌜ ((l : List ℕ) → leftOf r l ≡ stepAt t (stateOf self) l place.End) ⌝ }
     {
         let listed = Listed {
@@ -633,7 +632,7 @@ impl Listing {
             listing: self,
         };
         self.if_asked(
-            image,
+            files,
             segments,
             sections,
             info,
@@ -647,7 +646,7 @@ impl Listing {
     // One step.
     pub fn next(
         self,
-        image: &[u8],
+        files: &[&[u8]],
         segments: &[u64],
         sections: &[u64],
         info: &[u8],
@@ -656,14 +655,14 @@ impl Listing {
         index: &[u32],
         ledger: &mut [u64],
     ) -> Listed
-        ensures { λ r. let t = lent image segments sections info rebases binds index in
+        ensures { λ r. let t = lent files segments sections info rebases binds index in
             ⌜ leftOf r (after ledger) ≡ listingStep t (stateOf self) (before ledger) ⌝ }
     {
         let at = self.at;
         match at {
-            At::Info => self.info_step(image, segments, sections, info, rebases, binds, index),
+            At::Info => self.info_step(files, segments, sections, info, rebases, binds, index),
             At::Section => self.section_step(
-                image,
+                files,
                 segments,
                 sections,
                 info,
@@ -673,7 +672,7 @@ impl Listing {
                 ledger,
             ),
             At::Record(found) => self.record_step(
-                image,
+                files,
                 segments,
                 sections,
                 info,
@@ -685,7 +684,7 @@ impl Listing {
             At::Ro(class) => {
                 let setting = self.setting;
                 let answer = class.ro(
-                    image,
+                    files,
                     segments,
                     sections,
                     info,
@@ -697,7 +696,7 @@ impl Listing {
                 self.ro_said(answer)
             }
             At::List(n, list) => self.list_step(
-                image,
+                files,
                 segments,
                 sections,
                 info,
@@ -707,7 +706,7 @@ impl Listing {
                 n,
                 list,
             ),
-            At::End => self.ended(image, segments, sections, info, rebases, binds, index),
+            At::End => self.ended(files, segments, sections, info, rebases, binds, index),
         }
     }
 }

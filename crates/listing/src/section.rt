@@ -148,7 +148,7 @@ impl Section {
     // A step of the class walk.
     fn class_step(
         self,
-        image: &[u8],
+        files: &[&[u8]],
         segments: &[u64],
         sections: &[u64],
         info: &[u8],
@@ -157,12 +157,12 @@ impl Section {
         index: &[u32],
         ledger: &mut [u64],
     ) -> SectionStepped
-        ensures { λ r. let t = lent image segments sections info rebases binds index in
+        ensures { λ r. let t = lent files segments sections info rebases binds index in
             ⌜ sectionLeftOf r (after ledger) ≡ classesStep t (before ledger) (sectionWalkOf self) ⌝ }
     {
         let walk = self.classes;
         let stepped = walk.next(
-            image,
+            files,
             segments,
             sections,
             info,
@@ -182,7 +182,7 @@ impl Section {
     // A step of the protocol walk.
     fn protocol_step(
         self,
-        image: &[u8],
+        files: &[&[u8]],
         segments: &[u64],
         sections: &[u64],
         info: &[u8],
@@ -190,11 +190,11 @@ impl Section {
         binds: &[u64],
         index: &[u32],
     ) -> SectionStepped
-        ensures { λ r. let t = lent image segments sections info rebases binds index in
+        ensures { λ r. let t = lent files segments sections info rebases binds index in
             ⌜ ((l : List ℕ) → sectionLeftOf r l ≡ protocolsStep t l (sectionWalkOf self)) ⌝ }
     {
         let walk = self.protocols;
-        let stepped = walk.next(image, segments, sections, info, rebases, binds, index);
+        let stepped = walk.next(files, segments, sections, info, rebases, binds, index);
         let step = stepped.step;
         let after = stepped.walk;
         SectionStepped {
@@ -206,7 +206,7 @@ impl Section {
     // A step of the category walk.
     fn category_step(
         self,
-        image: &[u8],
+        files: &[&[u8]],
         segments: &[u64],
         sections: &[u64],
         info: &[u8],
@@ -215,12 +215,12 @@ impl Section {
         index: &[u32],
         ledger: &mut [u64],
     ) -> SectionStepped
-        ensures { λ r. let t = lent image segments sections info rebases binds index in
+        ensures { λ r. let t = lent files segments sections info rebases binds index in
             ⌜ sectionLeftOf r (after ledger) ≡ categoriesStep t (before ledger) (sectionWalkOf self) ⌝ }
     {
         let walk = self.categories;
         let stepped = walk.next(
-            image,
+            files,
             segments,
             sections,
             info,
@@ -240,7 +240,7 @@ impl Section {
     // A step of the section walk under way. The protocol walk looks at no ledger.
     pub(crate) fn next(
         self,
-        image: &[u8],
+        files: &[&[u8]],
         segments: &[u64],
         sections: &[u64],
         info: &[u8],
@@ -249,13 +249,13 @@ impl Section {
         index: &[u32],
         ledger: &mut [u64],
     ) -> SectionStepped
-        ensures { λ r. let t = lent image segments sections info rebases binds index in
+        ensures { λ r. let t = lent files segments sections info rebases binds index in
             ⌜ sectionLeftOf r (after ledger) ≡ sectionStep t (before ledger) (sectionWalkOf self) ⌝ }
     {
         let stage = self.stage;
         match stage {
             Section::CLASSES => self.class_step(
-                image,
+                files,
                 segments,
                 sections,
                 info,
@@ -265,7 +265,7 @@ impl Section {
                 ledger,
             ),
             Section::PROTOCOLS => self.protocol_step(
-                image,
+                files,
                 segments,
                 sections,
                 info,
@@ -274,7 +274,7 @@ impl Section {
                 index,
             ),
             _ => self.category_step(
-                image,
+                files,
                 segments,
                 sections,
                 info,

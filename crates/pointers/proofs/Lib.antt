@@ -19,3 +19,5 @@ pub mod Infos
 pub mod SectionRows
 pub mod Prefixes
 pub mod SymbolExamples
+pub mod OneImage
+pub mod OneFile

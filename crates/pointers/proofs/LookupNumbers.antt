@@ -1,4 +1,4 @@
--- Over any tables a lookup gives no number but 9, 7 and 14; and what is made of such outcomes gives no other.
+-- Over any tables a lookup gives no number but 9, 18, 7 and 14; and what is made of such outcomes gives no other.
 use Prim.Native.Nat.{ℕ, _-_, _*_}
 use mathlib.Core.Bool.{Bool}
 use mathlib.Core.List.{List, [], _∷_}
@@ -10,12 +10,12 @@ use Rattle.reads.specs.declared.answer.Reason.the-variants.{Unresolved, Unreada
 use Rattle.reads.proofs.Tests.{by-choose}
 use Rattle.reads.proofs.Unrefused.{unrefused-choose, sum-unrefused}
 use Rattle.pointers.specs.Tables.{Tables, imageIn, bindWords, rebaseWords, chains, slotOf, rebaseRecord, bindRecord}
-use Rattle.pointers.specs.Question.{question, bindInside, bindUtf8}
+use Rattle.pointers.specs.Question.{question, bindLent, bindInside, bindUtf8}
 use Rattle.pointers.specs.ImageInfo.{imageInfo}
 use Rattle.pointers.specs.Index.{bindNexts}
 use Rattle.pointers.specs.Chain.{descends, slotsRecord, slotsChain, follow}
 use Rattle.pointers.specs.Symbol.{strippedName}
-use Rattle.pointers.specs.Slot.{rebaseAt, bindName, bindAt, symbolOf, symbolAt, resolve, pointerAt, pointerOr0At, rebase, slot, pointer, pointerOr0, LookupOutcome, unrefused, is-9, is-7, is-14}
+use Rattle.pointers.specs.Slot.{rebaseAt, bindName, bindAt, symbolOf, symbolAt, resolve, pointerAt, pointerOr0At, rebase, slot, pointer, pointerOr0, LookupOutcome, unrefused, is-9, is-18, is-7, is-14}
 use Rattle.pointers.proofs.ChainAsked.{follow-asked}
 use Rattle.pointers.proofs.OpenedTables.{stored-unrefused}
 
@@ -23,6 +23,7 @@ pub numbers-then : {A B : Type 0} {o : Outcome A} (f : A → Outcome B) → Look
 numbers-then f (unrefused (is-value a)) v = v a
 numbers-then f (unrefused (is-absent r)) v = unrefused (is-absent r)
 numbers-then f is-9 v = is-9
+numbers-then f is-18 v = is-18
 numbers-then f is-7 v = is-7
 numbers-then f is-14 v = is-14
 
@@ -30,6 +31,7 @@ pub numbers-else : {A : Type 0} {o p : Outcome A} → LookupOutcome o → Lookup
 numbers-else (unrefused (is-value a)) v = unrefused (is-value a)
 numbers-else (unrefused (is-absent r)) v = v
 numbers-else is-9 v = is-9
+numbers-else is-18 v = is-18
 numbers-else is-7 v = is-7
 numbers-else is-14 v = is-14
 
@@ -37,6 +39,7 @@ pub numbers-because : {A : Type 0} {o : Outcome A} (why : Reason) → LookupOutc
 numbers-because why (unrefused (is-value a)) = unrefused (is-value a)
 numbers-because why (unrefused (is-absent r)) = unrefused (is-absent why)
 numbers-because why is-9 = is-9
+numbers-because why is-18 = is-18
 numbers-because why is-7 = is-7
 numbers-because why is-14 = is-14
 
@@ -44,6 +47,7 @@ pub numbers-first : {A : Type 0} {o p : Outcome A} → LookupOutcome o → Looku
 numbers-first (unrefused (is-value a)) v = unrefused (is-value a)
 numbers-first (unrefused (is-absent r)) v = numbers-because r v
 numbers-first is-9 v = is-9
+numbers-first is-18 v = is-18
 numbers-first is-7 v = is-7
 numbers-first is-14 v = is-14
 
@@ -63,12 +67,13 @@ follow-numbers width table heads nexts a index =
     (numbers-choose (descends (records width table) (slotsChain width table heads nexts a index)) (unrefused (is-value tt)) is-9)
     (λ _. unrefused (record-unrefused width table a (slotsChain width table heads nexts a index))))
 
-bind-name-numbers : (image binds : List ℕ) (i : ℕ) → LookupOutcome (bindName image binds i)
+bind-name-numbers : (files : List (List ℕ)) (binds : List ℕ) (i : ℕ) → LookupOutcome (bindName files binds i)
 unfolding bindName question
-bind-name-numbers image binds i =
-    numbers-then _ (numbers-choose (bindInside image binds i) (unrefused (is-value tt)) is-7)
-    (λ _. numbers-then (λ _. value (bindRecord binds i .name)) (numbers-choose (bindUtf8 image binds i) (unrefused (is-value tt)) is-14)
-    (λ _. unrefused (is-value (bindRecord binds i .name))))
+bind-name-numbers files binds i =
+    numbers-then _ (numbers-choose (bindLent files binds i) (unrefused (is-value tt)) is-18)
+    (λ _. numbers-then _ (numbers-choose (bindInside files binds i) (unrefused (is-value tt)) is-7)
+    (λ _. numbers-then (λ _. value (bindRecord binds i .name)) (numbers-choose (bindUtf8 files binds i) (unrefused (is-value tt)) is-14)
+    (λ _. unrefused (is-value (bindRecord binds i .name)))))
 
 pub info-unrefused : (body : List ℕ) → Unrefused (imageInfo body)
 unfolding imageInfo
@@ -84,10 +89,10 @@ module _ (t : Tables) where
   pub symbol-numbers : (a : ℕ) → LookupOutcome (symbolAt t a)
   unfolding symbolOf bindAt
   symbol-numbers a =
-      numbers-then (λ name. value (strippedName (t .image) name))
-      (numbers-then (λ n. bindName (t .image) (t .binds) (n - 1)) (follow-numbers bindWords (t .binds) chains (bindNexts (t .rebases)) a (t .index))
-      (λ n. bind-name-numbers (t .image) (t .binds) (n - 1)))
-      (λ name. unrefused (is-value (strippedName (t .image) name)))
+      numbers-then (λ name. value (strippedName (t .files) name))
+      (numbers-then (λ n. bindName (t .files) (t .binds) (n - 1)) (follow-numbers bindWords (t .binds) chains (bindNexts (t .rebases)) a (t .index))
+      (λ n. bind-name-numbers (t .files) (t .binds) (n - 1)))
+      (λ name. unrefused (is-value (strippedName (t .files) name)))
 
   pub slot-numbers : (a : ℕ) → LookupOutcome (slot t a)
   unfolding resolve

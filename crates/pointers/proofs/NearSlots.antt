@@ -5,7 +5,7 @@ use mathlib.Core.Bool.{true, false}
 use mathlib.Core.List.{List}
 use native.Mathlib.Omega.{arith}
 use lib.Dec.{ltb}
-use lib.ListN.{length, getD}
+use lib.ListN.{getD}
 use borrow.Author.Tests.{ltb-true, lt-ltb, le-ltb, eqb-true}
 use Rattle.reads.specs.Outcome.{Outcome, value, because}
 use Rattle.reads.specs.declared.answer.Reason.the-variants.{Unresolved}
@@ -48,10 +48,10 @@ unrebased m rebases index slot e =
     rw (first, z, follow-end rebaseWords rebases (2 * chains) slot index _)
 
 pub near-resolved : (m : Image) (rebases index : List ℕ) (va size : ℕ) → va < 2 ^ 64 → (s : Spot) → s ≡ readableSpot m va size → (s .room ≡ 0 → ⊥)
-    → length (m .bytes) < 2 ^ 64 → (i : ℕ) → i + 8 ≤ size → resolveNear m rebases index s i (va + i) ≡ resolve m rebases index (va + i)
+    → (i : ℕ) → i + 8 ≤ size → resolveNear m rebases index s i (va + i) ≡ resolve m rebases index (va + i)
 unfolding resolveNear isNear wordThere stored
-near-resolved m rebases index va size w s is n short i h =
+near-resolved m rebases index va size w s is n i h =
     by-choose (λ (o : Outcome ℕ). o ≡ resolve m rebases index (va + i))
     (λ e. let u = both-true (ltb i (s .room)) (noRebase index (va + i)) e in
-    sym (unrebased m rebases index (va + i) (u .1) ∙ rw (← near-word-in m va size w s is n short i h (ltb-true i (s .room) (u .0)))))
+    sym (unrebased m rebases index (va + i) (u .1) ∙ rw (← near-word-in m va size w s is n i h (ltb-true i (s .room) (u .0)))))
     (λ e. refl)

@@ -1,5 +1,5 @@
 -- Over tables that opening accepted, with the index as opening left it, every later question passes, each lookup finds the slot's last
--- record, and no primitive gives 9 or 7.
+-- record, and no primitive gives 9, 18, 7 or 14.
 use Prim.Native.Nat.{ℕ, _-_, _*_, _≤_, _<_}
 use mathlib.Core.Path.{_≡_, refl, ap, _∙_}
 use mathlib.Core.Bool.{true}
@@ -15,7 +15,7 @@ use Rattle.reads.specs.declared.answer.Reason.the-variants.{Unresolved}
 use Rattle.reads.proofs.Outcomes.{then-came}
 use Rattle.reads.proofs.Unrefused.{unrefused-then, unrefused-came, unrefused-because, unrefused-else, unrefused-zero, sum-unrefused, word-unrefused}
 use Rattle.pointers.specs.Tables.{Tables, imageIn, under, withIndex, bindWords, rebaseWords, chains, rebaseRecord, bindRecord}
-use Rattle.pointers.specs.Question.{bindInside, bindUtf8, namesInside, namesUtf8, indexFits, askedTables, askedIndex, askedLent, asked}
+use Rattle.pointers.specs.Question.{bindLent, bindInside, bindUtf8, bindFiles, namesInside, namesUtf8, indexFits, askedTables, askedIndex, askedLent, asked}
 use Rattle.pointers.specs.ImageInfo.{imageInfo}
 use Rattle.pointers.specs.Index.{indexed, bindNexts, indexLength}
 use Rattle.pointers.specs.Chain.{follow, lastAmong, lastRecord}
@@ -28,14 +28,15 @@ use Rattle.pointers.proofs.Rooms.{Room, tables-room, asked-index, Accep
 use Rattle.pointers.proofs.IndexWords.{length-indexed}
 use Rattle.pointers.proofs.Chains.{rebase-last-wins, bind-last-wins, last-value, last-no-number}
 
--- Every bind name is inside the image, and UTF-8.
-pub name-unrefused : (image binds : List ℕ) → namesInside image binds ≡ true → namesUtf8 image binds ≡ true
-    → (i : ℕ) → i < records bindWords binds → Unrefused (bindName image binds i)
-unfolding namesInside namesUtf8 bindName
-name-unrefused image binds e g i h =
+-- Every bind name is in a file that is lent, inside it, and UTF-8.
+name-unrefused : (files : List (List ℕ)) (binds : List ℕ) → bindFiles files binds ≡ true → namesInside files binds ≡ true → namesUtf8 files binds ≡ true
+    → (i : ℕ) → i < records bindWords binds → Unrefused (bindName files binds i)
+unfolding bindFiles namesInside namesUtf8 bindName
+name-unrefused files binds d e g i h =
     rw (
-      question-yes 7 _ (every-at (bindInside image binds) (records bindWords binds) e i h),
-      question-yes 14 _ (every-at (bindUtf8 image binds) (records bindWords binds) g i h),
+      question-yes 18 _ (every-at (bindLent files binds) (records bindWords binds) d i h),
+      question-yes 7 _ (every-at (bindInside files binds) (records bindWords binds) e i h),
+      question-yes 14 _ (every-at (bindUtf8 files binds) (records bindWords binds) g i h),
     )
     (is-value (bindRecord binds i .name))
 
@@ -94,7 +95,7 @@ module _ (t : Tables) (o : Opened t) where
   pub opened-asked : asked t ≡ value tt
   unfolding askedLent askedTables askedIndex indexFits
   opened-asked =
-      let e : askedTables t ≡ value tt = asked-any-index (t .image) (t .segments) (t .sections) (t .info) (t .rebases) (t .binds) (t .index) (o .indexBefore) ∙ opened-accepted .tablesPass in
+      let e : askedTables t ≡ value tt = asked-any-index (t .files) (t .segments) (t .sections) (t .info) (t .rebases) (t .binds) (t .index) (o .indexBefore) ∙ opened-accepted .tablesPass in
       rw e (question-yes 8 _ (le-leb (indexLength (t .rebases) (t .binds)) (length (t .index)) (rw opened-length room-before)))
 
   -- A slot's last record wins, in each table.
@@ -110,18 +111,18 @@ module _ (t : Tables) (o : Opened t) where
       rw (opened-follow-rebase a)
       (unrefused-then (λ n. value (rebaseRecord (t .rebases) (n - 1) .target)) (last-unrefused rebaseWords (t .rebases) a (records rebaseWords (t .rebases))) (λ n. is-value (rebaseRecord (t .rebases) (n - 1) .target)))
 
-  pub bind-unrefused : (a : ℕ) → Unrefused (bindAt (t .image) (t .rebases) (t .binds) (t .index) a)
+  pub bind-unrefused : (a : ℕ) → Unrefused (bindAt (t .files) (t .rebases) (t .binds) (t .index) a)
   unfolding bindAt
   bind-unrefused a =
       rw (opened-follow-bind a)
-      (unrefused-came (λ n. bindName (t .image) (t .binds) (n - 1)) (last-unrefused bindWords (t .binds) a (records bindWords (t .binds)))
+      (unrefused-came (λ n. bindName (t .files) (t .binds) (n - 1)) (last-unrefused bindWords (t .binds) a (records bindWords (t .binds)))
       (λ n e. let l = last-value bindWords (t .binds) a (records bindWords (t .binds)) n e in
-      name-unrefused (t .image) (t .binds) (opened-accepted .namesIn) (opened-accepted .namesGood) (n - 1) (omega (arith, l .first, l .counted))))
+      name-unrefused (t .files) (t .binds) (opened-accepted .namesLent) (opened-accepted .namesIn) (opened-accepted .namesGood) (n - 1) (omega (arith, l .first, l .counted))))
 
   pub symbol-unrefused : (a : ℕ) → Unrefused (symbolAt t a)
   unfolding symbolOf
   symbol-unrefused a =
-      unrefused-then (λ name. value (strippedName (t .image) name)) (bind-unrefused a) (λ name. is-value (strippedName (t .image) name))
+      unrefused-then (λ name. value (strippedName (t .files) name)) (bind-unrefused a) (λ name. is-value (strippedName (t .files) name))
 
   pub slot-unrefused : (a : ℕ) → Unrefused (slot t a)
   unfolding resolve

@@ -13,7 +13,7 @@ use Rattle.reads.specs.Outcome.{textOf}
 use Rattle.reads.specs.Place.{part}
 use Rattle.reads.specs.declared.text.Text.{Text}
 use Rattle.reads.proofs.Tests.{by-choose, choose-true, choose-false}
-use Rattle.pointers.specs.Symbol.{starts, fitting, prefixes, strippedName}
+use Rattle.pointers.specs.Symbol.{starts, fitting, prefixes, strippedIn}
 
 pub starts-short : (p s : List ℕ) → length s < length p → starts p s ≡ false
 unfolding starts
@@ -78,24 +78,24 @@ below-five (suc (suc (suc zero))) h f₀ f₁ f₂ f₃ f₄ = f₃ refl
 below-five (suc (suc (suc (suc zero)))) h f₀ f₁ f₂ f₃ f₄ = f₄ refl
 below-five (suc (suc (suc (suc (suc k))))) h f₀ f₁ f₂ f₃ f₄ = absurd (omega arith)
 
-pub fitting-part : (ps : List (List ℕ)) (image : List ℕ) (offset k : ℕ) → fitting ps (part image offset k) ≤ k
-fitting-part ps image offset k = omega (arith, fitting-length ps (part image offset k), length-take k (drop offset image))
+pub fitting-part : (ps : List (List ℕ)) (bytes : List ℕ) (offset k : ℕ) → fitting ps (part bytes offset k) ≤ k
+fitting-part ps bytes offset k = omega (arith, fitting-length ps (part bytes offset k), length-take k (drop offset bytes))
 
 take-there : (k n : ℕ) (l : List ℕ) → k ≡ min n (length l) → take k l ≡ take n l
 take-there k n l e = sym (take-take k n l (omega arith)) ∙ take-all k (take n l) (simp length-take (omega arith))
 
--- Of a name, k bytes lie in the image: they decide.
-pub stripped-by : (image : List ℕ) (name : Text) (k n : ℕ) → k ≡ min (name .len) (length image - name .offset)
-    → n ≡ fitting prefixes (part image (name .offset) k) → textOf (name .offset + n) (name .len - n) ≡ strippedName image name
-unfolding strippedName
-stripped-by image name k n there e =
-    ap (λ m. textOf (name .offset + m) (name .len - m))
-    (e ∙ ap (fitting prefixes) (take-there k (name .len) (drop (name .offset) image) (simp length-drop there)))
+-- Of a name, k bytes are there: they decide.
+pub stripped-by : (bytes : List ℕ) (name : Text) (k n : ℕ) → k ≡ min (name .len) (length bytes - name .offset)
+    → n ≡ fitting prefixes (part bytes (name .offset) k) → textOf (name .file) (name .offset + n) (name .len - n) ≡ strippedIn bytes name
+unfolding strippedIn
+stripped-by bytes name k n there e =
+    ap (λ m. textOf (name .file) (name .offset + m) (name .len - m))
+    (e ∙ ap (fitting prefixes) (take-there k (name .len) (drop (name .offset) bytes) (simp length-drop there)))
 
--- None lies in the image: the name stays.
-pub stripped-past : (image : List ℕ) (name : Text) → length image ≤ name .offset → name ≡ strippedName image name
-stripped-past image name h =
-    let e : 0 ≡ fitting prefixes (part image (name .offset) 0) = omega (arith, fitting-part prefixes image (name .offset) 0) in
+-- None is there: the name stays.
+pub stripped-past : (bytes : List ℕ) (name : Text) → length bytes ≤ name .offset → name ≡ strippedIn bytes name
+stripped-past bytes name h =
+    let e : 0 ≡ fitting prefixes (part bytes (name .offset) 0) = omega (arith, fitting-part prefixes bytes (name .offset) 0) in
     let p : name .offset ≡ name .offset + 0 = omega arith in
     let q : name .len ≡ name .len - 0 = omega arith in
-    (λ i. textOf (p i) (q i)) ∙ stripped-by image name 0 0 (omega arith) e
+    (λ i. textOf (name .file) (p i) (q i)) ∙ stripped-by bytes name 0 0 (omega arith) e

@@ -5,9 +5,10 @@ use mathlib.Core.Bool.{true, false}
 use mathlib.Core.List.{List, [], _∷_, _++_}
 use lib.ListN.{replicate}
 use Rattle.reads.specs.Outcome.{number, choose}
+use Rattle.reads.specs.Files.{fileOf, longest}
 use Rattle.reads.specs.Utf8.{judge, utf8}
 use Rattle.pointers.specs.Tables.{tablesOf}
-use Rattle.pointers.specs.Question.{question, imageFits, wholeRows, every, sectionFits, sectionTable, infoWhole, nameInside, nameUtf8, askedTables, namesInside, namesUtf8}
+use Rattle.pointers.specs.Question.{question, imageFits, wholeRows, every, sectionFits, sectionTable, infoWhole, segmentFiles, nameInside, nameUtf8, askedTables, bindFiles, namesInside, namesUtf8}
 use Rattle.pointers.specs.Slot.{bindName}
 use Rattle.pointers.specs.Open.{askedOpening}
 
@@ -36,57 +37,88 @@ fourteen-words : sectionTable 64 (replicate 14 0) ≡ false
 unfolding sectionTable every sectionFits
 fourteen-words = refl
 
--- Questions 7 and 14, of an image of four bytes, the last of which is no UTF-8.
-abbrev asked-image : List ℕ
-asked-image = 0x61 ∷ 0xC3 ∷ 0xA9 ∷ 0xFF ∷ []
+-- Questions 18, 7 and 14, of two files: one of four bytes, the last of which is no UTF-8, and an empty one.
+abbrev asked-files : List (List ℕ)
+asked-files = (0x61 ∷ 0xC3 ∷ 0xA9 ∷ 0xFF ∷ []) ∷ [] ∷ []
 
 -- The bytes 0 to 2, and none at the end.
 abbrev good-names : List ℕ
-good-names = 0x1000 ∷ 0 ∷ 3 ∷ 0x1008 ∷ 4 ∷ 0 ∷ []
+good-names = 0x1000 ∷ 0 ∷ 3 ∷ 0 ∷ 0x1008 ∷ 4 ∷ 0 ∷ 0 ∷ []
 
-names-inside : namesInside asked-image good-names ≡ true
-unfolding namesInside every nameInside
+names-inside : namesInside asked-files good-names ≡ true
+unfolding namesInside every nameInside fileOf
 names-inside = refl
 
-names-good : namesUtf8 asked-image good-names ≡ true
-unfolding namesUtf8 every nameUtf8 utf8 judge choose
+names-good : namesUtf8 asked-files good-names ≡ true
+unfolding namesUtf8 every nameUtf8 fileOf utf8 judge choose
 names-good = refl
 
 -- Byte 2 alone is inside, and continues no text.
-name-not-utf8 : namesUtf8 asked-image (0x1000 ∷ 0 ∷ 3 ∷ 0x1008 ∷ 2 ∷ 1 ∷ []) ≡ false
-unfolding namesUtf8 every nameUtf8 utf8 judge choose
+name-not-utf8 : namesUtf8 asked-files (0x1000 ∷ 0 ∷ 3 ∷ 0 ∷ 0x1008 ∷ 2 ∷ 1 ∷ 0 ∷ []) ≡ false
+unfolding namesUtf8 every nameUtf8 fileOf utf8 judge choose
 name-not-utf8 = refl
 
-name-past-the-end : namesInside asked-image (0x1000 ∷ 4 ∷ 1 ∷ 0x1008 ∷ 0 ∷ 1 ∷ []) ≡ false
-unfolding namesInside every nameInside
+name-past-the-end : namesInside asked-files (0x1000 ∷ 4 ∷ 1 ∷ 0 ∷ 0x1008 ∷ 0 ∷ 1 ∷ 0 ∷ []) ≡ false
+unfolding namesInside every nameInside fileOf
 name-past-the-end = refl
 
+-- A name is inside its own file: the same part of the empty one is not.
+name-of-other-file : namesInside asked-files (0x1000 ∷ 0 ∷ 3 ∷ 1 ∷ []) ≡ false
+unfolding namesInside every nameInside fileOf
+name-of-other-file = refl
+
 -- A last partial record is none.
-partial-record : namesInside asked-image (0x1000 ∷ 0 ∷ 1 ∷ 0x1008 ∷ 9 ∷ []) ≡ true
-unfolding namesInside every nameInside
+partial-record : namesInside asked-files (0x1000 ∷ 0 ∷ 1 ∷ 0 ∷ 0x1008 ∷ 9 ∷ 9 ∷ []) ≡ true
+unfolding namesInside every nameInside fileOf
 partial-record = refl
 
 -- 7 of every record, then 14 of every record: a first name that is not UTF-8, and a second that is outside.
 abbrev two-bad-names : List ℕ
-two-bad-names = 0x1000 ∷ 3 ∷ 1 ∷ 0x1008 ∷ 4 ∷ 1 ∷ []
+two-bad-names = 0x1000 ∷ 3 ∷ 1 ∷ 0 ∷ 0x1008 ∷ 4 ∷ 1 ∷ 0 ∷ []
 
 abbrev no-sections : List ℕ
 no-sections = replicate 15 0
 
-seven-of-all-first : askedOpening (tablesOf asked-image [] no-sections (replicate 8 0) [] two-bad-names []) ≡ number 7
-unfolding askedOpening askedTables question imageFits wholeRows sectionTable every sectionFits infoWhole namesInside nameInside choose
+seven-of-all-first : askedOpening (tablesOf asked-files [] no-sections (replicate 8 0) [] two-bad-names []) ≡ number 7
+unfolding askedOpening askedTables question imageFits longest wholeRows segmentFiles sectionTable every sectionFits infoWhole bindFiles namesInside nameInside fileOf choose
 seven-of-all-first = refl
 
 -- 14 of every record before 8: the index here has no word.
-fourteen-before-eight : askedOpening (tablesOf asked-image [] no-sections (replicate 8 0) [] (0x1000 ∷ 3 ∷ 1 ∷ []) []) ≡ number 14
-unfolding askedOpening askedTables question imageFits wholeRows sectionTable every sectionFits infoWhole namesInside nameInside namesUtf8 nameUtf8 utf8 judge choose
+fourteen-before-eight : askedOpening (tablesOf asked-files [] no-sections (replicate 8 0) [] (0x1000 ∷ 3 ∷ 1 ∷ 0 ∷ []) []) ≡ number 14
+unfolding askedOpening askedTables question imageFits longest wholeRows segmentFiles sectionTable every sectionFits infoWhole bindFiles namesInside nameInside namesUtf8 nameUtf8 fileOf utf8 judge choose
 fourteen-before-eight = refl
 
 -- Later, of the record used: 7 for one outside, 14 for one that is inside and not UTF-8.
-used-not-utf8 : bindName asked-image two-bad-names 0 ≡ number 14
-unfolding bindName question nameInside nameUtf8 utf8 judge choose
+used-not-utf8 : bindName asked-files two-bad-names 0 ≡ number 14
+unfolding bindName question nameInside nameUtf8 fileOf utf8 judge choose
 used-not-utf8 = refl
 
-used-outside : bindName asked-image two-bad-names 1 ≡ number 7
-unfolding bindName question nameInside choose
+used-outside : bindName asked-files two-bad-names 1 ≡ number 7
+unfolding bindName question nameInside fileOf choose
 used-outside = refl
+
+-- 18 of every segment, also of one that no lookup reaches: the second has no bytes in its file. File 1 is lent, though it is empty.
+empty-file-lent : segmentFiles asked-files (0x1000 ∷ 4 ∷ 0 ∷ 4 ∷ 1 ∷ []) ≡ true
+unfolding segmentFiles every
+empty-file-lent = refl
+
+segment-not-lent : segmentFiles asked-files (0x1000 ∷ 4 ∷ 0 ∷ 4 ∷ 0 ∷ 0x2000 ∷ 4 ∷ 0 ∷ 0 ∷ 2 ∷ []) ≡ false
+unfolding segmentFiles every
+segment-not-lent = refl
+
+-- It is asked before 3: here the section table is empty.
+eighteen-before-three : askedTables (tablesOf asked-files (0x1000 ∷ 4 ∷ 0 ∷ 4 ∷ 2 ∷ []) [] [] [] [] []) ≡ number 18
+unfolding askedTables question imageFits longest wholeRows segmentFiles every choose
+eighteen-before-three = refl
+
+-- 18 of every bind record before 7 of any, and of the record used before its 7.
+abbrev unlent-name : List ℕ
+unlent-name = 0x1000 ∷ 4 ∷ 1 ∷ 0 ∷ 0x1008 ∷ 0 ∷ 1 ∷ 2 ∷ []
+
+eighteen-of-all-first : askedOpening (tablesOf asked-files [] no-sections (replicate 8 0) [] unlent-name []) ≡ number 18
+unfolding askedOpening askedTables question imageFits longest wholeRows segmentFiles sectionTable every sectionFits infoWhole bindFiles choose
+eighteen-of-all-first = refl
+
+used-not-lent : bindName asked-files unlent-name 1 ≡ number 18
+unfolding bindName question choose
+used-not-lent = refl

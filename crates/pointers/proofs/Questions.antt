@@ -13,12 +13,14 @@ use lib.Seq.{take-all}
 use borrow.Author.Tests.{lt-leb, leb-true, eq-eqb, ne-eqb, eqb-true}
 use Rattle.reads.specs.Outcome.{Outcome, value, number, andThen, choose}
 use Rattle.reads.specs.Table.{records}
+use Rattle.reads.specs.Files.{fileOf}
 use Rattle.reads.specs.Place.{part}
 use Rattle.reads.specs.Utf8.{judge, utf8}
+use Rattle.reads.specs.declared.text.Text.{Text}
 use Rattle.reads.proofs.Tests.{le-same, both-true}
 use Rattle.reads.proofs.Outcomes.{on-value, on-number}
 use Rattle.pointers.specs.Tables.{tablesOf, sectionWords, chains, bindRecord, sectionTableWords}
-use Rattle.pointers.specs.Question.{question, askedOutcome, wholeRows, sectionFits, every, sectionRowFits, sectionTable, nameInside, nameUtf8, bindInside, bindUtf8, indexFits, askedTables}
+use Rattle.pointers.specs.Question.{question, askedOutcome, wholeRows, sectionFits, every, sectionRowFits, sectionTable, nameLent, nameInside, nameUtf8, bindLent, bindInside, bindUtf8, indexFits, askedTables}
 use Rattle.pointers.specs.declared.table.Bind.{Bind}
 use Rattle.pointers.specs.declared.question.Asked.{Asked}
 use Rattle.pointers.specs.declared.question.Asked.the-variants as asks
@@ -52,10 +54,10 @@ module _ {B : Type 0} where
   asked-ends w x f k e g = on-number askedOutcome f e g refl
 
 -- The questions 1 to 6 ask nothing of the index.
-pub asked-any-index : (image segments sections info rebases binds one other : List ℕ)
-    → askedTables (tablesOf image segments sections info rebases binds one) ≡ askedTables (tablesOf image segments sections info rebases binds other)
+pub asked-any-index : (files : List (List ℕ)) (segments sections info rebases binds one other : List ℕ)
+    → askedTables (tablesOf files segments sections info rebases binds one) ≡ askedTables (tablesOf files segments sections info rebases binds other)
 unfolding askedTables
-asked-any-index image segments sections info rebases binds one other = refl
+asked-any-index files segments sections info rebases binds one other = refl
 
 module _ (width most n : ℕ) where
   pub rows-split : (n % width ≡ 0 → ⊥) → false ≡ wholeRows width most n
@@ -117,40 +119,49 @@ section-row n ws e i h =
     let both = both-true (eqb (length ws) sectionTableWords) (every (sectionRowFits n ws) (records sectionWords ws)) e in
     every-at (sectionRowFits n ws) (records sectionWords ws) (both .1) i (omega (arith, eqb-true (length ws) sectionTableWords (both .0)))
 
-module _ (image : List ℕ) (offset len : ℕ) where
-  pub name-past : length image < offset → false ≡ nameInside image offset len
+module _ (files : List (List ℕ)) (name : Text) (n : ℕ) (e : n ≡ length (fileOf files (name .file))) where
+  pub name-past : n < name .offset → false ≡ nameInside files name
   unfolding nameInside
-  name-past h = sym (lt-leb (offset + len) (length image) (omega arith))
+  name-past h = rw (← e) (sym (lt-leb (name .offset + name .len) n (omega arith)))
 
-  pub name-by : offset ≤ length image → leb len (length image - offset) ≡ nameInside image offset len
+  pub name-by : name .offset ≤ n → leb (name .len) (n - name .offset) ≡ nameInside files name
   unfolding nameInside
-  name-by h = le-same len (length image - offset) (offset + len) (length image) (λ u. omega arith) (λ u. omega arith)
+  name-by h = rw (← e) (le-same (name .len) (n - name .offset) (name .offset + name .len) n (λ u. omega arith) (λ u. omega arith))
 
-  -- Past the image's end there is no byte.
-  pub utf8-past : length image < offset → true ≡ nameUtf8 image offset len
-  unfolding nameUtf8 utf8 judge
+-- A name is UTF-8 by the bytes of its file.
+pub name-utf8-by : (files : List (List ℕ)) (name : Text) (bytes : List ℕ) {r : Bool} → bytes ≡ fileOf files (name .file)
+    → r ≡ utf8 (part bytes (name .offset) (name .len)) → r ≡ nameUtf8 files name
+unfolding nameUtf8
+name-utf8-by files name bytes e g = g ∙ ap (λ (bs : List ℕ). utf8 (part bs (name .offset) (name .len))) e
+
+module _ (bytes : List ℕ) (offset len : ℕ) where
+  -- Past the end there is no byte.
+  pub utf8-past : length bytes < offset → true ≡ utf8 (part bytes offset len)
+  unfolding utf8 judge
   utf8-past h =
-      let past : length image ≤ offset = omega arith in
-      sym (ap utf8 (take-all len (drop offset image) (omega (arith, length-drop offset image)) ∙ drop-of-length-le image past))
+      let past : length bytes ≤ offset = omega arith in
+      sym (ap utf8 (take-all len (drop offset bytes) (omega (arith, length-drop offset bytes)) ∙ drop-of-length-le bytes past))
 
-  -- The code takes k bytes from the offset on: all that the name has there.
-  pub utf8-by : (k : ℕ) {r : Bool} → part image offset k ≡ part image offset len → r ≡ utf8 (part image offset k) → r ≡ nameUtf8 image offset len
-  unfolding nameUtf8
+  -- The code takes k bytes from the offset on: all that the part has there.
+  pub utf8-by : (k : ℕ) {r : Bool} → part bytes offset k ≡ part bytes offset len → r ≡ utf8 (part bytes offset k) → r ≡ utf8 (part bytes offset len)
   utf8-by k e g = g ∙ ap utf8 e
 
-  -- A name that passes the image's end has the bytes up to there.
-  pub part-cut : offset ≤ length image → length image - offset < len → part image offset (length image - offset) ≡ part image offset len
+  -- A part that passes the end has the bytes up to there.
+  pub part-cut : offset ≤ length bytes → length bytes - offset < len → part bytes offset (length bytes - offset) ≡ part bytes offset len
   part-cut h l =
-      take-all (length image - offset) (drop offset image) (omega (arith, length-drop offset image))
-      ∙ sym (take-all len (drop offset image) (omega (arith, length-drop offset image)))
+      take-all (length bytes - offset) (drop offset bytes) (omega (arith, length-drop offset bytes))
+      ∙ sym (take-all len (drop offset bytes) (omega (arith, length-drop offset bytes)))
 
 -- Bind record i, as the code has it.
-module _ (image binds : List ℕ) (i : ℕ) (b : Bind) {r : Bool} (e : b ≡ bindRecord binds i) where
-  pub inside-by : r ≡ nameInside image (b .name .offset) (b .name .len) → r ≡ bindInside image binds i
-  inside-by g = g ∙ ap (λ (x : Bind). nameInside image (x .name .offset) (x .name .len)) e
+module _ (files : List (List ℕ)) (binds : List ℕ) (i : ℕ) (b : Bind) {r : Bool} (e : b ≡ bindRecord binds i) where
+  pub lent-by : r ≡ nameLent files (b .name) → r ≡ bindLent files binds i
+  lent-by g = g ∙ ap (λ (x : Bind). nameLent files (x .name)) e
 
-  pub bind-utf8-by : r ≡ nameUtf8 image (b .name .offset) (b .name .len) → r ≡ bindUtf8 image binds i
-  bind-utf8-by g = g ∙ ap (λ (x : Bind). nameUtf8 image (x .name .offset) (x .name .len)) e
+  pub inside-by : r ≡ nameInside files (b .name) → r ≡ bindInside files binds i
+  inside-by g = g ∙ ap (λ (x : Bind). nameInside files (x .name)) e
+
+  pub bind-utf8-by : r ≡ nameUtf8 files (b .name) → r ≡ bindUtf8 files binds i
+  bind-utf8-by g = g ∙ ap (λ (x : Bind). nameUtf8 files (x .name)) e
 
 module _ (rebases binds words : ℕ) where
   pub index-short : words < 2 * chains + rebases + binds → false ≡ indexFits rebases binds words

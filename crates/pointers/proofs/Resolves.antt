@@ -8,7 +8,8 @@ use lib.Dec.{leb}
 use lib.ListN.{length}
 use borrow.Author.Tests.{leb-true}
 use Rattle.reads.specs.Outcome.{Outcome, value, absent, number, because, orElse, choose}
-use Rattle.reads.specs.Segment.{rows, placeAt, lookup}
+use Rattle.reads.specs.Files.{fileOf}
+use Rattle.reads.specs.Segment.{rows, lookup}
 use Rattle.reads.specs.Place.{Image, le, part, readableAt, readable, word}
 use Rattle.reads.specs.Address.{stripped}
 use Rattle.reads.specs.declared.answer.Reason.{Reason}
@@ -19,17 +20,20 @@ use Rattle.reads.proofs.Outcomes.{then-came}
 use Rattle.pointers.specs.Slot.{rebaseAt, stored, resolve}
 
 -- Fewer bytes can be read where more can.
-fewer-at : (bytes : List ℕ) (offset j k : ℕ) (p : Place) → j ≤ k → readableAt bytes offset k ≡ value p → value (placeAt offset) ≡ readableAt bytes offset j
+fewer-at : (n : ℕ) (q : Place) (j k : ℕ) (p : Place) → j ≤ k → readableAt n q k ≡ value p → value q ≡ readableAt n q j
 unfolding readableAt
-fewer-at bytes offset j k p l e = go (leb (offset + k) (length bytes)) refl e
+fewer-at n q j k p l e = go (leb (q .offset + k) n) refl e
   where
-    go : (x : Bool) → leb (offset + k) (length bytes) ≡ x → choose x (value (placeAt offset)) (absent Unreadable) ≡ value p
-        → value (placeAt offset) ≡ readableAt bytes offset j
-    go true h q = let room = leb-true (offset + k) (length bytes) h in readable-in bytes offset j (omega arith)
-    go false h q = let z : _≡_ {A = ℕ} 0 1 = unfold choose in cc in absurd (omega arith)
+    go : (x : Bool) → leb (q .offset + k) n ≡ x → choose x (value q) (absent Unreadable) ≡ value p → value q ≡ readableAt n q j
+    go true h r = let room = leb-true (q .offset + k) n h in readable-in n q j (omega arith)
+    go false h r = let z : _≡_ {A = ℕ} 0 1 = unfold choose in cc in absurd (omega arith)
+
+-- The bytes of a place's file.
+abbrev bytesAt : Image → Place → List ℕ
+bytesAt m p = fileOf (m .files) (p .file)
 
 stored-by : (m : Image) (va : ℕ) (q : Place) → because Unreadable (lookup (rows (m .words)) va) ≡ value q
-    → value (placeAt (q .offset)) ≡ readableAt (m .bytes) (q .offset) 8 → stored m va ≡ value (stripped (le (part (m .bytes) (q .offset) 8)))
+    → value q ≡ readableAt (length (bytesAt m q)) q 8 → stored m va ≡ value (stripped (le (part (bytesAt m q) (q .offset) 8)))
 unfolding stored word readable
 stored-by m va q e f = rw (e, ← f)
 
@@ -37,7 +41,7 @@ stored-there : (m : Image) (va k : ℕ) (p : Place) → 8 ≤ k → readable m v
 unfolding readable
 stored-there m va k p l e =
     let q = then-came (because Unreadable (lookup (rows (m .words)) va)) _ p e in
-    (stripped (le (part (m .bytes) (q .0 .offset) 8)), stored-by m va (q .0) (q .1) (fewer-at (m .bytes) (q .0 .offset) 8 k p l (q .2)))
+    (stripped (le (part (bytesAt m (q .0)) (q .0 .offset) 8)), stored-by m va (q .0) (q .1) (fewer-at (length (bytesAt m (q .0))) (q .0) 8 k p l (q .2)))
 
 pub slot-read-resolves : (m : Image) (rebases index : List ℕ) (va k : ℕ) (p : Place) → 8 ≤ k → readable m va k ≡ value p
     → (r : Reason) → resolve m rebases index va ≡ absent r → ⊥

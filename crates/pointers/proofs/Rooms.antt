@@ -7,18 +7,19 @@ use lib.ListN.{length}
 use borrow.Author.Tests.{leb-true}
 use Rattle.reads.specs.Outcome.{value}
 use Rattle.reads.specs.Table.{records}
+use Rattle.reads.specs.Files.{longest}
 use Rattle.reads.specs.Segment.{segmentWords}
 use Rattle.reads.proofs.Outcomes.{then-came}
 use Rattle.pointers.specs.Tables.{Tables, rebaseWords, bindWords}
-use Rattle.pointers.specs.Question.{question, imageFits, wholeRows, sectionTable, infoWhole, askedTables, askedIndex, askedLent, asked, namesInside, namesUtf8}
+use Rattle.pointers.specs.Question.{question, imageFits, wholeRows, segmentFiles, sectionTable, infoWhole, askedTables, askedIndex, askedLent, asked, bindFiles, namesInside, namesUtf8}
 use Rattle.pointers.specs.Index.{indexLength}
 use Rattle.pointers.specs.Open.{askedOpening}
 use Rattle.pointers.proofs.Questions.{question-came, rows-most, index-room}
 
 pub record Room (t : Tables) : Type 0 where
-  pub imageLength : length (t .image) < 2 ^ 32
+  pub imageLength : longest (t .files) < 2 ^ 32
   pub segmentCount : records segmentWords (t .segments) ≤ 64
-  pub sectionsFit : sectionTable (length (t .image)) (t .sections) ≡ true
+  pub sectionsFit : sectionTable (longest (t .files)) (t .sections) ≡ true
   pub infoBytes : 8 ≤ length (t .info)
   pub rebaseCount : records rebaseWords (t .rebases) ≤ 16777215
   pub bindCount : records bindWords (t .binds) ≤ 16777215
@@ -26,13 +27,14 @@ pub record Room (t : Tables) : Type 0 where
 pub tables-room : (t : Tables) (u : Unit {0}) → askedTables t ≡ value u → Room t
 unfolding askedTables imageFits infoWhole
 tables-room t u e =
-    let a = then-came (question 1 (imageFits (length (t .image)))) _ u e in
+    let a = then-came (question 1 (imageFits (longest (t .files)))) _ u e in
     let b = then-came (question 2 (wholeRows segmentWords 64 (length (t .segments)))) _ u (a .2) in
-    let c = then-came (question 3 (sectionTable (length (t .image)) (t .sections))) _ u (b .2) in
+    let g = then-came (question 18 (segmentFiles (t .files) (t .segments))) _ u (b .2) in
+    let c = then-came (question 3 (sectionTable (longest (t .files)) (t .sections))) _ u (g .2) in
     let d = then-came (question 4 (infoWhole (length (t .info)))) _ u (c .2) in
     let f = then-came (question 5 (wholeRows rebaseWords 16777215 (length (t .rebases)))) _ u (d .2) in
     record {
-      imageLength = omega (arith, leb-true (length (t .image)) 4294967295 (question-came 1 _ _ (a .1)));
+      imageLength = omega (arith, leb-true (longest (t .files)) 4294967295 (question-came 1 _ _ (a .1)));
       segmentCount = rows-most segmentWords 64 (length (t .segments)) (question-came 2 _ _ (b .1));
       sectionsFit = question-came 3 _ _ (c .1);
       infoBytes = leb-true 8 (length (t .info)) (question-came 4 _ _ (d .1));
@@ -51,14 +53,22 @@ asked-index t u e = index-room _ _ _ (question-came 8 _ _ e)
 -- What opening asks, taken apart.
 pub record Accepted (t : Tables) : Type 0 where
   pub tablesPass : askedTables t ≡ value tt
-  pub namesIn : namesInside (t .image) (t .binds) ≡ true
-  pub namesGood : namesUtf8 (t .image) (t .binds) ≡ true
+  pub namesLent : bindFiles (t .files) (t .binds) ≡ true
+  pub namesIn : namesInside (t .files) (t .binds) ≡ true
+  pub namesGood : namesUtf8 (t .files) (t .binds) ≡ true
   pub indexPass : askedIndex t ≡ value tt
 
 pub accepted-parts : (t : Tables) (u : Unit {0}) → askedOpening t ≡ value u → Accepted t
 unfolding askedOpening
 accepted-parts t u e =
     let a = then-came (askedTables t) _ u e in
-    let b = then-came (question 7 (namesInside (t .image) (t .binds))) _ u (a .2) in
-    let c = then-came (question 14 (namesUtf8 (t .image) (t .binds))) _ u (b .2) in
-    record { tablesPass = a .1; namesIn = question-came 7 _ _ (b .1); namesGood = question-came 14 _ _ (c .1); indexPass = c .2 }
+    let d = then-came (question 18 (bindFiles (t .files) (t .binds))) _ u (a .2) in
+    let b = then-came (question 7 (namesInside (t .files) (t .binds))) _ u (d .2) in
+    let c = then-came (question 14 (namesUtf8 (t .files) (t .binds))) _ u (b .2) in
+    record {
+      tablesPass = a .1;
+      namesLent = question-came 18 _ _ (d .1);
+      namesIn = question-came 7 _ _ (b .1);
+      namesGood = question-came 14 _ _ (c .1);
+      indexPass = c .2;
+    }

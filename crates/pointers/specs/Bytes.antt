@@ -1,4 +1,4 @@
--- Texts and numbers of the image, of all that is lent.
+-- Texts and numbers of the image's files, of all that is lent.
 use Prim.Native.Nat.{ℕ}
 use lib.IntN.{ℤ}
 use Rattle.reads.specs.Outcome.{Outcome}
@@ -13,12 +13,12 @@ use Rattle.pointers.specs.Tables.{Tables, imageIn}
 abbrev pub string : Tables → ℕ → Outcome Text
 string t va = textIn (t .setting .reading) (imageIn t) va
 
--- The number of four bytes, of eight, and the signed number of four, at i bytes from a place; 0 where they do not lie in the image.
+-- The number of four bytes, of eight, and the signed number of four, at i bytes from a place; 0 where they do not lie in its file.
 abbrev pub u32In : Tables → Place → ℕ → ℕ
-u32In t p i = wordIn (t .image) 4 p i
+u32In t p i = wordIn (t .files) 4 p i
 
 abbrev pub u64In : Tables → Place → ℕ → ℕ
-u64In t p i = wordIn (t .image) 8 p i
+u64In t p i = wordIn (t .files) 8 p i
 
 abbrev pub i32In : Tables → Place → ℕ → ℤ
-i32In t p i = signedIn (t .image) p i
+i32In t p i = signedIn (t .files) p i

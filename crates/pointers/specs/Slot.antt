@@ -11,7 +11,7 @@ use Rattle.reads.specs.Address.{stripped}
 use Rattle.reads.specs.declared.answer.Reason.the-variants.{Unresolved}
 use Rattle.reads.specs.declared.text.Text.{Text}
 use Rattle.pointers.specs.Tables.{Tables, imageIn, rebaseWords, bindWords, chains, rebaseRecord, bindRecord}
-use Rattle.pointers.specs.Question.{question, bindInside, bindUtf8}
+use Rattle.pointers.specs.Question.{question, bindLent, bindInside, bindUtf8}
 use Rattle.pointers.specs.Index.{bindNexts}
 use Rattle.pointers.specs.Chain.{noRebase, follow}
 use Rattle.pointers.specs.Symbol.{strippedName}
@@ -21,22 +21,23 @@ unfoldable pub rebaseAt : List ℕ → List ℕ → ℕ → Outcome ℕ
 rebaseAt rebases index slot =
     andThen (follow rebaseWords rebases 0 (2 * chains) slot index) (λ n. value (rebaseRecord rebases (n - 1) .target))
 
--- The name of bind record i, counted from 0; the questions 7 and 14 are asked of it.
-unfoldable pub bindName : List ℕ → List ℕ → ℕ → Outcome Text
-bindName image binds i =
-    andThen (question 7 (bindInside image binds i)) (λ _.
-    andThen (question 14 (bindUtf8 image binds i)) (λ _.
-    value (bindRecord binds i .name)))
+-- The name of bind record i, counted from 0; the questions 18, 7 and 14 are asked of it.
+unfoldable pub bindName : List (List ℕ) → List ℕ → ℕ → Outcome Text
+bindName files binds i =
+    andThen (question 18 (bindLent files binds i)) (λ _.
+    andThen (question 7 (bindInside files binds i)) (λ _.
+    andThen (question 14 (bindUtf8 files binds i)) (λ _.
+    value (bindRecord binds i .name))))
 
 -- The name of a slot's bind.
-unfoldable pub bindAt : List ℕ → List ℕ → List ℕ → List ℕ → ℕ → Outcome Text
-bindAt image rebases binds index slot =
-    andThen (follow bindWords binds chains (bindNexts rebases) slot index) (λ n. bindName image binds (n - 1))
+unfoldable pub bindAt : List (List ℕ) → List ℕ → List ℕ → List ℕ → ℕ → Outcome Text
+bindAt files rebases binds index slot =
+    andThen (follow bindWords binds chains (bindNexts rebases) slot index) (λ n. bindName files binds (n - 1))
 
 -- The same less its prefix.
-unfoldable pub symbolOf : List ℕ → List ℕ → List ℕ → List ℕ → ℕ → Outcome Text
-symbolOf image rebases binds index slot =
-    andThen (bindAt image rebases binds index slot) (λ name. value (strippedName image name))
+unfoldable pub symbolOf : List (List ℕ) → List ℕ → List ℕ → List ℕ → ℕ → Outcome Text
+symbolOf files rebases binds index slot =
+    andThen (bindAt files rebases binds index slot) (λ name. value (strippedName files name))
 
 -- The word in a slot, its low 48 bits.
 unfoldable pub stored : Image → ℕ → Outcome ℕ
@@ -64,7 +65,7 @@ unfoldable pub isNear : List ℕ → Spot → ℕ → ℕ → Bool
 isNear index s i slot = ltb i (s .room) && noRebase index slot
 
 unfoldable pub wordThere : Image → Spot → ℕ → ℕ
-wordThere m s i = stripped (wordIn (m .bytes) 8 (placeAt (s .offset)) i)
+wordThere m s i = stripped (wordIn (m .files) 8 (placeAt (s .file) (s .offset)) i)
 
 unfoldable pub resolveNear : Image → List ℕ → List ℕ → Spot → ℕ → ℕ → Outcome ℕ
 resolveNear m rebases index s i slot = choose (isNear index s i slot) (value (wordThere m s i)) (resolve m rebases index slot)
@@ -77,7 +78,7 @@ abbrev pub slot : Tables → ℕ → Outcome ℕ
 slot t a = resolve (imageIn t) (t .rebases) (t .index) a
 
 abbrev pub symbolAt : Tables → ℕ → Outcome Text
-symbolAt t a = symbolOf (t .image) (t .rebases) (t .binds) (t .index) a
+symbolAt t a = symbolOf (t .files) (t .rebases) (t .binds) (t .index) a
 
 abbrev pub pointer : Tables → ℕ → ℕ → Outcome ℕ
 pointer t va k = pointerAt (imageIn t) (t .rebases) (t .index) va k
@@ -85,9 +86,10 @@ pointer t va k = pointerAt (imageIn t) (t .rebases) (t .index) va k
 abbrev pub pointerOr0 : Tables → ℕ → ℕ → Outcome ℕ
 pointerOr0 t va k = pointerOr0At (imageIn t) (t .rebases) (t .index) va k
 
--- What is made of lookups: a value, absent, or the number of one of the three questions that lookups ask.
+-- What is made of lookups: a value, absent, or the number of one of the four questions that lookups ask.
 pub data LookupOutcome {A : Type 0} : Outcome A → Type 0 where
   unrefused : {o : Outcome A} → Unrefused o → LookupOutcome o
   is-9 : LookupOutcome (number 9)
+  is-18 : LookupOutcome (number 18)
   is-7 : LookupOutcome (number 7)
   is-14 : LookupOutcome (number 14)

@@ -8,6 +8,7 @@ use mathlib.Core.List.{List, [], _∷_}
 use lib.Dec.{eqb}
 use lib.ListN.{length}
 use Rattle.reads.specs.Outcome.{choose, textOf}
+use Rattle.reads.specs.Files.{fileOf}
 use Rattle.reads.specs.Place.{part}
 use Rattle.reads.specs.declared.text.Text.{Text}
 
@@ -36,8 +37,12 @@ unfoldable pub fitting : List (List ℕ) → List ℕ → ℕ
 fitting [] s = 0
 fitting (p ∷ ps) s = choose (starts p s) (length p) (fitting ps s)
 
+-- A name less its prefix, by the bytes of its file.
+unfoldable pub strippedIn : List ℕ → Text → Text
+strippedIn bytes name =
+    let n = fitting prefixes (part bytes (name .offset) (name .len)) in
+    textOf (name .file) (name .offset + n) (name .len - n)
+
 -- A name of the image less its prefix.
-unfoldable pub strippedName : List ℕ → Text → Text
-strippedName image name =
-    let n = fitting prefixes (part image (name .offset) (name .len)) in
-    textOf (name .offset + n) (name .len - n)
+abbrev pub strippedName : List (List ℕ) → Text → Text
+strippedName files name = strippedIn (fileOf files (name .file)) name

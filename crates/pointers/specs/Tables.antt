@@ -1,10 +1,11 @@
--- All that a caller lends (document 01, "Tables lent by the caller"), as one argument, and how it is read (document 02, note 12).
+-- All that a caller lends (document 01, "Tables lent by the caller"), as one argument, and how it is read (document 02, notes 6 and 12).
 use Prim.Native.Nat.{ℕ, _*_}
 use mathlib.Core.List.{List}
 use lib.ListN.{getD}
-use Rattle.reads.specs.Reference.{Slice, before}
+use Rattle.reads.specs.Reference.{Slice, Slices, before}
 use Rattle.reads.specs.Outcome.{textOf}
 use Rattle.reads.specs.Table.{wordOf}
+use Rattle.reads.specs.Files.{filesOf}
 use Rattle.reads.specs.Place.{Image, imageOf}
 use Rattle.reads.specs.declared.text.Reading.{Reading}
 use Rattle.reads.specs.declared.text.Reading.the-variants.{New}
@@ -13,7 +14,7 @@ use Rattle.pointers.specs.declared.table.Bind.{Bind}
 use Rattle.pointers.specs.declared.table.Rebase.{Rebase}
 
 pub record Tables : Type 0 where
-  pub image : List ℕ
+  pub files : List (List ℕ)
   pub segments : List ℕ
   pub sections : List ℕ
   pub info : List ℕ
@@ -29,10 +30,10 @@ readingUnder r = record { reading = r }
 abbrev pub readingNew : Setting
 readingNew = readingUnder New
 
-abbrev pub tablesOf : List ℕ → List ℕ → List ℕ → List ℕ → List ℕ → List ℕ → List ℕ → Tables
-tablesOf image segments sections info rebases binds index =
+abbrev pub tablesOf : List (List ℕ) → List ℕ → List ℕ → List ℕ → List ℕ → List ℕ → List ℕ → Tables
+tablesOf files segments sections info rebases binds index =
     record {
-      image = image;
+      files = files;
       segments = segments;
       sections = sections;
       info = info;
@@ -46,7 +47,7 @@ tablesOf image segments sections info rebases binds index =
 abbrev pub under : Setting → Tables → Tables
 under setting t =
     record {
-      image = t .image;
+      files = t .files;
       segments = t .segments;
       sections = t .sections;
       info = t .info;
@@ -57,21 +58,21 @@ under setting t =
     }
 
 -- The same, of the slices that a function takes, as they are before the call.
-abbrev pub lent : Slice → Slice → Slice → Slice → Slice → Slice → Slice → Tables
-lent image segments sections info rebases binds index =
-    tablesOf (before image) (before segments) (before sections) (before info) (before rebases) (before binds) (before index)
+abbrev pub lent : Slices → Slice → Slice → Slice → Slice → Slice → Slice → Tables
+lent files segments sections info rebases binds index =
+    tablesOf (filesOf files) (before segments) (before sections) (before info) (before rebases) (before binds) (before index)
 
--- The image and the segment table, as the reads take them.
+-- The files and the segment table, as the reads take them.
 abbrev pub imageIn : Tables → Image
-imageIn t = imageOf (t .image) (t .segments)
+imageIn t = imageOf (t .files) (t .segments)
 
 -- The same tables with another index.
 abbrev pub withIndex : Tables → List ℕ → Tables
 withIndex t index =
-    under (t .setting) (tablesOf (t .image) (t .segments) (t .sections) (t .info) (t .rebases) (t .binds) index)
+    under (t .setting) (tablesOf (t .files) (t .segments) (t .sections) (t .info) (t .rebases) (t .binds) index)
 
 -- The words of a section (present, vmaddr, length), of the section table, of a rebase (slot, target) and of a bind (slot, name offset,
--- name length).
+-- name length, name's file).
 abbrev pub sectionWords : ℕ
 sectionWords = 3
 
@@ -82,7 +83,7 @@ abbrev pub rebaseWords : ℕ
 rebaseWords = 2
 
 abbrev pub bindWords : ℕ
-bindWords = 3
+bindWords = 4
 
 -- The first word of a rebase or bind is its slot.
 abbrev pub slotOf : ℕ → List ℕ → ℕ → ℕ
@@ -95,7 +96,7 @@ abbrev pub bindRecord : List ℕ → ℕ → Bind
 bindRecord binds i =
     record {
       slot = slotOf bindWords binds i;
-      name = textOf (wordOf bindWords binds i 1) (wordOf bindWords binds i 2);
+      name = textOf (wordOf bindWords binds i 3) (wordOf bindWords binds i 1) (wordOf bindWords binds i 2);
     }
 
 -- How many chains the index has for each of the two.

@@ -1,8 +1,7 @@
 // The payload of __objc_imageinfo (objc-abi.h, objc_image_info).
 use reads::answer::Missing;
-use reads::place::Placed;
-use reads::place::readable_at;
-use reads::place::u32_in;
+use reads::answer::Reason;
+use reads::place::u32_from;
 ghost use mathlib.Core.Bool.{not};
 ghost use mathlib.Core.Path.{_≡_};
 ghost use lib.Dec.{eqb};
@@ -46,14 +45,12 @@ impl ImageInfo {
     pub fn parse(body: &[u8]) -> ImageInfoAnswer
         ensures { λ r. ⌜ infoOutcome r ≡ imageInfo (before body) ⌝ }
     {
-        match readable_at(body, 0, 8) {
-            Placed::At(p) => {
-                let version = u32_in(body, p, 0);
-                let flags = u32_in(body, p, 4);
-                ImageInfoAnswer::Info(ImageInfo { version, flags })
-            }
-            Placed::Missing(m) => ImageInfoAnswer::Missing(m),
+        if body.len() < 8 {
+            return ImageInfoAnswer::Missing(Missing::Absent(Reason::Unreadable));
         }
+        let version = u32_from(body, 0, 0);
+        let flags = u32_from(body, 0, 4);
+        ImageInfoAnswer::Info(ImageInfo { version, flags })
     }
 
     pub fn dyld_categories_optimized(self) -> bool

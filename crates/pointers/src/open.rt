@@ -1,10 +1,11 @@
-// Opening: asks the questions 1 to 7, 14 and 8, then writes the index.
+// Opening: asks the questions 1 to 7, 18, 14 and 8, then writes the index.
 use crate::imageinfo::ImageInfo;
 use crate::imageinfo::ImageInfoAnswer;
 use crate::index::fill_index;
 use crate::question::Asked;
 use crate::question::ask_index;
 use crate::question::ask_tables;
+use crate::question::bind_files;
 use crate::question::names_inside;
 use crate::question::names_utf8;
 use reads::answer::Missing;
@@ -15,9 +16,9 @@ ghost use Rattle.pointers.specs.Question.{askedOutcome};
 ghost use Rattle.pointers.specs.ImageInfo.{infoOutcome};
 ghost use Rattle.pointers.specs.Open.{askedOpening, opening, openedIndex};
 
-// The questions 1 to 6, 7 of every bind, 14 of every bind, and 8.
+// The questions 1 to 6, 18 of every segment among them, then 18 of every bind, 7 of every bind, 14 of every bind, and 8.
 fn ask_opening(
-    image: &[u8],
+    files: &[&[u8]],
     segments: &[u64],
     sections: &[u64],
     info: &[u8],
@@ -25,15 +26,18 @@ fn ask_opening(
     binds: &[u64],
     index: &[u32],
 ) -> Asked
-    ensures { λ r. let t = lent image segments sections info rebases binds index in
+    ensures { λ r. let t = lent files segments sections info rebases binds index in
         ⌜ askedOutcome r ≡ askedOpening t ⌝ }
 {
-    match ask_tables(image, segments, sections, info, rebases, binds) {
+    match ask_tables(files, segments, sections, info, rebases, binds) {
         Asked::Yes => {
-            if !names_inside(image, binds) {
+            if !bind_files(files, binds) {
+                return Asked::Refused(18);
+            }
+            if !names_inside(files, binds) {
                 return Asked::Refused(7);
             }
-            if !names_utf8(image, binds) {
+            if !names_utf8(files, binds) {
                 return Asked::Refused(14);
             }
             ask_index(rebases, binds, index)
@@ -44,7 +48,7 @@ fn ask_opening(
 
 // The image info, with the index written; or the number of the first question that says no, with the index as it was.
 pub fn open(
-    image: &[u8],
+    files: &[&[u8]],
     segments: &[u64],
     sections: &[u64],
     info: &[u8],
@@ -52,12 +56,12 @@ pub fn open(
     binds: &[u64],
     index: &mut [u32],
 ) -> ImageInfoAnswer
-    ensures outcome { λ r. let t = lent image segments sections info rebases binds index in
+    ensures outcome { λ r. let t = lent files segments sections info rebases binds index in
         ⌜ infoOutcome r ≡ opening t ⌝ }
-    ensures contents { λ _. let t = lent image segments sections info rebases binds index in
+    ensures contents { λ _. let t = lent files segments sections info rebases binds index in
         ⌜ after index ≡ openedIndex t ⌝ }
 {
-    match ask_opening(image, segments, sections, info, rebases, binds, index) {
+    match ask_opening(files, segments, sections, info, rebases, binds, index) {
         Asked::Yes => {
             fill_index(rebases, binds, index);
             ImageInfo::parse(info)

@@ -1,9 +1,13 @@
-// The questions of document 01 that are asked of tables, each a function of its own; `ask` puts 1 to 6 and 8 in order.
+// The questions of document 01 that are asked of tables, each a function of its own; `ask` puts 1 to 6, with 18 of the segments after 2, and 8 in order.
 use crate::index::HEADS;
 use crate::section::ObjcSection;
 use crate::table::Bind;
 use crate::table::Rebase;
+use reads::files::file_len;
+use reads::files::is_lent;
+use reads::files::longest;
 use reads::segment::Segment;
+use reads::text::Text;
 use reads::text::utf8;
 ghost use mathlib.Core.List.{[]};
 ghost use mathlib.Core.Path.{_≡_};
@@ -11,9 +15,12 @@ ghost use lib.ListN.{length};
 ghost use Prim.Native.Nat.{_≤_};
 ghost use Rattle.reads.specs.Reference.{before};
 ghost use Rattle.reads.specs.Table.{records};
+ghost use Rattle.reads.specs.Files.{filesOf};
 ghost use Rattle.reads.specs.Segment.{segmentWords};
+ghost use Rattle.reads.specs.Place.{part};
+ghost use Rattle.reads.specs.Utf8.{utf8};
 ghost use Rattle.pointers.specs.Tables.{lent, tablesOf, rebaseWords, bindWords};
-ghost use Rattle.pointers.specs.Question.{question, askedOutcome, imageFits, wholeRows, sectionFits, sectionTable, infoWhole, nameInside, nameUtf8, indexFits, askedTables, asked, namesInside, namesUtf8};
+ghost use Rattle.pointers.specs.Question.{question, askedOutcome, imageFits, wholeRows, sectionFits, sectionTable, infoWhole, segmentFiles, nameInside, nameUtf8, indexFits, askedTables, asked, bindFiles, namesInside, namesUtf8};
 
 // Yes to every question, or the number of the first that says no.
 pub enum Asked {
@@ -21,8 +28,8 @@ pub enum Asked {
     Refused(u8),
 }
 
-// 1: is the image at most 4,294,967,295 bytes long?
-pub fn image_fits(n: usize) -> bool
+// 1: is a file of the image at most 4,294,967,295 bytes long?
+pub fn image_fits(n: u64) -> bool
     ensures { λ r. ⌜ r ≡ imageFits n ⌝ }
 {
     n <= 0xFFFF_FFFF
@@ -98,41 +105,83 @@ pub fn binds_whole(n: usize) -> bool
     whole_rows(n, Bind::WORDS, 16_777_215)
 }
 
-// 7, of a record: is the name inside the image?
-pub fn name_inside(image: &[u8], offset: u64, len: u64) -> bool
-    ensures { λ r. ⌜ r ≡ nameInside (before image) offset len ⌝ }
+// 18: has the file number of every segment a lent slice?
+pub fn segment_files(files: &[&[u8]], segments: &[u64]) -> bool
+    ensures { λ r. ⌜ r ≡ segmentFiles (filesOf files) (before segments) ⌝ }
 {
-    let n = image.len() as u64;
-    if n < offset {
-        return false;
+    let mut i = 0;
+    while i < segments.len() / Segment::WORDS {
+        let first = i * Segment::WORDS;
+        if !is_lent(files, segments[first + Segment::FILE]) {
+            return false;
+        }
+        i += 1;
     }
-    len <= n - offset
+    true
 }
 
-// 14, of a record: is the name UTF-8? Of one outside the image, the bytes that are there.
-pub fn name_utf8(image: &[u8], offset: u64, len: u64) -> bool
-    ensures { λ r. ⌜ r ≡ nameUtf8 (before image) offset len ⌝ }
+// 7, of a record: is the name inside its file?
+pub fn name_inside(files: &[&[u8]], name: Text) -> bool
+    ensures { λ r. ⌜ r ≡ nameInside (filesOf files) name ⌝ }
 {
-    let n = image.len() as u64;
+    let n = file_len(files, name.file);
+    if n < name.offset {
+        return false;
+    }
+    name.len <= n - name.offset
+}
+
+// A part of a file is UTF-8; of one that passes its end, the bytes that are there.
+fn part_utf8(bytes: &[u8], offset: u64, len: u64) -> bool
+    ensures { λ r. ⌜ r ≡ utf8 (part (before bytes) offset len) ⌝ }
+{
+    let n = bytes.len() as u64;
     if n < offset {
         return true;
     }
     let from = offset as usize;
     if n - offset < len {
-        return utf8(&image[from..image.len()]);
+        return utf8(&bytes[from..bytes.len()]);
     }
     let to = (offset + len) as usize;
-    utf8(&image[from..to])
+    utf8(&bytes[from..to])
 }
 
-// 7: is the name of every bind record inside the image?
-pub fn names_inside(image: &[u8], binds: &[u64]) -> bool
-    ensures { λ r. ⌜ r ≡ namesInside (before image) (before binds) ⌝ }
+// 14, of a record: is the name UTF-8? Of one outside its file, the bytes that are there; a file that is not lent has none.
+pub fn name_utf8(files: &[&[u8]], name: Text) -> bool
+    ensures { λ r. ⌜ r ≡ nameUtf8 (filesOf files) name ⌝ }
+{
+    if !is_lent(files, name.file) {
+        return part_utf8(b"", name.offset, name.len);
+    }
+    let f = name.file as usize;
+    let bytes = files[f];
+    part_utf8(bytes, name.offset, name.len)
+}
+
+// 18: has the file number of every bind record's name a lent slice?
+pub fn bind_files(files: &[&[u8]], binds: &[u64]) -> bool
+    ensures { λ r. ⌜ r ≡ bindFiles (filesOf files) (before binds) ⌝ }
 {
     let mut i = 0;
     while i < binds.len() / Bind::WORDS {
         let bind = Bind::at(binds, i);
-        if !name_inside(image, bind.name.offset, bind.name.len) {
+        if !is_lent(files, bind.name.file) {
+            return false;
+        }
+        i += 1;
+    }
+    true
+}
+
+// 7: is the name of every bind record inside its file?
+pub fn names_inside(files: &[&[u8]], binds: &[u64]) -> bool
+    ensures { λ r. ⌜ r ≡ namesInside (filesOf files) (before binds) ⌝ }
+{
+    let mut i = 0;
+    while i < binds.len() / Bind::WORDS {
+        let bind = Bind::at(binds, i);
+        if !name_inside(files, bind.name) {
             return false;
         }
         i += 1;
@@ -141,13 +190,13 @@ pub fn names_inside(image: &[u8], binds: &[u64]) -> bool
 }
 
 // 14: is the name of every bind record UTF-8?
-pub fn names_utf8(image: &[u8], binds: &[u64]) -> bool
-    ensures { λ r. ⌜ r ≡ namesUtf8 (before image) (before binds) ⌝ }
+pub fn names_utf8(files: &[&[u8]], binds: &[u64]) -> bool
+    ensures { λ r. ⌜ r ≡ namesUtf8 (filesOf files) (before binds) ⌝ }
 {
     let mut i = 0;
     while i < binds.len() / Bind::WORDS {
         let bind = Bind::at(binds, i);
-        if !name_utf8(image, bind.name.offset, bind.name.len) {
+        if !name_utf8(files, bind.name) {
             return false;
         }
         i += 1;
@@ -169,24 +218,28 @@ pub fn index_fits(rebases: usize, binds: usize, words: usize) -> bool
     binds <= left - rebases
 }
 
-// 1 to 6, in order.
+// 1 to 6, in order; 18 of every segment after 2.
 pub fn ask_tables(
-    image: &[u8],
+    files: &[&[u8]],
     segments: &[u64],
     sections: &[u64],
     info: &[u8],
     rebases: &[u64],
     binds: &[u64],
 ) -> Asked
-    ensures { λ r. ⌜ askedOutcome r ≡ askedTables (tablesOf (before image) (before segments) (before sections) (before info) (before rebases) (before binds) []) ⌝ }
+    ensures { λ r. ⌜ askedOutcome r ≡ askedTables (tablesOf (filesOf files) (before segments) (before sections) (before info) (before rebases) (before binds) []) ⌝ }
 {
-    if !image_fits(image.len()) {
+    let n = longest(files);
+    if !image_fits(n) {
         return Asked::Refused(1);
     }
     if !segments_whole(segments.len()) {
         return Asked::Refused(2);
     }
-    if !section_table(sections, image.len() as u64) {
+    if !segment_files(files, segments) {
+        return Asked::Refused(18);
+    }
+    if !section_table(sections, n) {
         return Asked::Refused(3);
     }
     if !info_whole(info.len()) {
@@ -213,9 +266,9 @@ pub(crate) fn ask_index(rebases: &[u64], binds: &[u64], index: &[u32]) -> Asked
     Asked::Refused(8)
 }
 
-// 1 to 6 and 8, in order: what every call after opening asks.
+// 1 to 6, 18 of every segment among them, and 8, in order: what every call after opening asks.
 pub fn ask(
-    image: &[u8],
+    files: &[&[u8]],
     segments: &[u64],
     sections: &[u64],
     info: &[u8],
@@ -223,10 +276,10 @@ pub fn ask(
     binds: &[u64],
     index: &[u32],
 ) -> Asked
-    ensures { λ r. let t = lent image segments sections info rebases binds index in
+    ensures { λ r. let t = lent files segments sections info rebases binds index in
         ⌜ askedOutcome r ≡ asked t ⌝ }
 {
-    match ask_tables(image, segments, sections, info, rebases, binds) {
+    match ask_tables(files, segments, sections, info, rebases, binds) {
         Asked::Yes => ask_index(rebases, binds, index),
         Asked::Refused(k) => Asked::Refused(k),
     }

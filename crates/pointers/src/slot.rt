@@ -16,6 +16,7 @@ use reads::answer::because;
 use reads::answer::checked_add;
 use reads::answer::is_absent;
 use reads::answer::or_zero;
+use reads::files::is_lent;
 use reads::place::Place;
 use reads::place::read_u64;
 use reads::place::u64_in;
@@ -28,6 +29,7 @@ ghost use Rattle.reads.specs.Reference.{before};
 ghost use Rattle.reads.specs.Outcome.{orZero};
 ghost use Rattle.reads.specs.Answer.{wordOutcome, textOutcome};
 ghost use Rattle.reads.specs.Table.{records};
+ghost use Rattle.reads.specs.Files.{filesOf};
 ghost use Rattle.reads.specs.Place.{imageOf, lentImage};
 ghost use Rattle.pointers.specs.Tables.{bindWords};
 ghost use Rattle.pointers.specs.Slot.{rebaseAt, bindName, bindAt, stored, rebasedOr, resolve, symbolOf, pointerAt, pointerOr0At, isNear, wordThere, resolveNear};
@@ -45,38 +47,47 @@ pub fn rebase_at(rebases: &[u64], index: &[u32], slot: u64) -> Word
     }
 }
 
-// The name of bind record i, counted from 0; the questions 7 and 14 are asked of it.
-fn bind_name(image: &[u8], binds: &[u64], i: usize) -> TextAnswer
+// The name of bind record i, counted from 0; the questions 18, 7 and 14 are asked of it.
+fn bind_name(files: &[&[u8]], binds: &[u64], i: usize) -> TextAnswer
     requires { ⌜ i < records bindWords (now binds) ⌝ }
-    ensures { λ r. ⌜ textOutcome r ≡ bindName (before image) (before binds) i ⌝ }
+    ensures { λ r. ⌜ textOutcome r ≡ bindName (filesOf files) (before binds) i ⌝ }
 {
     let bind = Bind::at(binds, i);
     let name = bind.name;
-    if !name_inside(image, name.offset, name.len) {
+    if !is_lent(files, name.file) {
+        return TextAnswer::Missing(Missing::Refused(18));
+    }
+    if !name_inside(files, name) {
         return TextAnswer::Missing(Missing::Refused(7));
     }
-    if !name_utf8(image, name.offset, name.len) {
+    if !name_utf8(files, name) {
         return TextAnswer::Missing(Missing::Refused(14));
     }
     TextAnswer::Found(name)
 }
 
 // The name of a slot's bind.
-pub fn bind_at(image: &[u8], rebases: &[u64], binds: &[u64], index: &[u32], slot: u64) -> TextAnswer
-    ensures { λ r. ⌜ textOutcome r ≡ bindAt (before image) (before rebases) (before binds) (before index) slot ⌝ }
+pub fn bind_at(
+    files: &[&[u8]],
+    rebases: &[u64],
+    binds: &[u64],
+    index: &[u32],
+    slot: u64,
+) -> TextAnswer
+    ensures { λ r. ⌜ textOutcome r ≡ bindAt (filesOf files) (before rebases) (before binds) (before index) slot ⌝ }
 {
     let nexts = HEADS + rebases.len() / Rebase::WORDS;
     match find(binds, Bind::WORDS, index, Address::CHAINS, nexts, slot) {
-        Word::Value(number) => bind_name(image, binds, number as usize - 1),
+        Word::Value(number) => bind_name(files, binds, number as usize - 1),
         Word::Missing(m) => TextAnswer::Missing(m),
     }
 }
 
 // The word in a slot, its low 48 bits.
-fn stored(image: &[u8], segments: &[u64], slot: u64) -> Word
-    ensures { λ r. ⌜ wordOutcome r ≡ stored (lentImage image segments) slot ⌝ }
+fn stored(files: &[&[u8]], segments: &[u64], slot: u64) -> Word
+    ensures { λ r. ⌜ wordOutcome r ≡ stored (lentImage files segments) slot ⌝ }
 {
-    match read_u64(image, segments, slot) {
+    match read_u64(files, segments, slot) {
         Word::Value(raw) => Word::Value(Address::strip(raw)),
         Word::Missing(m) => Word::Missing(m),
     }
@@ -84,74 +95,80 @@ fn stored(image: &[u8], segments: &[u64], slot: u64) -> Word
 
 // The target of a slot's rebase, else the word there.
 fn rebased_or_stored(
-    image: &[u8],
+    files: &[&[u8]],
     segments: &[u64],
     rebases: &[u64],
     index: &[u32],
     slot: u64,
 ) -> Word
-    ensures { λ r. ⌜ wordOutcome r ≡ rebasedOr (lentImage image segments) (before rebases) (before index) slot ⌝ }
+    ensures { λ r. ⌜ wordOutcome r ≡ rebasedOr (lentImage files segments) (before rebases) (before index) slot ⌝ }
 {
     let target = rebase_at(rebases, index, slot);
     if is_absent(target) {
-        return stored(image, segments, slot);
+        return stored(files, segments, slot);
     }
     target
 }
 
 // The address in a pointer slot: a rebase target wins unmasked, mapped or not; else the word there; else it does not resolve.
 pub fn resolve_pointer(
-    image: &[u8],
+    files: &[&[u8]],
     segments: &[u64],
     rebases: &[u64],
     index: &[u32],
     slot: u64,
 ) -> Word
-    ensures { λ r. ⌜ wordOutcome r ≡ resolve (lentImage image segments) (before rebases) (before index) slot ⌝ }
+    ensures { λ r. ⌜ wordOutcome r ≡ resolve (lentImage files segments) (before rebases) (before index) slot ⌝ }
 {
     because(
-        rebased_or_stored(image, segments, rebases, index, slot),
+        rebased_or_stored(files, segments, rebases, index, slot),
         Reason::Unresolved,
     )
 }
 
 // The same, an absent slot counting as 0.
-pub fn slot_or_0(image: &[u8], segments: &[u64], rebases: &[u64], index: &[u32], slot: u64) -> Word
-    ensures { λ r. ⌜ wordOutcome r ≡ orZero (resolve (lentImage image segments) (before rebases) (before index) slot) ⌝ }
+pub fn slot_or_0(
+    files: &[&[u8]],
+    segments: &[u64],
+    rebases: &[u64],
+    index: &[u32],
+    slot: u64,
+) -> Word
+    ensures { λ r. ⌜ wordOutcome r ≡ orZero (resolve (lentImage files segments) (before rebases) (before index) slot) ⌝ }
 {
-    or_zero(resolve_pointer(image, segments, rebases, index, slot))
+    or_zero(resolve_pointer(files, segments, rebases, index, slot))
 }
 
 // The pointer in the field at va + k.
 pub fn pointer(
-    image: &[u8],
+    files: &[&[u8]],
     segments: &[u64],
     rebases: &[u64],
     index: &[u32],
     va: u64,
     k: u64,
 ) -> Word
-    ensures { λ r. ⌜ wordOutcome r ≡ pointerAt (lentImage image segments) (before rebases) (before index) va k ⌝ }
+    ensures { λ r. ⌜ wordOutcome r ≡ pointerAt (lentImage files segments) (before rebases) (before index) va k ⌝ }
 {
     match checked_add(va, k) {
-        Word::Value(slot) => resolve_pointer(image, segments, rebases, index, slot),
+        Word::Value(slot) => resolve_pointer(files, segments, rebases, index, slot),
         Word::Missing(m) => Word::Missing(m),
     }
 }
 
 // The same, an absent slot counting as 0.
 pub fn pointer_or_0(
-    image: &[u8],
+    files: &[&[u8]],
     segments: &[u64],
     rebases: &[u64],
     index: &[u32],
     va: u64,
     k: u64,
 ) -> Word
-    ensures { λ r. ⌜ wordOutcome r ≡ pointerOr0At (lentImage image segments) (before rebases) (before index) va k ⌝ }
+    ensures { λ r. ⌜ wordOutcome r ≡ pointerOr0At (lentImage files segments) (before rebases) (before index) va k ⌝ }
 {
     match checked_add(va, k) {
-        Word::Value(slot) => or_zero(resolve_pointer(image, segments, rebases, index, slot)),
+        Word::Value(slot) => or_zero(resolve_pointer(files, segments, rebases, index, slot)),
         Word::Missing(m) => Word::Missing(m),
     }
 }
@@ -167,15 +184,19 @@ fn is_near(index: &[u32], s: Spot, i: u64, slot: u64) -> bool
 }
 
 // The word at i bytes from a spot, its low 48 bits.
-fn word_there(image: &[u8], s: Spot, i: u64) -> u64
-    ensures { λ r. ⌜ ((words : List ℕ) → r ≡ wordThere (imageOf (before image) words) s i) ⌝ }
+fn word_there(files: &[&[u8]], s: Spot, i: u64) -> u64
+    ensures { λ r. ⌜ ((words : List ℕ) → r ≡ wordThere (imageOf (filesOf files) words) s i) ⌝ }
 {
-    Address::strip(u64_in(image, Place { offset: s.offset }, i))
+    let p = Place {
+        file: s.file,
+        offset: s.offset,
+    };
+    Address::strip(u64_in(files, p, i))
 }
 
 // The address in a pointer slot that lies i bytes past a spot's address: mostly without a lookup.
 pub fn resolve_near(
-    image: &[u8],
+    files: &[&[u8]],
     segments: &[u64],
     rebases: &[u64],
     index: &[u32],
@@ -183,26 +204,26 @@ pub fn resolve_near(
     i: u64,
     slot: u64,
 ) -> Word
-    ensures { λ r. ⌜ wordOutcome r ≡ resolveNear (lentImage image segments) (before rebases) (before index) s i slot ⌝ }
+    ensures { λ r. ⌜ wordOutcome r ≡ resolveNear (lentImage files segments) (before rebases) (before index) s i slot ⌝ }
 {
     if is_near(index, s, i, slot) {
-        return Word::Value(word_there(image, s, i));
+        return Word::Value(word_there(files, s, i));
     }
-    resolve_pointer(image, segments, rebases, index, slot)
+    resolve_pointer(files, segments, rebases, index, slot)
 }
 
 // The name of a slot's bind less its prefix.
 pub fn symbol_at(
-    image: &[u8],
+    files: &[&[u8]],
     rebases: &[u64],
     binds: &[u64],
     index: &[u32],
     slot: u64,
 ) -> TextAnswer
-    ensures { λ r. ⌜ textOutcome r ≡ symbolOf (before image) (before rebases) (before binds) (before index) slot ⌝ }
+    ensures { λ r. ⌜ textOutcome r ≡ symbolOf (filesOf files) (before rebases) (before binds) (before index) slot ⌝ }
 {
-    match bind_at(image, rebases, binds, index, slot) {
-        TextAnswer::Found(name) => TextAnswer::Found(strip_objc_symbol_prefix(image, name)),
+    match bind_at(files, rebases, binds, index, slot) {
+        TextAnswer::Found(name) => TextAnswer::Found(strip_objc_symbol_prefix(files, name)),
         TextAnswer::Missing(m) => TextAnswer::Missing(m),
     }
 }

@@ -1,9 +1,11 @@
 // Symbol names of binds without the linker's prefix (mod.rs, strip_objc_symbol_prefix).
+use reads::files::is_lent;
 use reads::order::least;
 use reads::text::Text;
 ghost use mathlib.Core.Path.{_≡_};
 ghost use Rattle.reads.specs.Reference.{before};
-ghost use Rattle.pointers.specs.Symbol.{starts, fitting, prefixes, strippedName};
+ghost use Rattle.reads.specs.Files.{filesOf};
+ghost use Rattle.pointers.specs.Symbol.{starts, fitting, prefixes, strippedIn, strippedName};
 
 // In the order in which they are tried, padded with zeros.
 const PREFIXES: [[u8; 24]; 5] = [
@@ -49,20 +51,33 @@ fn prefix_length(s: &[u8]) -> usize
     0
 }
 
-// A name of the image less the first of the prefixes that it starts with; what lies past the image's end matches none.
-pub fn strip_objc_symbol_prefix(image: &[u8], name: Text) -> Text
-    ensures { λ r. ⌜ r ≡ strippedName (before image) name ⌝ }
+// A name less the first of the prefixes that it starts with, by the bytes of its file; what lies past their end matches none.
+fn strip_in(bytes: &[u8], name: Text) -> Text
+    ensures { λ r. ⌜ r ≡ strippedIn (before bytes) name ⌝ }
 {
-    let total = image.len() as u64;
+    let total = bytes.len() as u64;
     if total <= name.offset {
         return name;
     }
     let there = least(name.len, total - name.offset);
     let from = name.offset as usize;
     let end = (name.offset + there) as usize;
-    let n = prefix_length(&image[from..end]) as u64;
+    let n = prefix_length(&bytes[from..end]) as u64;
     Text {
+        file: name.file,
         offset: name.offset + n,
         len: name.len - n,
     }
+}
+
+// A name of the image less the first of the prefixes that it starts with; a file that is not lent has no bytes.
+pub fn strip_objc_symbol_prefix(files: &[&[u8]], name: Text) -> Text
+    ensures { λ r. ⌜ r ≡ strippedName (filesOf files) name ⌝ }
+{
+    if !is_lent(files, name.file) {
+        return strip_in(b"", name);
+    }
+    let f = name.file as usize;
+    let bytes = files[f];
+    strip_in(bytes, name)
 }

@@ -29,15 +29,15 @@ impl Rebase {
     }
 }
 
-// A bind: the slot, and the name of its symbol, a part of the image.
+// A bind: the slot, and the name of its symbol, a part of a file of the image.
 pub struct Bind {
     pub slot: u64,
     pub name: Text,
 }
 
 impl Bind {
-    // The words of a record: slot, name offset, name length.
-    pub const WORDS: usize = 3;
+    // The words of a record: slot, name offset, name length, name's file.
+    pub const WORDS: usize = 4;
 
     // Record i of the table, counted from 0.
     pub(crate) fn at(binds: &[u64], i: usize) -> Bind
@@ -46,6 +46,7 @@ impl Bind {
     {
         let first = i * Bind::WORDS;
         let name = Text {
+            file: binds[first + 3],
             offset: binds[first + 1],
             len: binds[first + 2],
         };

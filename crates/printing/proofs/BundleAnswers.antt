@@ -2,7 +2,7 @@
 use Prim.Native.Nat.{ℕ, _-_, min}
 use mathlib.Core.Path.{_≡_, refl, sym, ap, _∙_}
 use mathlib.Core.Bool.{Bool, true, false}
-use mathlib.Core.List.{List, []}
+use mathlib.Core.List.{List, [], _∷_}
 use native.Mathlib.Nat.{le-of-lt}
 use native.Mathlib.Omega.{arith}
 use lib.Dec.{leb}
@@ -65,10 +65,10 @@ module _ (bytes : List ℕ) (m : Missing) (o : Outcome Counts) (e : o ≡ missed
       go (Absent r) = refl
       go (Refused k) = refl
 
-  pub no-tables : (words index : List ℕ) → tablesOf [] [] [] [] [] [] [] ≡ tablesBy bytes o words index
+  pub no-tables : (words index : List ℕ) → tablesOf ([] ∷ []) [] [] [] [] [] [] ≡ tablesBy bytes o words index
   no-tables words index = rw e (go m)
     where
-      go : (m : Missing) → tablesOf [] [] [] [] [] [] [] ≡ tablesBy bytes (missed m) words index
+      go : (m : Missing) → tablesOf ([] ∷ []) [] [] [] [] [] [] ≡ tablesBy bytes (missed m) words index
       go (Absent r) = refl
       go (Refused k) = refl
 

@@ -8,23 +8,24 @@ use lib.ListN.{length, drop, replicate, length-take, length-drop, length-replica
 use lib.Seq.{drop-nil}
 use borrow.Author.Tests.{le-leb}
 use Rattle.reads.specs.Outcome.{Outcome, value, number, andThen, choose}
+use Rattle.reads.specs.Files.{longest}
 use Rattle.reads.specs.Place.{part}
 use Rattle.reads.proofs.Outcomes.{then-came}
 use Rattle.reads.proofs.Tests.{by-choose, choose-true}
 use Rattle.pointers.specs.ImageInfo.{imageInfo}
 use Rattle.pointers.specs.Index.{indexed}
 use Rattle.pointers.specs.Open.{askedOpening, opening, openedIndex}
-use Rattle.pointers.specs.Question.{question, imageFits, wholeRows, sectionTable, infoWhole, namesInside, namesUtf8, indexFits, askedTables, askedIndex}
+use Rattle.pointers.specs.Question.{question, imageFits, wholeRows, segmentFiles, sectionTable, infoWhole, bindFiles, namesInside, namesUtf8, indexFits, askedTables, askedIndex}
 use Rattle.reads.specs.Table.{records}
 use Rattle.pointers.specs.Tables.{Tables, withIndex}
 use Rattle.pointers.specs.declared.imageinfo.ImageInfo.{ImageInfo}
 use Rattle.pointers.proofs.IndexWords.{length-indexed}
 use Rattle.pointers.proofs.Questions.{question-yes, rows-whole}
-use Rattle.listing.specs.Bundle.{wordsFrom, rebaseTableWords, bindTableWords, infoAt, rebasesAt, bindsAt, imageAt, countsOf, bundleCounts, bundled, Accepted}
+use Rattle.listing.specs.Bundle.{wordsFrom, rebaseTableWords, bindTableWords, infoAt, rebasesAt, bindsAt, image0At, image1At, image2At, image3At, bundledFiles, countsOf, bundleCounts, bundled, Accepted}
 use Rattle.listing.specs.declared.bundle.Counts.{Counts}
 use Rattle.listing.proofs.BundleWords.{length-words}
 use Rattle.listing.proofs.Measured.{accepted}
-use Rattle.printing.specs.BundleText.{indexWords, bundleTables, bundleOpening, Met, opens, refused-13, refused-2, refused-3, refused-7, refused-14}
+use Rattle.printing.specs.BundleText.{indexWords, bundleTables, bundleOpening, Met, opens, refused-13, refused-2, refused-18, refused-3, refused-7, refused-14}
 
 -- Of the index opening asks the length alone, and it leaves nothing of what an index of just enough words held.
 module _ (t : Tables) (i j : List ℕ) (same : length i ≡ length j) where
@@ -36,7 +37,7 @@ module _ (t : Tables) (i j : List ℕ) (same : length i ≡ length j) where
   unfolding opening
   opening-same = ap (λ (o : Outcome (Unit {0})). andThen o (λ u. imageInfo (t .info))) asked-same
 
-module _ (t : Tables) (i : List ℕ) (long : length i ≡ 8192 + records 2 (t .rebases) + records 3 (t .binds)) (info : ImageInfo)
+module _ (t : Tables) (i : List ℕ) (long : length i ≡ 8192 + records 2 (t .rebases) + records 4 (t .binds)) (info : ImageInfo)
     (e : opening (withIndex t i) ≡ value info) where
   index-left : openedIndex (withIndex t i) ≡ indexed (t .rebases) (t .binds) i
   unfolding opening openedIndex
@@ -45,28 +46,41 @@ module _ (t : Tables) (i : List ℕ) (long : length i ≡ 8192 + records 2 (t .r
   pub index-whole : openedIndex (withIndex t i) ≡ indexed (t .rebases) (t .binds) []
   unfolding indexed
   index-whole =
-      let none : drop (8192 + records 2 (t .rebases) + records 3 (t .binds)) i ≡ [] =
-      drop-of-length-le i {i = 8192 + records 2 (t .rebases) + records 3 (t .binds)} (omega arith) in
-      index-left ∙ rw (none, drop-nil (8192 + records 2 (t .rebases) + records 3 (t .binds)))
+      let none : drop (8192 + records 2 (t .rebases) + records 4 (t .binds)) i ≡ [] =
+      drop-of-length-le i {i = 8192 + records 2 (t .rebases) + records 4 (t .binds)} (omega arith) in
+      index-left ∙ rw (none, drop-nil (8192 + records 2 (t .rebases) + records 4 (t .binds)))
 
   pub index-long : length (openedIndex (withIndex t i)) ≡ length i
   index-long = ap length index-left ∙ length-indexed (t .rebases) (t .binds) i (omega arith)
 
--- The questions 2, 3 and 7, and then the image info.
-met-by : (two three seven fourteen : Bool) (o : Outcome ImageInfo) → Met o
-    → Met (andThen (andThen (andThen (question 2 two) (λ x. andThen (question 3 three) (λ y. value (tt {0}))))
-    (λ x. andThen (question 7 seven) (λ y. andThen (question 14 fourteen) (λ z. value (tt {0}))))) (λ x. o))
+-- The questions 2, 18 of segments, 3, 18 of binds, 7 and 14, and then the image info.
+met-by : (two segments three binds seven fourteen : Bool) (o : Outcome ImageInfo) → Met o
+    → Met (andThen (andThen (andThen (question 2 two) (λ x. andThen (question 18 segments) (λ y. andThen (question 3 three) (λ z. value (tt {0})))))
+    (λ x. andThen (question 18 binds) (λ y. andThen (question 7 seven) (λ z. andThen (question 14 fourteen) (λ u. value (tt {0})))))) (λ x. o))
 unfolding question choose
-met-by false three seven fourteen o m = refused-2
-met-by true false seven fourteen o m = refused-3
-met-by true true false fourteen o m = refused-7
-met-by true true true false o m = refused-14
-met-by true true true true o m = m
+met-by false segments three binds seven fourteen o m = refused-2
+met-by true false three binds seven fourteen o m = refused-18
+met-by true true false binds seven fourteen o m = refused-3
+met-by true true true false seven fourteen o m = refused-18
+met-by true true true true false fourteen o m = refused-7
+met-by true true true true true false o m = refused-14
+met-by true true true true true true o m = m
 
 -- The lengths of an accepted bundle's parts.
 module _ (bytes : List ℕ) (c : Counts) (a : Accepted bytes c) where
-  pub image-length : length (part bytes (imageAt c) (c .image)) ≤ 32768
-  image-length = simp (length-take, length-drop) (omega (arith, a .short))
+  part-length : (offset k : ℕ) → length (part bytes offset k) ≤ 32768
+  part-length offset k = simp (length-take, length-drop) (omega (arith, a .short))
+
+  pub files-length : longest (bundledFiles bytes c) ≤ 32768
+  unfolding longest
+  files-length =
+      omega (
+        arith,
+        part-length (image0At c) (c .image0),
+        part-length (image1At c) (c .image1),
+        part-length (image2At c) (c .image2),
+        part-length (image3At c) (c .image3),
+      )
 
   info-length : length (part bytes infoAt 8) ≡ 8
   info-length = simp (length-take, length-drop) (omega (arith, a .exact))
@@ -74,17 +88,17 @@ module _ (bytes : List ℕ) (c : Counts) (a : Accepted bytes c) where
   pub index-most : indexWords c ≤ 10240
   index-most = omega (arith, a .short, a .exact)
 
-  pub index-asks : 8192 + records 2 (wordsFrom bytes (rebasesAt c) (rebaseTableWords c)) + records 3 (wordsFrom bytes (bindsAt c) (bindTableWords c)) ≡ indexWords c
+  pub index-asks : 8192 + records 2 (wordsFrom bytes (rebasesAt c) (rebaseTableWords c)) + records 4 (wordsFrom bytes (bindsAt c) (bindTableWords c)) ≡ indexWords c
   index-asks = rw (length-words bytes (rebasesAt c) (rebaseTableWords c), length-words bytes (bindsAt c) (bindTableWords c)) (omega arith)
 
-  -- Of opening's questions only 2, 3 and 7 can say no.
+  -- Of opening's questions only 2, 18, 3, 7 and 14 can say no.
   module _ (i : List ℕ) (long : length i ≡ indexWords c) where
     abbrev t : Tables
     t = bundled bytes c i
 
-    fits-1 : imageFits (length (t .image)) ≡ true
+    fits-1 : imageFits (longest (t .files)) ≡ true
     unfolding imageFits
-    fits-1 = le-leb (length (t .image)) 4294967295 (omega (arith, image-length))
+    fits-1 = le-leb (longest (t .files)) 4294967295 (omega (arith, files-length))
 
     fits-4 : infoWhole (length (t .info)) ≡ true
     unfolding infoWhole
@@ -95,14 +109,14 @@ module _ (bytes : List ℕ) (c : Counts) (a : Accepted bytes c) where
         rw (length-words bytes (rebasesAt c) (rebaseTableWords c))
         (sym (rows-whole 2 16777215 (2 * c .rebases) (omega arith)) ∙ le-leb (2 * c .rebases / 2) 16777215 (omega (arith, a .short, a .exact)))
 
-    fits-6 : wholeRows 3 16777215 (length (t .binds)) ≡ true
+    fits-6 : wholeRows 4 16777215 (length (t .binds)) ≡ true
     fits-6 =
         rw (length-words bytes (bindsAt c) (bindTableWords c))
-        (sym (rows-whole 3 16777215 (3 * c .binds) (omega arith)) ∙ le-leb (3 * c .binds / 3) 16777215 (omega (arith, a .short, a .exact)))
+        (sym (rows-whole 4 16777215 (4 * c .binds) (omega arith)) ∙ le-leb (4 * c .binds / 4) 16777215 (omega (arith, a .short, a .exact)))
 
-    fits-8 : indexFits (records 2 (t .rebases)) (records 3 (t .binds)) (length (t .index)) ≡ true
+    fits-8 : indexFits (records 2 (t .rebases)) (records 4 (t .binds)) (length (t .index)) ≡ true
     unfolding indexFits
-    fits-8 = le-leb (8192 + records 2 (t .rebases) + records 3 (t .binds)) (length i) (omega (arith, index-asks, long))
+    fits-8 = le-leb (8192 + records 2 (t .rebases) + records 4 (t .binds)) (length i) (omega (arith, index-asks, long))
 
     info-there : Met (imageInfo (t .info))
     unfolding imageInfo
@@ -112,17 +126,17 @@ module _ (bytes : List ℕ) (c : Counts) (a : Accepted bytes c) where
     unfolding opening askedOpening askedTables askedIndex
     opening-met =
         simp (question-yes 1 _ fits-1, question-yes 4 _ fits-4, question-yes 5 _ fits-5, question-yes 6 _ fits-6, question-yes 8 _ fits-8)
-        (met-by (wholeRows 4 64 (length (t .segments))) (sectionTable (length (t .image)) (t .sections)) (namesInside (t .image) (t .binds)) (namesUtf8 (t .image) (t .binds))
-        (imageInfo (t .info)) info-there)
+        (met-by (wholeRows 5 64 (length (t .segments))) (segmentFiles (t .files) (t .segments)) (sectionTable (longest (t .files)) (t .sections))
+        (bindFiles (t .files) (t .binds)) (namesInside (t .files) (t .binds)) (namesUtf8 (t .files) (t .binds)) (imageInfo (t .info)) info-there)
 
--- Question 13 gives the bundle's first four words or 13.
+-- Question 13 gives the bundle's first seven words or 13.
 pub counted-by : (bytes : List ℕ) (P : Outcome Counts → Type 0) → (Accepted bytes (countsOf bytes) → P (value (countsOf bytes))) → P (number 13)
     → P (bundleCounts bytes)
 unfolding bundleCounts
 counted-by bytes P counts thirteen =
     by-choose P (λ fits. counts (accepted bytes (countsOf bytes) (choose-true _ _ fits))) (λ fits. thirteen)
 
--- Every bundle is opened, or 13, 2, 3, 7 or 14 refuses it.
+-- Every bundle is opened, or 13, 2, 18, 3, 7 or 14 refuses it.
 pub bundle-met : (bytes : List ℕ) → Met (bundleOpening bytes)
 unfolding bundleOpening
 bundle-met bytes =

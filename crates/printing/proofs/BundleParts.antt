@@ -1,7 +1,7 @@
 -- The parts of a bundle that the code lends: the words that its tables are decoded into, and the tables in them.
 use Prim.Native.Nat.{ℕ, zero, suc, _+_, _-_, _*_, _≤_}
 use mathlib.Core.Path.{_≡_, refl, ap, _∙_}
-use mathlib.Core.List.{List, _∷_, _++_}
+use mathlib.Core.List.{List, [], _∷_, _++_}
 use native.Mathlib.Omega.{arith}
 use lib.ListN.{length, take, drop, length-drop}
 use lib.Seq.{length-take-le, take-append-le, drop-append-le}
@@ -10,11 +10,11 @@ use Rattle.reads.specs.Place.{part}
 use Rattle.pointers.specs.Open.{opening, openedIndex}
 use Rattle.pointers.specs.Tables.{Tables, tablesOf}
 use Rattle.pointers.specs.declared.imageinfo.ImageInfo.{ImageInfo}
-use Rattle.listing.specs.Bundle.{wordFrom, wordsFrom, segmentTableWords, rebaseTableWords, bindTableWords, segmentsAt, sectionsAt, rebasesAt, bindsAt, imageAt, bundled, Accepted}
+use Rattle.listing.specs.Bundle.{wordFrom, wordsFrom, segmentTableWords, rebaseTableWords, bindTableWords, segmentsAt, sectionsAt, rebasesAt, bindsAt, image0At, image1At, image2At, image3At, bundledFiles, bundled, Accepted}
 use Rattle.listing.specs.declared.bundle.Counts.{Counts}
 use Rattle.listing.proofs.BundleWords.{length-words}
 use Rattle.printing.specs.BundleText.{indexWords}
-use Rattle.printing.specs.BundleLent.{tableWords, tablesIn}
+use Rattle.printing.specs.BundleLent.{tableWords, tablesOver, tablesIn}
 
 -- The words lent, after those of the tables were written.
 pub decoded-whole : (bytes words : List ℕ) (c : Counts) (f r b : ℕ) → f ≡ segmentTableWords c → r ≡ rebaseTableWords c → b ≡ bindTableWords c
@@ -25,21 +25,30 @@ decoded-whole bytes words c f r b p q s room written e =
     let long : length (take (f + 15 + r + b - 0) words) ≡ tableWords c = rw end (length-take-le (tableWords c) words room) in
     rw (e, long, end)
 
--- The tables, each as its part is lent.
-pub parts-tables : (bytes words index : List ℕ) (c : Counts) (a f r b n : ℕ) → Accepted bytes c → a ≡ imageAt c → f ≡ segmentTableWords c
+-- The files, each as its part is lent.
+pub parts-files : (bytes : List ℕ) (c : Counts) (a d e f : ℕ) → Accepted bytes c → a ≡ image0At c → d ≡ image1At c → e ≡ image2At c → f ≡ image3At c
+    → take (d - a) (drop a bytes) ∷ take (e - d) (drop d bytes) ∷ take (f - e) (drop e bytes) ∷ take (length bytes - f) (drop f bytes) ∷ []
+    ≡ bundledFiles bytes c
+parts-files bytes c a d e f x p q r s =
+    let first : d - a ≡ c .image0 = omega arith in
+    let second : e - d ≡ c .image1 = omega arith in
+    let third : f - e ≡ c .image2 = omega arith in
+    let last : length bytes - f ≡ c .image3 = omega (arith, x .exact) in
+    rw (first, second, third, last, p, q, r, s)
+
+-- The tables over files, each as its part is lent.
+pub parts-tables : (files : List (List ℕ)) (bytes words index : List ℕ) (c : Counts) (f r b n : ℕ) → f ≡ segmentTableWords c
     → r ≡ rebaseTableWords c → b ≡ bindTableWords c → n ≡ indexWords c
-    → tablesOf (take (length bytes - a) (drop a bytes)) (take (f - 0) (drop 0 words)) (take (f + 15 - f) (drop f words))
-    (take (40 - 32) (drop 32 bytes)) (take (f + 15 + r - (f + 15)) (drop (f + 15) words))
-    (take (f + 15 + r + b - (f + 15 + r)) (drop (f + 15 + r) words)) (take (n - 0) (drop 0 index))
-    ≡ tablesIn bytes c words index
-parts-tables bytes words index c a f r b n x p q s u v =
-    let image : length bytes - a ≡ c .image = omega (arith, p, x .exact) in
+    → tablesOf files (take (f - 0) (drop 0 words)) (take (f + 15 - f) (drop f words)) (take (64 - 56) (drop 56 bytes))
+    (take (f + 15 + r - (f + 15)) (drop (f + 15) words)) (take (f + 15 + r + b - (f + 15 + r)) (drop (f + 15 + r) words)) (take (n - 0) (drop 0 index))
+    ≡ tablesOver files bytes c words index
+parts-tables files bytes words index c f r b n q s u v =
     let first : f - 0 ≡ f = omega arith in
     let second : f + 15 - f ≡ 15 = omega arith in
     let third : f + 15 + r - (f + 15) ≡ r = omega arith in
     let last : f + 15 + r + b - (f + 15 + r) ≡ b = omega arith in
     let all : n - 0 ≡ n = omega arith in
-    rw (image, first, second, third, last, all, p, q, s, u, v)
+    rw (first, second, third, last, all, q, s, u, v)
 
 -- Opening by its parts.
 pub parts-opened : (t u : Tables) (o : Outcome ImageInfo) (index after : List ℕ) (n m : ℕ) → t ≡ u → n ≡ m

@@ -120,10 +120,10 @@ module _ (t : Tables) (p₀ : Standing) (out₀ : List ℕ) (p : Standing) (out 
 
 -- The same of the code's progress, with a ledger: r is what was handed out of it.
 module _ (t : Tables) (p₀ : Standing) (out₀ : List ℕ) (p : Progress) (l : List ℕ) (out : List ℕ) (at : ℕ)
-    (f : Filling t p₀ out₀ (standingOf p l) out at) (r : Piece) (e : r ≡ further p at (fits (t .image) p out at)) (new : List ℕ)
-    (g : new ≡ paste out at (waiting t (standingOf p l)) (fits (t .image) p out at)) where
-  count : fits (t .image) p out at ≡ min (length out₀ - at) (length (waiting t (standingOf p l)))
-  count = rw (length-drop (p .out) (saidText (t .image) (saidOf (p .said))), f .size)
+    (f : Filling t p₀ out₀ (standingOf p l) out at) (r : Piece) (e : r ≡ further p at (fits (t .files) p out at)) (new : List ℕ)
+    (g : new ≡ paste out at (waiting t (standingOf p l)) (fits (t .files) p out at)) where
+  count : fits (t .files) p out at ≡ min (length out₀ - at) (length (waiting t (standingOf p l)))
+  count = rw (length-drop (p .out) (saidText (t .files) (saidOf (p .said))), f .size)
 
   new-length : length new ≡ length out₀
   new-length = new-size t p₀ out₀ (standingOf p l) out at f _ count new g

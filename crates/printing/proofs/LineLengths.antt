@@ -1,4 +1,4 @@
--- How long a line can be: some numbers of at most 32 digits, and at most two texts, each a part of the image.
+-- How long a line can be: some numbers of at most 32 digits, and at most two texts, each a part of a file.
 use Prim.Native.Nat.{ℕ, zero, suc, _+_, _-_, _*_, _/_, _%_, _≤_, _^_, min}
 use mathlib.Core.Path.{_≡_, refl, _∙_}
 use mathlib.Core.List.{List, [], _∷_}
@@ -6,6 +6,8 @@ use native.Mathlib.Omega.{arith}
 use lib.ListN.{length, length-append, length-take, length-drop}
 use Rattle.io.specs.Digits.{digits, glyph}
 use Rattle.reads.specs.Outcome.{Outcome, value, absent, number}
+use Rattle.reads.specs.Files.{fileOf, longest}
+use Rattle.reads.proofs.LentFiles.{longest-most}
 use Rattle.reads.specs.declared.text.Text.{Text}
 use Rattle.reads.proofs.Tests.{by-choose}
 use Rattle.records.specs.declared.ivar.Aligned.{Aligned}
@@ -24,7 +26,7 @@ use Rattle.listing.specs.declared.line.Line.the-variants as line
 use Rattle.listing.specs.declared.line.Named.{Named}
 use Rattle.listing.specs.declared.line.Named.the-variants as named
 use Rattle.printing.specs.Buffer.{places, hexText, decimalText}
-use Rattle.printing.specs.LineText.{noneField, numberField, stringField, textField, textFields, namedField, impField, offsetField, alignmentField, alignedField, kindNumber, readingNumber, infoText, classText, roText, protocolText, categoryText, methodText, ivarText, propertyText, rowText, nameText, endText, fieldsText, lineText, refusedText}
+use Rattle.printing.specs.LineText.{noneField, numberField, stringField, partField, textField, textFields, namedField, impField, offsetField, alignmentField, alignedField, kindNumber, readingNumber, infoText, classText, roText, protocolText, categoryText, methodText, ivarText, propertyText, rowText, nameText, endText, fieldsText, lineText, refusedText}
 use Rattle.printing.specs.Pieces.{saidText}
 
 places-few : (b k n : ℕ) → places b k n ≤ suc k
@@ -48,19 +50,23 @@ refused-short : (k : ℕ) → length (refusedText k) ≤ 32
 unfolding refusedText decimalText
 refused-short k = simp (length-append, length-digits) (omega (arith, places-few 10 19 k))
 
-module _ (image : List ℕ) where
-  text-short : (t : Text) → length (textField image t) ≤ 34 + length image
-  unfolding textField stringField
-  text-short t =
-      by-choose (λ (s : List ℕ). length s ≤ 34 + length image)
-      (λ e. simp (length-append, length-take, length-drop) (omega (arith, number-short (min (t .len) (length image - t .offset)))))
-      (λ e. omega (arith, none-short))
+part-short : (bytes : List ℕ) (t : Text) → length (partField bytes t) ≤ 34 + length bytes
+unfolding partField stringField
+part-short bytes t =
+    by-choose (λ (s : List ℕ). length s ≤ 34 + length bytes)
+    (λ e. simp (length-append, length-take, length-drop) (omega (arith, number-short (min (t .len) (length bytes - t .offset)))))
+    (λ e. omega (arith, none-short))
 
-  texts-short : (a b : Text) → length (textFields image a b) ≤ 68 + 2 * length image
+module _ (files : List (List ℕ)) where
+  text-short : (t : Text) → length (textField files t) ≤ 34 + longest files
+  unfolding textField
+  text-short t = omega (arith, part-short (fileOf files (t .file)) t, longest-most files (t .file))
+
+  texts-short : (a b : Text) → length (textFields files a b) ≤ 68 + 2 * longest files
   unfolding textFields
   texts-short a b = simp length-append (omega (arith, text-short a, text-short b))
 
-  named-short : (n : Named) → length (namedField image n) ≤ 34 + length image
+  named-short : (n : Named) → length (namedField files n) ≤ 34 + longest files
   named-short (named.Text t) = text-short t
   named-short named.Nothing = omega (arith, none-short)
 
@@ -82,9 +88,9 @@ module _ (image : List ℕ) where
   aligned-short aligned.Unknown = none-short
 
   abbrev Short : List ℕ → Type 0
-  Short text = length text ≤ 300 + 2 * length image
+  Short text = length text ≤ 300 + 2 * longest files
 
-  row-short : (n : ℕ) (r : Row) → Short (rowText image n r)
+  row-short : (n : ℕ) (r : Row) → Short (rowText files n r)
   unfolding methodText ivarText propertyText
   row-short n (row.Method m) =
       simp length-append
@@ -102,7 +108,7 @@ module _ (image : List ℕ) where
       ))
   row-short n (row.Property p) = simp length-append (omega (arith, number-short n, texts-short (p .name) (p .attributes)))
 
-  fields-short : (x : Line) → Short (fieldsText image x)
+  fields-short : (x : Line) → Short (fieldsText files x)
   unfolding infoText classText roText protocolText categoryText nameText endText
   fields-short (line.Info i) = simp length-append (omega (arith, number-short (i .info .version), number-short (i .info .flags), number-short (readingNumber (i .reading))))
   fields-short (line.Class l) =
@@ -143,7 +149,7 @@ module _ (image : List ℕ) where
       simp length-append (omega (arith, number-short (l .records), number-short (l .«settled_high» * 2 ^ 64 + l .«settled_low»)))
 
   -- What a step says has at most 301 bytes beside the texts.
-  pub said-length : (o : Outcome Answer) → length (saidText image o) ≤ 301 + 2 * length image
+  pub said-length : (o : Outcome Answer) → length (saidText files o) ≤ 301 + 2 * longest files
   unfolding lineText
   said-length (value (says x)) = simp length-append (omega (arith, fields-short x))
   said-length (value (lacks x)) = omega arith

@@ -46,21 +46,21 @@ pub stepped-by : (t : Tables) (s : Listing) (l m : List ℕ) (r : Listed) (o : S
 stepped-by t s l m r o n e = ap (λ (x : Left). standing (x .answer) 0 (x .state) (x .ledger)) e
 
 -- The text of what was said.
-module _ (image : List ℕ) (x : Said) (s u : Buffer) where
-  pub said-line : (y : Line) → x ≡ said.Line y → u ≡ putAll s (lineText image y) → u ≡ putAll s (saidText image (saidOf x))
+module _ (files : List (List ℕ)) (x : Said) (s u : Buffer) where
+  pub said-line : (y : Line) → x ≡ said.Line y → u ≡ putAll s (lineText files y) → u ≡ putAll s (saidText files (saidOf x))
   said-line y g e = rw g e
 
-  pub said-refused : (k : ℕ) → x ≡ said.Refused k → u ≡ putAll s (refusedText k) → u ≡ putAll s (saidText image (saidOf x))
+  pub said-refused : (k : ℕ) → x ≡ said.Refused k → u ≡ putAll s (refusedText k) → u ≡ putAll s (saidText files (saidOf x))
   said-refused k g e = rw g e
 
-module _ (image : List ℕ) (x : Said) (s : Buffer) where
-  pub said-absent : (y : Absence) → x ≡ said.Absent y → s ≡ putAll s (saidText image (saidOf x))
+module _ (files : List (List ℕ)) (x : Said) (s : Buffer) where
+  pub said-absent : (y : Absence) → x ≡ said.Absent y → s ≡ putAll s (saidText files (saidOf x))
   said-absent y g = rw g (sym (put-empty s))
 
-  pub said-nothing : x ≡ said.Nothing → s ≡ putAll s (saidText image (saidOf x))
+  pub said-nothing : x ≡ said.Nothing → s ≡ putAll s (saidText files (saidOf x))
   said-nothing g = rw g (sym (put-empty s))
 
-  pub said-ended : x ≡ said.Ended → s ≡ putAll s (saidText image (saidOf x))
+  pub said-ended : x ≡ said.Ended → s ≡ putAll s (saidText files (saidOf x))
   said-ended g = rw g (sym (put-empty s))
 
 -- As many bytes more are out as the buffer took.

@@ -6,6 +6,7 @@ use mathlib.Core.List.{List, _++_, flatMap, append-nil}
 use native.Mathlib.Omega.{arith}
 use lib.ListN.{length, take, drop, replicate, length-replicate}
 use lib.Seq.{length-take-le, take-at}
+use Rattle.reads.specs.Files.{longest}
 use Rattle.reads.specs.Outcome.{Outcome, value, absent, number, andThen}
 use Rattle.pointers.specs.Open.{Opened, opening, openedIndex}
 use Rattle.reads.specs.Table.{records}
@@ -29,7 +30,7 @@ use Rattle.printing.specs.BundleLent.{tableWords, wordsBy, wordsAfter, t
 use Rattle.printing.specs.BundleText.{indexWords, bundleTables, bundleOpening, listingText, openedText, bundleText}
 use Rattle.printing.specs.LineText.{lineText, refusedText}
 use Rattle.printing.specs.Pieces.{Standing, standing, toCome, begun, pieces}
-use Rattle.printing.proofs.BundleOpens.{opening-same, index-whole, index-long, image-length, index-most, index-asks, counted-by}
+use Rattle.printing.proofs.BundleOpens.{opening-same, index-whole, index-long, files-length, index-most, index-asks, counted-by}
 use Rattle.printing.proofs.BundleParts.{decoded-bundled}
 use Rattle.printing.proofs.Comes.{Sound, come-under, come-step, pieces-text}
 use Rattle.listing.proofs.WordsKept.{words-kept}
@@ -43,7 +44,7 @@ module _ (t : Tables) where
   words-after s l x h e = subst (λ (y : Left). goesOn (y .answer) ≡ true → InWords (y .state)) e (words-kept t s l h)
 
   rest-comes : {s : State} {l : List ℕ} {xs : List Line} {es : List Event} → Rest t s l xs es → InWords s
-      → toCome t (made (listingStep t s l)) ≡ flatMap (lineText (t .image)) xs
+      → toCome t (made (listingStep t s l)) ≡ flatMap (lineText (t .files)) xs
   unfolding flatMap
   rest-comes {s} {l} (over e f) h =
       ap (λ (x : Left). toCome t (made x)) e ∙ come-step t (made (leaves (value ended) s l)) (record { words = words-after s l _ h e })
@@ -57,7 +58,7 @@ module _ (t : Tables) where
       let k = words-after s l _ h e in
       ap (λ (y : Left). toCome t (made y)) e
       ∙ come-step t (made (leaves (value (says x)) v m)) (record { words = k })
-      ∙ ap (λ (text : List ℕ). lineText (t .image) x ++ text) (rest-comes r (k refl))
+      ∙ ap (λ (text : List ℕ). lineText (t .files) x ++ text) (rest-comes r (k refl))
 
 start-words : (u : Setting) → InWords (start u)
 start-words u = record { slot = omega arith; cursor = omega arith }
@@ -65,19 +66,19 @@ start-words u = record { slot = omega arith; cursor = omega arith }
 begun-sound : (u : Setting) (o : Outcome ImageInfo) (l : List ℕ) → Sound (begun u o l)
 begun-sound u o l = record { words = λ e. start-words u }
 
--- A ledger of 8,192 words is always enough for an image of at most 32,768 bytes.
-module _ (t : Tables) (o : Opened t) (short : length (t .image) ≤ 32768) (l : List ℕ) (long : length l ≡ 8192) where
+-- A ledger of 8,192 words is always enough for files of at most 32,768 bytes.
+module _ (t : Tables) (o : Opened t) (short : longest (t .files) ≤ 32768) (l : List ℕ) (long : length l ≡ 8192) where
   room : (first second : ℕ) → first < 5 → second < 5 → slotCount (t .sections) first second ≤ length l
   room first second a b = omega (arith, pair-slots t o first second a b)
 
-  listing-comes : toCome t (begun (t .setting) (value (o .gave)) l) ≡ listingText (t .image) (plainListing t)
+  listing-comes : toCome t (begun (t .setting) (value (o .gave)) l) ≡ listingText (t .files) (plainListing t)
   listing-comes =
       let lines = there-known (listing-there t o) in
       let events = there-known (plain-events-there t o) in
       let rest = whole-rest t o l (room 0 1 (omega arith) (omega arith)) (room 2 3 (omega arith) (omega arith)) (lines .known) (events .known) (lines .is) (events .is) in
       come-step t (begun (t .setting) (value (o .gave)) l) (begun-sound (t .setting) (value (o .gave)) l)
       ∙ rest-comes t rest (start-words (t .setting))
-      ∙ ap (listingText (t .image)) (sym (lines .is))
+      ∙ ap (listingText (t .files)) (sym (lines .is))
 
 -- A number that refuses comes as its text, and nothing comes where nothing was said.
 over-comes : (u : Setting) (t v : Tables) (o : Outcome ImageInfo) (l : List ℕ) → goesOn (begun u o l .said) ≡ false → toCome t (begun u o l) ≡ openedText v o
@@ -111,7 +112,7 @@ module _ (u : Setting) (bytes : List ℕ) (c : Counts) (a : Accepted bytes c) (m
   tablesSaid = withIndex (bundled bytes c zeros) (openedIndex (bundled bytes c zeros))
 
   module _ (info : ImageInfo) (e : opening (bundled bytes c zeros) ≡ value info) where
-    asks : (i : List ℕ) → length i ≡ indexWords c → length i ≡ 8192 + records 2 (bundled bytes c i .rebases) + records 3 (bundled bytes c i .binds)
+    asks : (i : List ℕ) → length i ≡ indexWords c → length i ≡ 8192 + records 2 (bundled bytes c i .rebases) + records 4 (bundled bytes c i .binds)
     asks i h = h ∙ sym (index-asks bytes c a)
 
     old-opens : opening (bundled bytes c old) ≡ value info
@@ -136,7 +137,7 @@ module _ (u : Setting) (bytes : List ℕ) (c : Counts) (a : Accepted bytes c) (m
         let o : Opened tablesSaid = record { indexBefore = zeros; gave = info; accepted = e; left = refl } in
         ap (λ (t : Tables). toCome t (begun u (value info) l)) read-said
         ∙ sym (come-under u tablesSaid (begun u (value info) l))
-        ∙ listing-comes (under u tablesSaid) (opened-under u o) (image-length bytes c a) l long
+        ∙ listing-comes (under u tablesSaid) (opened-under u o) (files-length bytes c a) l long
 
   accepted-comes : toCome read (begun u (opening (tablesIn bytes c wordsRead index)) l) ≡ openedText (under u tablesSaid) (opening (bundled bytes c zeros))
   accepted-comes = rw opens-same (go (opening (bundled bytes c zeros)) refl)

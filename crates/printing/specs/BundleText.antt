@@ -31,19 +31,20 @@ pub data Met : Outcome ImageInfo → Type 0 where
   opens : (info : ImageInfo) → Met (value info)
   refused-13 : Met (number 13)
   refused-2 : Met (number 2)
+  refused-18 : Met (number 18)
   refused-3 : Met (number 3)
   refused-7 : Met (number 7)
   refused-14 : Met (number 14)
 
 -- The text of lines, one after the other; over opened tables the plain listing is a value (listing/proofs/PlainThere.antt).
-abbrev pub listingText : List ℕ → Outcome (List Line) → List ℕ
-listingText image (value xs) = flatMap (lineText image) xs
-listingText image (absent r) = []
-listingText image (number k) = refusedText k
+abbrev pub listingText : List (List ℕ) → Outcome (List Line) → List ℕ
+listingText files (value xs) = flatMap (lineText files) xs
+listingText files (absent r) = []
+listingText files (number k) = refusedText k
 
 -- The text of tables, by what opening gave.
 abbrev pub openedText : Tables → Outcome ImageInfo → List ℕ
-openedText t (value info) = listingText (t .image) (plainListing t)
+openedText t (value info) = listingText (t .files) (plainListing t)
 openedText t (absent r) = []
 openedText t (number k) = refusedText k
 

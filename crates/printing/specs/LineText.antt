@@ -6,6 +6,7 @@ use mathlib.Core.List.{List, [], _∷_, _++_}
 use lib.Dec.{leb}
 use lib.ListN.{length}
 use Rattle.reads.specs.Outcome.{choose}
+use Rattle.reads.specs.Files.{fileOf}
 use Rattle.reads.specs.Place.{part}
 use Rattle.reads.specs.declared.text.Text.{Text}
 use Rattle.pointers.specs.Symbol.{ascii}
@@ -49,17 +50,19 @@ numberField n = ascii " " ++ hexText n
 unfoldable pub stringField : List ℕ → List ℕ
 stringField s = numberField (length s) ++ (ascii ":" ++ s)
 
--- A text is a part of the image; one that does not lie there is none.
-unfoldable pub textField : List ℕ → Text → List ℕ
-textField image t =
-    choose (leb (t .offset + t .len) (length image)) (stringField (part image (t .offset) (t .len))) noneField
+-- A text is a part of its file, which has these bytes; one that does not lie there is none.
+unfoldable pub partField : List ℕ → Text → List ℕ
+partField bytes t = choose (leb (t .offset + t .len) (length bytes)) (stringField (part bytes (t .offset) (t .len))) noneField
 
-unfoldable pub textFields : List ℕ → Text → Text → List ℕ
-textFields image a b = textField image a ++ textField image b
+unfoldable pub textField : List (List ℕ) → Text → List ℕ
+textField files t = partField (fileOf files (t .file)) t
 
-abbrev pub namedField : List ℕ → Named → List ℕ
-namedField image (named.Text t) = textField image t
-namedField image named.Nothing = noneField
+unfoldable pub textFields : List (List ℕ) → Text → Text → List ℕ
+textFields files a b = textField files a ++ textField files b
+
+abbrev pub namedField : List (List ℕ) → Named → List ℕ
+namedField files (named.Text t) = textField files t
+namedField files named.Nothing = noneField
 
 abbrev pub impField : Imp → List ℕ
 impField (imp.At va) = numberField va
@@ -100,80 +103,80 @@ unfoldable pub infoText : InfoLine → List ℕ
 infoText i = ascii "I" ++ (numberField (i .info .version) ++ (numberField (i .info .flags) ++ numberField (readingNumber (i .reading))))
 
 -- C or M: address, isa, superclass, bits, superclass name.
-unfoldable pub classText : List ℕ → ClassLine → List ℕ
-classText image l =
+unfoldable pub classText : List (List ℕ) → ClassLine → List ℕ
+classText files l =
     (classLetter (l .class .«is_meta») ∷ [])
     ++ (numberField (l .class .address)
     ++ (numberField (l .class .isa)
     ++ (numberField (l .class .«superclass_address»)
-    ++ (numberField (l .class .bits) ++ namedField image (l .«superclass_name»)))))
+    ++ (numberField (l .class .bits) ++ namedField files (l .«superclass_name»)))))
 
 -- R: address, flags, start, size, name.
-unfoldable pub roText : List ℕ → ClassRo → List ℕ
-roText image r =
+unfoldable pub roText : List (List ℕ) → ClassRo → List ℕ
+roText files r =
     ascii "R"
     ++ (numberField (r .address)
     ++ (numberField (r .flags)
-    ++ (numberField (r .«instance_start») ++ (numberField (r .«instance_size») ++ textField image (r .name)))))
+    ++ (numberField (r .«instance_start») ++ (numberField (r .«instance_size») ++ textField files (r .name)))))
 
 -- P: address, size, flags, name.
-unfoldable pub protocolText : List ℕ → ObjcProtocol → List ℕ
-protocolText image p =
-    ascii "P" ++ (numberField (p .address) ++ (numberField (p .size) ++ (numberField (p .flags) ++ textField image (p .name))))
+unfoldable pub protocolText : List (List ℕ) → ObjcProtocol → List ℕ
+protocolText files p =
+    ascii "P" ++ (numberField (p .address) ++ (numberField (p .size) ++ (numberField (p .flags) ++ textField files (p .name))))
 
 -- K: address, class address, name, class name.
-unfoldable pub categoryText : List ℕ → CategoryLine → List ℕ
-categoryText image l =
+unfoldable pub categoryText : List (List ℕ) → CategoryLine → List ℕ
+categoryText files l =
     ascii "K"
     ++ (numberField (l .category .address)
-    ++ (numberField (l .category .«class_address») ++ (textField image (l .category .name) ++ namedField image (l .«class_name»))))
+    ++ (numberField (l .category .«class_address») ++ (textField files (l .category .name) ++ namedField files (l .«class_name»))))
 
 -- Rows carry a list number: m selector types imp kind.
-unfoldable pub methodText : List ℕ → ℕ → Method → List ℕ
-methodText image n m =
+unfoldable pub methodText : List (List ℕ) → ℕ → Method → List ℕ
+methodText files n m =
     ascii "m"
     ++ (numberField n
-    ++ (textFields image (m .selector) (m .types) ++ (impField (m .implementation) ++ numberField (kindNumber (m .kind)))))
+    ++ (textFields files (m .selector) (m .types) ++ (impField (m .implementation) ++ numberField (kindNumber (m .kind)))))
 
 -- v name type offset size alignment aligned.
-unfoldable pub ivarText : List ℕ → ℕ → Ivar → List ℕ
-ivarText image n v =
+unfoldable pub ivarText : List (List ℕ) → ℕ → Ivar → List ℕ
+ivarText files n v =
     ascii "v"
     ++ (numberField n
-    ++ (textFields image (v .name) (v .«type_encoding»)
+    ++ (textFields files (v .name) (v .«type_encoding»)
     ++ (offsetField (v .offset)
     ++ (numberField (v .size) ++ (alignmentField (v .«log2_alignment») ++ alignedField (v .aligned))))))
 
 -- p name attributes.
-unfoldable pub propertyText : List ℕ → ℕ → Property → List ℕ
-propertyText image n p = ascii "p" ++ (numberField n ++ textFields image (p .name) (p .attributes))
+unfoldable pub propertyText : List (List ℕ) → ℕ → Property → List ℕ
+propertyText files n p = ascii "p" ++ (numberField n ++ textFields files (p .name) (p .attributes))
 
-abbrev pub rowText : List ℕ → ℕ → Row → List ℕ
-rowText image n (row.Method m) = methodText image n m
-rowText image n (row.Ivar v) = ivarText image n v
-rowText image n (row.Property p) = propertyText image n p
+abbrev pub rowText : List (List ℕ) → ℕ → Row → List ℕ
+rowText files n (row.Method m) = methodText files n m
+rowText files n (row.Ivar v) = ivarText files n v
+rowText files n (row.Property p) = propertyText files n p
 
 -- q protocol name.
-unfoldable pub nameText : List ℕ → NameLine → List ℕ
-nameText image l = ascii "q" ++ (numberField (l .list) ++ textField image (l .name))
+unfoldable pub nameText : List (List ℕ) → NameLine → List ℕ
+nameText files l = ascii "q" ++ (numberField (l .list) ++ textField files (l .name))
 
 -- E: records, and the entries settled, a number of two words.
 unfoldable pub endText : EndLine → List ℕ
 endText l = ascii "E" ++ (numberField (l .records) ++ numberField (l .«settled_high» * 2 ^ 64 + l .«settled_low»))
 
-abbrev pub fieldsText : List ℕ → Line → List ℕ
-fieldsText image (line.Info i) = infoText i
-fieldsText image (line.Class l) = classText image l
-fieldsText image (line.Ro r) = roText image r
-fieldsText image (line.Protocol p) = protocolText image p
-fieldsText image (line.Category l) = categoryText image l
-fieldsText image (line.Row l) = rowText image (l .list) (l .row)
-fieldsText image (line.Name l) = nameText image l
-fieldsText image (line.End l) = endText l
+abbrev pub fieldsText : List (List ℕ) → Line → List ℕ
+fieldsText files (line.Info i) = infoText i
+fieldsText files (line.Class l) = classText files l
+fieldsText files (line.Ro r) = roText files r
+fieldsText files (line.Protocol p) = protocolText files p
+fieldsText files (line.Category l) = categoryText files l
+fieldsText files (line.Row l) = rowText files (l .list) (l .row)
+fieldsText files (line.Name l) = nameText files l
+fieldsText files (line.End l) = endText l
 
 -- A line with its newline.
-unfoldable pub lineText : List ℕ → Line → List ℕ
-lineText image x = fieldsText image x ++ (10 ∷ [])
+unfoldable pub lineText : List (List ℕ) → Line → List ℕ
+lineText files x = fieldsText files x ++ (10 ∷ [])
 
 -- Refused: `refused` and the number in decimal.
 unfoldable pub refusedText : ℕ → List ℕ

@@ -18,13 +18,13 @@ use Rattle.printing.specs.declared.pieces.Piece.{Piece}
 use Rattle.printing.specs.declared.pieces.Progress.{Progress}
 
 -- The text of what a step said: its line, or the number of the question that refused it. Of what is absent nothing is printed.
-abbrev pub saidText : List ℕ → Outcome Answer → List ℕ
-saidText image (value (says x)) = lineText image x
-saidText image (value (lacks x)) = []
-saidText image (value nothing) = []
-saidText image (value ended) = []
-saidText image (absent r) = []
-saidText image (number k) = refusedText k
+abbrev pub saidText : List (List ℕ) → Outcome Answer → List ℕ
+saidText files (value (says x)) = lineText files x
+saidText files (value (lacks x)) = []
+saidText files (value nothing) = []
+saidText files (value ended) = []
+saidText files (absent r) = []
+saidText files (number k) = refusedText k
 
 -- One of two, by whether the listing goes on after what was said.
 abbrev pub ifOn : {A : Type 0} → Outcome Answer → A → A → A
@@ -63,7 +63,7 @@ moved p k = standing (p .said) (p .out + k) (p .state) (p .ledger)
 
 -- What is not out yet of what was said.
 abbrev pub waiting : Tables → Standing → List ℕ
-waiting t p = drop (p .out) (saidText (t .image) (p .said))
+waiting t p = drop (p .out) (saidText (t .files) (p .said))
 
 -- The text of at most n steps to come, and what waits.
 unfoldable pub comesBy : Tables → ℕ → Standing → List ℕ
@@ -127,8 +127,8 @@ abbrev pub handedOf : Piece → List ℕ → List ℕ → Handed
 handedOf r l bytes = handing (standingOf (r .progress) l) (r .len) bytes
 
 -- How many bytes of what waits go into a buffer after its first `at`, and the answer then.
-abbrev pub fits : List ℕ → Progress → List ℕ → ℕ → ℕ
-fits image p bytes at = fitting (held bytes (p .out) at) (saidText image (saidOf (p .said)))
+abbrev pub fits : List (List ℕ) → Progress → List ℕ → ℕ → ℕ
+fits files p bytes at = fitting (held bytes (p .out) at) (saidText files (saidOf (p .said)))
 
 abbrev pub further : Progress → ℕ → ℕ → Piece
 further p at k = record { len = at + k; progress = record { said = p .said; out = p .out + k; listing = p .listing } }

@@ -1,6 +1,6 @@
 // The listing of a bundle: its tables are decoded, opened, and its text handed out piece by piece. Each call writes nothing with its own
-// number. The buffers' sizes are those of the longest bundle, 32,768 bytes: its tables have at most 4,091 words, its index at most 8,192 +
-// 2,038, and the two lists of a section walk at most 8,152 slots. One byte more of input tells a longer bundle.
+// number. The buffers' sizes are those of the longest bundle, 32,768 bytes: its tables have at most 4,088 words, its index at most 8,192 +
+// 2,036, and the two lists of a section walk at most 8,146 slots. One byte more of input tells a longer bundle.
 use crate::buffer::least;
 use crate::pieces::Piece;
 use crate::pieces::Progress;
@@ -10,16 +10,17 @@ use listing::bundle::measure;
 use listing::bundle::words_at;
 use pointers::imageinfo::ImageInfoAnswer;
 use pointers::section::ObjcSection;
-ghost use Prim.Native.Nat.{_≤_};
+ghost use Prim.Native.Nat.{_≤_, _<_, _^_};
 ghost use mathlib.Core.Path.{_≡_};
 ghost use mathlib.Core.List.{_++_};
 ghost use lib.ListN.{length, take, drop};
 ghost use Rattle.reads.specs.Reference.{before, after};
+ghost use Rattle.reads.specs.Files.{filesLent, filesOf, longest};
 ghost use Rattle.pointers.specs.ImageInfo.{infoOutcome};
 ghost use Rattle.pointers.specs.Open.{opening, openedIndex};
 ghost use Rattle.listing.specs.Bundle.{Accepted, countsOutcome, bundleCounts, wordsFrom, segmentsAt};
 ghost use Rattle.printing.specs.BundleText.{indexWords};
-ghost use Rattle.printing.specs.BundleLent.{tableWords, wordsAfter, tablesIn, openingIn, indexAfter, tablesLent};
+ghost use Rattle.printing.specs.BundleLent.{tableWords, wordsAfter, tablesOver, tablesIn, openingIn, indexAfter, tablesLent};
 ghost use Rattle.printing.specs.Pieces.{standingOf, toCome, handedOf, pieceOf};
 
 // The tables of a bundle of these counts.
@@ -66,7 +67,37 @@ fn index_words(counts: Counts) -> usize
     8192 + counts.rebases as usize + counts.binds as usize
 }
 
-// Opens the tables of a bundle of these counts, each its part of the words.
+// Opens the tables of a bundle of these counts over files, each its part of the words.
+fn open_files(
+    files: &[&[u8]],
+    bytes: &[u8],
+    counts: Counts,
+    words: &[u64],
+    index: &mut [u32],
+) -> ImageInfoAnswer
+    requires { ⌜ Accepted (now bytes) counts ⌝ }
+    requires { ⌜ 4096 ≤ length (now words) ⌝ }
+    requires { ⌜ 10240 ≤ length (now index) ⌝ }
+    ensures outcome { λ r. ⌜ infoOutcome r ≡ opening (tablesOver (filesOf files) (before bytes) counts (before words) (before index)) ⌝ }
+    ensures contents { λ _. ⌜ after index ≡ openedIndex (tablesOver (filesOf files) (before bytes) counts (before words) (before index)) ++ drop (indexWords counts) (before index) ⌝ }
+{
+    let first = counts.segment_words();
+    let second = first + ObjcSection::TABLE_WORDS;
+    let third = second + counts.rebase_words();
+    let end = third + counts.bind_words();
+    let entries = index_words(counts);
+    pointers::open::open(
+        files,
+        &words[0..first],
+        &words[first..second],
+        &bytes[56..64],
+        &words[second..third],
+        &words[third..end],
+        &mut index[0..entries],
+    )
+}
+
+// The same over the bundle's own files.
 fn open_counted(bytes: &[u8], counts: Counts, words: &[u64], index: &mut [u32]) -> ImageInfoAnswer
     requires { ⌜ Accepted (now bytes) counts ⌝ }
     requires { ⌜ 4096 ≤ length (now words) ⌝ }
@@ -74,21 +105,15 @@ fn open_counted(bytes: &[u8], counts: Counts, words: &[u64], index: &mut [u32]) 
     ensures outcome { λ r. ⌜ infoOutcome r ≡ opening (tablesIn (before bytes) counts (before words) (before index)) ⌝ }
     ensures contents { λ _. ⌜ after index ≡ openedIndex (tablesIn (before bytes) counts (before words) (before index)) ++ drop (indexWords counts) (before index) ⌝ }
 {
-    let image_at = counts.image_at();
-    let first = counts.segment_words();
-    let second = first + ObjcSection::TABLE_WORDS;
-    let third = second + counts.rebase_words();
-    let end = third + counts.bind_words();
-    let entries = index_words(counts);
-    pointers::open::open(
-        &bytes[image_at..],
-        &words[0..first],
-        &words[first..second],
-        &bytes[32..40],
-        &words[second..third],
-        &words[third..end],
-        &mut index[0..entries],
-    )
+    let at1 = counts.image1_at();
+    let at2 = counts.image2_at();
+    let at3 = counts.image3_at();
+    let image0 = &bytes[counts.image0_at()..at1];
+    let image1 = &bytes[at1..at2];
+    let image2 = &bytes[at2..at3];
+    let image3 = &bytes[at3..];
+    let files = [image0, image1, image2, image3];
+    open_files(&files, bytes, counts, words, index)
 }
 
 fn open_bytes(bytes: &[u8], words: &[u64], index: &mut [u32]) -> ImageInfoAnswer
@@ -118,7 +143,45 @@ pub fn open(
     open_bytes(&all[0..end], words, index)
 }
 
-// The next piece of a bundle of these counts.
+// The next piece of a bundle of these counts over files.
+fn piece_files(
+    progress: Progress,
+    files: &[&[u8]],
+    bytes: &[u8],
+    counts: Counts,
+    words: &[u64],
+    index: &[u32],
+    ledger: &mut [u64],
+    out: &mut [u8],
+) -> Piece
+    requires { ⌜ Accepted (now bytes) counts ⌝ }
+    requires { ⌜ 4096 ≤ length (now words) ⌝ }
+    requires { ⌜ 10240 ≤ length (now index) ⌝ }
+    requires { ⌜ longest (filesLent (now files)) < 2 ^ 32 ⌝ }
+    ensures piece { λ r. let t = tablesOver (filesOf files) (before bytes) counts (before words) (before index) in
+        ⌜ handedOf r (after ledger) (after out) ≡ pieceOf t (standingOf progress (before ledger)) (length (before out)) (before out) ⌝ }
+    ensures rest { λ r. let t = tablesOver (filesOf files) (before bytes) counts (before words) (before index) in
+        ⌜ toCome t (standingOf (r .progress) (after ledger)) ≡ drop (length (before out)) (toCome t (standingOf progress (before ledger))) ⌝ }
+{
+    let first = counts.segment_words();
+    let second = first + ObjcSection::TABLE_WORDS;
+    let third = second + counts.rebase_words();
+    let end = third + counts.bind_words();
+    let entries = index_words(counts);
+    progress.fill(
+        files,
+        &words[0..first],
+        &words[first..second],
+        &bytes[56..64],
+        &words[second..third],
+        &words[third..end],
+        &index[0..entries],
+        ledger,
+        out,
+    )
+}
+
+// The same over the bundle's own files.
 fn piece_counted(
     progress: Progress,
     bytes: &[u8],
@@ -136,26 +199,27 @@ fn piece_counted(
     ensures rest { λ r. let t = tablesIn (before bytes) counts (before words) (before index) in
         ⌜ toCome t (standingOf (r .progress) (after ledger)) ≡ drop (length (before out)) (toCome t (standingOf progress (before ledger))) ⌝ }
 {
-    let image_at = counts.image_at();
-    let first = counts.segment_words();
-    let second = first + ObjcSection::TABLE_WORDS;
-    let third = second + counts.rebase_words();
-    let end = third + counts.bind_words();
-    let entries = index_words(counts);
-    progress.fill(
-        &bytes[image_at..],
-        &words[0..first],
-        &words[first..second],
-        &bytes[32..40],
-        &words[second..third],
-        &words[third..end],
-        &index[0..entries],
+    let at1 = counts.image1_at();
+    let at2 = counts.image2_at();
+    let at3 = counts.image3_at();
+    let image0 = &bytes[counts.image0_at()..at1];
+    let image1 = &bytes[at1..at2];
+    let image2 = &bytes[at2..at3];
+    let image3 = &bytes[at3..];
+    let files = [image0, image1, image2, image3];
+    piece_files(
+        progress,
+        &files,
+        bytes,
+        counts,
+        words,
+        index,
         ledger,
         out,
     )
 }
 
-// The next piece; a bundle that is not accepted has no tables.
+// The next piece; a bundle that is not accepted has no tables, and an empty file.
 fn piece_bytes(
     progress: Progress,
     bytes: &[u8],
@@ -181,17 +245,21 @@ fn piece_bytes(
             ledger,
             out,
         ),
-        CountsAnswer::Missing(_) => progress.fill(
-            &bytes[0..0],
-            &words[0..0],
-            &words[0..0],
-            &bytes[0..0],
-            &words[0..0],
-            &words[0..0],
-            &index[0..0],
-            ledger,
-            out,
-        ),
+        CountsAnswer::Missing(_) => {
+            let empty = &bytes[0..0];
+            let files = [empty];
+            progress.fill(
+                &files,
+                &words[0..0],
+                &words[0..0],
+                empty,
+                &words[0..0],
+                &words[0..0],
+                &index[0..0],
+                ledger,
+                out,
+            )
+        }
     }
 }
 

@@ -11,6 +11,7 @@ ghost use mathlib.Core.Path.{_≡_};
 ghost use lib.ListN.{length, drop};
 ghost use lib.Seq.{paste};
 ghost use Rattle.reads.specs.Reference.{before, after};
+ghost use Rattle.reads.specs.Files.{filesLent, filesOf, longest};
 ghost use Rattle.pointers.specs.ImageInfo.{infoOutcome};
 ghost use Rattle.pointers.specs.Tables.{lent, readingNew, readingUnder};
 ghost use Rattle.listing.specs.ListingAnswer.{saidOf};
@@ -32,11 +33,11 @@ pub struct Piece {
 }
 
 // The text of what a step said.
-fn said_text(image: &[u8], said: Said, out: &mut [u8], w: Window) -> Window
-    ensures { λ r. ⌜ buffer (after out) r ≡ putAll (buffer (before out) w) (saidText (before image) (saidOf said)) ⌝ }
+fn said_text(files: &[&[u8]], said: Said, out: &mut [u8], w: Window) -> Window
+    ensures { λ r. ⌜ buffer (after out) r ≡ putAll (buffer (before out) w) (saidText (filesOf files) (saidOf said)) ⌝ }
 {
     match said {
-        Said::Line(line) => print::line(image, line, out, w),
+        Said::Line(line) => print::line(files, line, out, w),
         Said::Absent(_) => w,
         Said::Nothing => w,
         Said::Ended => w,
@@ -108,7 +109,7 @@ impl Progress {
     // The next step of the listing.
     fn step(
         self,
-        image: &[u8],
+        files: &[&[u8]],
         segments: &[u64],
         sections: &[u64],
         info: &[u8],
@@ -117,12 +118,12 @@ impl Progress {
         index: &[u32],
         ledger: &mut [u64],
     ) -> Progress
-        ensures { λ r. let t = lent image segments sections info rebases binds index in
+        ensures { λ r. let t = lent files segments sections info rebases binds index in
             ⌜ standingOf r (after ledger) ≡ stepped t (standingOf self (before ledger)) ⌝ }
     {
         let listing = self.listing;
         let listed = listing.next(
-            image,
+            files,
             segments,
             sections,
             info,
@@ -141,15 +142,15 @@ impl Progress {
     }
 
     // What waits, as far as the buffer has room after its first `at` bytes.
-    fn hand_out(self, image: &[u8], out: &mut [u8], at: usize) -> Piece
-        requires { ⌜ length (now image) < 2 ^ 32 ⌝ }
-        ensures piece { λ r. ⌜ r ≡ further self at (fits (before image) self (before out) at) ⌝ }
-        ensures bytes { λ _. ⌜ after out ≡ paste (before out) at (drop (self .out) (saidText (before image) (saidOf (self .said)))) (fits (before image) self (before out) at) ⌝ }
+    fn hand_out(self, files: &[&[u8]], out: &mut [u8], at: usize) -> Piece
+        requires { ⌜ longest (filesLent (now files)) < 2 ^ 32 ⌝ }
+        ensures piece { λ r. ⌜ r ≡ further self at (fits (filesOf files) self (before out) at) ⌝ }
+        ensures bytes { λ _. ⌜ after out ≡ paste (before out) at (drop (self .out) (saidText (filesOf files) (saidOf (self .said)))) (fits (filesOf files) self (before out) at) ⌝ }
     {
         let said = self.said;
         let skip = self.out;
         let listing = self.listing;
-        let w = said_text(image, said, out, Window { skip, at });
+        let w = said_text(files, said, out, Window { skip, at });
         let len = w.at;
         Piece {
             len,
@@ -164,7 +165,7 @@ impl Progress {
     // What waits and then what the next steps say, until the buffer is full or the listing is over.
     pub(crate) fn fill(
         self,
-        image: &[u8],
+        files: &[&[u8]],
         segments: &[u64],
         sections: &[u64],
         info: &[u8],
@@ -174,16 +175,16 @@ impl Progress {
         ledger: &mut [u64],
         out: &mut [u8],
     ) -> Piece
-        requires { ⌜ length (now image) < 2 ^ 32 ⌝ }
-        ensures piece { λ r. let t = lent image segments sections info rebases binds index in
+        requires { ⌜ longest (filesLent (now files)) < 2 ^ 32 ⌝ }
+        ensures piece { λ r. let t = lent files segments sections info rebases binds index in
             ⌜ handedOf r (after ledger) (after out) ≡ pieceOf t (standingOf self (before ledger)) (length (before out)) (before out) ⌝ }
-        ensures rest { λ r. let t = lent image segments sections info rebases binds index in
+        ensures rest { λ r. let t = lent files segments sections info rebases binds index in
             ⌜ toCome t (standingOf (r .progress) (after ledger)) ≡ drop (length (before out)) (toCome t (standingOf self (before ledger))) ⌝ }
     {
         let mut progress = self;
         let mut at = 0;
         loop {
-            let piece = progress.hand_out(image, out, at);
+            let piece = progress.hand_out(files, out, at);
             let next = piece.progress;
             at = piece.len;
             if out.len() <= at {
@@ -194,7 +195,7 @@ impl Progress {
                 return piece;
             }
             progress = next.step(
-                image,
+                files,
                 segments,
                 sections,
                 info,

@@ -14,6 +14,7 @@ use listing::line::Line;
 use listing::line::NameLine;
 use listing::line::Named;
 use listing::line::RowLine;
+use reads::files::is_lent;
 use reads::text::Reading;
 use reads::text::Text;
 use records::class::ClassRo;
@@ -31,7 +32,8 @@ ghost use mathlib.Core.List.{_∷_};
 ghost use mathlib.Core.Path.{_≡_};
 ghost use Rattle.reads.specs.Reference.{before, after};
 ghost use Rattle.printing.specs.Buffer.{buffer, putAll};
-ghost use Rattle.printing.specs.LineText.{noneField, numberField, stringField, textField, textFields, namedField, impField, offsetField, alignmentField, alignedField, kindNumber, classLetter, readingNumber, infoText, classText, roText, protocolText, categoryText, methodText, ivarText, propertyText, rowText, nameText, endText, fieldsText, lineText, refusedText};
+ghost use Rattle.printing.specs.LineText.{noneField, numberField, stringField, partField, textField, textFields, namedField, impField, offsetField, alignmentField, alignedField, kindNumber, classLetter, readingNumber, infoText, classText, roText, protocolText, categoryText, methodText, ivarText, propertyText, rowText, nameText, endText, fieldsText, lineText, refusedText};
+ghost use Rattle.reads.specs.Files.{filesOf};
 
 // A field that is none.
 fn none(out: &mut [u8], w: Window) -> Window
@@ -65,11 +67,11 @@ fn string(s: &[u8], out: &mut [u8], w: Window) -> Window
     bytes(s, out, then)
 }
 
-// A field that is a text; none where it does not lie in the image.
-fn text(image: &[u8], t: Text, out: &mut [u8], w: Window) -> Window
-    ensures { λ r. ⌜ buffer (after out) r ≡ putAll (buffer (before out) w) (textField (before image) t) ⌝ }
+// A field that is a text of a file that has these bytes; none where it does not lie in them.
+fn part(bytes: &[u8], t: Text, out: &mut [u8], w: Window) -> Window
+    ensures { λ r. ⌜ buffer (after out) r ≡ putAll (buffer (before out) w) (partField (before bytes) t) ⌝ }
 {
-    let n = image.len() as u64;
+    let n = bytes.len() as u64;
     if t.offset > n {
         return none(out, w);
     }
@@ -78,23 +80,35 @@ fn text(image: &[u8], t: Text, out: &mut [u8], w: Window) -> Window
     }
     let from = t.offset as usize;
     let end = from + t.len as usize;
-    string(&image[from..end], out, w)
+    string(&bytes[from..end], out, w)
+}
+
+// A field that is a text; a file that is not lent has no bytes.
+fn text(files: &[&[u8]], t: Text, out: &mut [u8], w: Window) -> Window
+    ensures { λ r. ⌜ buffer (after out) r ≡ putAll (buffer (before out) w) (textField (filesOf files) t) ⌝ }
+{
+    if !is_lent(files, t.file) {
+        return part(b"", t, out, w);
+    }
+    let f = t.file as usize;
+    let bytes = files[f];
+    part(bytes, t, out, w)
 }
 
 // Two fields that are texts.
-fn texts(image: &[u8], first: Text, second: Text, out: &mut [u8], w: Window) -> Window
-    ensures { λ r. ⌜ buffer (after out) r ≡ putAll (buffer (before out) w) (textFields (before image) first second) ⌝ }
+fn texts(files: &[&[u8]], first: Text, second: Text, out: &mut [u8], w: Window) -> Window
+    ensures { λ r. ⌜ buffer (after out) r ≡ putAll (buffer (before out) w) (textFields (filesOf files) first second) ⌝ }
 {
-    let next = text(image, first, out, w);
-    text(image, second, out, next)
+    let next = text(files, first, out, w);
+    text(files, second, out, next)
 }
 
 // A field that is a name or none.
-fn named(image: &[u8], name: Named, out: &mut [u8], w: Window) -> Window
-    ensures { λ r. ⌜ buffer (after out) r ≡ putAll (buffer (before out) w) (namedField (before image) name) ⌝ }
+fn named(files: &[&[u8]], name: Named, out: &mut [u8], w: Window) -> Window
+    ensures { λ r. ⌜ buffer (after out) r ≡ putAll (buffer (before out) w) (namedField (filesOf files) name) ⌝ }
 {
     match name {
-        Named::Text(t) => text(image, t, out, w),
+        Named::Text(t) => text(files, t, out, w),
         Named::Nothing => none(out, w),
     }
 }
@@ -183,8 +197,8 @@ fn class_letter(meta: bool) -> u8
 }
 
 // C or M: address, isa, superclass, bits, superclass name.
-fn class(image: &[u8], line: ClassLine, out: &mut [u8], w: Window) -> Window
-    ensures { λ r. ⌜ buffer (after out) r ≡ putAll (buffer (before out) w) (classText (before image) line) ⌝ }
+fn class(files: &[&[u8]], line: ClassLine, out: &mut [u8], w: Window) -> Window
+    ensures { λ r. ⌜ buffer (after out) r ≡ putAll (buffer (before out) w) (classText (filesOf files) line) ⌝ }
 {
     let class = line.class;
     let name = line.superclass_name;
@@ -193,62 +207,62 @@ fn class(image: &[u8], line: ClassLine, out: &mut [u8], w: Window) -> Window
     let b = number(class.isa, out, a);
     let c = number(class.superclass_address, out, b);
     let d = number(class.bits, out, c);
-    named(image, name, out, d)
+    named(files, name, out, d)
 }
 
 // R: address, flags, start, size, name.
-fn ro(image: &[u8], ro: ClassRo, out: &mut [u8], w: Window) -> Window
-    ensures { λ r. ⌜ buffer (after out) r ≡ putAll (buffer (before out) w) (roText (before image) ro) ⌝ }
+fn ro(files: &[&[u8]], ro: ClassRo, out: &mut [u8], w: Window) -> Window
+    ensures { λ r. ⌜ buffer (after out) r ≡ putAll (buffer (before out) w) (roText (filesOf files) ro) ⌝ }
 {
     let name = ro.name;
     let a = start(b'R', ro.address, out, w);
     let b = number(ro.flags as u64, out, a);
     let c = number(ro.instance_start as u64, out, b);
     let d = number(ro.instance_size as u64, out, c);
-    text(image, name, out, d)
+    text(files, name, out, d)
 }
 
 // P: address, size, flags, name.
-fn protocol(image: &[u8], protocol: ObjcProtocol, out: &mut [u8], w: Window) -> Window
-    ensures { λ r. ⌜ buffer (after out) r ≡ putAll (buffer (before out) w) (protocolText (before image) protocol) ⌝ }
+fn protocol(files: &[&[u8]], protocol: ObjcProtocol, out: &mut [u8], w: Window) -> Window
+    ensures { λ r. ⌜ buffer (after out) r ≡ putAll (buffer (before out) w) (protocolText (filesOf files) protocol) ⌝ }
 {
     let name = protocol.name;
     let a = start(b'P', protocol.address, out, w);
     let b = number(protocol.size as u64, out, a);
     let c = number(protocol.flags as u64, out, b);
-    text(image, name, out, c)
+    text(files, name, out, c)
 }
 
 // K: address, class address, name, class name.
-fn category(image: &[u8], line: CategoryLine, out: &mut [u8], w: Window) -> Window
-    ensures { λ r. ⌜ buffer (after out) r ≡ putAll (buffer (before out) w) (categoryText (before image) line) ⌝ }
+fn category(files: &[&[u8]], line: CategoryLine, out: &mut [u8], w: Window) -> Window
+    ensures { λ r. ⌜ buffer (after out) r ≡ putAll (buffer (before out) w) (categoryText (filesOf files) line) ⌝ }
 {
     let category = line.category;
     let class_name = line.class_name;
     let name = category.name;
     let a = start(b'K', category.address, out, w);
     let b = number(category.class_address, out, a);
-    let c = text(image, name, out, b);
-    named(image, class_name, out, c)
+    let c = text(files, name, out, b);
+    named(files, class_name, out, c)
 }
 
 // m: list number, selector, types, imp, kind.
-fn method(image: &[u8], list: u16, m: Method, out: &mut [u8], w: Window) -> Window
-    ensures { λ r. ⌜ buffer (after out) r ≡ putAll (buffer (before out) w) (methodText (before image) list m) ⌝ }
+fn method(files: &[&[u8]], list: u16, m: Method, out: &mut [u8], w: Window) -> Window
+    ensures { λ r. ⌜ buffer (after out) r ≡ putAll (buffer (before out) w) (methodText (filesOf files) list m) ⌝ }
 {
     let selector = m.selector;
     let types = m.types;
     let implementation = m.implementation;
     let kind = m.kind;
     let a = start(b'm', list as u64, out, w);
-    let b = texts(image, selector, types, out, a);
+    let b = texts(files, selector, types, out, a);
     let c = imp(implementation, out, b);
     number(kind_number(kind), out, c)
 }
 
 // v: list number, name, type, offset, size, alignment, aligned.
-fn ivar(image: &[u8], list: u16, v: Ivar, out: &mut [u8], w: Window) -> Window
-    ensures { λ r. ⌜ buffer (after out) r ≡ putAll (buffer (before out) w) (ivarText (before image) list v) ⌝ }
+fn ivar(files: &[&[u8]], list: u16, v: Ivar, out: &mut [u8], w: Window) -> Window
+    ensures { λ r. ⌜ buffer (after out) r ≡ putAll (buffer (before out) w) (ivarText (filesOf files) list v) ⌝ }
 {
     let name = v.name;
     let encoding = v.type_encoding;
@@ -256,7 +270,7 @@ fn ivar(image: &[u8], list: u16, v: Ivar, out: &mut [u8], w: Window) -> Window
     let log2 = v.log2_alignment;
     let is_aligned = v.aligned;
     let a = start(b'v', list as u64, out, w);
-    let b = texts(image, name, encoding, out, a);
+    let b = texts(files, name, encoding, out, a);
     let c = offset(place, out, b);
     let d = number(v.size as u64, out, c);
     let e = alignment(log2, out, d);
@@ -264,34 +278,34 @@ fn ivar(image: &[u8], list: u16, v: Ivar, out: &mut [u8], w: Window) -> Window
 }
 
 // p: list number, name, attributes.
-fn property(image: &[u8], list: u16, p: Property, out: &mut [u8], w: Window) -> Window
-    ensures { λ r. ⌜ buffer (after out) r ≡ putAll (buffer (before out) w) (propertyText (before image) list p) ⌝ }
+fn property(files: &[&[u8]], list: u16, p: Property, out: &mut [u8], w: Window) -> Window
+    ensures { λ r. ⌜ buffer (after out) r ≡ putAll (buffer (before out) w) (propertyText (filesOf files) list p) ⌝ }
 {
     let name = p.name;
     let attributes = p.attributes;
     let a = start(b'p', list as u64, out, w);
-    texts(image, name, attributes, out, a)
+    texts(files, name, attributes, out, a)
 }
 
 // m, v or p.
-fn row(image: &[u8], line: RowLine, out: &mut [u8], w: Window) -> Window
-    ensures { λ r. ⌜ buffer (after out) r ≡ putAll (buffer (before out) w) (rowText (before image) (line .list) (line .row)) ⌝ }
+fn row(files: &[&[u8]], line: RowLine, out: &mut [u8], w: Window) -> Window
+    ensures { λ r. ⌜ buffer (after out) r ≡ putAll (buffer (before out) w) (rowText (filesOf files) (line .list) (line .row)) ⌝ }
 {
     let row = line.row;
     match row {
-        Row::Method(m) => method(image, line.list, m, out, w),
-        Row::Ivar(v) => ivar(image, line.list, v, out, w),
-        Row::Property(p) => property(image, line.list, p, out, w),
+        Row::Method(m) => method(files, line.list, m, out, w),
+        Row::Ivar(v) => ivar(files, line.list, v, out, w),
+        Row::Property(p) => property(files, line.list, p, out, w),
     }
 }
 
 // q: list number, protocol name.
-fn protocol_name(image: &[u8], line: NameLine, out: &mut [u8], w: Window) -> Window
-    ensures { λ r. ⌜ buffer (after out) r ≡ putAll (buffer (before out) w) (nameText (before image) line) ⌝ }
+fn protocol_name(files: &[&[u8]], line: NameLine, out: &mut [u8], w: Window) -> Window
+    ensures { λ r. ⌜ buffer (after out) r ≡ putAll (buffer (before out) w) (nameText (filesOf files) line) ⌝ }
 {
     let name = line.name;
     let a = start(b'q', line.list as u64, out, w);
-    text(image, name, out, a)
+    text(files, name, out, a)
 }
 
 // E: records, settled.
@@ -304,26 +318,26 @@ fn end(line: EndLine, out: &mut [u8], w: Window) -> Window
 }
 
 // A line without its newline.
-fn fields(image: &[u8], line: Line, out: &mut [u8], w: Window) -> Window
-    ensures { λ r. ⌜ buffer (after out) r ≡ putAll (buffer (before out) w) (fieldsText (before image) line) ⌝ }
+fn fields(files: &[&[u8]], line: Line, out: &mut [u8], w: Window) -> Window
+    ensures { λ r. ⌜ buffer (after out) r ≡ putAll (buffer (before out) w) (fieldsText (filesOf files) line) ⌝ }
 {
     match line {
         Line::Info(i) => info(i, out, w),
-        Line::Class(c) => class(image, c, out, w),
-        Line::Ro(r) => ro(image, r, out, w),
-        Line::Protocol(p) => protocol(image, p, out, w),
-        Line::Category(k) => category(image, k, out, w),
-        Line::Row(r) => row(image, r, out, w),
-        Line::Name(n) => protocol_name(image, n, out, w),
+        Line::Class(c) => class(files, c, out, w),
+        Line::Ro(r) => ro(files, r, out, w),
+        Line::Protocol(p) => protocol(files, p, out, w),
+        Line::Category(k) => category(files, k, out, w),
+        Line::Row(r) => row(files, r, out, w),
+        Line::Name(n) => protocol_name(files, n, out, w),
         Line::End(e) => end(e, out, w),
     }
 }
 
 // A line.
-pub(crate) fn line(image: &[u8], line: Line, out: &mut [u8], w: Window) -> Window
-    ensures { λ r. ⌜ buffer (after out) r ≡ putAll (buffer (before out) w) (lineText (before image) line) ⌝ }
+pub(crate) fn line(files: &[&[u8]], line: Line, out: &mut [u8], w: Window) -> Window
+    ensures { λ r. ⌜ buffer (after out) r ≡ putAll (buffer (before out) w) (lineText (filesOf files) line) ⌝ }
 {
-    let end = fields(image, line, out, w);
+    let end = fields(files, line, out, w);
     byte(b'\n', out, end)
 }
 

@@ -2,13 +2,15 @@
 use mathlib.Core.Path.{_≡_, refl, sym, ap, _∙_}
 use mathlib.Core.Bool.{Bool, true, false}
 use mathlib.Core.List.{List, [], _∷_}
-use Prim.Native.Nat.{ℕ, _+_, _≤_, _<_}
+use Prim.Native.Nat.{ℕ, _+_, _-_, _^_, _≤_, _<_, min}
 use native.Mathlib.Omega.{arith}
 use lib.Dec.{ltb}
+use lib.ListN.{length}
 use Rattle.reads.specs.declared.breaks.Break.{Break}
 use Rattle.reads.specs.declared.breaks.Break.the-variants.{At, Nothing}
 use Rattle.reads.specs.declared.segment.Segment.{Segment}
 use Rattle.reads.specs.Outcome.{choose}
+use Rattle.reads.specs.Files.{fileOf}
 use Rattle.reads.specs.Table.{records}
 use Rattle.reads.specs.Segment.{segmentWords, segmentAt, ends}
 use Rattle.reads.specs.Breaks.{readablePart, breaks, lesser, lower, nextBreak}
@@ -44,12 +46,17 @@ lowest-is-next-break va [] = refl
 lowest-is-next-break va (b ∷ bs) = sym (lowest-lower va Nothing b bs) ∙ ap (λ (x : Break). lower va x b) (lowest-is-next-break va bs)
 
 module _ (s : Segment) where
+  -- A file of fewer than 2^64 bytes has no offset past 64 bits.
+  pub part-by : (n k r : ℕ) → n < 2 ^ 64 → r ≡ min (min (s .vmsize) (s .filesize)) (n + 1 - k - s .fileoff) → r ≡ readablePart n k s
+  unfolding readablePart
+  part-by n k r h e = let p : min (2 ^ 64) (n + 1 - k) ≡ n + 1 - k = omega arith in rw p e
+
   pub readable-part-size : (n k : ℕ) → readablePart n k s ≤ s .vmsize
   unfolding readablePart
   readable-part-size n k = omega arith
 
 -- The breakpoints of the rows from row i on, with the best so far; r is what the whole walk gives.
-module _ (ws : List ℕ) (i : ℕ) (n k va : ℕ) (best r : Break) (so-far : lowest va best (breaks n k (rowsFrom ws i)) ≡ r) where
+module _ (ws : List ℕ) (i : ℕ) (fs : List (List ℕ)) (k va : ℕ) (best r : Break) (so-far : lowest va best (breaks fs k (rowsFrom ws i)) ≡ r) where
   pub lowest-out : records segmentWords ws ≤ i → best ≡ r
   unfolding breaks lowest
   lowest-out h = sym (simp (rows-none ws i h)) ∙ so-far
@@ -60,8 +67,8 @@ module _ (ws : List ℕ) (i : ℕ) (n k va : ℕ) (best r : Break) (so-far : low
     unfolding breaks lowest choose
     lowest-ends e = sym (simp (rows-read ws i fits s at, e)) ∙ so-far
 
-    pub lowest-more : ends s ≡ false → (size : ℕ) (a b c : Break) → size ≡ readablePart n k s
+    pub lowest-more : ends s ≡ false → (size : ℕ) (a b c : Break) → size ≡ readablePart (length (fileOf fs (s .file))) k s
         → a ≡ lower va best (s .vmaddr) → b ≡ lower va a (s .vmaddr + size) → c ≡ lower va b (s .vmaddr + s .vmsize)
-        → lowest va c (breaks n k (rowsFrom ws (i + 1))) ≡ r
+        → lowest va c (breaks fs k (rowsFrom ws (i + 1))) ≡ r
     unfolding breaks lowest choose
     lowest-more e size a b c p x y z = simp (z, y, x, p) (sym (simp (rows-read ws i fits s at, e)) ∙ so-far)

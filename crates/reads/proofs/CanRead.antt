@@ -3,7 +3,9 @@ use mathlib.Core.Path.{_≡_, refl}
 use mathlib.Core.Bool.{true, false, true≢false}
 use mathlib.Core.List.{List}
 use Prim.Native.Nat.{ℕ}
+use lib.ListN.{length}
 use Rattle.reads.specs.Outcome.{Outcome, value, absent, Unrefused, is-value, is-absent, andThen, because}
+use Rattle.reads.specs.Files.{fileOf}
 use Rattle.reads.specs.Segment.{rows, lookup}
 use Rattle.reads.specs.Place.{Image, readableAt, readable}
 use Rattle.reads.specs.Answer.{missed}
@@ -16,16 +18,16 @@ use Rattle.reads.proofs.Tests.{by-choose}
 use Rattle.reads.proofs.Unrefused.{lookup-unrefused}
 
 -- Bytes that cannot be read are Unreadable, for whatever cause.
-unreadable-at : (bytes : List ℕ) (offset k : ℕ) → isValue (readableAt bytes offset k) ≡ false → readableAt bytes offset k ≡ absent Unreadable
+unreadable-at : (n : ℕ) (p : Place) (k : ℕ) → isValue (readableAt n p k) ≡ false → readableAt n p k ≡ absent Unreadable
 unfolding readableAt
-unreadable-at bytes offset k =
+unreadable-at n p k =
     by-choose (λ (o : Outcome Place). isValue o ≡ false → o ≡ absent Unreadable) (λ e z. absurd (true≢false z)) (λ e z. refl)
 
-unreadable : (bytes : List ℕ) (k : ℕ) (o : Outcome Place) → Unrefused o
-    → isValue (andThen (because Unreadable o) (λ p. readableAt bytes (p .offset) k)) ≡ false
-    → andThen (because Unreadable o) (λ p. readableAt bytes (p .offset) k) ≡ absent Unreadable
-unreadable bytes k o (is-value p) e = unreadable-at bytes (p .offset) k e
-unreadable bytes k o (is-absent r) e = refl
+unreadable : (fs : List (List ℕ)) (k : ℕ) (o : Outcome Place) → Unrefused o
+    → isValue (andThen (because Unreadable o) (λ p. readableAt (length (fileOf fs (p .file))) p k)) ≡ false
+    → andThen (because Unreadable o) (λ p. readableAt (length (fileOf fs (p .file))) p k) ≡ absent Unreadable
+unreadable fs k o (is-value p) e = unreadable-at (length (fileOf fs (p .file))) p k e
+unreadable fs k o (is-absent r) e = refl
 
 module _ (m : Image) (k va : ℕ) where
   pub can-read-value : (p : Place) → readable m va k ≡ value p → canRead m k va ≡ true
@@ -38,7 +40,7 @@ module _ (m : Image) (k va : ℕ) where
 
   pub readable-absent : canRead m k va ≡ false → readable m va k ≡ absent Unreadable
   unfolding canRead readable
-  readable-absent e = unreadable (m .bytes) k (lookup (rows (m .words)) va) (lookup-unrefused (rows (m .words)) va) e
+  readable-absent e = unreadable (m .files) k (lookup (rows (m .words)) va) (lookup-unrefused (rows (m .words)) va) e
 
 -- What cannot be looked up cannot be read, whatever stands in its place.
 missed-no-value : (x : Missing) → isValue (missed {A = Place} x) ≡ false

@@ -10,9 +10,10 @@ use lib.ListN.{length, getD, drop, length-drop}
 use lib.Seq.{getD-drop}
 use borrow.Author.Tests.{lt-ltb, ltb-true, le-leb, eqb-true, eqb-false}
 use Rattle.reads.specs.Outcome.{Outcome, value, absent, number, andThen, choose, nonzero, textOf}
+use Rattle.reads.specs.Files.{fileOf}
 use Rattle.reads.specs.Segment.{rows, lookup}
 use Rattle.reads.specs.Place.{Image}
-use Rattle.reads.specs.Text.{text, scanOf, ifGood, goodText, ended, ifEnded, textAt, textIn}
+use Rattle.reads.specs.Text.{text, scanOf, ifGood, goodText, ended, ifEnded, textFrom, textAt, textIn}
 use Rattle.reads.specs.Utf8.{verdict}
 use Rattle.reads.specs.Endings.{ZeroFrom, StringEnds}
 use Rattle.reads.specs.declared.place.Place.{Place}
@@ -54,34 +55,34 @@ ended-zero s e =
     let l = ltb-true (length (text s)) (min (suc (length (text s))) (length s)) e in
     (length (text s), omega arith, shorter-zero s (omega arith))
 
--- The text at an offset is the same under both readings exactly if a byte of the image from there on is 0.
-module _ (bytes : List ℕ) (offset : ℕ) where
-  pub text-same : ZeroFrom bytes offset → textAt Old bytes offset ≡ textAt New bytes offset
-  unfolding textAt
+-- The text at a place is the same under both readings exactly if a byte of its file from there on is 0.
+module _ (bytes : List ℕ) (p : Place) where
+  pub text-same : ZeroFrom bytes (p .offset) → textFrom Old bytes p ≡ textFrom New bytes p
+  unfolding textFrom
   text-same x =
       let i = x .0 in
       let low = x .1 in
       let high = x .2 in
-      let there : offset + (i - offset) ≡ i = omega arith in
-      let at : getD (drop offset bytes) (i - offset) 0 ≡ 0 = getD-drop offset bytes (i - offset) 0 ∙ ap (λ (k : ℕ). getD bytes k 0) there ∙ x .3 in
-      let e = zero-ends (drop offset bytes) (i - offset) (omega (arith, length-drop offset bytes)) at in
-      ap (λ (b : Bool). choose (leb offset (length bytes)) (ifEnded New b (goodText offset (scanOf (drop offset bytes)))) (absent PastEnd)) (sym e)
+      let there : p .offset + (i - p .offset) ≡ i = omega arith in
+      let at : getD (drop (p .offset) bytes) (i - p .offset) 0 ≡ 0 = getD-drop (p .offset) bytes (i - p .offset) 0 ∙ ap (λ (k : ℕ). getD bytes k 0) there ∙ x .3 in
+      let e = zero-ends (drop (p .offset) bytes) (i - p .offset) (omega (arith, length-drop (p .offset) bytes)) at in
+      ap (λ (b : Bool). choose (leb (p .offset) (length bytes)) (ifEnded New b (goodText p (scanOf (drop (p .offset) bytes)))) (absent PastEnd)) (sym e)
 
   -- The old reading never says that a text has no end.
-  never-endless : (v : Verdict) (n : ℕ) → andThen (ifGood v n) (λ k. value (textOf offset k)) ≡ absent Unterminated → ⊥
+  never-endless : (v : Verdict) (n : ℕ) → andThen (ifGood v n) (λ k. value (textOf (p .file) (p .offset) k)) ≡ absent Unterminated → ⊥
   never-endless Good n e = let z : _≡_ {A = ℕ} 0 1 = cc in omega arith
   never-endless (Bad k) n e = let z : _≡_ {A = ℕ} 0 1 = cc in omega arith
 
-  pub same-zero : offset ≤ length bytes → textAt Old bytes offset ≡ textAt New bytes offset → ZeroFrom bytes offset
-  unfolding textAt choose
-  same-zero h e = go (ended (scanOf (drop offset bytes))) refl (rw (le-leb offset (length bytes) h) at e)
+  pub same-zero : p .offset ≤ length bytes → textFrom Old bytes p ≡ textFrom New bytes p → ZeroFrom bytes (p .offset)
+  unfolding textFrom choose
+  same-zero h e = go (ended (scanOf (drop (p .offset) bytes))) refl (rw (le-leb (p .offset) (length bytes) h) at e)
     where
-      go : (b : Bool) → ended (scanOf (drop offset bytes)) ≡ b → goodText offset (scanOf (drop offset bytes)) ≡ ifEnded New (ended (scanOf (drop offset bytes))) (goodText offset (scanOf (drop offset bytes))) → ZeroFrom bytes offset
+      go : (b : Bool) → ended (scanOf (drop (p .offset) bytes)) ≡ b → goodText p (scanOf (drop (p .offset) bytes)) ≡ ifEnded New (ended (scanOf (drop (p .offset) bytes))) (goodText p (scanOf (drop (p .offset) bytes))) → ZeroFrom bytes (p .offset)
       go true q g =
-          let z = ended-zero (drop offset bytes) q in
+          let z = ended-zero (drop (p .offset) bytes) q in
           let below = z .1 in
-          (offset + z .0, omega arith, omega (arith, length-drop offset bytes), sym (getD-drop offset bytes (z .0) 0) ∙ z .2)
-      go false q g = absurd (never-endless (verdict (text (drop offset bytes))) (length (text (drop offset bytes))) (g ∙ rw q))
+          (p .offset + z .0, omega arith, omega (arith, length-drop (p .offset) bytes), sym (getD-drop (p .offset) bytes (z .0) 0) ∙ z .2)
+      go false q g = absurd (never-endless (verdict (text (drop (p .offset) bytes))) (length (text (drop (p .offset) bytes))) (g ∙ rw q))
 
 -- And so is the string at an address, exactly if it ends.
 module _ (m : Image) (va : ℕ) where
@@ -89,16 +90,17 @@ module _ (m : Image) (va : ℕ) where
   unfolding textIn nonzero choose
   string-same h = go (eqb va 0) refl (lookup (rows (m .words)) va) refl
     where
-      there : (p : Place) → (va ≡ 0 → ⊥) → lookup (rows (m .words)) va ≡ value p → textAt Old (m .bytes) (p .offset) ≡ textAt New (m .bytes) (p .offset)
+      there : (p : Place) → (va ≡ 0 → ⊥) → lookup (rows (m .words)) va ≡ value p → textAt Old (m .files) p ≡ textAt New (m .files) p
       there p n q =
-          elim (decLe (p .offset) (length (m .bytes))) [
-            | yes l ↦ text-same (m .bytes) (p .offset) (h (p .offset) n q l)
-            | no f ↦ sym (text-beyond Old (m .bytes) (p .offset) (omega arith)) ∙ text-beyond New (m .bytes) (p .offset) (omega arith)
+          let bytes = fileOf (m .files) (p .file) in
+          elim (decLe (p .offset) (length bytes)) [
+            | yes l ↦ text-same bytes p (h p n q l)
+            | no f ↦ sym (text-beyond Old bytes p (omega arith)) ∙ text-beyond New bytes p (omega arith)
           ]
 
       go : (b : Bool) → eqb va 0 ≡ b → (o : Outcome Place) → lookup (rows (m .words)) va ≡ o
-          → andThen (choose b (absent NullAddress) (value va)) (λ a. andThen (lookup (rows (m .words)) a) (λ p. textAt Old (m .bytes) (p .offset)))
-          ≡ andThen (choose b (absent NullAddress) (value va)) (λ a. andThen (lookup (rows (m .words)) a) (λ p. textAt New (m .bytes) (p .offset)))
+          → andThen (choose b (absent NullAddress) (value va)) (λ a. andThen (lookup (rows (m .words)) a) (λ p. textAt Old (m .files) p))
+          ≡ andThen (choose b (absent NullAddress) (value va)) (λ a. andThen (lookup (rows (m .words)) a) (λ p. textAt New (m .files) p))
       go true e o q = unfold choose in refl
       go false e (value p) q = unfold choose in rw q (there p (eqb-false va 0 e) q)
       go false e (absent r) q = unfold choose in rw q
@@ -106,4 +108,4 @@ module _ (m : Image) (va : ℕ) where
 
   pub same-ends : textIn Old m va ≡ textIn New m va → StringEnds m va
   unfolding textIn
-  same-ends e offset n q l = same-zero (m .bytes) offset l (rw (nonzero-else va n, q) at e)
+  same-ends e p n q l = same-zero (fileOf (m .files) (p .file)) p l (rw (nonzero-else va n, q) at e)

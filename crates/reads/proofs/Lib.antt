@@ -2,6 +2,7 @@
 pub mod Tests
 pub mod Outcomes
 pub mod Masks
+pub mod LentFiles
 pub mod Numbers
 pub mod Tabulates
 pub mod SegmentRows
@@ -18,6 +19,8 @@ pub mod Grammar
 pub mod Passes
 pub mod Texts
 pub mod Endings
+pub mod OneImage
+pub mod OneFile
 pub mod FirstBad
 pub mod TwosLaws
 pub mod Modulo

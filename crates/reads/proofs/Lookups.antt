@@ -4,8 +4,8 @@ use mathlib.Core.Bool.{true, false, _&&_, and-false}
 use mathlib.Core.List.{List}
 use Prim.Native.Nat.{ℕ, suc, _+_, _-_, _^_, _≤_, _<_}
 use native.Mathlib.Omega.{arith}
-use lib.Dec.{leb, ltb}
-use borrow.Author.Tests.{leb-true, leb-false, ltb-true, le-leb, lt-leb, lt-ltb, le-ltb}
+use lib.Dec.{leb, ltb, eqb}
+use borrow.Author.Tests.{leb-true, leb-false, ltb-true, le-leb, lt-leb, lt-ltb, le-ltb, eq-eqb, ne-eqb}
 use Rattle.reads.specs.Outcome.{value, absent, because, choose, sum64}
 use Rattle.reads.specs.declared.answer.Reason.the-variants.{Unmapped}
 use Rattle.reads.specs.Table.{records}
@@ -62,7 +62,7 @@ module _ (s : Segment) where
   placed-over va h l = simp (lt-leb (s .filesize) (va - s .vmaddr) h, sum-over (s .fileoff) (va - s .vmaddr) l)
 
   pub placed-at : (va : ℕ) → va - s .vmaddr < s .filesize → s .fileoff + (va - s .vmaddr) < 2 ^ 64
-      → value (placeAt (s .fileoff + (va - s .vmaddr))) ≡ placed s va
+      → value (placeAt (s .file) (s .fileoff + (va - s .vmaddr))) ≡ placed s va
   unfolding placed choose
   placed-at va h l = simp (lt-leb (s .filesize) (va - s .vmaddr) h, sum-fits (s .fileoff) (va - s .vmaddr) l)
 
@@ -74,17 +74,22 @@ module _ (s : Segment) where
   unfolding mappedSize
   mapped-file h = omega arith
 
-  pub carries-before : (offset : ℕ) → offset < s .fileoff → false ≡ carries s offset
+  pub carries-other : (file offset : ℕ) → (s .file ≡ file → ⊥) → false ≡ carries s file offset
   unfolding carries
-  carries-before offset l = simp (lt-leb (s .fileoff) offset l)
+  carries-other file offset n = simp (ne-eqb (s .file) file n)
 
-  pub carries-by : (offset m : ℕ) → m ≡ mappedSize s → s .fileoff ≤ offset → ltb (offset - s .fileoff) m ≡ carries s offset
+  pub carries-before : (file offset : ℕ) → offset < s .fileoff → false ≡ carries s file offset
   unfolding carries
-  carries-by offset m e l = rw e (inside-by (s .fileoff) (mappedSize s) offset l)
+  carries-before file offset l = simp (lt-leb (s .fileoff) offset l, and-false)
 
-  pub carries-is : (offset : ℕ) → carries s offset ≡ true → s .fileoff ≤ offset
+  pub carries-by : (file offset m : ℕ) → m ≡ mappedSize s → s .file ≡ file → s .fileoff ≤ offset → ltb (offset - s .fileoff) m ≡ carries s file offset
   unfolding carries
-  carries-is offset e = leb-true _ _ (both-true (leb (s .fileoff) offset) (ltb offset (s .fileoff + mappedSize s)) e .0)
+  carries-by file offset m e f l = rw (e, eq-eqb (s .file) file f) (inside-by (s .fileoff) (mappedSize s) offset l)
+
+  pub carries-is : (file offset : ℕ) → carries s file offset ≡ true → s .fileoff ≤ offset
+  unfolding carries
+  carries-is file offset e =
+      leb-true _ _ (both-true (leb (s .fileoff) offset) (ltb offset (s .fileoff + mappedSize s)) (both-true (eqb (s .file) file) _ e .1) .0)
 
   pub ends-in-file-by : (m : ℕ) → m ≡ mappedSize s → s .fileoff < 2 ^ 64 → ltb (2 ^ 64 - 1 - s .fileoff) m ≡ endsInFile s
   unfolding endsInFile
@@ -94,9 +99,9 @@ pub lookup-out : (ws : List ℕ) (i va : ℕ) → records segmentWords ws ≤ i 
 unfolding lookup
 lookup-out ws i va h = simp (rows-none ws i h)
 
-pub address-out : (ws : List ℕ) (i offset : ℕ) → records segmentWords ws ≤ i → addressOf (rowsFrom ws i) offset ≡ absent Unmapped
+pub address-out : (ws : List ℕ) (i file offset : ℕ) → records segmentWords ws ≤ i → addressOf (rowsFrom ws i) file offset ≡ absent Unmapped
 unfolding addressOf
-address-out ws i offset h = simp (rows-none ws i h)
+address-out ws i file offset h = simp (rows-none ws i h)
 
 -- Row i, as the code has it.
 module _ (ws : List ℕ) (i : ℕ) (fits : i < records segmentWords ws) (s : Segment) (at : s ≡ segmentAt ws i) where
@@ -112,16 +117,16 @@ module _ (ws : List ℕ) (i : ℕ) (fits : i < records segmentWords ws) (s : Seg
   unfolding lookup choose
   lookup-on va e h = simp (rows-read ws i fits s at, e, h)
 
-  pub address-ends : (offset : ℕ) → endsInFile s ≡ true → addressOf (rowsFrom ws i) offset ≡ absent Unmapped
+  pub address-ends : (file offset : ℕ) → endsInFile s ≡ true → addressOf (rowsFrom ws i) file offset ≡ absent Unmapped
   unfolding addressOf choose
-  address-ends offset e = simp (rows-read ws i fits s at, e)
+  address-ends file offset e = simp (rows-read ws i fits s at, e)
 
-  pub address-carries : (offset : ℕ) → endsInFile s ≡ false → carries s offset ≡ true
-      → addressOf (rowsFrom ws i) offset ≡ because Unmapped (sum64 (s .vmaddr) (offset - s .fileoff))
+  pub address-carries : (file offset : ℕ) → endsInFile s ≡ false → carries s file offset ≡ true
+      → addressOf (rowsFrom ws i) file offset ≡ because Unmapped (sum64 (s .vmaddr) (offset - s .fileoff))
   unfolding addressOf choose
-  address-carries offset e h = simp (rows-read ws i fits s at, e, h)
+  address-carries file offset e h = simp (rows-read ws i fits s at, e, h)
 
-  pub address-on : (offset : ℕ) → endsInFile s ≡ false → carries s offset ≡ false
-      → addressOf (rowsFrom ws i) offset ≡ addressOf (rowsFrom ws (i + 1)) offset
+  pub address-on : (file offset : ℕ) → endsInFile s ≡ false → carries s file offset ≡ false
+      → addressOf (rowsFrom ws i) file offset ≡ addressOf (rowsFrom ws (i + 1)) file offset
   unfolding addressOf choose
-  address-on offset e h = simp (rows-read ws i fits s at, e, h)
+  address-on file offset e h = simp (rows-read ws i fits s at, e, h)

@@ -1,21 +1,24 @@
--- Numbers in the image, over the width: a number of j + k bytes from those of j and of k, and where k bytes can be read.
+-- Numbers in files, over the width: a number of j + k bytes from those of j and of k, and where k bytes can be read.
 use Prim.Native.Nat.{ℕ, zero, suc, _+_, _*_, _<_, _≤_}
-use mathlib.Core.Path.{_≡_, refl, ap, sym, _∙_}
+use mathlib.Core.Path.{_≡_, refl, ap, sym, subst, _∙_}
 use mathlib.Core.Bool.{Bool, true, false}
 use mathlib.Core.List.{List, [], _∷_, _++_, reverse, reverse-append}
 use native.Mathlib.Omega.{arith}
 use borrow.Author.Tests.{le-leb, lt-leb, leb-true}
+use denote.Ref.{RefT, now}
 use lib.Dec.{leb}
 use lib.ListN.{length, take, drop, getD, length-take, length-drop, length-reverse}
 use lib.Seq.{drop-cons, take-add, drop-drop}
 use Rattle.reads.specs.Outcome.{Outcome, value, absent, number, andThen, because, choose}
 use Rattle.reads.specs.declared.answer.Reason.the-variants.{Unreadable}
 use Rattle.reads.specs.Segment.{rows, lookup, placeAt}
-use Rattle.reads.specs.Place.{Image, imageOf, le, be, part, readableAt, readable, wordIn}
+use Rattle.reads.specs.Files.{filesLent, fileOf}
+use Rattle.reads.specs.Place.{Image, imageOf, le, be, part, readableAt, readable, wordIn, leIn}
 use Rattle.reads.specs.Answer.{placeOutcome}
 use Rattle.reads.specs.declared.place.Place.{Place}
 use Rattle.reads.specs.declared.place.Placed.{Placed}
 use Rattle.reads.specs.declared.place.Placed.the-variants as placed
+use Rattle.reads.proofs.LentFiles.{lent-below, lent-by-bytes, file-lent, file-not-lent}
 
 -- x after n bytes: times 256 for each.
 abbrev pub scaled : ℕ → ℕ → ℕ
@@ -58,57 +61,83 @@ pub be-one : (bs : List ℕ) (at : ℕ) → at + 1 ≤ length bs → be (part bs
 unfolding le
 be-one bs at h = ap be (part-one bs at h) ∙ omega arith
 
-module _ (bs : List ℕ) (offset k : ℕ) where
-  pub readable-in : offset + k ≤ length bs → value (placeAt offset) ≡ readableAt bs offset k
+module _ (n : ℕ) (p : Place) (k : ℕ) where
+  pub readable-in : p .offset + k ≤ n → value p ≡ readableAt n p k
   unfolding readableAt choose
   readable-in h = simp (le-leb _ _ h)
 
-  pub readable-out : length bs < offset + k → absent Unreadable ≡ readableAt bs offset k
+  pub readable-out : n < p .offset + k → absent Unreadable ≡ readableAt n p k
   unfolding readableAt choose
   readable-out h = simp (lt-leb _ _ h)
 
--- A place handed out for k bytes has k bytes of the image after it.
-room-by : (b : Bool) (offset k n : ℕ) (p : Place) → leb (offset + k) n ≡ b → choose b (value (placeAt offset)) (absent Unreadable) ≡ value p → p .offset + k ≤ n
+-- A place handed out for k bytes has k bytes of its file after it.
+room-by : (b : Bool) (k n : ℕ) (q p : Place) → leb (q .offset + k) n ≡ b → choose b (value q) (absent Unreadable) ≡ value p
+    → (q ≡ p) × (p .offset + k ≤ n)
 unfolding choose
-room-by true offset k n p q e = let r : placeAt offset ≡ p = cc in rw (← r) (leb-true (offset + k) n q)
-room-by false offset k n p q e = let z : _≡_ {A = ℕ} 0 1 = cc in absurd (omega arith)
+room-by true k n q p t e = let r : q ≡ p = cc in (r, rw (← r) (leb-true (q .offset + k) n t))
+room-by false k n q p t e = let z : _≡_ {A = ℕ} 0 1 = cc in absurd (omega arith)
 
-pub readable-at-room : (bs : List ℕ) (offset k : ℕ) (p : Place) → readableAt bs offset k ≡ value p → p .offset + k ≤ length bs
+readable-at-room : (n : ℕ) (q : Place) (k : ℕ) (p : Place) → readableAt n q k ≡ value p → (q ≡ p) × (p .offset + k ≤ n)
 unfolding readableAt
-readable-at-room bs offset k p e = room-by _ offset k (length bs) p refl e
+readable-at-room n q k p e = room-by _ k n q p refl e
 
-then-room : (o : Outcome Place) (bs : List ℕ) (k : ℕ) (p : Place) → andThen (because Unreadable o) (λ q. readableAt bs (q .offset) k) ≡ value p → p .offset + k ≤ length bs
-then-room (value q) bs k p e = readable-at-room bs (q .offset) k p e
-then-room (absent r) bs k p e = let z : _≡_ {A = ℕ} 0 1 = cc in absurd (omega arith)
-then-room (number j) bs k p e = let z : _≡_ {A = ℕ} 0 1 = cc in absurd (omega arith)
+module _ (fs : List (List ℕ)) (k : ℕ) where
+  then-room : (o : Outcome Place) (p : Place) → andThen (because Unreadable o) (λ q. readableAt (length (fileOf fs (q .file))) q k) ≡ value p
+      → p .offset + k ≤ length (fileOf fs (p .file))
+  then-room (value q) p e =
+      let r = readable-at-room (length (fileOf fs (q .file))) q k p e in
+      subst (λ (x : Place). p .offset + k ≤ length (fileOf fs (x .file))) (r .0) (r .1)
+  then-room (absent r) p e = let z : _≡_ {A = ℕ} 0 1 = cc in absurd (omega arith)
+  then-room (number j) p e = let z : _≡_ {A = ℕ} 0 1 = cc in absurd (omega arith)
 
-pub readable-room : (m : Image) (va k : ℕ) (p : Place) → readable m va k ≡ value p → p .offset + k ≤ length (m .bytes)
+pub readable-room : (m : Image) (va k : ℕ) (p : Place) → readable m va k ≡ value p → p .offset + k ≤ length (fileOf (m .files) (p .file))
 unfolding readable
-readable-room m va k p e = then-room (lookup (rows (m .words)) va) (m .bytes) k p e
+readable-room m va k p e = then-room (m .files) k (lookup (rows (m .words)) va) p e
 
 -- The same, of an answer of the code.
-pub answer-at-room : (w : Placed) (bs : List ℕ) (offset k : ℕ) (p : Place) → placeOutcome w ≡ readableAt bs offset k → w ≡ placed.At p → p .offset + k ≤ length bs
-answer-at-room w bs offset k p e g = readable-at-room bs offset k p (rw (← e, g))
+pub answer-at-room : (w : Placed) (n : ℕ) (q : Place) (k : ℕ) (p : Place) → placeOutcome w ≡ readableAt n q k → w ≡ placed.At p → p .offset + k ≤ n
+answer-at-room w n q k p e g = readable-at-room n q k p (rw (← e, g)) .1
 
-pub answer-room : (w : Placed) (bs ws : List ℕ) (va k : ℕ) (p : Place) → placeOutcome w ≡ readable (imageOf bs ws) va k → w ≡ placed.At p → p .offset + k ≤ length bs
-answer-room w bs ws va k p e g = readable-room (imageOf bs ws) va k p (rw (← e, g))
+-- The file of a place that was found for some bytes is lent, and holds them.
+module _ (w : Placed) (fs : List (RefT (List ℕ))) (ws : List ℕ) (va k : ℕ) (p : Place) (e : placeOutcome w ≡ readable (imageOf (filesLent fs) ws) va k)
+    (g : w ≡ placed.At p) (some : 0 < k) where
+  found-room : p .offset + k ≤ length (fileOf (filesLent fs) (p .file))
+  found-room = readable-room (imageOf (filesLent fs) ws) va k p (rw (← e, g))
 
-module _ (bs : List ℕ) (k : ℕ) (p : Place) (i : ℕ) where
-  pub word-in : p .offset + i + k ≤ length bs → le (part bs (p .offset + i) k) ≡ wordIn bs k p i
-  unfolding wordIn choose
-  word-in h = simp (le-leb _ _ h)
+  found-number : p .file < length (filesLent fs)
+  found-number = lent-by-bytes fs (p .file) (omega (arith, found-room))
 
-  pub word-out : length bs < p .offset + i + k → 0 ≡ wordIn bs k p i
-  unfolding wordIn choose
-  word-out h = simp (lt-leb _ _ h)
+  pub found-lent : p .file < length fs
+  found-lent = lent-below fs (p .file) found-number
 
--- At the place itself.
-pub word-at : (bs : List ℕ) (k : ℕ) (p : Place) → p .offset + k ≤ length bs → wordIn bs k p 0 ≡ le (part bs (p .offset) k)
-word-at bs k p h =
-    let z : p .offset + 0 ≡ p .offset = omega arith in
-    sym (word-in bs k p 0 (omega arith)) ∙ ap (λ (n : ℕ). le (part bs n k)) z
+  pub found-file : (d : RefT (List ℕ)) → now (getD fs (p .file) d) ≡ fileOf (filesLent fs) (p .file)
+  found-file d = file-lent fs (p .file) d found-number
+
+  pub found-holds : (d : RefT (List ℕ)) → p .offset + k ≤ length (now (getD fs (p .file) d))
+  found-holds d = rw (found-file d) found-room
+
+-- Numbers of one slice.
+module _ (bs : List ℕ) (k offset : ℕ) where
+  pub le-inside : offset + k ≤ length bs → le (part bs offset k) ≡ leIn bs k offset
+  unfolding leIn choose
+  le-inside h = simp (le-leb _ _ h)
+
+  pub le-outside : length bs < offset + k → 0 ≡ leIn bs k offset
+  unfolding leIn choose
+  le-outside h = simp (lt-leb _ _ h)
+
+-- Numbers at i bytes from a place: those of its file, which has none where it is not lent.
+module _ (fs : List (RefT (List ℕ))) (p : Place) (i k : ℕ) where
+  pub word-lent : (d : RefT (List ℕ)) → p .file < length (filesLent fs) → leIn (now (getD fs (p .file) d)) k (p .offset + i) ≡ wordIn (filesLent fs) k p i
+  unfolding wordIn
+  word-lent d h = ap (λ (bs : List ℕ). leIn bs k (p .offset + i)) (file-lent fs (p .file) d h)
+
+  pub word-not-lent : 0 < k → length (filesLent fs) ≤ p .file → 0 ≡ wordIn (filesLent fs) k p i
+  unfolding wordIn
+  word-not-lent some h =
+      le-outside [] k (p .offset + i) (omega arith) ∙ ap (λ (bs : List ℕ). leIn bs k (p .offset + i)) (file-not-lent fs (p .file) h)
 
 -- The number at i bytes from a place is the one at the place i bytes on.
-pub word-in-on : (bytes : List ℕ) (k offset i : ℕ) → wordIn bytes k (placeAt offset) i ≡ wordIn bytes k (placeAt (offset + i)) 0
+pub word-in-on : (files : List (List ℕ)) (k file offset i : ℕ) → wordIn files k (placeAt file offset) i ≡ wordIn files k (placeAt file (offset + i)) 0
 unfolding wordIn
-word-in-on bytes k offset i = let e : offset + i + 0 ≡ offset + i = omega arith in rw e
+word-in-on files k file offset i = let e : offset + i + 0 ≡ offset + i = omega arith in rw e

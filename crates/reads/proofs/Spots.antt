@@ -9,9 +9,10 @@ use lib.ListN.{length}
 use borrow.Author.Tests.{leb-true, leb-false, ltb-false, le-leb, lt-leb, lt-ltb, eqb-true, eqb-false, eq-eqb, ne-eqb}
 use Rattle.reads.specs.Outcome.{Outcome, value, absent, andThen, because, choose}
 use Rattle.reads.specs.declared.answer.Reason.the-variants.{Unmapped, Unreadable}
+use Rattle.reads.specs.Files.{fileOf}
 use Rattle.reads.specs.Table.{records}
 use Rattle.reads.specs.Segment.{segmentWords, segmentAt, rows, ends, holds, mappedSize, placeAt, placed, lookup}
-use Rattle.reads.specs.Place.{Image, le, part, readableAt, readable, word, wordIn}
+use Rattle.reads.specs.Place.{Image, readableAt, readable, word, wordIn}
 use Rattle.reads.specs.Spot.{spot, nowhere, distance, spotAt, spotFrom, spotIn, readableSpot, spotPlace}
 use Rattle.reads.specs.declared.place.Place.{Place}
 use Rattle.reads.specs.declared.segment.Segment.{Segment}
@@ -19,7 +20,7 @@ use Rattle.reads.specs.declared.spot.Spot.{Spot}
 use native.Mathlib.Decide.{decLe}
 use Rattle.reads.proofs.Lookups.{ends-not, holds-none, holds-before, holds-is, placed-past, placed-over, placed-at}
 use Rattle.reads.proofs.Breakpoints.{holds-not-past}
-use Rattle.reads.proofs.Numbers.{readable-in, readable-out}
+use Rattle.reads.proofs.Numbers.{readable-in, readable-out, le-inside}
 use Rattle.reads.proofs.SegmentRows.{rowsFrom, rows-read, rows-none}
 use Rattle.reads.proofs.Tests.{by-choose, choose-true, choose-false}
 
@@ -103,6 +104,19 @@ module _ (s : Segment) (va : ℕ) (e : ends s ≡ false) where
 one-less : (x y : ℕ) → 0 < x → 0 < y → min (x - 1) (y - 1) + 1 ≡ min x y
 one-less x y p q = omega arith
 
+left-of : (n x y : ℕ) → x < n → y < n → 0 < n - max x y
+left-of n x y h l = omega arith
+
+one-off : (n x : ℕ) → n - 1 - x ≡ n - x - 1
+one-off n x = omega arith
+
+-- Sums that the code makes stay within 64 bits.
+pub sum-within : (a b : ℕ) → a < 2 ^ 64 → b ≤ 2 ^ 64 - 1 - a → a + b < 2 ^ 64
+sum-within a b h l = omega arith
+
+pub room-fits : (r x d y : ℕ) → x < 2 ^ 64 → r ≡ min (x - d - 1) y → r + 1 < 2 ^ 64
+room-fits r x d y h e = omega arith
+
 -- The spot in a segment that holds the address.
 module _ (s : Segment) (far va d : ℕ) (h : holds s va ≡ true) (e : d ≡ distance s va) where
   held-distance : d ≡ va - s .vmaddr
@@ -119,14 +133,14 @@ module _ (s : Segment) (far va d : ℕ) (h : holds s va ≡ true) (e : d ≡ dis
   unfolding spotAt
   spot-over l o = sym (choose-true _ _ (rw (← held-distance, le-leb (2 ^ 64) (s .fileoff + d) o) (or-true (leb (s .filesize) d))))
 
-  pub spot-there : (last : ℕ) → d < s .filesize → s .fileoff + d < 2 ^ 64 → far < 2 ^ 64 → last ≡ min (s .filesize) (s .vmsize) - d - 1
-      → spot (s .fileoff + d) (min last (2 ^ 64 - 1 - far) + 1) ≡ spotAt s far va
+  pub spot-there : (last most : ℕ) → d < s .filesize → s .fileoff + d < 2 ^ 64 → far < 2 ^ 64 → last ≡ min (s .filesize) (s .vmsize) - d - 1
+      → most ≡ max far (s .fileoff + d) → spot (s .file) (s .fileoff + d) (min last (2 ^ 64 - 1 - most) + 1) ≡ spotAt s far va
   unfolding spotAt mappedSize
-  spot-there last l o f q =
+  spot-there last most l o f q r =
       let left = min (s .filesize) (s .vmsize) - d in
       let some : 0 < left = omega (arith, held-inside) in
-      let most : 2 ^ 64 - 1 - far ≡ 2 ^ 64 - far - 1 = omega arith in
-      rw (q, most, one-less left (2 ^ 64 - far) some (omega arith))
+      let farther = max far (s .fileoff + d) in
+      rw (q, r, one-off (2 ^ 64) farther, one-less left (2 ^ 64 - farther) some (left-of (2 ^ 64) far (s .fileoff + d) f o))
       (sym (rw (← held-distance) (choose-false _ _ (rw (lt-leb (s .filesize) d l, lt-leb (2 ^ 64) (s .fileoff + d) o)))))
 
 pub spot-out : (ws : List ℕ) (i far va : ℕ) → records segmentWords ws ≤ i → spotFrom far (rowsFrom ws i) va ≡ nowhere
@@ -149,13 +163,14 @@ module _ (ws : List ℕ) (i : ℕ) (fits : i < records segmentWords ws) (s : Seg
 
 -- The spot of bytes that can be read, by the tests that the code makes.
 module _ (m : Image) (va k : ℕ) (s : Spot) (is : s ≡ spotIn (m .words) va) where
-  pub spot-read : s .offset + k ≤ length (m .bytes) → s ≡ readableSpot m va k
-  unfolding readableSpot
-  spot-read h = rw (← is) (sym (choose-true _ _ (le-leb (s .offset + k) (length (m .bytes)) h)))
+  module _ (n : ℕ) (long : n ≡ length (fileOf (m .files) (s .file))) where
+    pub spot-read : s .offset + k ≤ n → s ≡ readableSpot m va k
+    unfolding readableSpot
+    spot-read h = rw (← is, ← long) (sym (choose-true _ _ (le-leb (s .offset + k) n h)))
 
-  pub spot-unread : length (m .bytes) < s .offset + k → nowhere ≡ readableSpot m va k
-  unfolding readableSpot
-  spot-unread h = rw (← is) (sym (choose-false _ _ (lt-leb (s .offset + k) (length (m .bytes)) h)))
+    pub spot-unread : n < s .offset + k → nowhere ≡ readableSpot m va k
+    unfolding readableSpot
+    spot-unread h = rw (← is, ← long) (sym (choose-false _ _ (lt-leb (s .offset + k) n h)))
 
 -- The place of a spot, by the test that the code makes; one that has a place has room.
 module _ (s : Spot) where
@@ -163,26 +178,26 @@ module _ (s : Spot) where
   unfolding spotPlace
   place-none z = sym (choose-true _ _ (eq-eqb (s .room) 0 z))
 
-  pub place-some : (s .room ≡ 0 → ⊥) → value (placeAt (s .offset)) ≡ spotPlace s
+  pub place-some : (s .room ≡ 0 → ⊥) → value (placeAt (s .file) (s .offset)) ≡ spotPlace s
   unfolding spotPlace
   place-some n = sym (choose-false _ _ (ne-eqb (s .room) 0 n))
 
   pub placed-has-room : {p : Place} → spotPlace s ≡ value p → s .room ≡ 0 → ⊥
   placed-has-room e z = let f = place-none z in let c : _≡_ {A = ℕ} 0 1 = cc in omega arith
 
-  pub placed-is : {p : Place} → spotPlace s ≡ value p → p ≡ placeAt (s .offset)
+  pub placed-is : {p : Place} → spotPlace s ≡ value p → p ≡ placeAt (s .file) (s .offset)
   placed-is e = let f = place-some (placed-has-room e) in cc
 
 -- A spot is where a lookup leads, and for as many bytes as its room the place moves with the address.
 pub record Leads (ss : List Segment) (va : ℕ) (s : Spot) : Type 0 where
   pub absent-where-none : s .room ≡ 0 → lookup ss va ≡ absent Unmapped
-  pub there : (s .room ≡ 0 → ⊥) → lookup ss va ≡ value (placeAt (s .offset))
+  pub there : (s .room ≡ 0 → ⊥) → lookup ss va ≡ value (placeAt (s .file) (s .offset))
   pub inWords : (k : ℕ) → k < s .room → va + k < 2 ^ 64
-  pub moves : (k : ℕ) → k < s .room → s .offset + k < 2 ^ 64 → lookup ss (va + k) ≡ value (placeAt (s .offset + k))
+  pub moves : (k : ℕ) → k < s .room → lookup ss (va + k) ≡ value (placeAt (s .file) (s .offset + k))
 
 no-room : (ss : List Segment) (va : ℕ) → lookup ss va ≡ absent Unmapped → Leads ss va nowhere
 no-room ss va e =
-    record { absent-where-none = λ z. e; there = λ n. absurd (n refl); inWords = λ k h. absurd (omega arith); moves = λ k h o. absurd (omega arith) }
+    record { absent-where-none = λ z. e; there = λ n. absurd (n refl); inWords = λ k h. absurd (omega arith); moves = λ k h. absurd (omega arith) }
 
 -- The first of the segments decides, or is passed.
 module _ (s : Segment) (ss : List Segment) where
@@ -240,14 +255,14 @@ module _ (s : Segment) (ss : List Segment) (far va : ℕ) (f : far < 2 ^ 64) (e 
       let u = holds-is s va h in
       rw (lt-ltb 0 (s .filesize) (u .0), le-leb (s .vmaddr) (va + k) (omega (arith, u .1)), lt-ltb (va + k) (s .vmaddr + s .vmsize) (omega (arith, u .1)))
 
-  placed-further : (k : ℕ) → d + k < s .filesize → s .fileoff + d + k < 2 ^ 64 → placed s (va + k) ≡ value (placeAt (s .fileoff + d + k))
+  placed-further : (k : ℕ) → d + k < s .filesize → s .fileoff + d + k < 2 ^ 64 → placed s (va + k) ≡ value (placeAt (s .file) (s .fileoff + d + k))
   placed-further k l o =
       let u = holds-is s va h in
       let q : va + k - s .vmaddr ≡ d + k = omega (arith, u .1) in
       let z : s .fileoff + (va + k - s .vmaddr) ≡ s .fileoff + d + k = omega arith in
-      sym (placed-at s (va + k) (omega arith) (omega arith)) ∙ ap (λ (x : ℕ). value (placeAt x)) z
+      sym (placed-at s (va + k) (omega arith) (omega arith)) ∙ ap (λ (x : ℕ). value (placeAt (s .file) x)) z
 
-  there-leads : d < s .filesize → s .fileoff + d < 2 ^ 64 → Leads (s ∷ ss) va (spot (s .fileoff + d) (min (mappedSize s - d) (2 ^ 64 - far)))
+  there-leads : d < s .filesize → s .fileoff + d < 2 ^ 64 → Leads (s ∷ ss) va (spot (s .file) (s .fileoff + d) (min (mappedSize s - d) (2 ^ 64 - max far (s .fileoff + d))))
   unfolding mappedSize
   there-leads l o =
       let u = holds-is s va h in
@@ -256,7 +271,7 @@ module _ (s : Segment) (ss : List Segment) (far va : ℕ) (f : far < 2 ^ 64) (e 
         absent-where-none = λ z. absurd (omega arith);
         there = λ n. first-holds s ss va e h ∙ sym (placed-at s va l o);
         inWords = λ k g. let w = ends-not s e in omega (arith, u .1);
-        moves = λ k g q. first-holds s ss (va + k) e (holds-further k (omega arith)) ∙ placed-further k (omega arith) q;
+        moves = λ k g. first-holds s ss (va + k) e (holds-further k (omega arith)) ∙ placed-further k (omega arith) (omega arith);
       }
 
   held-leads : Leads (s ∷ ss) va (spotAt s far va)
@@ -267,7 +282,7 @@ module _ (s : Segment) (ss : List Segment) (far va : ℕ) (f : far < 2 ^ 64) (e 
       missed p = no-room (s ∷ ss) va (first-holds s ss va e h ∙ p)
 
       go : (a : Bool) → leb (s .filesize) d ≡ a → (b : Bool) → leb (2 ^ 64) (s .fileoff + d) ≡ b
-          → Leads (s ∷ ss) va (choose (a || b) nowhere (spot (s .fileoff + d) (min (mappedSize s - d) (2 ^ 64 - far))))
+          → Leads (s ∷ ss) va (choose (a || b) nowhere (spot (s .file) (s .fileoff + d) (min (mappedSize s - d) (2 ^ 64 - max far (s .fileoff + d)))))
       go true p b q = unfold choose in missed (sym (placed-past s va (leb-true (s .filesize) d p)))
       go false p true q = unfold choose in missed (sym (placed-over s va (leb-false (s .filesize) d p) (leb-true (2 ^ 64) (s .fileoff + d) q)))
       go false p false q = unfold choose in there-leads (leb-false (s .filesize) d p) (leb-false (2 ^ 64) (s .fileoff + d) q)
@@ -289,7 +304,7 @@ spot-leads (s ∷ ss) far va f w = go (ends s) refl (holds s va) refl (spot-lead
           there = λ n. first-passed s ss va e h ∙ ih .there n;
           inWords = ih .inWords;
           moves =
-              λ k g q. first-passed s ss (va + k) e (still-not s va e k w (ih .inWords k g) (omega arith) h) ∙ ih .moves k g q;
+              λ k g. first-passed s ss (va + k) e (still-not s va e k w (ih .inWords k g) (omega arith) h) ∙ ih .moves k g;
         })
 
 -- The spot of bytes that can be read: none where they cannot be, else their place.
@@ -300,30 +315,32 @@ module _ (m : Image) (va size : ℕ) (w : va < 2 ^ 64) where
   leads : Leads (rows (m .words)) va whole
   leads = spot-leads (rows (m .words)) 0 va (omega arith) w
 
-  by-lookup : {o : Outcome Place} → lookup (rows (m .words)) va ≡ o → readable m va size ≡ andThen (because Unreadable o) (λ p. readableAt (m .bytes) (p .offset) size)
+  by-lookup : {o : Outcome Place} → lookup (rows (m .words)) va ≡ o
+      → readable m va size ≡ andThen (because Unreadable o) (λ p. readableAt (length (fileOf (m .files) (p .file))) p size)
   unfolding readable
-  by-lookup e = ap (λ (x : Outcome Place). andThen (because Unreadable x) (λ p. readableAt (m .bytes) (p .offset) size)) e
+  by-lookup e =
+      ap (λ (x : Outcome Place). andThen (because Unreadable x) (λ p. readableAt (length (fileOf (m .files) (p .file))) p size)) e
 
   -- The spot is there, or it has no room.
   pub data Seen (s : Spot) : Type 0 where
-    seen : (s .room ≡ 0 → ⊥) → s ≡ whole → s .offset + size ≤ length (m .bytes) → readable m va size ≡ value (placeAt (s .offset)) → Seen s
+    seen : (s .room ≡ 0 → ⊥) → s ≡ whole → s .offset + size ≤ length (fileOf (m .files) (s .file)) → readable m va size ≡ value (placeAt (s .file) (s .offset)) → Seen s
     unseen : s .room ≡ 0 → readable m va size ≡ absent Unreadable → Seen s
 
   is-seen : Seen (readableSpot m va size)
   unfolding readableSpot choose
-  is-seen = go (eqb (whole .room) 0) refl (leb (whole .offset + size) (length (m .bytes))) refl
+  is-seen = go (eqb (whole .room) 0) refl (leb (whole .offset + size) (length (fileOf (m .files) (whole .file)))) refl
     where
-      go : (z : Bool) → eqb (whole .room) 0 ≡ z → (b : Bool) → leb (whole .offset + size) (length (m .bytes)) ≡ b → Seen (choose b whole nowhere)
+      go : (z : Bool) → eqb (whole .room) 0 ≡ z → (b : Bool) → leb (whole .offset + size) (length (fileOf (m .files) (whole .file))) ≡ b → Seen (choose b whole nowhere)
       go true z true q = let n = eqb-true (whole .room) 0 z in unseen n (by-lookup (leads .absent-where-none n))
       go true z false q = let n = eqb-true (whole .room) 0 z in unseen refl (by-lookup (leads .absent-where-none n))
       go false z true q =
           let n = eqb-false (whole .room) 0 z in
-          let h = leb-true (whole .offset + size) (length (m .bytes)) q in
-          seen n refl h (by-lookup (leads .there n) ∙ sym (readable-in (m .bytes) (whole .offset) size h))
+          let h = leb-true (whole .offset + size) (length (fileOf (m .files) (whole .file))) q in
+          seen n refl h (by-lookup (leads .there n) ∙ sym (readable-in (length (fileOf (m .files) (whole .file))) (placeAt (whole .file) (whole .offset)) size h))
       go false z false q =
           let n = eqb-false (whole .room) 0 z in
-          let h = leb-false (whole .offset + size) (length (m .bytes)) q in
-          unseen refl (by-lookup (leads .there n) ∙ sym (readable-out (m .bytes) (whole .offset) size h))
+          let h = leb-false (whole .offset + size) (length (fileOf (m .files) (whole .file))) q in
+          unseen refl (by-lookup (leads .there n) ∙ sym (readable-out (length (fileOf (m .files) (whole .file))) (placeAt (whole .file) (whole .offset)) size h))
 
   module _ (s : Spot) (is : s ≡ readableSpot m va size) where
     pub spot-seen : Seen s
@@ -340,10 +357,10 @@ module _ (m : Image) (va size : ℕ) (w : va < 2 ^ 64) where
         (λ e. elim spot-seen [ seen n q h r ↦ sym r | unseen z r ↦ absurd (eqb-false (s .room) 0 e z) ])
 
     module _ (n : s .room ≡ 0 → ⊥) where
-      pub spot-readable : value (placeAt (s .offset)) ≡ readable m va size
+      pub spot-readable : value (placeAt (s .file) (s .offset)) ≡ readable m va size
       spot-readable = elim spot-seen [ seen n e h r ↦ sym r | unseen z r ↦ absurd (n z) ]
 
-      spot-whole : (s ≡ whole) × (s .offset + size ≤ length (m .bytes))
+      spot-whole : (s ≡ whole) × (s .offset + size ≤ length (fileOf (m .files) (s .file)))
       spot-whole = elim spot-seen [ seen n e h r ↦ (e, h) | unseen z r ↦ absurd (n z) ]
 
       -- The addresses in its room fit 64 bits.
@@ -351,13 +368,13 @@ module _ (m : Image) (va size : ℕ) (w : va < 2 ^ 64) where
       near-fits i l = leads .inWords i (subst (λ (x : Spot). i < x .room) (spot-whole .0) l)
 
       -- A word near it is the word that a lookup gives.
-      module _ (short : length (m .bytes) < 2 ^ 64) (i : ℕ) (h : i + 8 ≤ size) where
-        pub near-word-in : i < s .room → value (wordIn (m .bytes) 8 (placeAt (s .offset)) i) ≡ word m 8 (va + i)
+      module _ (i : ℕ) (h : i + 8 ≤ size) where
+        pub near-word-in : i < s .room → value (wordIn (m .files) 8 (placeAt (s .file) (s .offset)) i) ≡ word m 8 (va + i)
         unfolding word readable wordIn
         near-word-in l =
             let u = spot-whole in
-            let few : s .offset + i < 2 ^ 64 = omega (arith, u .1) in
-            let moved : lookup (rows (m .words)) (va + i) ≡ value (placeAt (s .offset + i)) =
-            subst (λ (x : Spot). i < x .room → x .offset + i < 2 ^ 64 → lookup (rows (m .words)) (va + i) ≡ value (placeAt (x .offset + i))) (sym (u .0)) (leads .moves i) l few in
-            let inside : s .offset + i + 8 ≤ length (m .bytes) = omega (arith, u .1) in
-            rw (moved, ← readable-in (m .bytes) (s .offset + i) 8 inside, choose-true (le (part (m .bytes) (s .offset + i) 8)) 0 (le-leb (s .offset + i + 8) (length (m .bytes)) inside))
+            let bytes = fileOf (m .files) (s .file) in
+            let moved : lookup (rows (m .words)) (va + i) ≡ value (placeAt (s .file) (s .offset + i)) =
+            subst (λ (x : Spot). i < x .room → lookup (rows (m .words)) (va + i) ≡ value (placeAt (x .file) (x .offset + i))) (sym (u .0)) (leads .moves i) l in
+            let inside : s .offset + i + 8 ≤ length bytes = omega (arith, u .1) in
+            rw (moved, ← readable-in (length bytes) (placeAt (s .file) (s .offset + i)) 8 inside, ← le-inside bytes 8 (s .offset + i) inside)

@@ -10,12 +10,13 @@ use lib.ListN.{length, getD, take, drop, length-drop, drop-of-length-le}
 use borrow.Author.Tests.{le-leb, lt-leb, leb-true}
 use lib.Seq.{take-all, drop-cons}
 use Rattle.reads.specs.Outcome.{Outcome, value, absent, number, andThen, choose, nonzero, textOf}
+use Rattle.reads.specs.Files.{fileOf}
 use Rattle.reads.specs.Segment.{rows, lookup}
 use Rattle.reads.specs.Place.{Image}
 use Rattle.reads.specs.declared.place.Place.{Place}
 use Rattle.reads.specs.Answer.{missed}
 use Rattle.reads.specs.Utf8.{judge, verdict, isGood, utf8}
-use Rattle.reads.specs.Text.{text, scanned, scanOf, ifGood, goodText, ended, ifEnded, textOfScan, textAt, textIn, readAt, orNone, lengthPlusOne, fixedLength}
+use Rattle.reads.specs.Text.{text, scanned, scanOf, ifGood, goodText, ended, ifEnded, textOfScan, textFrom, textAt, textIn, readFrom, orNone, lengthPlusOne, fixedLength}
 use Rattle.reads.specs.Pass.{byteAfter, brokenAt}
 use Rattle.reads.specs.declared.text.ByteRead.{ByteRead}
 use Rattle.reads.specs.declared.text.Reading.{Reading}
@@ -88,46 +89,46 @@ scan-broken {s} {k} b = rw (b .long, b .judged)
 
 -- What the answers come to
 
-module _ (offset : ℕ) (c : Scan) where
-  pub scan-found : c .verdict ≡ Good → value (textOf offset (c .len)) ≡ goodText offset c
-  scan-found e = ap (λ (v : Verdict). andThen (ifGood v (c .len)) (λ n. value (textOf offset n))) (sym e)
+module _ (p : Place) (c : Scan) where
+  pub scan-found : c .verdict ≡ Good → value (textOf (p .file) (p .offset) (c .len)) ≡ goodText p c
+  scan-found e = ap (λ (v : Verdict). andThen (ifGood v (c .len)) (λ n. value (textOf (p .file) (p .offset) n))) (sym e)
 
-  pub scan-missed : (k : ℕ) → c .verdict ≡ Bad k → absent (NotUtf8 k) ≡ goodText offset c
-  scan-missed k e = ap (λ (v : Verdict). andThen (ifGood v (c .len)) (λ n. value (textOf offset n))) (sym e)
+  pub scan-missed : (k : ℕ) → c .verdict ≡ Bad k → absent (NotUtf8 k) ≡ goodText p c
+  scan-missed k e = ap (λ (v : Verdict). andThen (ifGood v (c .len)) (λ n. value (textOf (p .file) (p .offset) n))) (sym e)
 
-  pub scan-old : {r : Reading} → r ≡ Old → goodText offset c ≡ textOfScan r offset c
-  scan-old q = ap (λ (r : Reading). textOfScan r offset c) (sym q)
+  pub scan-old : {r : Reading} → r ≡ Old → goodText p c ≡ textOfScan r p c
+  scan-old q = ap (λ (r : Reading). textOfScan r p c) (sym q)
 
-  pub scan-ended : {r : Reading} → r ≡ New → ended c ≡ true → goodText offset c ≡ textOfScan r offset c
-  scan-ended q e = ap (λ (x : Bool). ifEnded New x (goodText offset c)) (sym e) ∙ ap (λ (r : Reading). textOfScan r offset c) (sym q)
+  pub scan-ended : {r : Reading} → r ≡ New → ended c ≡ true → goodText p c ≡ textOfScan r p c
+  scan-ended q e = ap (λ (x : Bool). ifEnded New x (goodText p c)) (sym e) ∙ ap (λ (r : Reading). textOfScan r p c) (sym q)
 
-  pub scan-endless : {r : Reading} → r ≡ New → ended c ≡ false → absent Unterminated ≡ textOfScan r offset c
-  scan-endless q e = ap (λ (x : Bool). ifEnded New x (goodText offset c)) (sym e) ∙ ap (λ (r : Reading). textOfScan r offset c) (sym q)
+  pub scan-endless : {r : Reading} → r ≡ New → ended c ≡ false → absent Unterminated ≡ textOfScan r p c
+  scan-endless q e = ap (λ (x : Bool). ifEnded New x (goodText p c)) (sym e) ∙ ap (λ (r : Reading). textOfScan r p c) (sym q)
 
-module _ (r : Reading) (bytes : List ℕ) (offset : ℕ) where
-  module _ (h : length bytes < offset) where
-    pub text-beyond : absent PastEnd ≡ textAt r bytes offset
-    unfolding textAt choose
-    text-beyond = simp (lt-leb offset (length bytes) h)
+module _ (r : Reading) (bytes : List ℕ) (p : Place) where
+  module _ (h : length bytes < p .offset) where
+    pub text-beyond : absent PastEnd ≡ textFrom r bytes p
+    unfolding textFrom choose
+    text-beyond = simp (lt-leb (p .offset) (length bytes) h)
 
-    pub read-beyond : 0 ≡ readAt bytes offset
-    unfolding readAt text
-    read-beyond = let k : length bytes ≤ offset = omega arith in rw (drop-of-length-le bytes k)
+    pub read-beyond : 0 ≡ readFrom bytes (p .offset)
+    unfolding readFrom text
+    read-beyond = let k : length bytes ≤ p .offset = omega arith in rw (drop-of-length-le bytes k)
 
-  -- Within the image, by the scan of the rest of it.
-  module _ (h : offset ≤ length bytes) {c : Scan} (e : c ≡ scanOf (take (length bytes - offset) (drop offset bytes))) where
-    all-taken : take (length bytes - offset) (drop offset bytes) ≡ drop offset bytes
-    all-taken = take-all (length bytes - offset) (drop offset bytes) (omega (arith, length-drop offset bytes))
+  -- Within the file, by the scan of the rest of it.
+  module _ (h : p .offset ≤ length bytes) {c : Scan} (e : c ≡ scanOf (take (length bytes - p .offset) (drop (p .offset) bytes))) where
+    all-taken : take (length bytes - p .offset) (drop (p .offset) bytes) ≡ drop (p .offset) bytes
+    all-taken = take-all (length bytes - p .offset) (drop (p .offset) bytes) (omega (arith, length-drop (p .offset) bytes))
 
-    scan-rest : c ≡ scanOf (drop offset bytes)
+    scan-rest : c ≡ scanOf (drop (p .offset) bytes)
     scan-rest = e ∙ ap scanOf all-taken
 
-    pub text-scanned : textOfScan r offset c ≡ textAt r bytes offset
-    unfolding textAt choose
-    text-scanned = ap (textOfScan r offset) scan-rest ∙ simp (le-leb offset (length bytes) h)
+    pub text-scanned : textOfScan r p c ≡ textFrom r bytes p
+    unfolding textFrom choose
+    text-scanned = ap (textOfScan r p) scan-rest ∙ simp (le-leb (p .offset) (length bytes) h)
 
-    pub read-scanned : c .read ≡ readAt bytes offset
-    unfolding readAt
+    pub read-scanned : c .read ≡ readFrom bytes (p .offset)
+    unfolding readFrom
     read-scanned = ap (λ (x : Scan). x .read) scan-rest
 
 pub none-read : (m : Missing) → 0 ≡ orNone (missed m)
@@ -152,7 +153,7 @@ module _ (s : List ℕ) {c : Scan} (e : c ≡ scanOf s) where
   unfolding choose
   fixed-bad k v = ap (λ (x : Verdict). choose (isGood x) (c .len) 0) (sym v) ∙ fixed-by
 
--- A text lies in the image
+-- A text lies in its file
 -- What is there under a reading is there under the old one.
 ended-value : (r : Reading) (e x : Bool) (t : Text) (o : Outcome Text) → value t ≡ choose x (ifEnded r e o) (absent PastEnd)
     → value t ≡ choose x o (absent PastEnd)
@@ -171,33 +172,41 @@ text-short (b ∷ s) = go (eqb b 0) (text-short s)
     go true e = unfold choose in omega arith
     go false e = unfold choose in omega arith
 
-pub text-inside : (r : Reading) (bytes : List ℕ) (offset : ℕ) (t : Text) → value t ≡ textAt r bytes offset → t .offset + t .len ≤ length bytes
-unfolding textAt
-text-inside r bytes offset t e =
-    go (leb offset (length bytes)) refl (verdict (text (drop offset bytes)))
-    (ended-value r (ended (scanOf (drop offset bytes))) (leb offset (length bytes)) t (goodText offset (scanOf (drop offset bytes))) e)
+pub text-inside : (r : Reading) (bytes : List ℕ) (p : Place) (t : Text) → value t ≡ textFrom r bytes p
+    → (t .file ≡ p .file) × (t .offset + t .len ≤ length bytes)
+unfolding textFrom
+text-inside r bytes p t e =
+    go (leb (p .offset) (length bytes)) refl (verdict (text (drop (p .offset) bytes)))
+    (ended-value r (ended (scanOf (drop (p .offset) bytes))) (leb (p .offset) (length bytes)) t (goodText p (scanOf (drop (p .offset) bytes))) e)
   where
-    go : (x : Bool) → leb offset (length bytes) ≡ x → (v : Verdict)
-        → value t ≡ choose x (andThen (ifGood v (length (text (drop offset bytes)))) (λ n. value (textOf offset n))) (absent PastEnd)
-        → t .offset + t .len ≤ length bytes
+    go : (x : Bool) → leb (p .offset) (length bytes) ≡ x → (v : Verdict)
+        → value t ≡ choose x (andThen (ifGood v (length (text (drop (p .offset) bytes)))) (λ n. value (textOf (p .file) (p .offset) n))) (absent PastEnd)
+        → (t .file ≡ p .file) × (t .offset + t .len ≤ length bytes)
     go true h Good q =
-        let p : t ≡ textOf offset (length (text (drop offset bytes))) = unfold choose in cc in
-        let i = leb-true offset (length bytes) h in
-        omega (arith, ap (λ (u : Text). u .offset) p, ap (λ (u : Text). u .len) p, text-short (drop offset bytes), length-drop offset bytes)
+        let same : t ≡ textOf (p .file) (p .offset) (length (text (drop (p .offset) bytes))) = unfold choose in cc in
+        let i = leb-true (p .offset) (length bytes) h in (
+          ap (λ (u : Text). u .file) same,
+          omega (arith, ap (λ (u : Text). u .offset) same, ap (λ (u : Text). u .len) same, text-short (drop (p .offset) bytes), length-drop (p .offset) bytes),
+        )
     go true h (Bad k) q = let z : _≡_ {A = ℕ} 0 1 = unfold choose in cc in absurd (omega arith)
     go false h v q = let z : _≡_ {A = ℕ} 0 1 = unfold choose in cc in absurd (omega arith)
 
--- A text handed out at an address lies inside the image too.
-place-inside : (r : Reading) (bytes : List ℕ) (o : Outcome Place) (t : Text) → value t ≡ andThen o (λ p. textAt r bytes (p .offset)) → t .offset + t .len ≤ length bytes
-place-inside r bytes (value p) t e = text-inside r bytes (p .offset) t e
-place-inside r bytes (absent why) t e = let z : _≡_ {A = ℕ} 0 1 = cc in absurd (omega arith)
-place-inside r bytes (number k) t e = let z : _≡_ {A = ℕ} 0 1 = cc in absurd (omega arith)
+-- A text handed out at an address lies inside its file too.
+abbrev Inside : List (List ℕ) → Text → Type 0
+Inside files t = t .offset + t .len ≤ length (fileOf files (t .file))
 
-pub text-in-inside : (r : Reading) (m : Image) (va : ℕ) (t : Text) → value t ≡ textIn r m va → t .offset + t .len ≤ length (m .bytes)
+place-inside : (r : Reading) (files : List (List ℕ)) (o : Outcome Place) (t : Text) → value t ≡ andThen o (λ p. textAt r files p) → Inside files t
+place-inside r files (value p) t e =
+    let u = text-inside r (fileOf files (p .file)) p t e in
+    subst (λ (f : ℕ). t .offset + t .len ≤ length (fileOf files f)) (sym (u .0)) (u .1)
+place-inside r files (absent why) t e = let z : _≡_ {A = ℕ} 0 1 = cc in absurd (omega arith)
+place-inside r files (number k) t e = let z : _≡_ {A = ℕ} 0 1 = cc in absurd (omega arith)
+
+pub text-in-inside : (r : Reading) (m : Image) (va : ℕ) (t : Text) → value t ≡ textIn r m va → t .offset + t .len ≤ length (fileOf (m .files) (t .file))
 unfolding textIn
 text-in-inside r m va t e = go (nonzero va) e
   where
-    go : (o : Outcome ℕ) → value t ≡ andThen o (λ a. andThen (lookup (rows (m .words)) a) (λ p. textAt r (m .bytes) (p .offset))) → t .offset + t .len ≤ length (m .bytes)
-    go (value a) q = place-inside r (m .bytes) (lookup (rows (m .words)) a) t q
+    go : (o : Outcome ℕ) → value t ≡ andThen o (λ a. andThen (lookup (rows (m .words)) a) (λ p. textAt r (m .files) p)) → Inside (m .files) t
+    go (value a) q = place-inside r (m .files) (lookup (rows (m .words)) a) t q
     go (absent why) q = let z : _≡_ {A = ℕ} 0 1 = cc in absurd (omega arith)
     go (number k) q = let z : _≡_ {A = ℕ} 0 1 = cc in absurd (omega arith)

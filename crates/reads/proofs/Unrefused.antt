@@ -5,13 +5,15 @@ use mathlib.Core.List.{List, [], _∷_}
 use Prim.Native.Nat.{ℕ, _+_, _-_}
 use lib.ListN.{length, drop}
 use Rattle.reads.specs.Outcome.{Outcome, value, Unrefused, is-value, is-absent, andThen, because, orElse, orFirst, orZero, orEmpty, choose, sum64, nonzero, textOf}
+use Rattle.reads.specs.Files.{fileOf}
 use Rattle.reads.specs.Segment.{rows, placeAt, placed, lookup}
 use Rattle.reads.specs.Place.{Image, le, part, readableAt, readable, word}
 use Rattle.reads.specs.Utf8.{verdict}
-use Rattle.reads.specs.Text.{scanOf, ifGood, goodText, ended, ifEnded, textAt, textIn}
+use Rattle.reads.specs.Text.{scanOf, ifGood, goodText, ended, ifEnded, textFrom, textAt, textIn}
 use Rattle.reads.specs.Address.{dataArm64e, data64, mapped, pickedWide, picked}
 use Rattle.reads.specs.declared.answer.Reason.{Reason}
 use Rattle.reads.specs.declared.answer.Reason.the-variants.{NullAddress, Unmapped, PastEnd, Unterminated, NotUtf8, NoData, Unreadable, FieldOverflow}
+use Rattle.reads.specs.declared.place.Place.{Place}
 use Rattle.reads.specs.declared.text.Reading.{Reading}
 use Rattle.reads.specs.declared.text.Reading.the-variants.{Old, New}
 use Rattle.reads.specs.declared.text.Scan.{Scan}
@@ -46,7 +48,7 @@ pub unrefused-zero : {o : Outcome ℕ} → Unrefused o → Unrefused (orZero o)
 unrefused-zero u = unrefused-else u (is-value 0)
 
 pub unrefused-empty : {o : Outcome Text} → Unrefused o → Unrefused (orEmpty o)
-unrefused-empty u = unrefused-else u (is-value (textOf 0 0))
+unrefused-empty u = unrefused-else u (is-value (textOf 0 0 0))
 
 pub unrefused-choose : {A : Type 0} (b : Bool) {o p : Outcome A} → Unrefused o → Unrefused p → Unrefused (choose b o p)
 unrefused-choose b u v = by-choose Unrefused (λ e. u) (λ e. v)
@@ -63,7 +65,7 @@ placed-unrefused : (s : Segment) (va : ℕ) → Unrefused (placed s va)
 unfolding placed
 placed-unrefused s va =
     by-choose Unrefused (λ e. is-absent Unmapped)
-    (λ e. unrefused-then (λ offset. value (placeAt offset)) (unrefused-because Unmapped (sum-unrefused (s .fileoff) (va - s .vmaddr))) (λ offset. is-value (placeAt offset)))
+    (λ e. unrefused-then (λ offset. value (placeAt (s .file) offset)) (unrefused-because Unmapped (sum-unrefused (s .fileoff) (va - s .vmaddr))) (λ offset. is-value (placeAt (s .file) offset)))
 
 pub lookup-unrefused : (ss : List Segment) (va : ℕ) → Unrefused (lookup ss va)
 unfolding lookup
@@ -71,47 +73,51 @@ lookup-unrefused [] va = is-absent Unmapped
 lookup-unrefused (s ∷ ss) va =
     by-choose Unrefused (λ e. is-absent Unmapped) (λ e. by-choose Unrefused (λ h. placed-unrefused s va) (λ h. lookup-unrefused ss va))
 
-pub readable-at-unrefused : (bytes : List ℕ) (offset k : ℕ) → Unrefused (readableAt bytes offset k)
+pub readable-at-unrefused : (n : ℕ) (p : Place) (k : ℕ) → Unrefused (readableAt n p k)
 unfolding readableAt
-readable-at-unrefused bytes offset k = by-choose Unrefused (λ e. is-value (placeAt offset)) (λ e. is-absent Unreadable)
+readable-at-unrefused n p k = by-choose Unrefused (λ e. is-value p) (λ e. is-absent Unreadable)
 
 module _ (m : Image) where
   pub readable-unrefused : (va k : ℕ) → Unrefused (readable m va k)
   unfolding readable
   readable-unrefused va k =
-      unrefused-then (λ p. readableAt (m .bytes) (p .offset) k) (unrefused-because Unreadable (lookup-unrefused (rows (m .words)) va)) (λ p. readable-at-unrefused (m .bytes) (p .offset) k)
+      unrefused-then (λ p. readableAt (length (fileOf (m .files) (p .file))) p k) (unrefused-because Unreadable (lookup-unrefused (rows (m .words)) va))
+      (λ p. readable-at-unrefused (length (fileOf (m .files) (p .file))) p k)
 
   pub word-unrefused : (k va : ℕ) → Unrefused (word m k va)
   unfolding word
   word-unrefused k va =
-      unrefused-then (λ p. value (le (part (m .bytes) (p .offset) k))) (readable-unrefused va k) (λ p. is-value (le (part (m .bytes) (p .offset) k)))
+      unrefused-then (λ p. value (le (part (fileOf (m .files) (p .file)) (p .offset) k))) (readable-unrefused va k)
+      (λ p. is-value (le (part (fileOf (m .files) (p .file)) (p .offset) k)))
 
 if-good-unrefused : (v : Verdict) (n : ℕ) → Unrefused (ifGood v n)
 if-good-unrefused Good n = is-value n
 if-good-unrefused (Bad k) n = is-absent (NotUtf8 k)
 
-good-text-unrefused : (offset : ℕ) (c : Scan) → Unrefused (goodText offset c)
-good-text-unrefused offset c =
-    unrefused-then (λ n. value (textOf offset n)) (if-good-unrefused (c .verdict) (c .len)) (λ n. is-value (textOf offset n))
+good-text-unrefused : (p : Place) (c : Scan) → Unrefused (goodText p c)
+good-text-unrefused p c =
+    unrefused-then (λ n. value (textOf (p .file) (p .offset) n)) (if-good-unrefused (c .verdict) (c .len))
+    (λ n. is-value (textOf (p .file) (p .offset) n))
 
 if-ended-unrefused : {A : Type 0} {o : Outcome A} (r : Reading) (e : Bool) → Unrefused o → Unrefused (ifEnded r e o)
 if-ended-unrefused Old e u = u
 if-ended-unrefused New true u = u
 if-ended-unrefused New false u = is-absent Unterminated
 
-pub text-at-unrefused : (r : Reading) (bytes : List ℕ) (offset : ℕ) → Unrefused (textAt r bytes offset)
-unfolding textAt
-text-at-unrefused r bytes offset =
-    let c = scanOf (drop offset bytes) in
+pub text-from-unrefused : (r : Reading) (bytes : List ℕ) (p : Place) → Unrefused (textFrom r bytes p)
+unfolding textFrom
+text-from-unrefused r bytes p =
+    let c = scanOf (drop (p .offset) bytes) in
     by-choose Unrefused
-    (λ e. if-ended-unrefused r (ended c) (good-text-unrefused offset c))
+    (λ e. if-ended-unrefused r (ended c) (good-text-unrefused p c))
     (λ e. is-absent PastEnd)
 
 pub text-in-unrefused : (r : Reading) (m : Image) (va : ℕ) → Unrefused (textIn r m va)
 unfolding textIn
 text-in-unrefused r m va =
-    unrefused-then (λ a. andThen (lookup (rows (m .words)) a) (λ p. textAt r (m .bytes) (p .offset))) (nonzero-unrefused va)
-    (λ a. unrefused-then (λ p. textAt r (m .bytes) (p .offset)) (lookup-unrefused (rows (m .words)) a) (λ p. text-at-unrefused r (m .bytes) (p .offset)))
+    unrefused-then (λ a. andThen (lookup (rows (m .words)) a) (λ p. textAt r (m .files) p)) (nonzero-unrefused va)
+    (λ a. unrefused-then (λ p. textAt r (m .files) p) (lookup-unrefused (rows (m .words)) a)
+    (λ p. text-from-unrefused r (fileOf (m .files) (p .file)) p))
 
 pub mapped-unrefused : (words : List ℕ) (va : ℕ) → Unrefused (mapped words va)
 unfolding mapped

@@ -1,11 +1,12 @@
 -- Breakpoints: the addresses at which it may change whether bytes can be read, and the least of them above an address
 -- (document 01, Steps: a search tries at most 3 x S + 1 indices).
-use Prim.Native.Nat.{ℕ, _+_, _-_, min}
+use Prim.Native.Nat.{ℕ, _+_, _-_, _^_, min}
 use mathlib.Core.Bool.{Bool, true, false}
 use mathlib.Core.List.{List, [], _∷_}
 use lib.Dec.{ltb}
 use lib.ListN.{length}
 use Rattle.reads.specs.Outcome.{Outcome, value, absent, number, choose}
+use Rattle.reads.specs.Files.{fileOf}
 use Rattle.reads.specs.Segment.{rows, ends}
 use Rattle.reads.specs.Place.{Image, readable}
 use Rattle.reads.specs.declared.segment.Segment.{Segment}
@@ -21,21 +22,21 @@ isValue (number k) = false
 unfoldable pub canRead : Image → ℕ → ℕ → Bool
 canRead m k va = isValue (readable m va k)
 
--- How many of a segment's addresses, from its first on, lie in its file part and have k bytes from there on in an image of n
--- bytes.
+-- How many of a segment's addresses, from its first on, lie in its file part and have k bytes from there on in a file of n
+-- bytes, at an offset of 64 bits.
 unfoldable pub readablePart : ℕ → ℕ → Segment → ℕ
-readablePart n k s = min (min (s .vmsize) (s .filesize)) (n + 1 - k - s .fileoff)
+readablePart n k s = min (min (s .vmsize) (s .filesize)) (min (2 ^ 64) (n + 1 - k) - s .fileoff)
 
--- Three for each segment before the one that ends the lookup: its first address, the end of its readable part, its end.
-unfoldable pub breaks : ℕ → ℕ → List Segment → List ℕ
-breaks n k [] = []
-breaks n k (s ∷ ss) =
+-- Three for each segment before the one that ends the lookup: its first address, the end of its readable part in its own file, its end.
+unfoldable pub breaks : List (List ℕ) → ℕ → List Segment → List ℕ
+breaks files k [] = []
+breaks files k (s ∷ ss) =
     choose (ends s) []
-    (s .vmaddr ∷ (s .vmaddr + readablePart n k s) ∷ (s .vmaddr + s .vmsize) ∷ breaks n k ss)
+    (s .vmaddr ∷ (s .vmaddr + readablePart (length (fileOf files (s .file))) k s) ∷ (s .vmaddr + s .vmsize) ∷ breaks files k ss)
 
 -- The breakpoints of an image, for k bytes.
 abbrev pub breaksOf : Image → ℕ → List ℕ
-breaksOf m k = breaks (length (m .bytes)) k (rows (m .words))
+breaksOf m k = breaks (m .files) k (rows (m .words))
 
 -- The lesser of b and a breakpoint, if there is one.
 abbrev pub lesser : ℕ → Break → Break

@@ -3,6 +3,7 @@ pub mod Reference
 pub mod Outcome
 pub mod Answer
 pub mod Table
+pub mod Files
 pub mod Segment
 pub mod Place
 pub mod Spot

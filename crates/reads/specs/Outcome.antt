@@ -50,12 +50,12 @@ isAbsent (number k) = false
 abbrev pub orZero : Outcome ℕ → Outcome ℕ
 orZero o = orElse o (value 0)
 
-abbrev pub textOf : ℕ → ℕ → Text
-textOf offset len = record { offset = offset; len = len }
+abbrev pub textOf : ℕ → ℕ → ℕ → Text
+textOf file offset len = record { file = file; offset = offset; len = len }
 
--- A missing text is the empty one, at offset 0 (document 01, Reading rules).
+-- A missing text is the empty one, in file 0 at offset 0 (document 01, Reading rules; document 02, note 6).
 abbrev pub orEmpty : Outcome Text → Outcome Text
-orEmpty o = orElse o (value (textOf 0 0))
+orEmpty o = orElse o (value (textOf 0 0 0))
 
 -- One of two, by a test.
 unfoldable pub choose : {A : Type 0} → Bool → A → A → A

@@ -8,6 +8,10 @@ use denote.Triple.Both.{Both}
 abbrev pub Slice : Type 0
 Slice = Both (RefT (List ℕ)) (RefT (List ℕ))
 
+-- A slice of such slices.
+abbrev pub Slices : Type 0
+Slices = Both (RefT (List (RefT (List ℕ)))) (RefT (List (RefT (List ℕ))))
+
 -- What is behind a reference before the call, and after it.
 abbrev pub before : {X Y : Type 0} → Both (RefT X) Y → X
 before x = x .entry .now

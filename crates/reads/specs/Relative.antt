@@ -5,6 +5,8 @@ use lib.IntN.{ℤ, pos, negsuc, _+ℤ_}
 use lib.Dec.{leb}
 use mathlib.Core.List.{List}
 use Rattle.reads.specs.Outcome.{Outcome, value, andThen}
+use lib.ListN.{length}
+use Rattle.reads.specs.Segment.{placeAt}
 use Rattle.reads.specs.Place.{le, part, readableAt, wordIn}
 use Rattle.reads.specs.Signed.{twos}
 use Rattle.reads.specs.declared.place.Place.{Place}
@@ -13,12 +15,13 @@ use Rattle.reads.specs.declared.place.Place.{Place}
 unfoldable pub signed32 : ℕ → ℤ
 signed32 n = twos (leb (2 ^ 31) n) n (2 ^ 32)
 
--- The signed number of four bytes at i bytes from a place, 0 where they do not lie in the image; and at an offset.
-unfoldable pub signedIn : List ℕ → Place → ℕ → ℤ
-signedIn bytes p i = signed32 (wordIn bytes 4 p i)
+-- The signed number of four bytes at i bytes from a place, 0 where they do not lie in its file; and at an offset of one slice.
+unfoldable pub signedIn : List (List ℕ) → Place → ℕ → ℤ
+signedIn files p i = signed32 (wordIn files 4 p i)
 
 unfoldable pub signedAt : List ℕ → ℕ → Outcome ℤ
-signedAt bytes offset = andThen (readableAt bytes offset 4) (λ p. value (signed32 (le (part bytes (p .offset) 4))))
+signedAt bytes offset =
+    andThen (readableAt (length bytes) (placeAt 0 offset) 4) (λ p. value (signed32 (le (part bytes (p .offset) 4))))
 
 -- A signed number modulo 2^64; negsuc n is -1 - n.
 unfoldable pub modulo64 : ℤ → ℕ

@@ -8,28 +8,29 @@ use lib.ListN.{length}
 use Rattle.reads.specs.Outcome.{Outcome, value, absent, choose}
 use Rattle.reads.specs.declared.answer.Reason.the-variants.{Unreadable}
 use Rattle.reads.specs.declared.place.Place.{Place}
+use Rattle.reads.specs.Files.{fileOf}
 use Rattle.reads.specs.Segment.{ends, holds, mappedSize, placeAt, rows}
 use Rattle.reads.specs.Place.{Image}
 use Rattle.reads.specs.declared.segment.Segment.{Segment}
 use Rattle.reads.specs.declared.spot.Spot.{Spot}
 
-abbrev pub spot : ℕ → ℕ → Spot
-spot offset room = record { offset = offset; room = room }
+abbrev pub spot : ℕ → ℕ → ℕ → Spot
+spot file offset room = record { file = file; offset = offset; room = room }
 
 -- No address: a room of 0.
 abbrev pub nowhere : Spot
-nowhere = spot 0 0
+nowhere = spot 0 0 0
 
 -- How far an address lies past the segment's first one, modulo 2^64.
 unfoldable pub distance : Segment → ℕ → ℕ
 distance s va = choose (leb (s .vmaddr) va) (va - s .vmaddr) (2 ^ 64 + va - s .vmaddr)
 
--- In a segment that holds the address: its bytes in the file reach so far, and a segment before it that lies `far` behind the address begins
--- again 2^64 less that further on.
+-- In a segment that holds the address: its bytes in the file reach so far, the offset stays within 64 bits, and a segment before it that lies
+-- `far` behind the address begins again 2^64 less that further on.
 unfoldable pub spotAt : Segment → ℕ → ℕ → Spot
 spotAt s far va =
     choose (leb (s .filesize) (va - s .vmaddr) || leb (2 ^ 64) (s .fileoff + (va - s .vmaddr))) nowhere
-    (spot (s .fileoff + (va - s .vmaddr)) (min (mappedSize s - (va - s .vmaddr)) (2 ^ 64 - far)))
+    (spot (s .file) (s .fileoff + (va - s .vmaddr)) (min (mappedSize s - (va - s .vmaddr)) (2 ^ 64 - max far (s .fileoff + (va - s .vmaddr)))))
 
 -- Segments in order, as in a lookup; those passed lie at most `far` behind the address.
 unfoldable pub spotFrom : ℕ → List Segment → ℕ → Spot
@@ -42,8 +43,9 @@ spotIn words va = spotFrom 0 (rows words) va
 
 -- The spot of an address, if k bytes can be read there.
 unfoldable pub readableSpot : Image → ℕ → ℕ → Spot
-readableSpot m va k = choose (leb (spotIn (m .words) va .offset + k) (length (m .bytes))) (spotIn (m .words) va) nowhere
+readableSpot m va k =
+    let s = spotIn (m .words) va in choose (leb (s .offset + k) (length (fileOf (m .files) (s .file)))) s nowhere
 
 -- The place of a spot, if it has one: of the spot of k bytes that can be read, their place (proofs/Spots.antt).
 unfoldable pub spotPlace : Spot → Outcome Place
-spotPlace s = choose (eqb (s .room) 0) (absent Unreadable) (value (placeAt (s .offset)))
+spotPlace s = choose (eqb (s .room) 0) (absent Unreadable) (value (placeAt (s .file) (s .offset)))

@@ -9,9 +9,9 @@ pub enum Reason {
     NullAddress,
     // The lookup of a string's address is absent.
     Unmapped,
-    // A string's offset lies above the image's length.
+    // A string's offset lies above its file's length.
     PastEnd,
-    // No zero byte ends a string before the image's end.
+    // No zero byte ends a string before its file's end.
     Unterminated,
     // A string is not UTF-8: the offset in it of the first byte that no well-formed text can continue, or its length where it
     // ends inside a character.

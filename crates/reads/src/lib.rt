@@ -3,6 +3,7 @@
 pub mod address;
 pub mod answer;
 pub mod breaks;
+pub mod files;
 pub mod leb128;
 pub mod order;
 pub mod place;

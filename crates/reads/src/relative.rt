@@ -2,11 +2,13 @@
 use crate::answer::Signed;
 use crate::place::Place;
 use crate::place::Placed;
+use crate::place::le4;
 use crate::place::readable_at;
 use crate::place::u32_in;
 ghost use mathlib.Core.Path.{_≡_};
 ghost use Rattle.reads.specs.Reference.{before};
 ghost use Rattle.reads.specs.Answer.{signedOutcome};
+ghost use Rattle.reads.specs.Files.{filesOf};
 ghost use Rattle.reads.specs.Relative.{signed32, signedIn, signedAt, modulo64, relative, slotAddress};
 
 // The signed number of 32 bits.
@@ -19,21 +21,24 @@ pub fn signed(x: u32) -> i32
     x as i32
 }
 
-// The signed number of four bytes at an offset.
-pub fn read_i32_le_at(image: &[u8], offset: u64) -> Signed
-    ensures { λ r. ⌜ signedOutcome r ≡ signedAt (before image) offset ⌝ }
+// The signed number of four bytes at an offset of one slice.
+pub fn read_i32_le_at(bytes: &[u8], offset: u64) -> Signed
+    ensures { λ r. ⌜ signedOutcome r ≡ signedAt (before bytes) offset ⌝ }
 {
-    match readable_at(image, offset, 4) {
-        Placed::At(p) => Signed::Value(i32_in(image, p, 0)),
+    match readable_at(bytes.len() as u64, Place { file: 0, offset }, 4) {
+        Placed::At(p) => {
+            let at = p.offset as usize;
+            Signed::Value(signed(le4(bytes, at) as u32))
+        }
         Placed::Missing(m) => Signed::Missing(m),
     }
 }
 
-// The signed number of four bytes at i bytes from a place; 0 where they do not lie in the image.
-pub fn i32_in(image: &[u8], p: Place, i: u64) -> i32
-    ensures { λ r. ⌜ r ≡ signedIn (before image) p i ⌝ }
+// The signed number of four bytes at i bytes from a place; 0 where they do not lie in its file.
+pub fn i32_in(files: &[&[u8]], p: Place, i: u64) -> i32
+    ensures { λ r. ⌜ r ≡ signedIn (filesOf files) p i ⌝ }
 {
-    signed(u32_in(image, p, i))
+    signed(u32_in(files, p, i))
 }
 
 // offset as i64 as u64.

@@ -1,4 +1,4 @@
-// The segment table, lent as words, and the translation between addresses and offsets.
+// The segment table, lent as words, and the translation between addresses and places.
 use crate::answer::Missing;
 use crate::answer::Reason;
 use crate::answer::Word;
@@ -19,6 +19,7 @@ pub struct Segment {
     pub vmsize: u64,
     pub fileoff: u64,
     pub filesize: u64,
+    pub file: u64,
 }
 
 impl Segment {
@@ -26,7 +27,10 @@ impl Segment {
     pub const MAX: u64 = 0xFFFF_FFFF_FFFF_FFFF;
 
     // The words of a row.
-    pub const WORDS: usize = 4;
+    pub const WORDS: usize = 5;
+
+    // The word of a row that is the number of its file.
+    pub const FILE: usize = 4;
 
     // Row i of the table.
     pub(crate) fn at(segments: &[u64], i: usize) -> Segment
@@ -39,6 +43,7 @@ impl Segment {
             vmsize: segments[first + 1],
             fileoff: segments[first + 2],
             filesize: segments[first + 3],
+            file: segments[first + 4],
         }
     }
 
@@ -75,6 +80,7 @@ impl Segment {
             return Placed::Missing(Missing::Absent(Reason::Unmapped));
         }
         Placed::At(Place {
+            file: self.file,
             offset: self.fileoff + distance,
         })
     }
@@ -117,10 +123,13 @@ impl Segment {
         self.filesize
     }
 
-    // The offset is among the bytes mapped from the file.
-    pub fn carries(self, offset: u64) -> bool
-        ensures { λ r. ⌜ r ≡ carries self offset ⌝ }
+    // The file is the segment's, and the offset is among the bytes mapped from it.
+    pub fn carries(self, file: u64, offset: u64) -> bool
+        ensures { λ r. ⌜ r ≡ carries self file offset ⌝ }
     {
+        if self.file != file {
+            return false;
+        }
         if offset < self.fileoff {
             return false;
         }
@@ -128,9 +137,9 @@ impl Segment {
     }
 }
 
-// The address of an offset: the inverse of `vm_to_file_offset_in`. The first segment that maps the offset decides.
-pub fn file_offset_to_vm_in(segments: &[u64], offset: u64) -> Word
-    ensures { λ r. ⌜ wordOutcome r ≡ addressOf (rows (before segments)) offset ⌝ }
+// The address of an offset of a file: the inverse of `vm_to_file_offset_in`. The first segment that maps the offset decides.
+pub fn file_offset_to_vm_in(segments: &[u64], file: u64, offset: u64) -> Word
+    ensures { λ r. ⌜ wordOutcome r ≡ addressOf (rows (before segments)) file offset ⌝ }
 {
     let mut i = 0;
     while i < segments.len() / Segment::WORDS {
@@ -138,7 +147,7 @@ pub fn file_offset_to_vm_in(segments: &[u64], offset: u64) -> Word
         if s.ends_in_file() {
             return Word::Missing(Missing::Absent(Reason::Unmapped));
         }
-        if s.carries(offset) {
+        if s.carries(file, offset) {
             return because(checked_add(s.vmaddr, offset - s.fileoff), Reason::Unmapped);
         }
         i += 1;

@@ -1,6 +1,7 @@
 // Spots: the place of an address together with its room, so that what lies near it is read without another lookup.
 use crate::answer::Missing;
 use crate::answer::Reason;
+use crate::files::file_len;
 use crate::order::greatest;
 use crate::order::least;
 use crate::place::Place;
@@ -18,6 +19,7 @@ ghost use Rattle.reads.specs.Spot.{distance, nowhere, spotAt, spotIn, re
 // Where an address looks up, and its room: for how many bytes from it on the place moves with the address. A room of 0: the address is in
 // no segment's bytes.
 pub struct Spot {
+    pub file: u64,
     pub offset: u64,
     pub room: u64,
 }
@@ -26,7 +28,11 @@ pub struct Spot {
 fn nowhere() -> Spot
     ensures { λ r. ⌜ r ≡ nowhere ⌝ }
 {
-    Spot { offset: 0, room: 0 }
+    Spot {
+        file: 0,
+        offset: 0,
+        room: 0,
+    }
 }
 
 // How far an address lies past the segment's first one, modulo 2^64.
@@ -60,10 +66,12 @@ fn spot_at(s: Segment, far: u64, va: u64, d: u64) -> Spot
     if Segment::MAX - s.fileoff < d {
         return nowhere();
     }
+    let offset = s.fileoff + d;
     let last = least(s.filesize, s.vmsize) - d - 1;
     Spot {
-        offset: s.fileoff + d,
-        room: least(last, Segment::MAX - far) + 1,
+        file: s.file,
+        offset,
+        room: least(last, Segment::MAX - greatest(far, offset)) + 1,
     }
 }
 
@@ -89,11 +97,11 @@ fn spot_in(segments: &[u64], va: u64) -> Spot
 }
 
 // The spot of an address, if k bytes can be read there.
-pub fn readable_spot(image: &[u8], segments: &[u64], va: u64, k: u64) -> Spot
-    ensures { λ r. ⌜ r ≡ readableSpot (lentImage image segments) va k ⌝ }
+pub fn readable_spot(files: &[&[u8]], segments: &[u64], va: u64, k: u64) -> Spot
+    ensures { λ r. ⌜ r ≡ readableSpot (lentImage files segments) va k ⌝ }
 {
     let s = spot_in(segments, va);
-    let n = image.len() as u64;
+    let n = file_len(files, s.file);
     if s.offset <= n {
         if k <= n - s.offset {
             return s;
@@ -109,5 +117,8 @@ pub fn spot_place(s: Spot) -> Placed
     if s.room == 0 {
         return Placed::Missing(Missing::Absent(Reason::Unreadable));
     }
-    Placed::At(Place { offset: s.offset })
+    Placed::At(Place {
+        file: s.file,
+        offset: s.offset,
+    })
 }

@@ -1,9 +1,11 @@
-// Texts in the image: UTF-8 up to a zero byte, or to the end. A text is read in one pass: every byte of it is read by `read_byte`, once,
+// Texts in the files of an image: UTF-8 up to a zero byte, or to the end. A text is read in one pass: every byte of it is read by `read_byte`, once,
 // which raises the count of the bytes read.
 use crate::answer::Missing;
 use crate::answer::Reason;
 use crate::answer::Word;
 use crate::answer::nonzero;
+use crate::files::is_lent;
+use crate::place::Place;
 use crate::place::Placed;
 use crate::segment::vm_to_file_offset_in;
 ghost use mathlib.Core.Path.{_≡_};
@@ -14,17 +16,20 @@ ghost use Rattle.reads.specs.Answer.{textOutcome};
 ghost use Rattle.reads.specs.Outcome.{because, orEmpty};
 ghost use Rattle.reads.specs.Utf8.{_to_, tail, verdict, utf8};
 ghost use Rattle.reads.specs.Pass.{byteAfter, due, follow, character, brokenAt};
+ghost use Rattle.reads.specs.Files.{filesOf};
+ghost use Rattle.reads.specs.Segment.{placeAt};
 ghost use Rattle.reads.specs.Place.{lentImage};
 ghost use Rattle.reads.specs.declared.text.Reading.the-variants.{Old};
-ghost use Rattle.reads.specs.Text.{ended, scanOf, goodText, textOfScan, textAt, readAt, textIn, readIn, fixedLength, lengthPlusOne};
+ghost use Rattle.reads.specs.Text.{ended, scanOf, goodText, textOfScan, textFrom, readFrom, textAt, readAt, textIn, readIn, fixedLength, lengthPlusOne};
 
-// A text: a part of the image.
+// A text: a part of a file of the image.
 pub struct Text {
+    pub file: u64,
     pub offset: u64,
     pub len: u64,
 }
 
-// How a text is read that no zero byte ends: under the old reading it runs to the image's end, under the new one it is absent.
+// How a text is read that no zero byte ends: under the old reading it runs to its file's end, under the new one it is absent.
 pub enum Reading {
     Old,
     New,
@@ -69,14 +74,18 @@ struct Step {
     last: ByteRead,
 }
 
-// An absent text counts as the text at offset 0 of length 0.
+// An absent text counts as the text in file 0 at offset 0 of length 0.
 pub fn or_empty(t: TextAnswer) -> TextAnswer
     ensures { λ r. ⌜ textOutcome r ≡ orEmpty (textOutcome t) ⌝ }
 {
     match t {
         TextAnswer::Found(s) => TextAnswer::Found(s),
         TextAnswer::Missing(m) => match m {
-            Missing::Absent(_) => TextAnswer::Found(Text { offset: 0, len: 0 }),
+            Missing::Absent(_) => TextAnswer::Found(Text {
+                file: 0,
+                offset: 0,
+                len: 0,
+            }),
             Missing::Refused(k) => TextAnswer::Missing(Missing::Refused(k)),
         },
     }
@@ -246,14 +255,15 @@ fn ended(scan: Scan) -> bool
     scan.len < scan.read
 }
 
-// The text that a scan from an offset found, if it is UTF-8.
-fn good_text(offset: u64, scan: Scan) -> TextAnswer
-    ensures { λ r. ⌜ textOutcome r ≡ goodText offset scan ⌝ }
+// The text that a scan from a place found, if it is UTF-8.
+fn good_text(p: Place, scan: Scan) -> TextAnswer
+    ensures { λ r. ⌜ textOutcome r ≡ goodText p scan ⌝ }
 {
     let verdict = scan.verdict;
     match verdict {
         Verdict::Good => TextAnswer::Found(Text {
-            offset,
+            file: p.file,
+            offset: p.offset,
             len: scan.len,
         }),
         Verdict::Bad(k) => TextAnswer::Missing(Missing::Absent(Reason::NotUtf8(k))),
@@ -261,44 +271,56 @@ fn good_text(offset: u64, scan: Scan) -> TextAnswer
 }
 
 // The same under a reading: that it has no end goes before that it is not UTF-8.
-fn text_of_scan(reading: Reading, offset: u64, scan: Scan) -> TextAnswer
-    ensures { λ r. ⌜ textOutcome r ≡ textOfScan reading offset scan ⌝ }
+fn text_of_scan(reading: Reading, p: Place, scan: Scan) -> TextAnswer
+    ensures { λ r. ⌜ textOutcome r ≡ textOfScan reading p scan ⌝ }
 {
     match reading {
-        Reading::Old => good_text(offset, scan),
+        Reading::Old => good_text(p, scan),
         Reading::New => {
             if !ended(scan) {
                 return TextAnswer::Missing(Missing::Absent(Reason::Unterminated));
             }
-            good_text(offset, scan)
+            good_text(p, scan)
         }
     }
 }
 
-// The text at an offset of the image, and how many bytes were read.
-pub fn read_cstr_at(image: &[u8], reading: Reading, offset: u64) -> CstrRead
-    ensures { λ r. ⌜ (textOutcome (r .text) ≡ textAt reading (before image) offset) × (r .read ≡ readAt (before image) offset) ⌝ }
+// The text at a place whose file has these bytes, and how many bytes were read.
+fn read_cstr_in(bytes: &[u8], reading: Reading, p: Place) -> CstrRead
+    ensures { λ r. ⌜ (textOutcome (r .text) ≡ textFrom reading (before bytes) p) × (r .read ≡ readFrom (before bytes) (p .offset)) ⌝ }
 {
-    if (image.len() as u64) < offset {
+    if (bytes.len() as u64) < p.offset {
         return CstrRead {
             text: TextAnswer::Missing(Missing::Absent(Reason::PastEnd)),
             read: 0,
         };
     }
-    let scan = scan_text(&image[offset as usize..image.len()]);
+    let scan = scan_text(&bytes[p.offset as usize..bytes.len()]);
     CstrRead {
-        text: text_of_scan(reading, offset, scan),
+        text: text_of_scan(reading, p, scan),
         read: scan.read,
     }
 }
 
+// The text at a place, and how many bytes were read: a file that is not lent has no bytes.
+pub fn read_cstr_at(files: &[&[u8]], reading: Reading, p: Place) -> CstrRead
+    ensures { λ r. ⌜ (textOutcome (r .text) ≡ textAt reading (filesOf files) p) × (r .read ≡ readAt (filesOf files) p) ⌝ }
+{
+    if !is_lent(files, p.file) {
+        return read_cstr_in(b"", reading, p);
+    }
+    let f = p.file as usize;
+    let bytes = files[f];
+    read_cstr_in(bytes, reading, p)
+}
+
 // The text at an address, and how many bytes were read: absent at 0 and where nothing is mapped, and then none.
-pub fn read_cstr_counted(image: &[u8], segments: &[u64], reading: Reading, va: u64) -> CstrRead
-    ensures { λ r. let m = lentImage image segments in ⌜ (textOutcome (r .text) ≡ textIn reading m va) × (r .read ≡ readIn m va) ⌝ }
+pub fn read_cstr_counted(files: &[&[u8]], segments: &[u64], reading: Reading, va: u64) -> CstrRead
+    ensures { λ r. let m = lentImage files segments in ⌜ (textOutcome (r .text) ≡ textIn reading m va) × (r .read ≡ readIn m va) ⌝ }
 {
     match nonzero(va) {
         Word::Value(a) => match vm_to_file_offset_in(segments, a) {
-            Placed::At(p) => read_cstr_at(image, reading, p.offset),
+            Placed::At(p) => read_cstr_at(files, reading, p),
             Placed::Missing(m) => CstrRead {
                 text: TextAnswer::Missing(m),
                 read: 0,
@@ -312,18 +334,23 @@ pub fn read_cstr_counted(image: &[u8], segments: &[u64], reading: Reading, va: u
 }
 
 // The same without the count.
-pub fn read_cstr(image: &[u8], segments: &[u64], reading: Reading, va: u64) -> TextAnswer
-    ensures { λ r. ⌜ textOutcome r ≡ textIn reading (lentImage image segments) va ⌝ }
+pub fn read_cstr(files: &[&[u8]], segments: &[u64], reading: Reading, va: u64) -> TextAnswer
+    ensures { λ r. ⌜ textOutcome r ≡ textIn reading (lentImage files segments) va ⌝ }
 {
-    let r = read_cstr_counted(image, segments, reading, va);
+    let r = read_cstr_counted(files, segments, reading, va);
     r.text
 }
 
 // The same, an absent text counting as the empty one.
-pub fn read_cstr_or_empty(image: &[u8], segments: &[u64], reading: Reading, va: u64) -> TextAnswer
-    ensures { λ r. ⌜ textOutcome r ≡ orEmpty (textIn reading (lentImage image segments) va) ⌝ }
+pub fn read_cstr_or_empty(
+    files: &[&[u8]],
+    segments: &[u64],
+    reading: Reading,
+    va: u64,
+) -> TextAnswer
+    ensures { λ r. ⌜ textOutcome r ≡ orEmpty (textIn reading (lentImage files segments) va) ⌝ }
 {
-    or_empty(read_cstr(image, segments, reading, va))
+    or_empty(read_cstr(files, segments, reading, va))
 }
 
 // The length of the text in a field of 16 bytes, as segname and sectname: 0 where it is not UTF-8.
@@ -338,12 +365,12 @@ pub fn cstr_from_fixed(bytes: &[u8; 16]) -> u64
     }
 }
 
-// For callers in C or Rust: one more than the length of the text at an offset of the image under the old reading, 0 where there is none.
+// For callers in C or Rust: one more than the length of the text at an offset of one file under the old reading, 0 where there is none.
 #[no_mangle]
-pub extern "C" fn reads_cstr_length_plus_one(image: &[u8], offset: u64) -> u64
-    ensures { λ r. ⌜ r ≡ lengthPlusOne (textAt Old (before image) offset) ⌝ }
+pub extern "C" fn reads_cstr_length_plus_one(bytes: &[u8], offset: u64) -> u64
+    ensures { λ r. ⌜ r ≡ lengthPlusOne (textFrom Old (before bytes) (placeAt 0 offset)) ⌝ }
 {
-    let r = read_cstr_at(image, Reading::Old, offset);
+    let r = read_cstr_in(bytes, Reading::Old, Place { file: 0, offset });
     let t = r.text;
     match t {
         TextAnswer::Found(t) => t.len + 1,

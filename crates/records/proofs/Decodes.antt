@@ -1,5 +1,5 @@
 -- What holds of every definition of a record or a row, whatever it asks: over tables that opening accepted, with the index as opening left
--- it, it gives no number; over any tables none but 9, 7 and 14.
+-- it, it gives no number; over any tables none but 9, 18, 7 and 14.
 use Prim.Native.Nat.{ℕ}
 use mathlib.Core.Bool.{Bool}
 use Rattle.reads.specs.Outcome.{Outcome, Unrefused, is-value, is-absent}
@@ -28,6 +28,7 @@ unrefused-tried (is-absent r) = is-value (lacking r)
 numbers-tried : {A : Type 0} {o : Outcome A} → LookupOutcome o → LookupOutcome (triedOf o)
 numbers-tried (lookups.unrefused u) = lookups.unrefused (unrefused-tried u)
 numbers-tried lookups.is-9 = lookups.is-9
+numbers-tried lookups.is-18 = lookups.is-18
 numbers-tried lookups.is-7 = lookups.is-7
 numbers-tried lookups.is-14 = lookups.is-14
 

@@ -1,5 +1,5 @@
 -- ◆ the listing's image (document 01, "The program's listing"): one class, a class_ro, a method list and its strings, in one segment of 191
--- bytes at 0x1000.
+-- bytes at 0x1000, of file 0.
 use Prim.Native.Nat.{ℕ, zero, suc, _/_, _%_}
 use mathlib.Core.Path.{_≡_, refl}
 use mathlib.Core.List.{List, [], _∷_, _++_}
@@ -36,8 +36,12 @@ counted count = class ++ ro ++ methods count ++ names
 abbrev pub bytes : List ℕ
 bytes = counted 4294967295
 
+-- The files of an image that lies in the first: a bundle lends all four (document 02, note 6).
+abbrev pub fourFiles : List ℕ → List (List ℕ)
+fourFiles first = first ∷ [] ∷ [] ∷ [] ∷ []
+
 abbrev pub segments : List ℕ
-segments = 0x1000 ∷ 191 ∷ 0 ∷ 191 ∷ []
+segments = 0x1000 ∷ 191 ∷ 0 ∷ 191 ∷ 0 ∷ []
 
 pub bytes-191 : length bytes ≡ 191
 unfolding counted

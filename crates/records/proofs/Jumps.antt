@@ -81,7 +81,7 @@ module _ (m : Image) (h : Layout) (i : ℕ) where
         one-place x = simp (z, mul-zero)
 
     -- The next breakpoint is b.
-    module _ (short : length (m .bytes) < 2 ^ 64) (sized : h .size ≡ 0 → ⊥) (b : ℕ) (next : nextBreak (breaksOf m (least (h .kind))) (entryAddress h i) ≡ At b) where
+    module _ (sized : h .size ≡ 0 → ⊥) (b : ℕ) (next : nextBreak (breaksOf m (least (h .kind))) (entryAddress h i) ≡ At b) where
       over : entryAddress h i < b
       over = next-break-above (breaksOf m (least (h .kind))) (entryAddress h i) b next
 
@@ -93,7 +93,7 @@ module _ (m : Image) (h : Layout) (i : ℕ) where
 
       fails : (x : ℕ) → i ≤ x → x ≤ i + gap h i b → entry m h x ≡ false
       fails x l u =
-          entry-unreadable m h x (can-read-until-break m (least (h .kind)) (entryAddress h i) b (entryAddress h x) short next (addresses-rise h i x l) (below x l u) ∙ not)
+          entry-unreadable m h x (can-read-until-break m (least (h .kind)) (entryAddress h i) b (entryAddress h x) next (addresses-rise h i x l) (below x l u) ∙ not)
 
       pub jump-out : h .count - i - 1 ≤ gap h i b → none ≡ firstReadable m h i
       jump-out g = nowhere low (λ x p q. fails x p (omega arith))

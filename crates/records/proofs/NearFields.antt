@@ -3,7 +3,6 @@ use Prim.Native.Nat.{ℕ, _+_, _^_, _≤_, _<_}
 use mathlib.Core.Path.{_≡_, sym, ap, _∙_}
 use mathlib.Core.List.{List}
 use native.Mathlib.Omega.{arith}
-use lib.ListN.{length}
 use Rattle.reads.specs.Outcome.{Outcome, value, sum64}
 use Rattle.reads.specs.Place.{Image}
 use Rattle.reads.specs.Spot.{readableSpot, spotPlace}
@@ -26,13 +25,13 @@ near-placed m va size reach s is e h = record { size = size; is = is; some = pla
 pub near-less : {m : Image} {va reach less : ℕ} {s : Spot} → Near m va s reach → less ≤ reach → Near m va s less
 near-less n h = record { size = n .size; is = n .is; some = n .some; within = omega (arith, n .within) }
 
-module _ (m : Image) (rebases index : List ℕ) (va : ℕ) (w : va < 2 ^ 64) (s : Spot) (short : length (m .bytes) < 2 ^ 64) where
+module _ (m : Image) (rebases index : List ℕ) (va : ℕ) (w : va < 2 ^ 64) (s : Spot) where
   pub near-field : (k slot : ℕ) → Near m va s (k + 8) → value slot ≡ sum64 va k → resolveNear m rebases index s k slot ≡ resolve m rebases index slot
   near-field k slot n e =
       let q : slot ≡ va + k = sum-is va k slot e in
-      ap (resolveNear m rebases index s k) q ∙ near-resolved m rebases index va (n .size) w s (n .is) (n .some) short k (n .within) ∙ ap (resolve m rebases index) (sym q)
+      ap (resolveNear m rebases index s k) q ∙ near-resolved m rebases index va (n .size) w s (n .is) (n .some) k (n .within) ∙ ap (resolve m rebases index) (sym q)
 
   pub near-first : Near m va s 8 → resolveNear m rebases index s 0 va ≡ resolve m rebases index va
   near-first n =
       let q : va ≡ va + 0 = omega arith in
-      ap (resolveNear m rebases index s 0) q ∙ near-resolved m rebases index va (n .size) w s (n .is) (n .some) short 0 (n .within) ∙ ap (resolve m rebases index) (sym q)
+      ap (resolveNear m rebases index s 0) q ∙ near-resolved m rebases index va (n .size) w s (n .is) (n .some) 0 (n .within) ∙ ap (resolve m rebases index) (sym q)

@@ -9,7 +9,10 @@ use native.Mathlib.Omega.{arith}
 use lib.Dec.{ltb}
 use lib.ListN.{length}
 use Rattle.reads.specs.Breaks.{canRead, breaksOf, nextBreak}
+use Rattle.reads.specs.Files.{longest}
 use Rattle.reads.specs.Place.{Image}
+use Rattle.reads.specs.Segment.{segmentWords}
+use Rattle.reads.specs.Table.{records}
 use Rattle.reads.specs.declared.breaks.Break.the-variants.{Nothing}
 use Rattle.reads.proofs.Tests.{both-true}
 use Rattle.records.specs.List.{least, entryAddress, entry}
@@ -63,8 +66,8 @@ module _ (m : Image) (h : Layout) where
   unfolding allFrom
   rest-from-count = rw sub-self
 
-  -- At most S x floor(n / 12): S the rows of the segment table, n the image's length.
-  pub readables-few : least (h .kind) ≤ h .size → length (readables m h) ≤ length (m .words) / 4 * (length (m .bytes) / 12)
+  -- At most S x floor(n / 12): S the rows of the segment table, n the length of the longest file.
+  pub readables-few : least (h .kind) ≤ h .size → length (readables m h) ≤ records segmentWords (m .words) * (longest (m .files) / 12)
   unfolding readables
   readables-few sized =
       let a = passing-within (entry m h) (λ j. canRead m (least (h .kind)) (entryAddress h j)) (λ j e. entry-can-read j e) (h .count) 0 in

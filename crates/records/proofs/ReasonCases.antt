@@ -7,12 +7,13 @@ use mathlib.Core.List.{List, [], _∷_, _++_}
 use lib.ListN.{replicate}
 use Rattle.reads.specs.Address.{stripped, dataArm64e, data64, mapped, pickedWide, picked}
 use Rattle.reads.specs.Outcome.{absent, choose, nonzero, sum64}
-use Rattle.reads.specs.Place.{le, readableAt, readable, word, wordIn}
+use Rattle.reads.specs.Files.{fileOf}
+use Rattle.reads.specs.Place.{le, readableAt, readable, word, wordIn, leIn}
 use Rattle.reads.specs.Relative.{signed32, signedIn, modulo64, relative}
 use Rattle.reads.specs.Segment.{rows, ends, holds, placed, lookup}
 use Rattle.reads.specs.Signed.{twos}
 use Rattle.reads.specs.Table.{tabulate}
-use Rattle.reads.specs.Text.{text, textAt, textIn}
+use Rattle.reads.specs.Text.{text, textFrom, textIn}
 use Rattle.reads.specs.Utf8.{judge}
 use Rattle.reads.specs.declared.answer.Reason.the-variants.{NullAddress, Unmapped, NotUtf8, NoData, Unresolved, Unreadable, FieldOverflow, OddList, ShortEntry}
 use Rattle.pointers.specs.Chain.{followFrom, follow}
@@ -29,7 +30,7 @@ use Rattle.records.specs.declared.list.ListKind.the-variants.{Methods, I
 
 -- Bytes whose first `size` are mapped at va: of a record that begins there only the first byte is looked up, so a later field may lie outside.
 abbrev mappedAt : List ℕ → ℕ → ℕ → Tables
-mappedAt bytes va size = tablesOf bytes (va ∷ size ∷ 0 ∷ size ∷ []) (replicate 15 0) (replicate 8 0) [] [] []
+mappedAt bytes va size = tablesOf (bytes ∷ []) (va ∷ size ∷ 0 ∷ size ∷ 0 ∷ []) (replicate 15 0) (replicate 8 0) [] [] []
 
 abbrev zeros : ℕ → ℕ → ℕ → Tables
 zeros n va size = mappedAt (replicate n 0) va size
@@ -45,7 +46,7 @@ class-reasons : classAt (zeros 39 0x1000 39) 0x1000 false
     ∷ classAt (zeros 40 0x1000 32) 0x1000 false
     ∷ []
     ≡ absent Unreadable ∷ absent FieldOverflow ∷ absent FieldOverflow ∷ absent Unreadable ∷ []
-unfolding decodeClass decodeData bitsOf readable readableAt lookup rows tabulate ends holds placed sum64 resolve rebaseAt follow followFrom stored stripped word le nonzero choose
+unfolding fileOf decodeClass decodeData bitsOf readable readableAt lookup rows tabulate ends holds placed sum64 resolve rebaseAt follow followFrom stored stripped word le nonzero choose
 class-reasons = refl
 
 -- 72 bytes; +16; +24; the name slot; +64, before the name's string; the string's.
@@ -57,7 +58,7 @@ class-ro-reasons : classRoAt (zeros 71 0x1000 71) 0x1000
     ∷ classRoAt (zeros 72 0x1000 72) 0x1000
     ∷ []
     ≡ absent Unreadable ∷ absent FieldOverflow ∷ absent FieldOverflow ∷ absent Unresolved ∷ absent FieldOverflow ∷ absent NullAddress ∷ []
-unfolding decodeClassRo decodeRoLists pointerAt pointerOr0At readable readableAt lookup rows tabulate ends holds placed sum64 resolve rebaseAt follow followFrom stored stripped word wordIn le textIn nonzero choose
+unfolding fileOf decodeClassRo decodeRoLists pointerAt pointerOr0At readable readableAt lookup rows tabulate ends holds placed sum64 resolve rebaseAt follow followFrom stored stripped word wordIn leIn le textIn nonzero choose
 class-ro-reasons = refl
 
 -- The bits word of a class, 7, picks nothing.
@@ -67,7 +68,7 @@ no-data address isa superclass = refl
 
 -- A class at 0x7FE0, its bits word at 0x8000 in chain 0 of the index, with a rebase target there.
 abbrev rebased : ℕ → Tables
-rebased target = tablesOf (replicate 40 0) (0x7FE0 ∷ 40 ∷ 0 ∷ 40 ∷ []) (replicate 15 0) (replicate 8 0) (0x8000 ∷ target ∷ []) [] (1 ∷ [])
+rebased target = tablesOf (replicate 40 0 ∷ []) (0x7FE0 ∷ 40 ∷ 0 ∷ 40 ∷ 0 ∷ []) (replicate 15 0) (replicate 8 0) (0x8000 ∷ target ∷ []) [] (1 ∷ [])
 
 -- 40 bytes; +32; without rebase the word, and its pick; with one +24, the name slot, the string's.
 class-name-reasons : classNameAt (zeros 39 0x1000 39) 0x1000
@@ -79,7 +80,7 @@ class-name-reasons : classNameAt (zeros 39 0x1000 39) 0x1000
     ∷ classNameAt (rebased 0x7FE0) 0x7FE0
     ∷ []
     ≡ absent Unreadable ∷ absent FieldOverflow ∷ absent Unreadable ∷ absent NoData ∷ absent FieldOverflow ∷ absent Unresolved ∷ absent NullAddress ∷ []
-unfolding decodeClassName decodeRoData pickedIn picked pickedWide mapped dataArm64e data64 pointerAt readable readableAt lookup rows tabulate ends holds placed sum64 resolve rebaseAt follow followFrom stored stripped word le textIn nonzero choose
+unfolding fileOf decodeClassName decodeRoData pickedIn picked pickedWide mapped dataArm64e data64 pointerAt readable readableAt lookup rows tabulate ends holds placed sum64 resolve rebaseAt follow followFrom stored stripped word le textIn nonzero choose
 class-name-reasons = refl
 
 -- A superclass's or host class's name that no bind gives either: the reason is why the class's own is missing. A class at 0; one that is not
@@ -89,7 +90,7 @@ host-name-reasons : classNameOf (zeros 40 0x1000 40) 0x1000 0
     ∷ classNameOf (zeros 40 0x1000 40) 0x1000 0x1000
     ∷ []
     ≡ absent NullAddress ∷ absent Unreadable ∷ absent NoData ∷ []
-unfolding decodeClassNameOf decodeNonzeroClassName decodeBoundName decodeClassName decodeRoData pickedIn picked pickedWide mapped dataArm64e data64 symbolOf bindAt readable readableAt lookup rows tabulate ends holds placed sum64 rebaseAt follow followFrom word le nonzero choose
+unfolding fileOf decodeClassNameOf decodeNonzeroClassName decodeBoundName decodeClassName decodeRoData pickedIn picked pickedWide mapped dataArm64e data64 symbolOf bindAt readable readableAt lookup rows tabulate ends holds placed sum64 rebaseAt follow followFrom word le nonzero choose
 host-name-reasons = refl
 
 -- A protocol of size 96 with the name `P` at 0x100, the name's segment after its own.
@@ -97,7 +98,7 @@ abbrev sizedBytes : List ℕ
 sizedBytes = replicate 9 0 ++ (1 ∷ replicate 54 0) ++ (96 ∷ replicate 7 0) ++ (80 ∷ 0 ∷ [])
 
 abbrev sizedAt : ℕ → ℕ → Tables
-sizedAt va size = tablesOf sizedBytes (va ∷ size ∷ 0 ∷ size ∷ 0x100 ∷ 2 ∷ 72 ∷ 2 ∷ []) (replicate 15 0) (replicate 8 0) [] [] []
+sizedAt va size = tablesOf (sizedBytes ∷ []) (va ∷ size ∷ 0 ∷ size ∷ 0 ∷ 0x100 ∷ 2 ∷ 72 ∷ 2 ∷ 0 ∷ []) (replicate 15 0) (replicate 8 0) [] [] []
 
 -- 72 bytes; +8; the name slot; +16, before the name's string; the string's; with size 96 the field at +88, and its bytes.
 protocol-reasons : protocolAt (zeros 71 0x1000 71) 0x1000
@@ -109,7 +110,7 @@ protocol-reasons : protocolAt (zeros 71 0x1000 71) 0x1000
     ∷ protocolAt (sizedAt 0x1000 72) 0x1000
     ∷ []
     ≡ absent Unreadable ∷ absent FieldOverflow ∷ absent Unresolved ∷ absent FieldOverflow ∷ absent NullAddress ∷ absent FieldOverflow ∷ absent Unreadable ∷ []
-unfolding decodeProtocol decodeProtocolLists decodeClassProperties decodeTrailing pointerAt pointerOr0At readable readableAt lookup rows tabulate ends holds placed sum64 resolve rebaseAt follow followFrom stored stripped word wordIn le textIn textAt text judge nonzero choose
+unfolding fileOf decodeProtocol decodeProtocolLists decodeClassProperties decodeTrailing pointerAt pointerOr0At readable readableAt lookup rows tabulate ends holds placed sum64 resolve rebaseAt follow followFrom stored stripped word wordIn leIn le textIn textFrom text judge nonzero choose
 protocol-reasons = refl
 
 -- 48 bytes; +8, before the name's string; the string's.
@@ -118,7 +119,7 @@ category-reasons : categoryAt (zeros 47 0x1000 47) 0x1000
     ∷ categoryAt (zeros 48 0x1000 48) 0x1000
     ∷ []
     ≡ absent Unreadable ∷ absent FieldOverflow ∷ absent NullAddress ∷ []
-unfolding decodeCategory decodeCategoryOf decodeCategoryLists decodeCategoryProperties imageInfo bit pointerOr0At readable readableAt lookup rows tabulate ends holds placed sum64 resolve rebaseAt follow followFrom stored stripped word le textIn nonzero choose
+unfolding fileOf decodeCategory decodeCategoryOf decodeCategoryLists decodeCategoryProperties imageInfo bit pointerOr0At readable readableAt lookup rows tabulate ends holds placed sum64 resolve rebaseAt follow followFrom stored stripped word le textIn nonzero choose
 category-reasons = refl
 
 -- 24 bytes; +8; the types slot; +16, before the selector's string; the string's.
@@ -129,7 +130,7 @@ legacy-reasons : legacyMethodAt (zeros 23 0x1000 23) 0x1000
     ∷ legacyMethodAt (zeros 24 0x1000 24) 0x1000
     ∷ []
     ≡ absent Unreadable ∷ absent FieldOverflow ∷ absent Unresolved ∷ absent FieldOverflow ∷ absent NullAddress ∷ []
-unfolding decodeLegacyMethod pointerAt pointerOr0At readable readableAt lookup rows tabulate ends holds placed sum64 resolve rebaseAt follow followFrom stored stripped word le textIn nonzero choose
+unfolding fileOf decodeLegacyMethod pointerAt pointerOr0At readable readableAt lookup rows tabulate ends holds placed sum64 resolve rebaseAt follow followFrom stored stripped word le textIn nonzero choose
 legacy-reasons = refl
 
 -- A small method whose selector's offset has these two low bytes; its other offsets are 0.
@@ -145,7 +146,7 @@ small-reasons : smallMethodAt (zeros 11 0x1000 11) 0x1000 true
     ∷ smallMethodAt (mappedAt (smallBytes 12 0 ++ (0x61 ∷ 0xE2 ∷ 0x28 ∷ 0 ∷ [])) 0x1000 16) 0x1000 true
     ∷ []
     ≡ absent Unreadable ∷ absent FieldOverflow ∷ absent FieldOverflow ∷ absent Unresolved ∷ absent Unmapped ∷ absent (NotUtf8 2) ∷ []
-unfolding decodeSmallMethod decodeSelector decodeTypes signedIn signed32 twos modulo64 relative readable readableAt lookup rows tabulate ends holds placed sum64 resolve rebaseAt follow followFrom stored stripped word wordIn le textIn textAt text judge nonzero choose
+unfolding fileOf decodeSmallMethod decodeSelector decodeTypes signedIn signed32 twos modulo64 relative readable readableAt lookup rows tabulate ends holds placed sum64 resolve rebaseAt follow followFrom stored stripped word wordIn leIn le textIn textFrom text judge nonzero choose
 small-reasons = refl
 
 -- 32 bytes; +8; the name slot; +16, before the name's string; the string's.
@@ -156,7 +157,7 @@ ivar-reasons : ivarAt (zeros 31 0x1000 31) 0x1000
     ∷ ivarAt (zeros 32 0x1000 32) 0x1000
     ∷ []
     ≡ absent Unreadable ∷ absent FieldOverflow ∷ absent Unresolved ∷ absent FieldOverflow ∷ absent NullAddress ∷ []
-unfolding decodeIvar decodeOffset pointerAt pointerOr0At readable readableAt lookup rows tabulate ends holds placed sum64 resolve rebaseAt follow followFrom stored stripped word wordIn le textIn nonzero choose
+unfolding fileOf decodeIvar decodeOffset pointerAt pointerOr0At readable readableAt lookup rows tabulate ends holds placed sum64 resolve rebaseAt follow followFrom stored stripped word wordIn leIn le textIn nonzero choose
 ivar-reasons = refl
 
 -- 16 bytes; +8, before the name's string; the string's.
@@ -165,7 +166,7 @@ property-reasons : propertyAt (zeros 15 0x1000 15) 0x1000
     ∷ propertyAt (zeros 16 0x1000 16) 0x1000
     ∷ []
     ≡ absent Unreadable ∷ absent FieldOverflow ∷ absent NullAddress ∷ []
-unfolding decodeProperty pointerOr0At readable readableAt lookup rows tabulate ends holds placed sum64 resolve rebaseAt follow followFrom stored stripped word le textIn nonzero choose
+unfolding fileOf decodeProperty pointerOr0At readable readableAt lookup rows tabulate ends holds placed sum64 resolve rebaseAt follow followFrom stored stripped word le textIn nonzero choose
 property-reasons = refl
 
 -- At 0; odd, but for ivars, whose header is then read; 8 bytes; an entry size of 0; address + 8, after the entry size.
@@ -177,5 +178,5 @@ list-reasons : listAt (zeros 8 0x1000 8) Methods 0
     ∷ listAt (mappedAt (24 ∷ replicate 7 0) (top 8) 7) Methods (top 8)
     ∷ []
     ≡ absent NullAddress ∷ absent OddList ∷ absent Unreadable ∷ absent Unreadable ∷ absent ShortEntry ∷ absent FieldOverflow ∷ []
-unfolding decodeList evenList entrySize methodRows bit readable readableAt lookup rows tabulate ends holds placed sum64 wordIn le nonzero choose
+unfolding fileOf decodeList evenList entrySize methodRows bit readable readableAt lookup rows tabulate ends holds placed sum64 wordIn leIn le nonzero choose
 list-reasons = refl

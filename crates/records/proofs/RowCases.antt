@@ -7,12 +7,13 @@ use lib.ListN.{length, replicate}
 use Rattle.reads.specs.Address.{stripped}
 use Rattle.reads.specs.Outcome.{value, absent, choose, nonzero, sum64, textOf}
 use Rattle.reads.specs.declared.answer.Reason.the-variants.{Unreadable}
+use Rattle.reads.specs.Files.{fileOf}
 use Rattle.reads.specs.Place.{le, readableAt, readable, word}
 use Rattle.reads.specs.Relative.{signed32, modulo64, relative}
 use Rattle.reads.specs.Segment.{rows, ends, holds, placed, lookup}
 use Rattle.reads.specs.Signed.{twos}
 use Rattle.reads.specs.Table.{tabulate}
-use Rattle.reads.specs.Text.{text, textAt, textIn}
+use Rattle.reads.specs.Text.{text, textFrom, textIn}
 use Rattle.reads.specs.Utf8.{judge, utf8}
 use Rattle.pointers.specs.Chain.{followFrom, follow}
 use Rattle.pointers.specs.ImageInfo.{imageInfo, bit}
@@ -66,19 +67,19 @@ pub unknown-aligned :
 unfolding alignedOf
 unknown-aligned = refl
 
--- A category of 48 bytes at the image's end, its name `C` in front of it; no rebase.
+-- A category of 48 bytes at the file's end, its name `C` in front of it; no rebase.
 abbrev narrow : List ℕ
 narrow = (67 ∷ replicate 7 0) ++ ((0 ∷ 16 ∷ replicate 6 0) ++ replicate 40 0)
 
 abbrev flagged : ℕ → Tables
 flagged flags =
-    tablesOf narrow (0x1000 ∷ length narrow ∷ 0 ∷ length narrow ∷ []) (replicate 15 0) (replicate 4 0 ++ (flags ∷ 0 ∷ 0 ∷ 0 ∷ [])) [] [] []
+    tablesOf (narrow ∷ []) (0x1000 ∷ length narrow ∷ 0 ∷ length narrow ∷ 0 ∷ []) (replicate 15 0) (replicate 4 0 ++ (flags ∷ 0 ∷ 0 ∷ 0 ∷ [])) [] [] []
 
 abbrev category : ObjcCategory
 category =
     record {
       address = 0x1008;
-      name = textOf 0 1;
+      name = textOf 0 0 1;
       «class_address» = 0;
       «instance_methods» = 0;
       «class_methods» = 0;
@@ -89,5 +90,5 @@ category =
 
 -- Without bit 6 it is whole; with it 56 bytes are asked for.
 pub narrow-category : map (λ flags. categoryAt (flagged flags) 0x1008) (0 ∷ 64 ∷ []) ≡ value category ∷ absent Unreadable ∷ []
-unfolding decodeCategory decodeCategoryOf decodeCategoryLists decodeCategoryProperties imageInfo bit readable readableAt lookup rows tabulate ends holds placed sum64 resolve rebaseAt follow followFrom stored stripped word le pointerOr0At textIn nonzero textAt text utf8 judge choose
+unfolding fileOf decodeCategory decodeCategoryOf decodeCategoryLists decodeCategoryProperties imageInfo bit readable readableAt lookup rows tabulate ends holds placed sum64 resolve rebaseAt follow followFrom stored stripped word le pointerOr0At textIn nonzero textFrom text utf8 judge choose
 narrow-category = refl

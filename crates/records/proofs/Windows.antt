@@ -1,5 +1,5 @@
--- How many addresses, size bytes apart, can be read: at most floor(n / 12) for each segment, since those in one segment's
--- room lie in n bytes (reads/proofs/SegmentRooms.antt). Nothing is assumed of the segments' order, and they may overlap.
+-- How many addresses, size bytes apart, can be read: at most floor(n / 12) for each segment, n the longest file, since those in one
+-- segment's room lie in n bytes (reads/proofs/SegmentRooms.antt). Nothing is assumed of the segments' order, and they may overlap.
 use Prim.Native.Nat.{ℕ, zero, suc, _+_, _-_, _*_, _/_, _≤_}
 use mathlib.Core.Path.{_≡_, refl, sym, _∙_}
 use mathlib.Core.Bool.{Bool, true, false, true≢false}
@@ -11,9 +11,11 @@ use lib.Dec.{leb}
 use lib.ListN.{length}
 use borrow.Author.Tests.{leb-true}
 use Rattle.reads.specs.Breaks.{canRead}
+use Rattle.reads.specs.Files.{longest}
 use Rattle.reads.specs.Outcome.{choose}
 use Rattle.reads.specs.Place.{Image}
-use Rattle.reads.specs.Segment.{rows}
+use Rattle.reads.specs.Segment.{segmentWords, rows}
+use Rattle.reads.specs.Table.{records}
 use Rattle.reads.specs.declared.segment.Segment.{Segment}
 use Rattle.reads.proofs.SegmentRooms.{inRoom, inSomeRoom, can-read-room}
 use Rattle.reads.proofs.SegmentRows.{rows-length}
@@ -105,10 +107,10 @@ module _ (n k base size : ℕ) (apart : 12 ≤ size) (wide : 12 ≤ k) where
 
 -- Addresses 12 bytes apart or more at which 12 bytes or more can be read.
 pub reads-few : (m : Image) (k base size : ℕ) → 12 ≤ size → 12 ≤ k → (count i : ℕ)
-    → length (allFrom (λ j. canRead m k (base + j * size)) count i) ≤ length (m .words) / 4 * (length (m .bytes) / 12)
+    → length (allFrom (λ j. canRead m k (base + j * size)) count i) ≤ records segmentWords (m .words) * (longest (m .files) / 12)
 reads-few m k base size apart wide count i =
     rw (← rows-length (m .words))
     (le-trans
-    (passing-within (λ j. canRead m k (base + j * size)) (λ j. inSomeRoom (length (m .bytes)) k (rows (m .words)) (base + j * size))
+    (passing-within (λ j. canRead m k (base + j * size)) (λ j. inSomeRoom (longest (m .files)) k (rows (m .words)) (base + j * size))
     (λ j e. can-read-room m k (base + j * size) e) count i)
-    (rooms-few (length (m .bytes)) k base size apart wide (rows (m .words)) count i))
+    (rooms-few (longest (m .files)) k base size apart wide (rows (m .words)) count i))

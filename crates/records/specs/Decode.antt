@@ -69,7 +69,7 @@ abbrev pub or0 : Decode ℕ → Decode ℕ
 or0 d = else d (done 0)
 
 abbrev pub orEmpty : Decode Text → Decode Text
-orEmpty d = else d (done (textOf 0 0))
+orEmpty d = else d (done (textOf 0 0 0))
 
 -- What is asked, each as in Ask.antt.
 abbrev pub sum64 : ℕ → ℕ → Decode ℕ

@@ -46,7 +46,7 @@ stringsAmong (q ∷ qs) = stringOf q ++ stringsAmong qs
 abbrev pub stringsAsked : {A : Type 0} → Tables → Decode A → List ℕ
 stringsAsked t d = stringsAmong (asks (underOld t) d)
 
--- Each of them that begins at the image's end or before it, malformed or not, is ended by a zero byte. Of other bytes nothing is said: the
--- image's last one need not be 0.
+-- Each of them that begins at its file's end or before it, malformed or not, is ended by a zero byte. Of other bytes nothing is said: a file's
+-- last one need not be 0.
 abbrev pub StringsEnd : {A : Type 0} → Tables → Decode A → Type 0
 StringsEnd t d = Each (StringEnds (imageIn t)) (stringsAsked t d)

@@ -27,7 +27,7 @@ ghost use Rattle.records.specs.Protocol.{protocolOutcome, protocolAt};
 
 // The class at an address.
 pub fn decode_class(
-    image: &[u8],
+    files: &[&[u8]],
     segments: &[u64],
     sections: &[u64],
     info: &[u8],
@@ -38,12 +38,12 @@ pub fn decode_class(
     va: u64,
     is_meta: bool,
 ) -> ClassAnswer
-    ensures { λ r. let t = under setting (lent image segments sections info rebases binds index) in
+    ensures { λ r. let t = under setting (lent files segments sections info rebases binds index) in
         ⌜ classOutcome r ≡ guarded t (classAt t va «is_meta») ⌝ }
 {
-    match ask(image, segments, sections, info, rebases, binds, index) {
+    match ask(files, segments, sections, info, rebases, binds, index) {
         Asked::Yes => class_at(
-            image,
+            files,
             segments,
             sections,
             info,
@@ -60,7 +60,7 @@ pub fn decode_class(
 
 // The class_ro_t at an address.
 pub fn decode_class_ro(
-    image: &[u8],
+    files: &[&[u8]],
     segments: &[u64],
     sections: &[u64],
     info: &[u8],
@@ -70,12 +70,12 @@ pub fn decode_class_ro(
     setting: Setting,
     va: u64,
 ) -> ClassRoAnswer
-    ensures { λ r. let t = under setting (lent image segments sections info rebases binds index) in
+    ensures { λ r. let t = under setting (lent files segments sections info rebases binds index) in
         ⌜ classRoOutcome r ≡ guarded t (classRoAt t va) ⌝ }
 {
-    match ask(image, segments, sections, info, rebases, binds, index) {
+    match ask(files, segments, sections, info, rebases, binds, index) {
         Asked::Yes => class_ro_at(
-            image,
+            files,
             segments,
             sections,
             info,
@@ -91,7 +91,7 @@ pub fn decode_class_ro(
 
 // The name of the class at an address.
 pub fn decode_class_name(
-    image: &[u8],
+    files: &[&[u8]],
     segments: &[u64],
     sections: &[u64],
     info: &[u8],
@@ -101,12 +101,12 @@ pub fn decode_class_name(
     setting: Setting,
     va: u64,
 ) -> TextAnswer
-    ensures { λ r. let t = under setting (lent image segments sections info rebases binds index) in
+    ensures { λ r. let t = under setting (lent files segments sections info rebases binds index) in
         ⌜ textOutcome r ≡ guarded t (classNameAt t va) ⌝ }
 {
-    match ask(image, segments, sections, info, rebases, binds, index) {
+    match ask(files, segments, sections, info, rebases, binds, index) {
         Asked::Yes => class_name_at(
-            image,
+            files,
             segments,
             sections,
             info,
@@ -124,7 +124,7 @@ impl ObjcClass {
     // The superclass's name: decoded, or by the bind at +8.
     pub fn superclass_name(
         self,
-        image: &[u8],
+        files: &[&[u8]],
         segments: &[u64],
         sections: &[u64],
         info: &[u8],
@@ -133,12 +133,12 @@ impl ObjcClass {
         index: &[u32],
         setting: Setting,
     ) -> TextAnswer
-        ensures { λ r. let t = under setting (lent image segments sections info rebases binds index) in
+        ensures { λ r. let t = under setting (lent files segments sections info rebases binds index) in
             ⌜ textOutcome r ≡ guarded t (superclassName t self) ⌝ }
     {
-        match ask(image, segments, sections, info, rebases, binds, index) {
+        match ask(files, segments, sections, info, rebases, binds, index) {
             Asked::Yes => class_name_of(
-                image,
+                files,
                 segments,
                 sections,
                 info,
@@ -156,7 +156,7 @@ impl ObjcClass {
     // The class_ro_t, picked again from the bits.
     pub fn ro(
         self,
-        image: &[u8],
+        files: &[&[u8]],
         segments: &[u64],
         sections: &[u64],
         info: &[u8],
@@ -165,12 +165,12 @@ impl ObjcClass {
         index: &[u32],
         setting: Setting,
     ) -> ClassRoAnswer
-        ensures { λ r. let t = under setting (lent image segments sections info rebases binds index) in
+        ensures { λ r. let t = under setting (lent files segments sections info rebases binds index) in
             ⌜ classRoOutcome r ≡ guarded t (roOf t self) ⌝ }
     {
-        match ask(image, segments, sections, info, rebases, binds, index) {
+        match ask(files, segments, sections, info, rebases, binds, index) {
             Asked::Yes => ro_of(
-                image,
+                files,
                 segments,
                 sections,
                 info,
@@ -187,7 +187,7 @@ impl ObjcClass {
 
 // The protocol at an address.
 pub fn decode_protocol(
-    image: &[u8],
+    files: &[&[u8]],
     segments: &[u64],
     sections: &[u64],
     info: &[u8],
@@ -197,12 +197,12 @@ pub fn decode_protocol(
     setting: Setting,
     va: u64,
 ) -> ProtocolAnswer
-    ensures { λ r. let t = under setting (lent image segments sections info rebases binds index) in
+    ensures { λ r. let t = under setting (lent files segments sections info rebases binds index) in
         ⌜ protocolOutcome r ≡ guarded t (protocolAt t va) ⌝ }
 {
-    match ask(image, segments, sections, info, rebases, binds, index) {
+    match ask(files, segments, sections, info, rebases, binds, index) {
         Asked::Yes => protocol_at(
-            image,
+            files,
             segments,
             sections,
             info,
@@ -218,7 +218,7 @@ pub fn decode_protocol(
 
 // The category at an address.
 pub fn decode_category(
-    image: &[u8],
+    files: &[&[u8]],
     segments: &[u64],
     sections: &[u64],
     info: &[u8],
@@ -228,12 +228,12 @@ pub fn decode_category(
     setting: Setting,
     va: u64,
 ) -> CategoryAnswer
-    ensures { λ r. let t = under setting (lent image segments sections info rebases binds index) in
+    ensures { λ r. let t = under setting (lent files segments sections info rebases binds index) in
         ⌜ categoryOutcome r ≡ guarded t (categoryAt t va) ⌝ }
 {
-    match ask(image, segments, sections, info, rebases, binds, index) {
+    match ask(files, segments, sections, info, rebases, binds, index) {
         Asked::Yes => category_at(
-            image,
+            files,
             segments,
             sections,
             info,
@@ -251,7 +251,7 @@ impl ObjcCategory {
     // The host class's name: decoded, or by the bind at +8.
     pub fn class_name(
         self,
-        image: &[u8],
+        files: &[&[u8]],
         segments: &[u64],
         sections: &[u64],
         info: &[u8],
@@ -260,12 +260,12 @@ impl ObjcCategory {
         index: &[u32],
         setting: Setting,
     ) -> TextAnswer
-        ensures { λ r. let t = under setting (lent image segments sections info rebases binds index) in
+        ensures { λ r. let t = under setting (lent files segments sections info rebases binds index) in
             ⌜ textOutcome r ≡ guarded t (categoryClassName t self) ⌝ }
     {
-        match ask(image, segments, sections, info, rebases, binds, index) {
+        match ask(files, segments, sections, info, rebases, binds, index) {
             Asked::Yes => class_name_of(
-                image,
+                files,
                 segments,
                 sections,
                 info,

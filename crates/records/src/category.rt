@@ -70,18 +70,18 @@ enum CategoryListsAnswer {
 }
 
 // category_t is wider where it has the field for class properties.
-fn whole_category(image: &[u8], segments: &[u64], va: u64, wide: bool) -> Placed
-    ensures { λ r. ⌜ placeOutcome r ≡ readable (lentImage image segments) va (choose wide category·sizeWithClassProperties category·size) ⌝ }
+fn whole_category(files: &[&[u8]], segments: &[u64], va: u64, wide: bool) -> Placed
+    ensures { λ r. ⌜ placeOutcome r ≡ readable (lentImage files segments) va (choose wide category·sizeWithClassProperties category·size) ⌝ }
 {
     if wide {
-        return readable(image, segments, va, SIZE_WITH_CLASS_PROPERTIES);
+        return readable(files, segments, va, SIZE_WITH_CLASS_PROPERTIES);
     }
-    readable(image, segments, va, ObjcCategory::SIZE)
+    readable(files, segments, va, ObjcCategory::SIZE)
 }
 
 // _classProperties where the image has the field; or 0.
 fn category_properties_at(
-    image: &[u8],
+    files: &[&[u8]],
     segments: &[u64],
     sections: &[u64],
     info: &[u8],
@@ -92,18 +92,18 @@ fn category_properties_at(
     va: u64,
     wide: bool,
 ) -> Word
-    ensures { λ r. let t = under setting (lent image segments sections info rebases binds index) in
+    ensures { λ r. let t = under setting (lent files segments sections info rebases binds index) in
         ⌜ wordOutcome r ≡ categoryPropertiesAt t va wide ⌝ }
 {
     if wide {
-        return pointer_or_0(image, segments, rebases, index, va, CLASS_PROPERTIES);
+        return pointer_or_0(files, segments, rebases, index, va, CLASS_PROPERTIES);
     }
     Word::Value(0)
 }
 
 // The lists of a category_t but its class properties; each or 0.
 fn category_lists_at(
-    image: &[u8],
+    files: &[&[u8]],
     segments: &[u64],
     sections: &[u64],
     info: &[u8],
@@ -113,11 +113,11 @@ fn category_lists_at(
     setting: Setting,
     va: u64,
 ) -> CategoryListsAnswer
-    ensures { λ r. let t = under setting (lent image segments sections info rebases binds index) in
+    ensures { λ r. let t = under setting (lent files segments sections info rebases binds index) in
         ⌜ categoryListsOutcome r ≡ categoryListsAt t va ⌝ }
 {
     let instance_methods = match pointer_or_0(
-        image,
+        files,
         segments,
         rebases,
         index,
@@ -127,16 +127,16 @@ fn category_lists_at(
         Word::Value(instance_methods) => instance_methods,
         Word::Missing(m) => return CategoryListsAnswer::Missing(m),
     };
-    let class_methods = match pointer_or_0(image, segments, rebases, index, va, CLASS_METHODS) {
+    let class_methods = match pointer_or_0(files, segments, rebases, index, va, CLASS_METHODS) {
         Word::Value(class_methods) => class_methods,
         Word::Missing(m) => return CategoryListsAnswer::Missing(m),
     };
-    let protocols = match pointer_or_0(image, segments, rebases, index, va, PROTOCOLS) {
+    let protocols = match pointer_or_0(files, segments, rebases, index, va, PROTOCOLS) {
         Word::Value(protocols) => protocols,
         Word::Missing(m) => return CategoryListsAnswer::Missing(m),
     };
     let instance_properties = match pointer_or_0(
-        image,
+        files,
         segments,
         rebases,
         index,
@@ -156,7 +156,7 @@ fn category_lists_at(
 
 // category_t, its fields in the order of category.rs, the name's text last.
 fn category_of(
-    image: &[u8],
+    files: &[&[u8]],
     segments: &[u64],
     sections: &[u64],
     info: &[u8],
@@ -167,23 +167,23 @@ fn category_of(
     va: u64,
     wide: bool,
 ) -> CategoryAnswer
-    ensures { λ r. let t = under setting (lent image segments sections info rebases binds index) in
+    ensures { λ r. let t = under setting (lent files segments sections info rebases binds index) in
         ⌜ categoryOutcome r ≡ categoryOf t va wide ⌝ }
 {
-    let _p = match whole_category(image, segments, va, wide) {
+    let _p = match whole_category(files, segments, va, wide) {
         Placed::At(p) => p,
         Placed::Missing(m) => return CategoryAnswer::Missing(m),
     };
-    let name_va = match resolve_pointer(image, segments, rebases, index, va) {
+    let name_va = match resolve_pointer(files, segments, rebases, index, va) {
         Word::Value(name_va) => name_va,
         Word::Missing(m) => return CategoryAnswer::Missing(m),
     };
-    let class_address = match pointer_or_0(image, segments, rebases, index, va, CLS) {
+    let class_address = match pointer_or_0(files, segments, rebases, index, va, CLS) {
         Word::Value(class_address) => class_address,
         Word::Missing(m) => return CategoryAnswer::Missing(m),
     };
     let lists = match category_lists_at(
-        image,
+        files,
         segments,
         sections,
         info,
@@ -197,7 +197,7 @@ fn category_of(
         CategoryListsAnswer::Missing(m) => return CategoryAnswer::Missing(m),
     };
     let class_properties = match category_properties_at(
-        image,
+        files,
         segments,
         sections,
         info,
@@ -212,7 +212,7 @@ fn category_of(
         Word::Missing(m) => return CategoryAnswer::Missing(m),
     };
     let reading = setting.reading;
-    let name = match read_cstr(image, segments, reading, name_va) {
+    let name = match read_cstr(files, segments, reading, name_va) {
         TextAnswer::Found(name) => name,
         TextAnswer::Missing(m) => return CategoryAnswer::Missing(m),
     };
@@ -230,7 +230,7 @@ fn category_of(
 
 // The category at an address, by bit 6 of the image info's flags.
 pub fn category_at(
-    image: &[u8],
+    files: &[&[u8]],
     segments: &[u64],
     sections: &[u64],
     info: &[u8],
@@ -240,14 +240,14 @@ pub fn category_at(
     setting: Setting,
     va: u64,
 ) -> CategoryAnswer
-    ensures { λ r. let t = under setting (lent image segments sections info rebases binds index) in
+    ensures { λ r. let t = under setting (lent files segments sections info rebases binds index) in
         ⌜ categoryOutcome r ≡ categoryAt t va ⌝ }
 {
     match ImageInfo::parse(info) {
         ImageInfoAnswer::Info(i) => {
             let wide = i.has_category_class_properties();
             category_of(
-                image,
+                files,
                 segments,
                 sections,
                 info,

@@ -27,6 +27,7 @@ use reads::text::text_because;
 ghost use mathlib.Core.Path.{_≡_};
 ghost use Rattle.reads.specs.Answer.{wordOutcome, textOutcome};
 ghost use Rattle.reads.specs.Outcome.{orZero};
+ghost use Rattle.reads.specs.Files.{filesLent};
 ghost use Rattle.reads.specs.Place.{imageOf, lentImage};
 ghost use Rattle.pointers.specs.ImageInfo.{bit};
 ghost use Rattle.pointers.specs.Tables.{lent, under};
@@ -112,7 +113,7 @@ fn bits_of(target: u64, raw: u64) -> u64
 
 // The data address: the rebase target of the bits word, else the pick of the stored word.
 fn data_at(
-    image: &[u8],
+    files: &[&[u8]],
     segments: &[u64],
     sections: &[u64],
     info: &[u8],
@@ -123,7 +124,7 @@ fn data_at(
     slot: u64,
     raw: u64,
 ) -> Word
-    ensures { λ r. let t = under setting (lent image segments sections info rebases binds index) in
+    ensures { λ r. let t = under setting (lent files segments sections info rebases binds index) in
         ⌜ wordOutcome r ≡ dataAt t slot raw ⌝ }
 {
     let target = rebase_at(rebases, index, slot);
@@ -135,7 +136,7 @@ fn data_at(
 
 // The same, or 0.
 fn data_or_0(
-    image: &[u8],
+    files: &[&[u8]],
     segments: &[u64],
     sections: &[u64],
     info: &[u8],
@@ -146,11 +147,11 @@ fn data_or_0(
     slot: u64,
     raw: u64,
 ) -> Word
-    ensures { λ r. let t = under setting (lent image segments sections info rebases binds index) in
+    ensures { λ r. let t = under setting (lent files segments sections info rebases binds index) in
         ⌜ wordOutcome r ≡ orZero (dataAt t slot raw) ⌝ }
 {
     or_zero(data_at(
-        image,
+        files,
         segments,
         sections,
         info,
@@ -165,7 +166,7 @@ fn data_or_0(
 
 // class_t: both field addresses are tested before the first lookup.
 pub fn class_at(
-    image: &[u8],
+    files: &[&[u8]],
     segments: &[u64],
     sections: &[u64],
     info: &[u8],
@@ -176,10 +177,10 @@ pub fn class_at(
     va: u64,
     is_meta: bool,
 ) -> ClassAnswer
-    ensures { λ r. let t = under setting (lent image segments sections info rebases binds index) in
+    ensures { λ r. let t = under setting (lent files segments sections info rebases binds index) in
         ⌜ classOutcome r ≡ classAt t va «is_meta» ⌝ }
 {
-    let _p = match readable(image, segments, va, ObjcClass::SIZE) {
+    let _p = match readable(files, segments, va, ObjcClass::SIZE) {
         Placed::At(p) => p,
         Placed::Missing(m) => return ClassAnswer::Missing(m),
     };
@@ -191,20 +192,20 @@ pub fn class_at(
         Word::Value(bits_slot) => bits_slot,
         Word::Missing(m) => return ClassAnswer::Missing(m),
     };
-    let isa = match slot_or_0(image, segments, rebases, index, va) {
+    let isa = match slot_or_0(files, segments, rebases, index, va) {
         Word::Value(isa) => isa,
         Word::Missing(m) => return ClassAnswer::Missing(m),
     };
-    let superclass = match slot_or_0(image, segments, rebases, index, super_slot) {
+    let superclass = match slot_or_0(files, segments, rebases, index, super_slot) {
         Word::Value(superclass) => superclass,
         Word::Missing(m) => return ClassAnswer::Missing(m),
     };
-    let raw = match read_u64(image, segments, bits_slot) {
+    let raw = match read_u64(files, segments, bits_slot) {
         Word::Value(raw) => raw,
         Word::Missing(m) => return ClassAnswer::Missing(m),
     };
     let target = match data_or_0(
-        image,
+        files,
         segments,
         sections,
         info,
@@ -229,7 +230,7 @@ pub fn class_at(
 
 // What stands behind the name of a class_ro_t: its lists, and the weak ivar layout among them; each or 0.
 fn ro_lists_at(
-    image: &[u8],
+    files: &[&[u8]],
     segments: &[u64],
     sections: &[u64],
     info: &[u8],
@@ -240,24 +241,24 @@ fn ro_lists_at(
     s: Spot,
     va: u64,
 ) -> RoListsAnswer
-    requires { ⌜ Near (imageOf (now image) (now segments)) va s 72 ⌝ }
-    ensures { λ r. let t = under setting (lent image segments sections info rebases binds index) in
+    requires { ⌜ Near (imageOf (filesLent (now files)) (now segments)) va s 72 ⌝ }
+    ensures { λ r. let t = under setting (lent files segments sections info rebases binds index) in
         ⌜ roListsOutcome r ≡ roListsAt t va ⌝ }
 {
-    let methods = match field_or_0(image, segments, rebases, index, s, va, BASE_METHODS) {
+    let methods = match field_or_0(files, segments, rebases, index, s, va, BASE_METHODS) {
         Word::Value(methods) => methods,
         Word::Missing(m) => return RoListsAnswer::Missing(m),
     };
-    let protocols = match field_or_0(image, segments, rebases, index, s, va, BASE_PROTOCOLS) {
+    let protocols = match field_or_0(files, segments, rebases, index, s, va, BASE_PROTOCOLS) {
         Word::Value(protocols) => protocols,
         Word::Missing(m) => return RoListsAnswer::Missing(m),
     };
-    let ivars = match field_or_0(image, segments, rebases, index, s, va, IVARS) {
+    let ivars = match field_or_0(files, segments, rebases, index, s, va, IVARS) {
         Word::Value(ivars) => ivars,
         Word::Missing(m) => return RoListsAnswer::Missing(m),
     };
     let weak_ivar_layout = match field_or_0(
-        image,
+        files,
         segments,
         rebases,
         index,
@@ -268,7 +269,7 @@ fn ro_lists_at(
         Word::Value(weak_ivar_layout) => weak_ivar_layout,
         Word::Missing(m) => return RoListsAnswer::Missing(m),
     };
-    let properties = match field_or_0(image, segments, rebases, index, s, va, BASE_PROPERTIES) {
+    let properties = match field_or_0(files, segments, rebases, index, s, va, BASE_PROPERTIES) {
         Word::Value(properties) => properties,
         Word::Missing(m) => return RoListsAnswer::Missing(m),
     };
@@ -283,7 +284,7 @@ fn ro_lists_at(
 
 // class_ro_t: the pointers in the order of class.rs, the name's text last.
 pub fn class_ro_at(
-    image: &[u8],
+    files: &[&[u8]],
     segments: &[u64],
     sections: &[u64],
     info: &[u8],
@@ -293,24 +294,24 @@ pub fn class_ro_at(
     setting: Setting,
     va: u64,
 ) -> ClassRoAnswer
-    ensures { λ r. let t = under setting (lent image segments sections info rebases binds index) in
+    ensures { λ r. let t = under setting (lent files segments sections info rebases binds index) in
         ⌜ classRoOutcome r ≡ classRoAt t va ⌝ }
 {
-    let s = readable_spot(image, segments, va, ClassRo::SIZE);
+    let s = readable_spot(files, segments, va, ClassRo::SIZE);
     let p = match spot_place(s) {
         Placed::At(p) => p,
         Placed::Missing(m) => return ClassRoAnswer::Missing(m),
     };
-    let ivar_layout = match field_or_0(image, segments, rebases, index, s, va, IVAR_LAYOUT) {
+    let ivar_layout = match field_or_0(files, segments, rebases, index, s, va, IVAR_LAYOUT) {
         Word::Value(ivar_layout) => ivar_layout,
         Word::Missing(m) => return ClassRoAnswer::Missing(m),
     };
-    let name_va = match field(image, segments, rebases, index, s, va, NAME) {
+    let name_va = match field(files, segments, rebases, index, s, va, NAME) {
         Word::Value(name_va) => name_va,
         Word::Missing(m) => return ClassRoAnswer::Missing(m),
     };
     let lists = match ro_lists_at(
-        image,
+        files,
         segments,
         sections,
         info,
@@ -325,15 +326,15 @@ pub fn class_ro_at(
         RoListsAnswer::Missing(m) => return ClassRoAnswer::Missing(m),
     };
     let reading = setting.reading;
-    let name = match read_cstr(image, segments, reading, name_va) {
+    let name = match read_cstr(files, segments, reading, name_va) {
         TextAnswer::Found(name) => name,
         TextAnswer::Missing(m) => return ClassRoAnswer::Missing(m),
     };
     ClassRoAnswer::Ro(ClassRo {
         address: va,
-        flags: u32_in(image, p, FLAGS),
-        instance_start: u32_in(image, p, INSTANCE_START),
-        instance_size: u32_in(image, p, INSTANCE_SIZE),
+        flags: u32_in(files, p, FLAGS),
+        instance_start: u32_in(files, p, INSTANCE_START),
+        instance_size: u32_in(files, p, INSTANCE_SIZE),
         name,
         ivar_layout_address: ivar_layout,
         methods: lists.methods,
@@ -346,7 +347,7 @@ pub fn class_ro_at(
 
 // The class_ro_t of a class: picked again from its bits.
 pub fn ro_of(
-    image: &[u8],
+    files: &[&[u8]],
     segments: &[u64],
     sections: &[u64],
     info: &[u8],
@@ -356,12 +357,12 @@ pub fn ro_of(
     setting: Setting,
     class: ObjcClass,
 ) -> ClassRoAnswer
-    ensures { λ r. let t = under setting (lent image segments sections info rebases binds index) in
+    ensures { λ r. let t = under setting (lent files segments sections info rebases binds index) in
         ⌜ classRoOutcome r ≡ roOf t class ⌝ }
 {
     match Address::pick(segments, class.bits) {
         Word::Value(va) => class_ro_at(
-            image,
+            files,
             segments,
             sections,
             info,
@@ -377,7 +378,7 @@ pub fn ro_of(
 
 // The class_ro_t of the bits word in a slot: a rebase target is not picked from.
 fn ro_data_at(
-    image: &[u8],
+    files: &[&[u8]],
     segments: &[u64],
     sections: &[u64],
     info: &[u8],
@@ -387,21 +388,21 @@ fn ro_data_at(
     setting: Setting,
     slot: u64,
 ) -> Word
-    ensures { λ r. let t = under setting (lent image segments sections info rebases binds index) in
+    ensures { λ r. let t = under setting (lent files segments sections info rebases binds index) in
         ⌜ wordOutcome r ≡ roDataAt t slot ⌝ }
 {
     let target = rebase_at(rebases, index, slot);
     if is_absent(target) {
-        return picked_at(image, segments, slot);
+        return picked_at(files, segments, slot);
     }
     target
 }
 
 // The pick of the word in a slot.
-fn picked_at(image: &[u8], segments: &[u64], slot: u64) -> Word
-    ensures { λ r. ⌜ wordOutcome r ≡ pickedIn (lentImage image segments) slot ⌝ }
+fn picked_at(files: &[&[u8]], segments: &[u64], slot: u64) -> Word
+    ensures { λ r. ⌜ wordOutcome r ≡ pickedIn (lentImage files segments) slot ⌝ }
 {
-    match read_u64(image, segments, slot) {
+    match read_u64(files, segments, slot) {
         Word::Value(raw) => Address::pick(segments, raw),
         Word::Missing(m) => Word::Missing(m),
     }
@@ -409,7 +410,7 @@ fn picked_at(image: &[u8], segments: &[u64], slot: u64) -> Word
 
 // The name of the class at an address, by its class_ro_t's name slot alone.
 pub fn class_name_at(
-    image: &[u8],
+    files: &[&[u8]],
     segments: &[u64],
     sections: &[u64],
     info: &[u8],
@@ -419,10 +420,10 @@ pub fn class_name_at(
     setting: Setting,
     va: u64,
 ) -> TextAnswer
-    ensures { λ r. let t = under setting (lent image segments sections info rebases binds index) in
+    ensures { λ r. let t = under setting (lent files segments sections info rebases binds index) in
         ⌜ textOutcome r ≡ classNameAt t va ⌝ }
 {
-    let _p = match readable(image, segments, va, ObjcClass::SIZE) {
+    let _p = match readable(files, segments, va, ObjcClass::SIZE) {
         Placed::At(p) => p,
         Placed::Missing(m) => return TextAnswer::Missing(m),
     };
@@ -431,7 +432,7 @@ pub fn class_name_at(
         Word::Missing(m) => return TextAnswer::Missing(m),
     };
     let ro_va = match ro_data_at(
-        image,
+        files,
         segments,
         sections,
         info,
@@ -444,17 +445,17 @@ pub fn class_name_at(
         Word::Value(ro_va) => ro_va,
         Word::Missing(m) => return TextAnswer::Missing(m),
     };
-    let name_va = match pointer(image, segments, rebases, index, ro_va, NAME) {
+    let name_va = match pointer(files, segments, rebases, index, ro_va, NAME) {
         Word::Value(name_va) => name_va,
         Word::Missing(m) => return TextAnswer::Missing(m),
     };
     let reading = setting.reading;
-    read_cstr(image, segments, reading, name_va)
+    read_cstr(files, segments, reading, name_va)
 }
 
 // The bind of the slot at +8, where both class_t.superclass and category_t.cls stand, less its prefix.
 fn bound_name(
-    image: &[u8],
+    files: &[&[u8]],
     segments: &[u64],
     sections: &[u64],
     info: &[u8],
@@ -464,18 +465,18 @@ fn bound_name(
     setting: Setting,
     address: u64,
 ) -> TextAnswer
-    ensures { λ r. let t = under setting (lent image segments sections info rebases binds index) in
+    ensures { λ r. let t = under setting (lent files segments sections info rebases binds index) in
         ⌜ textOutcome r ≡ boundName t address ⌝ }
 {
     match checked_add(address, ObjcClass::SUPERCLASS) {
-        Word::Value(slot) => symbol_at(image, rebases, binds, index, slot),
+        Word::Value(slot) => symbol_at(files, rebases, binds, index, slot),
         Word::Missing(m) => TextAnswer::Missing(m),
     }
 }
 
 // The decoded name of a class that is not 0.
 fn decoded_name(
-    image: &[u8],
+    files: &[&[u8]],
     segments: &[u64],
     sections: &[u64],
     info: &[u8],
@@ -485,12 +486,12 @@ fn decoded_name(
     setting: Setting,
     class_va: u64,
 ) -> TextAnswer
-    ensures { λ r. let t = under setting (lent image segments sections info rebases binds index) in
+    ensures { λ r. let t = under setting (lent files segments sections info rebases binds index) in
         ⌜ textOutcome r ≡ decodedName t «class_va» ⌝ }
 {
     match nonzero(class_va) {
         Word::Value(va) => class_name_at(
-            image,
+            files,
             segments,
             sections,
             info,
@@ -507,7 +508,7 @@ fn decoded_name(
 // The name of the class in the slot at +8 of a record: a class that decodes goes before the bind, and where both are absent its
 // reason stands.
 pub fn class_name_of(
-    image: &[u8],
+    files: &[&[u8]],
     segments: &[u64],
     sections: &[u64],
     info: &[u8],
@@ -518,11 +519,11 @@ pub fn class_name_of(
     address: u64,
     class_va: u64,
 ) -> TextAnswer
-    ensures { λ r. let t = under setting (lent image segments sections info rebases binds index) in
+    ensures { λ r. let t = under setting (lent files segments sections info rebases binds index) in
         ⌜ textOutcome r ≡ classNameOf t address «class_va» ⌝ }
 {
     match decoded_name(
-        image,
+        files,
         segments,
         sections,
         info,
@@ -536,7 +537,7 @@ pub fn class_name_of(
         TextAnswer::Missing(m) => match m {
             Missing::Absent(why) => text_because(
                 bound_name(
-                    image,
+                    files,
                     segments,
                     sections,
                     info,

@@ -119,7 +119,7 @@ fn or_none(m: Missing) -> OffsetAnswer
 
 // The offset in the four bytes at the pointed place, none if the pointer is 0 or they cannot be read.
 fn offset_at(
-    image: &[u8],
+    files: &[&[u8]],
     segments: &[u64],
     sections: &[u64],
     info: &[u8],
@@ -129,12 +129,12 @@ fn offset_at(
     setting: Setting,
     place: u64,
 ) -> OffsetAnswer
-    ensures { λ r. let t = under setting (lent image segments sections info rebases binds index) in
+    ensures { λ r. let t = under setting (lent files segments sections info rebases binds index) in
         ⌜ offsetOutcome r ≡ offsetAt t place ⌝ }
 {
     match nonzero(place) {
-        Word::Value(va) => match readable(image, segments, va, 4) {
-            Placed::At(p) => OffsetAnswer::Offset(IvarOffset::At(u32_in(image, p, 0))),
+        Word::Value(va) => match readable(files, segments, va, 4) {
+            Placed::At(p) => OffsetAnswer::Offset(IvarOffset::At(u32_in(files, p, 0))),
             Placed::Missing(m) => or_none(m),
         },
         Word::Missing(m) => or_none(m),
@@ -143,7 +143,7 @@ fn offset_at(
 
 // ivar_t; the offset's place is read last.
 pub(crate) fn ivar_at(
-    image: &[u8],
+    files: &[&[u8]],
     segments: &[u64],
     sections: &[u64],
     info: &[u8],
@@ -153,37 +153,37 @@ pub(crate) fn ivar_at(
     setting: Setting,
     va: u64,
 ) -> IvarAnswer
-    ensures { λ r. let t = under setting (lent image segments sections info rebases binds index) in
+    ensures { λ r. let t = under setting (lent files segments sections info rebases binds index) in
         ⌜ ivarOutcome r ≡ ivarAt t va ⌝ }
 {
-    let s = readable_spot(image, segments, va, Ivar::SIZE);
+    let s = readable_spot(files, segments, va, Ivar::SIZE);
     let p = match spot_place(s) {
         Placed::At(p) => p,
         Placed::Missing(m) => return IvarAnswer::Missing(m),
     };
-    let place = match first_slot_or_0(image, segments, rebases, index, s, va) {
+    let place = match first_slot_or_0(files, segments, rebases, index, s, va) {
         Word::Value(place) => place,
         Word::Missing(m) => return IvarAnswer::Missing(m),
     };
-    let name_va = match field(image, segments, rebases, index, s, va, Ivar::NAME) {
+    let name_va = match field(files, segments, rebases, index, s, va, Ivar::NAME) {
         Word::Value(name_va) => name_va,
         Word::Missing(m) => return IvarAnswer::Missing(m),
     };
-    let type_va = match field_or_0(image, segments, rebases, index, s, va, Ivar::TYPE) {
+    let type_va = match field_or_0(files, segments, rebases, index, s, va, Ivar::TYPE) {
         Word::Value(type_va) => type_va,
         Word::Missing(m) => return IvarAnswer::Missing(m),
     };
     let reading = setting.reading;
-    let name = match read_cstr(image, segments, reading, name_va) {
+    let name = match read_cstr(files, segments, reading, name_va) {
         TextAnswer::Found(name) => name,
         TextAnswer::Missing(m) => return IvarAnswer::Missing(m),
     };
-    let type_encoding = match read_cstr_or_empty(image, segments, reading, type_va) {
+    let type_encoding = match read_cstr_or_empty(files, segments, reading, type_va) {
         TextAnswer::Found(type_encoding) => type_encoding,
         TextAnswer::Missing(m) => return IvarAnswer::Missing(m),
     };
     let offset = match offset_at(
-        image,
+        files,
         segments,
         sections,
         info,
@@ -196,12 +196,12 @@ pub(crate) fn ivar_at(
         OffsetAnswer::Offset(offset) => offset,
         OffsetAnswer::Missing(m) => return IvarAnswer::Missing(m),
     };
-    let log2_alignment = alignment_of(u32_in(image, p, Ivar::ALIGNMENT_RAW));
+    let log2_alignment = alignment_of(u32_in(files, p, Ivar::ALIGNMENT_RAW));
     IvarAnswer::Row(Ivar {
         name,
         type_encoding,
         offset,
-        size: u32_in(image, p, Ivar::OWN_SIZE),
+        size: u32_in(files, p, Ivar::OWN_SIZE),
         log2_alignment,
         aligned: aligned_of(offset, log2_alignment),
     })

@@ -20,6 +20,7 @@ ghost use Rattle.reads.specs.Reference.{before};
 ghost use Rattle.reads.specs.Answer.{wordOutcome};
 ghost use Rattle.reads.specs.Breaks.{canRead};
 ghost use Rattle.reads.specs.Outcome.{value, choose};
+ghost use Rattle.reads.specs.Files.{filesLent};
 ghost use Rattle.reads.specs.Place.{imageOf, lentImage};
 ghost use Rattle.pointers.specs.Tables.{lent, under};
 ghost use Rattle.records.specs.Ask.{evenList, entrySize};
@@ -165,7 +166,7 @@ fn list_address(kind: ListKind, va: u64) -> Word
 
 // The list at an address: an 8-byte header of entry size and count, then the entries.
 pub fn list_at(
-    image: &[u8],
+    files: &[&[u8]],
     segments: &[u64],
     sections: &[u64],
     info: &[u8],
@@ -176,7 +177,7 @@ pub fn list_at(
     kind: ListKind,
     va: u64,
 ) -> LayoutAnswer
-    ensures { λ r. let t = under setting (lent image segments sections info rebases binds index) in
+    ensures { λ r. let t = under setting (lent files segments sections info rebases binds index) in
         ⌜ layoutOutcome r ≡ listAt t kind va ⌝ }
 {
     match nonzero(va) {
@@ -187,11 +188,11 @@ pub fn list_at(
         Word::Value(_) => {}
         Word::Missing(m) => return LayoutAnswer::Missing(m),
     }
-    let p = match readable(image, segments, va, Layout::HEADER_SIZE) {
+    let p = match readable(files, segments, va, Layout::HEADER_SIZE) {
         Placed::At(p) => p,
         Placed::Missing(m) => return LayoutAnswer::Missing(m),
     };
-    let w = u32_in(image, p, Layout::ENTSIZE_AND_FLAGS);
+    let w = u32_in(files, p, Layout::ENTSIZE_AND_FLAGS);
     let rows = rows_of(kind, w);
     let size = size_of(kind, w);
     match entry_size(least(rows), size) {
@@ -205,16 +206,16 @@ pub fn list_at(
     LayoutAnswer::List(Layout {
         base,
         size,
-        count: u32_in(image, p, Layout::COUNT),
+        count: u32_in(files, p, Layout::COUNT),
         kind: rows,
     })
 }
 
 // Whether k bytes can be read at an address.
-fn can_read(image: &[u8], segments: &[u64], k: u64, va: u64) -> bool
-    ensures { λ r. ⌜ r ≡ canRead (lentImage image segments) k va ⌝ }
+fn can_read(files: &[&[u8]], segments: &[u64], k: u64, va: u64) -> bool
+    ensures { λ r. ⌜ r ≡ canRead (lentImage files segments) k va ⌝ }
 {
-    match readable(image, segments, va, k) {
+    match readable(files, segments, va, k) {
         Placed::At(p) => true,
         Placed::Missing(m) => false,
     }
@@ -222,8 +223,8 @@ fn can_read(image: &[u8], segments: &[u64], k: u64, va: u64) -> bool
 
 // Tries index i: the entry there is the answer, or none from there on is, or the search goes on at the first entry whose
 // address reaches the next breakpoint.
-fn try_at(image: &[u8], segments: &[u64], h: Layout, i: u64) -> Try
-    ensures { λ r. ⌜ Leads (lentImage image segments) h i r ⌝ }
+fn try_at(files: &[&[u8]], segments: &[u64], h: Layout, i: u64) -> Try
+    ensures { λ r. ⌜ Leads (lentImage files segments) h i r ⌝ }
 {
     let count = h.count as u64;
     if count <= i {
@@ -238,10 +239,10 @@ fn try_at(image: &[u8], segments: &[u64], h: Layout, i: u64) -> Try
     let va = h.base + way;
     let rows = h.kind;
     let k = least(rows);
-    if can_read(image, segments, k, va) {
+    if can_read(files, segments, k, va) {
         return Try::Stop(Entry::At(i));
     }
-    let Break::At(b) = next_break(image, segments, k, va) else {
+    let Break::At(b) = next_break(files, segments, k, va) else {
         return Try::Stop(Entry::Nothing);
     };
     // Entries of size 0 all have one address.
@@ -257,15 +258,15 @@ fn try_at(image: &[u8], segments: &[u64], h: Layout, i: u64) -> Try
 }
 
 // Spends one of the budget at each index tried. Each try leaves fewer breakpoints ahead, so the budget does not run out.
-fn search(image: &[u8], segments: &[u64], h: Layout, from: u64, budget: u64) -> Entry
-    requires { ⌜ ahead (imageOf (now image) (now segments)) h from < budget ⌝ }
-    ensures { λ r. ⌜ entryOf r ≡ firstReadable (lentImage image segments) h from ⌝ }
+fn search(files: &[&[u8]], segments: &[u64], h: Layout, from: u64, budget: u64) -> Entry
+    requires { ⌜ ahead (imageOf (filesLent (now files)) (now segments)) h from < budget ⌝ }
+    ensures { λ r. ⌜ entryOf r ≡ firstReadable (lentImage files segments) h from ⌝ }
 {
     let mut i = from;
     let mut left = budget;
     loop {
         left -= 1;
-        match try_at(image, segments, h, i) {
+        match try_at(files, segments, h, i) {
             Try::Stop(entry) => {
                 return entry;
             }
@@ -284,9 +285,9 @@ fn search_budget(segments: &[u64]) -> u64
 }
 
 // The first entry from an index on, below the count, that can be read.
-pub fn first_readable(image: &[u8], segments: &[u64], h: Layout, from: u32) -> Entry
-    ensures { λ r. ⌜ entryOf r ≡ firstReadable (lentImage image segments) h from ⌝ }
+pub fn first_readable(files: &[&[u8]], segments: &[u64], h: Layout, from: u32) -> Entry
+    ensures { λ r. ⌜ entryOf r ≡ firstReadable (lentImage files segments) h from ⌝ }
 {
     let budget = search_budget(segments);
-    search(image, segments, h, from as u64, budget)
+    search(files, segments, h, from as u64, budget)
 }

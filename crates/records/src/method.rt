@@ -25,6 +25,7 @@ ghost use mathlib.Core.Path.{_≡_};
 ghost use Rattle.reads.specs.Reference.{before};
 ghost use Rattle.reads.specs.Answer.{wordOutcome, textOutcome};
 ghost use Rattle.reads.specs.Relative.{relative, signedIn};
+ghost use Rattle.reads.specs.Files.{filesOf};
 ghost use Rattle.pointers.specs.Tables.{lent, under};
 ghost use Rattle.records.specs.Row.{methodOutcome, legacyImp, legacyMethodAt, smallImp, selectorAt, typesAt, smallKind, smallMethodAt, isSmall};
 
@@ -96,7 +97,7 @@ fn legacy_imp(va: u64) -> Imp
 
 // method_t::big.
 pub(crate) fn legacy_method_at(
-    image: &[u8],
+    files: &[&[u8]],
     segments: &[u64],
     sections: &[u64],
     info: &[u8],
@@ -106,32 +107,32 @@ pub(crate) fn legacy_method_at(
     setting: Setting,
     va: u64,
 ) -> MethodAnswer
-    ensures { λ r. let t = under setting (lent image segments sections info rebases binds index) in
+    ensures { λ r. let t = under setting (lent files segments sections info rebases binds index) in
         ⌜ methodOutcome r ≡ legacyMethodAt t va ⌝ }
 {
-    let s = readable_spot(image, segments, va, Method::SIZE);
+    let s = readable_spot(files, segments, va, Method::SIZE);
     let _p = match spot_place(s) {
         Placed::At(p) => p,
         Placed::Missing(m) => return MethodAnswer::Missing(m),
     };
-    let name_va = match first_slot(image, segments, rebases, index, s, va) {
+    let name_va = match first_slot(files, segments, rebases, index, s, va) {
         Word::Value(name_va) => name_va,
         Word::Missing(m) => return MethodAnswer::Missing(m),
     };
-    let types_va = match field(image, segments, rebases, index, s, va, Method::TYPES) {
+    let types_va = match field(files, segments, rebases, index, s, va, Method::TYPES) {
         Word::Value(types_va) => types_va,
         Word::Missing(m) => return MethodAnswer::Missing(m),
     };
-    let imp_va = match field_or_0(image, segments, rebases, index, s, va, Method::IMP) {
+    let imp_va = match field_or_0(files, segments, rebases, index, s, va, Method::IMP) {
         Word::Value(imp_va) => imp_va,
         Word::Missing(m) => return MethodAnswer::Missing(m),
     };
     let reading = setting.reading;
-    let selector = match read_cstr(image, segments, reading, name_va) {
+    let selector = match read_cstr(files, segments, reading, name_va) {
         TextAnswer::Found(selector) => selector,
         TextAnswer::Missing(m) => return MethodAnswer::Missing(m),
     };
-    let types = match read_cstr_or_empty(image, segments, reading, types_va) {
+    let types = match read_cstr_or_empty(files, segments, reading, types_va) {
         TextAnswer::Found(types) => types,
         TextAnswer::Missing(m) => return MethodAnswer::Missing(m),
     };
@@ -163,15 +164,15 @@ fn small_kind(direct: bool) -> MethodKind
 }
 
 // The target of the offset at i bytes from a place, counted from the offset's own field.
-fn target_of(image: &[u8], p: Place, i: u64, field: u64) -> u64
-    ensures { λ r. ⌜ r ≡ relative field (signedIn (before image) p i) ⌝ }
+fn target_of(files: &[&[u8]], p: Place, i: u64, field: u64) -> u64
+    ensures { λ r. ⌜ r ≡ relative field (signedIn (filesOf files) p i) ⌝ }
 {
-    relative_pointer(field, i32_in(image, p, i))
+    relative_pointer(field, i32_in(files, p, i))
 }
 
 // A small method's selector: its offset's target itself, or indirect, through one slot.
 fn selector_at(
-    image: &[u8],
+    files: &[&[u8]],
     segments: &[u64],
     sections: &[u64],
     info: &[u8],
@@ -183,19 +184,19 @@ fn selector_at(
     field: u64,
     p: Place,
 ) -> Word
-    ensures { λ r. let t = under setting (lent image segments sections info rebases binds index) in
+    ensures { λ r. let t = under setting (lent files segments sections info rebases binds index) in
         ⌜ wordOutcome r ≡ selectorAt t direct field p ⌝ }
 {
-    let target = target_of(image, p, Method::SMALL_NAME, field);
+    let target = target_of(files, p, Method::SMALL_NAME, field);
     if direct {
         return Word::Value(target);
     }
-    resolve_pointer(image, segments, rebases, index, target)
+    resolve_pointer(files, segments, rebases, index, target)
 }
 
 // A small method's types: the text at its offset's target.
 fn types_at(
-    image: &[u8],
+    files: &[&[u8]],
     segments: &[u64],
     sections: &[u64],
     info: &[u8],
@@ -206,21 +207,21 @@ fn types_at(
     field: u64,
     p: Place,
 ) -> TextAnswer
-    ensures { λ r. let t = under setting (lent image segments sections info rebases binds index) in
+    ensures { λ r. let t = under setting (lent files segments sections info rebases binds index) in
         ⌜ textOutcome r ≡ typesAt t field p ⌝ }
 {
     let reading = setting.reading;
     read_cstr_or_empty(
-        image,
+        files,
         segments,
         reading,
-        target_of(image, p, Method::SMALL_TYPES, field),
+        target_of(files, p, Method::SMALL_TYPES, field),
     )
 }
 
 // method_t::small: both field addresses are tested before the first lookup.
 pub(crate) fn small_method_at(
-    image: &[u8],
+    files: &[&[u8]],
     segments: &[u64],
     sections: &[u64],
     info: &[u8],
@@ -231,10 +232,10 @@ pub(crate) fn small_method_at(
     va: u64,
     direct: bool,
 ) -> MethodAnswer
-    ensures { λ r. let t = under setting (lent image segments sections info rebases binds index) in
+    ensures { λ r. let t = under setting (lent files segments sections info rebases binds index) in
         ⌜ methodOutcome r ≡ smallMethodAt t va direct ⌝ }
 {
-    let p = match readable(image, segments, va, Method::SMALL_SIZE) {
+    let p = match readable(files, segments, va, Method::SMALL_SIZE) {
         Placed::At(p) => p,
         Placed::Missing(m) => return MethodAnswer::Missing(m),
     };
@@ -247,7 +248,7 @@ pub(crate) fn small_method_at(
         Word::Missing(m) => return MethodAnswer::Missing(m),
     };
     let name_va = match selector_at(
-        image,
+        files,
         segments,
         sections,
         info,
@@ -263,12 +264,12 @@ pub(crate) fn small_method_at(
         Word::Missing(m) => return MethodAnswer::Missing(m),
     };
     let reading = setting.reading;
-    let selector = match read_cstr(image, segments, reading, name_va) {
+    let selector = match read_cstr(files, segments, reading, name_va) {
         TextAnswer::Found(selector) => selector,
         TextAnswer::Missing(m) => return MethodAnswer::Missing(m),
     };
     let types = match types_at(
-        image,
+        files,
         segments,
         sections,
         info,
@@ -285,7 +286,7 @@ pub(crate) fn small_method_at(
     MethodAnswer::Row(Method {
         selector,
         types,
-        implementation: small_imp(u32_in(image, p, Method::SMALL_IMP), imp_field),
+        implementation: small_imp(u32_in(files, p, Method::SMALL_IMP), imp_field),
         kind: small_kind(direct),
     })
 }

@@ -9,43 +9,44 @@ ghost use Prim.Native.Nat.{_+_};
 ghost use Rattle.reads.specs.Reference.{before};
 ghost use Rattle.reads.specs.Answer.{wordOutcome};
 ghost use Rattle.reads.specs.Outcome.{orZero};
+ghost use Rattle.reads.specs.Files.{filesLent};
 ghost use Rattle.reads.specs.Place.{imageOf, lentImage};
 ghost use Rattle.pointers.specs.Slot.{resolve, pointerAt, pointerOr0At};
 ghost use Rattle.records.specs.Near.{Near};
 
 // The pointer in the first field.
 pub(crate) fn first_slot(
-    image: &[u8],
+    files: &[&[u8]],
     segments: &[u64],
     rebases: &[u64],
     index: &[u32],
     s: Spot,
     va: u64,
 ) -> Word
-    requires { ⌜ Near (imageOf (now image) (now segments)) va s 8 ⌝ }
-    ensures { λ r. ⌜ wordOutcome r ≡ resolve (lentImage image segments) (before rebases) (before index) va ⌝ }
+    requires { ⌜ Near (imageOf (filesLent (now files)) (now segments)) va s 8 ⌝ }
+    ensures { λ r. ⌜ wordOutcome r ≡ resolve (lentImage files segments) (before rebases) (before index) va ⌝ }
 {
-    resolve_near(image, segments, rebases, index, s, 0, va)
+    resolve_near(files, segments, rebases, index, s, 0, va)
 }
 
 // The same, an absent slot counting as 0.
 pub(crate) fn first_slot_or_0(
-    image: &[u8],
+    files: &[&[u8]],
     segments: &[u64],
     rebases: &[u64],
     index: &[u32],
     s: Spot,
     va: u64,
 ) -> Word
-    requires { ⌜ Near (imageOf (now image) (now segments)) va s 8 ⌝ }
-    ensures { λ r. ⌜ wordOutcome r ≡ orZero (resolve (lentImage image segments) (before rebases) (before index) va) ⌝ }
+    requires { ⌜ Near (imageOf (filesLent (now files)) (now segments)) va s 8 ⌝ }
+    ensures { λ r. ⌜ wordOutcome r ≡ orZero (resolve (lentImage files segments) (before rebases) (before index) va) ⌝ }
 {
-    or_zero(first_slot(image, segments, rebases, index, s, va))
+    or_zero(first_slot(files, segments, rebases, index, s, va))
 }
 
 // The pointer in the field at va + k.
 pub(crate) fn field(
-    image: &[u8],
+    files: &[&[u8]],
     segments: &[u64],
     rebases: &[u64],
     index: &[u32],
@@ -53,18 +54,18 @@ pub(crate) fn field(
     va: u64,
     k: u64,
 ) -> Word
-    requires { ⌜ Near (imageOf (now image) (now segments)) va s (k + 8) ⌝ }
-    ensures { λ r. ⌜ wordOutcome r ≡ pointerAt (lentImage image segments) (before rebases) (before index) va k ⌝ }
+    requires { ⌜ Near (imageOf (filesLent (now files)) (now segments)) va s (k + 8) ⌝ }
+    ensures { λ r. ⌜ wordOutcome r ≡ pointerAt (lentImage files segments) (before rebases) (before index) va k ⌝ }
 {
     match checked_add(va, k) {
-        Word::Value(slot) => resolve_near(image, segments, rebases, index, s, k, slot),
+        Word::Value(slot) => resolve_near(files, segments, rebases, index, s, k, slot),
         Word::Missing(m) => Word::Missing(m),
     }
 }
 
 // The same, an absent slot counting as 0.
 pub(crate) fn field_or_0(
-    image: &[u8],
+    files: &[&[u8]],
     segments: &[u64],
     rebases: &[u64],
     index: &[u32],
@@ -72,11 +73,11 @@ pub(crate) fn field_or_0(
     va: u64,
     k: u64,
 ) -> Word
-    requires { ⌜ Near (imageOf (now image) (now segments)) va s (k + 8) ⌝ }
-    ensures { λ r. ⌜ wordOutcome r ≡ pointerOr0At (lentImage image segments) (before rebases) (before index) va k ⌝ }
+    requires { ⌜ Near (imageOf (filesLent (now files)) (now segments)) va s (k + 8) ⌝ }
+    ensures { λ r. ⌜ wordOutcome r ≡ pointerOr0At (lentImage files segments) (before rebases) (before index) va k ⌝ }
 {
     match checked_add(va, k) {
-        Word::Value(slot) => or_zero(resolve_near(image, segments, rebases, index, s, k, slot)),
+        Word::Value(slot) => or_zero(resolve_near(files, segments, rebases, index, s, k, slot)),
         Word::Missing(m) => Word::Missing(m),
     }
 }

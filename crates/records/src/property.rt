@@ -35,7 +35,7 @@ pub enum PropertyAnswer {
 
 // property_t, 16 bytes.
 pub(crate) fn property_at(
-    image: &[u8],
+    files: &[&[u8]],
     segments: &[u64],
     sections: &[u64],
     info: &[u8],
@@ -45,20 +45,20 @@ pub(crate) fn property_at(
     setting: Setting,
     va: u64,
 ) -> PropertyAnswer
-    ensures { λ r. let t = under setting (lent image segments sections info rebases binds index) in
+    ensures { λ r. let t = under setting (lent files segments sections info rebases binds index) in
         ⌜ propertyOutcome r ≡ propertyAt t va ⌝ }
 {
-    let s = readable_spot(image, segments, va, Property::SIZE);
+    let s = readable_spot(files, segments, va, Property::SIZE);
     let _p = match spot_place(s) {
         Placed::At(p) => p,
         Placed::Missing(m) => return PropertyAnswer::Missing(m),
     };
-    let name_va = match first_slot(image, segments, rebases, index, s, va) {
+    let name_va = match first_slot(files, segments, rebases, index, s, va) {
         Word::Value(name_va) => name_va,
         Word::Missing(m) => return PropertyAnswer::Missing(m),
     };
     let attributes_va = match field_or_0(
-        image,
+        files,
         segments,
         rebases,
         index,
@@ -70,11 +70,11 @@ pub(crate) fn property_at(
         Word::Missing(m) => return PropertyAnswer::Missing(m),
     };
     let reading = setting.reading;
-    let name = match read_cstr(image, segments, reading, name_va) {
+    let name = match read_cstr(files, segments, reading, name_va) {
         TextAnswer::Found(name) => name,
         TextAnswer::Missing(m) => return PropertyAnswer::Missing(m),
     };
-    let attributes = match read_cstr_or_empty(image, segments, reading, attributes_va) {
+    let attributes = match read_cstr_or_empty(files, segments, reading, attributes_va) {
         TextAnswer::Found(attributes) => attributes,
         TextAnswer::Missing(m) => return PropertyAnswer::Missing(m),
     };

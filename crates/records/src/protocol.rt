@@ -83,7 +83,7 @@ enum ProtocolListsAnswer {
 
 // _classProperties: its 8 bytes must be readable, even where a rebase fills the slot; or 0.
 fn trailing_at(
-    image: &[u8],
+    files: &[&[u8]],
     segments: &[u64],
     sections: &[u64],
     info: &[u8],
@@ -93,23 +93,23 @@ fn trailing_at(
     setting: Setting,
     va: u64,
 ) -> Word
-    ensures { λ r. let t = under setting (lent image segments sections info rebases binds index) in
+    ensures { λ r. let t = under setting (lent files segments sections info rebases binds index) in
         ⌜ wordOutcome r ≡ trailingAt t va ⌝ }
 {
     let slot = match checked_add(va, CLASS_PROPERTIES) {
         Word::Value(slot) => slot,
         Word::Missing(m) => return Word::Missing(m),
     };
-    let _p = match readable(image, segments, slot, 8) {
+    let _p = match readable(files, segments, slot, 8) {
         Placed::At(p) => p,
         Placed::Missing(m) => return Word::Missing(m),
     };
-    slot_or_0(image, segments, rebases, index, slot)
+    slot_or_0(files, segments, rebases, index, slot)
 }
 
 // The class properties, 0 where the protocol is too short to have them.
 fn class_properties_at(
-    image: &[u8],
+    files: &[&[u8]],
     segments: &[u64],
     sections: &[u64],
     info: &[u8],
@@ -120,12 +120,12 @@ fn class_properties_at(
     va: u64,
     p: Place,
 ) -> Word
-    ensures { λ r. let t = under setting (lent image segments sections info rebases binds index) in
+    ensures { λ r. let t = under setting (lent files segments sections info rebases binds index) in
         ⌜ wordOutcome r ≡ classPropertiesAt t va p ⌝ }
 {
-    if SIZE_WITH_CLASS_PROPERTIES <= u32_in(image, p, OWN_SIZE) {
+    if SIZE_WITH_CLASS_PROPERTIES <= u32_in(files, p, OWN_SIZE) {
         return trailing_at(
-            image,
+            files,
             segments,
             sections,
             info,
@@ -141,7 +141,7 @@ fn class_properties_at(
 
 // The lists of a protocol_t but its class properties; each or 0.
 fn protocol_lists_at(
-    image: &[u8],
+    files: &[&[u8]],
     segments: &[u64],
     sections: &[u64],
     info: &[u8],
@@ -151,15 +151,15 @@ fn protocol_lists_at(
     setting: Setting,
     va: u64,
 ) -> ProtocolListsAnswer
-    ensures { λ r. let t = under setting (lent image segments sections info rebases binds index) in
+    ensures { λ r. let t = under setting (lent files segments sections info rebases binds index) in
         ⌜ protocolListsOutcome r ≡ protocolListsAt t va ⌝ }
 {
-    let protocols = match pointer_or_0(image, segments, rebases, index, va, PROTOCOLS) {
+    let protocols = match pointer_or_0(files, segments, rebases, index, va, PROTOCOLS) {
         Word::Value(protocols) => protocols,
         Word::Missing(m) => return ProtocolListsAnswer::Missing(m),
     };
     let instance_methods = match pointer_or_0(
-        image,
+        files,
         segments,
         rebases,
         index,
@@ -169,12 +169,12 @@ fn protocol_lists_at(
         Word::Value(instance_methods) => instance_methods,
         Word::Missing(m) => return ProtocolListsAnswer::Missing(m),
     };
-    let class_methods = match pointer_or_0(image, segments, rebases, index, va, CLASS_METHODS) {
+    let class_methods = match pointer_or_0(files, segments, rebases, index, va, CLASS_METHODS) {
         Word::Value(class_methods) => class_methods,
         Word::Missing(m) => return ProtocolListsAnswer::Missing(m),
     };
     let optional_instance_methods = match pointer_or_0(
-        image,
+        files,
         segments,
         rebases,
         index,
@@ -185,7 +185,7 @@ fn protocol_lists_at(
         Word::Missing(m) => return ProtocolListsAnswer::Missing(m),
     };
     let optional_class_methods = match pointer_or_0(
-        image,
+        files,
         segments,
         rebases,
         index,
@@ -196,7 +196,7 @@ fn protocol_lists_at(
         Word::Missing(m) => return ProtocolListsAnswer::Missing(m),
     };
     let instance_properties = match pointer_or_0(
-        image,
+        files,
         segments,
         rebases,
         index,
@@ -218,7 +218,7 @@ fn protocol_lists_at(
 
 // protocol_t: the name's text is read before _classProperties.
 pub fn protocol_at(
-    image: &[u8],
+    files: &[&[u8]],
     segments: &[u64],
     sections: &[u64],
     info: &[u8],
@@ -228,19 +228,19 @@ pub fn protocol_at(
     setting: Setting,
     va: u64,
 ) -> ProtocolAnswer
-    ensures { λ r. let t = under setting (lent image segments sections info rebases binds index) in
+    ensures { λ r. let t = under setting (lent files segments sections info rebases binds index) in
         ⌜ protocolOutcome r ≡ protocolAt t va ⌝ }
 {
-    let p = match readable(image, segments, va, ObjcProtocol::SIZE) {
+    let p = match readable(files, segments, va, ObjcProtocol::SIZE) {
         Placed::At(p) => p,
         Placed::Missing(m) => return ProtocolAnswer::Missing(m),
     };
-    let name_va = match pointer(image, segments, rebases, index, va, MANGLED_NAME) {
+    let name_va = match pointer(files, segments, rebases, index, va, MANGLED_NAME) {
         Word::Value(name_va) => name_va,
         Word::Missing(m) => return ProtocolAnswer::Missing(m),
     };
     let lists = match protocol_lists_at(
-        image,
+        files,
         segments,
         sections,
         info,
@@ -254,12 +254,12 @@ pub fn protocol_at(
         ProtocolListsAnswer::Missing(m) => return ProtocolAnswer::Missing(m),
     };
     let reading = setting.reading;
-    let name = match read_cstr(image, segments, reading, name_va) {
+    let name = match read_cstr(files, segments, reading, name_va) {
         TextAnswer::Found(name) => name,
         TextAnswer::Missing(m) => return ProtocolAnswer::Missing(m),
     };
     let class_properties = match class_properties_at(
-        image,
+        files,
         segments,
         sections,
         info,
@@ -283,7 +283,7 @@ pub fn protocol_at(
         optional_class_methods: lists.optional_class_methods,
         instance_properties: lists.instance_properties,
         class_properties,
-        size: u32_in(image, p, OWN_SIZE),
-        flags: u32_in(image, p, FLAGS),
+        size: u32_in(files, p, OWN_SIZE),
+        flags: u32_in(files, p, FLAGS),
     })
 }

@@ -58,7 +58,7 @@ fn property_row(a: PropertyAnswer) -> RowAnswer
 
 // The row at an entry's address, by what the entries are.
 pub fn row_at(
-    image: &[u8],
+    files: &[&[u8]],
     segments: &[u64],
     sections: &[u64],
     info: &[u8],
@@ -69,12 +69,12 @@ pub fn row_at(
     kind: RowKind,
     va: u64,
 ) -> RowAnswer
-    ensures { λ r. let t = under setting (lent image segments sections info rebases binds index) in
+    ensures { λ r. let t = under setting (lent files segments sections info rebases binds index) in
         ⌜ rowOutcome r ≡ rowAt t kind va ⌝ }
 {
     match kind {
         RowKind::Legacy => method_row(legacy_method_at(
-            image,
+            files,
             segments,
             sections,
             info,
@@ -85,7 +85,7 @@ pub fn row_at(
             va,
         )),
         RowKind::SmallIndirect => method_row(small_method_at(
-            image,
+            files,
             segments,
             sections,
             info,
@@ -97,7 +97,7 @@ pub fn row_at(
             false,
         )),
         RowKind::SmallDirect => method_row(small_method_at(
-            image,
+            files,
             segments,
             sections,
             info,
@@ -109,7 +109,7 @@ pub fn row_at(
             true,
         )),
         RowKind::Ivar => ivar_row(ivar_at(
-            image,
+            files,
             segments,
             sections,
             info,
@@ -120,7 +120,7 @@ pub fn row_at(
             va,
         )),
         RowKind::Property => property_row(property_at(
-            image,
+            files,
             segments,
             sections,
             info,

@@ -10,20 +10,22 @@ use lib.ListN.{length, getD, replicate, length-replicate, getD-replicate}
 use borrow.Author.Tests.{le-leb}
 use Rattle.reads.specs.Outcome.{value, absent, number, because, choose, sum64, nonzero, textOf}
 use Rattle.reads.specs.Breaks.{canRead}
-use Rattle.reads.specs.Place.{le, readableAt, readable, word, wordIn}
+use Rattle.reads.specs.Files.{fileOf, longest}
+use Rattle.reads.specs.Place.{le, readableAt, readable, word, wordIn, leIn}
 use Rattle.reads.specs.Address.{stripped, dataArm64e, data64, mapped, pickedWide, picked}
 use Rattle.reads.specs.Segment.{rows, ends, holds, placed, lookup}
-use Rattle.reads.specs.Text.{text, textAt, textIn}
+use Rattle.reads.specs.Text.{text, textFrom, textIn}
 use Rattle.reads.specs.Utf8.{judge, utf8}
 use Rattle.reads.specs.declared.answer.Reason.the-variants.{Unmapped, Unresolved, NoRecord}
+use Rattle.reads.specs.declared.text.Text.{Text}
 use Rattle.pointers.specs.Tables.{Tables, tablesOf, readingNew}
 use Rattle.pointers.specs.Chain.{followFrom, follow, lastAmong}
 use Rattle.pointers.specs.Index.{chainOf, indexed}
 use Rattle.pointers.specs.ImageInfo.{infoOf, imageInfo, bit}
 use Rattle.pointers.specs.Open.{askedOpening, opening, openedIndex, Opened}
-use Rattle.pointers.specs.Question.{question, imageFits, wholeRows, sectionFits, every, sectionTable, infoWhole, nameInside, nameUtf8, namesInside, namesUtf8, indexFits, askedTables, askedIndex, askedLent}
+use Rattle.pointers.specs.Question.{question, imageFits, wholeRows, segmentFiles, sectionFits, every, sectionTable, infoWhole, nameLent, nameInside, nameUtf8, bindFiles, namesInside, namesUtf8, indexFits, askedTables, askedIndex, askedLent}
 use Rattle.pointers.specs.Slot.{rebaseAt, bindName, bindAt, symbolOf, stored, resolve, pointerAt, pointerOr0At, rebase, slot, pointer, pointerOr0}
-use Rattle.pointers.specs.Symbol.{starts, fitting, strippedName}
+use Rattle.pointers.specs.Symbol.{starts, fitting, strippedIn}
 use Rattle.pointers.proofs.OpenedTables.{opened-follow-rebase, opened-follow-bind}
 use Rattle.pointers.proofs.Questions.{question-yes}
 use Rattle.records.specs.Class.{bitsOf, decodeData, classAt, decodeClass, classRoAt, decodeRoLists, decodeClassRo, roOf, decodeRoOf, decodeRoData, decodeClassName, decodeNonzeroClassName, decodeBoundName, decodeClassNameOf, classNameOf, superclassName}
@@ -42,7 +44,7 @@ use Rattle.records.specs.declared.method.MethodKind.the-variants as kind
 use Rattle.records.specs.declared.row.Row.{Row}
 use Rattle.records.specs.declared.row.Row.the-variants as row
 use Rattle.records.proofs.Firsts.{first-of-more}
-use Rattle.records.proofs.HubImage.{counted, bytes, segments}
+use Rattle.records.proofs.HubImage.{counted, bytes, fourFiles, segments}
 use Rattle.records.proofs.ListCases.{hub-list, hub-image, hub-two}
 use Rattle.walks.proofs.Walk.{opened-unrefused, step-value, whole-claim, settles-each-once, walk-meets-each-readable-once}
 
@@ -51,7 +53,7 @@ abbrev sections : List ℕ
 sections = 1 ∷ 0x10A0 ∷ 8 ∷ 0 ∷ 0 ∷ 0 ∷ 0 ∷ 0 ∷ 0 ∷ 0 ∷ 0 ∷ 0 ∷ 0 ∷ 0 ∷ 0 ∷ []
 
 abbrev pub binds : List ℕ
-binds = 0x1008 ∷ 168 ∷ 22 ∷ []
+binds = 0x1008 ∷ 168 ∷ 22 ∷ 0 ∷ []
 
 -- An index of the least number of words that question 8 takes, all the same. Shut, so that none of them is computed.
 unfoldable pub filled : ℕ → List ℕ
@@ -59,28 +61,39 @@ filled w = replicate 8193 w
 
 -- The image with a count of its method list, and an index.
 abbrev tables : ℕ → List ℕ → Tables
-tables count index = tablesOf (counted count) segments sections (replicate 8 0) [] binds index
+tables count index = tablesOf (fourFiles (counted count)) segments sections (replicate 8 0) [] binds index
 
 abbrev pub hub : Tables
 hub = tables 4294967295 (indexed [] binds (filled 0))
 
 asked-hub : (count : ℕ) (index : List ℕ) → askedTables (tables count index) ≡ value tt
-unfolding askedTables question imageFits wholeRows sectionTable every sectionFits infoWhole choose counted
+unfolding askedTables question imageFits longest segmentFiles wholeRows sectionTable every sectionFits infoWhole choose counted
 asked-hub count index = refl
 
-inside-hub : nameInside bytes 168 22 ≡ true
-unfolding nameInside counted
+-- The name of the bind.
+abbrev bound : Text
+bound = textOf 0 168 22
+
+abbrev files : List (List ℕ)
+files = fourFiles bytes
+
+inside-hub : nameInside files bound ≡ true
+unfolding nameInside fileOf counted
 inside-hub = refl
 
-utf8-hub : nameUtf8 bytes 168 22 ≡ true
-unfolding nameUtf8 utf8 judge choose counted
+utf8-hub : nameUtf8 files bound ≡ true
+unfolding nameUtf8 fileOf utf8 judge choose counted
 utf8-hub = refl
 
-names-inside-hub : namesInside bytes binds ≡ true
+names-lent-hub : bindFiles files binds ≡ true
+unfolding bindFiles every
+names-lent-hub = refl
+
+names-inside-hub : namesInside files binds ≡ true
 unfolding namesInside every
 names-inside-hub = rw inside-hub
 
-names-utf8-hub : namesUtf8 bytes binds ≡ true
+names-utf8-hub : namesUtf8 files binds ≡ true
 unfolding namesUtf8 every
 names-utf8-hub = rw utf8-hub
 
@@ -90,7 +103,7 @@ index-room count w = question-yes 8 _ (le-leb 8193 (length (replicate 8193 w)) (
 
 accepted-hub : askedOpening (tables 4294967295 (filled 0)) ≡ value tt
 unfolding askedOpening
-accepted-hub = rw (asked-hub 4294967295 (filled 0), question-yes 7 (namesInside bytes binds) names-inside-hub, question-yes 14 (namesUtf8 bytes binds) names-utf8-hub, index-room 4294967295 0)
+accepted-hub = rw (asked-hub 4294967295 (filled 0), question-yes 18 (bindFiles files binds) names-lent-hub, question-yes 7 (namesInside files binds) names-inside-hub, question-yes 14 (namesUtf8 files binds) names-utf8-hub, index-room 4294967295 0)
 
 -- Opening accepts the tables, and `hub` has the index that it leaves.
 pub hub-opened : Opened hub
@@ -123,19 +136,19 @@ module _ (va k a w : ℕ) (sum : sum64 va k ≡ value a) (there : stored hub-ima
 
 -- The list, and its two rows that are readable: the second stands where the strings are, and no string is at its selector.
 pub hub-methods : listAt hub Methods 0x1070 ≡ value hub-list
-unfolding decodeList evenList entrySize methodRows bit nonzero readable readableAt lookup rows ends holds placed sum64 wordIn le choose counted
+unfolding fileOf decodeList evenList entrySize methodRows bit nonzero readable readableAt lookup rows ends holds placed sum64 wordIn leIn le choose counted
 hub-methods = refl
 
 abbrev pub up : Row
-up = row.Method (methodOf (textOf 0x94 2) (textOf 0x97 1) (At 0x2000) kind.Legacy)
+up = row.Method (methodOf (textOf 0 0x94 2) (textOf 0 0x97 1) (At 0x2000) kind.Legacy)
 
 pub row-0 : rowAt hub Legacy 0x1078 ≡ value up
-unfolding decodeRow decodeLegacyMethod legacyImp readable readableAt lookup rows ends holds placed sum64 stored word stripped le textIn textAt text utf8 judge nonzero choose counted up
+unfolding fileOf decodeRow decodeLegacyMethod legacyImp readable readableAt lookup rows ends holds placed sum64 stored word stripped le textIn textFrom text utf8 judge nonzero choose counted up
 row-0 =
     rw (slot-stored 0x1078, pointer-stored 0x1078 8 0x1080 0x1097 refl refl, pointer-or-0-stored 0x1078 16 0x1088 0x2000 refl refl)
 
 pub row-1 : rowAt hub Legacy 0x1090 ≡ absent Unmapped
-unfolding decodeRow decodeLegacyMethod legacyImp readable readableAt lookup rows ends holds placed sum64 stored word stripped le textIn textAt nonzero choose counted
+unfolding fileOf decodeRow decodeLegacyMethod legacyImp readable readableAt lookup rows ends holds placed sum64 stored word stripped le textIn textFrom nonzero choose counted
 row-1 =
     rw (slot-stored 0x1090, pointer-stored 0x1090 8 0x1098 0 refl refl, pointer-or-0-stored 0x1090 16 0x10A0 0x1000 refl refl)
 
@@ -155,7 +168,7 @@ unfolding refusal askedLent askedIndex indexFits question choose
 refused-8 p = rw (asked-hub 4294967295 [])
 
 refused-10 : refusal uncounted Methods 0x1070 1 ≡ number 10
-unfolding refusal askedLent decodeList evenList entrySize methodRows bit nonzero readable readableAt lookup rows ends holds placed sum64 wordIn le question choose counted
+unfolding fileOf refusal askedLent decodeList evenList entrySize methodRows bit nonzero readable readableAt lookup rows ends holds placed sum64 wordIn leIn le question choose counted
 refused-10 = rw (asked-hub 0 (filled 0), index-room 0 0)
 
 head-7 : (c : ℕ) → c < 8193 → getD (filled 7) c 0 ≡ 7
@@ -171,15 +184,15 @@ unfolding resolve
 slot-9 a = rw (rebase-9 a)
 
 row-9 : rowAt broken Legacy 0x1090 ≡ number 9
-unfolding decodeRow decodeLegacyMethod readable readableAt lookup rows ends holds placed sum64 choose counted
+unfolding fileOf decodeRow decodeLegacyMethod readable readableAt lookup rows ends holds placed sum64 choose counted
 row-9 = rw (slot-9 0x1090)
 
 found-0 : firstReadable hub-image hub-list 0 ≡ some 0
-unfolding firstReadable first entry canRead readable readableAt lookup rows ends holds placed sum64 choose counted
+unfolding fileOf firstReadable first entry canRead readable readableAt lookup rows ends holds placed sum64 choose counted
 found-0 = first-of-more (entry hub-image hub-list) 1 (4294967295 - 1) 0 0 refl
 
 found-1 : firstReadable hub-image hub-list 1 ≡ some 1
-unfolding firstReadable first entry canRead readable readableAt lookup rows ends holds placed sum64 choose counted
+unfolding fileOf firstReadable first entry canRead readable readableAt lookup rows ends holds placed sum64 choose counted
 found-1 = first-of-more (entry hub-image hub-list) 1 (4294967295 - 1 - 1) 1 1 refl
 
 broken-methods : listAt broken Methods 0x1070 ≡ value hub-list
@@ -248,7 +261,7 @@ abbrev pub hub-class-record : ObjcClass
 hub-class-record = record { address = 0x1000; isa = 0; «superclass_address» = 0; bits = 0x1028; «is_meta» = false }
 
 pub hub-class : classAt hub 0x1000 false ≡ value hub-class-record
-unfolding decodeClass decodeData bitsOf picked pickedWide mapped dataArm64e data64 readable readableAt lookup rows ends holds placed sum64 stored word stripped le nonzero choose counted
+unfolding fileOf decodeClass decodeData bitsOf picked pickedWide mapped dataArm64e data64 readable readableAt lookup rows ends holds placed sum64 stored word stripped le nonzero choose counted
 hub-class = rw (slot-stored 0x1000, slot-stored 0x1008, no-rebase 0x1020)
 
 pub hub-ro : classRoAt hub 0x1028
@@ -258,7 +271,7 @@ pub hub-ro : classRoAt hub 0x1028
       flags = 0;
       «instance_start» = 8;
       «instance_size» = 8;
-      name = textOf 0x90 3;
+      name = textOf 0 0x90 3;
       «ivar_layout_address» = 0;
       methods = 0x1070;
       protocols = 0;
@@ -266,7 +279,7 @@ pub hub-ro : classRoAt hub 0x1028
       «weak_ivar_layout_address» = 0;
       properties = 0;
     })
-unfolding decodeClassRo decodeRoLists readable readableAt lookup rows ends holds placed sum64 stored word wordIn stripped le textIn textAt text utf8 judge nonzero choose counted
+unfolding fileOf decodeClassRo decodeRoLists readable readableAt lookup rows ends holds placed sum64 stored word wordIn leIn stripped le textIn textFrom text utf8 judge nonzero choose counted
 hub-ro =
     rw (
       pointer-or-0-stored 0x1028 16 0x1038 0 refl refl,
@@ -282,11 +295,11 @@ pub hub-ro-of : roOf hub hub-class-record ≡ classRoAt hub 0x1028
 unfolding decodeRoOf picked pickedWide mapped dataArm64e lookup rows ends holds placed sum64 nonzero choose
 hub-ro-of = refl
 
-pub hub-superclass : superclassName hub hub-class-record ≡ value (textOf 182 8)
-unfolding decodeClassNameOf decodeNonzeroClassName decodeBoundName symbolOf bindAt lastAmong bindName strippedName fitting starts sum64 nonzero choose counted
-hub-superclass = rw (opened-follow-bind hub hub-opened 0x1008, question-yes 7 (nameInside bytes 168 22) inside-hub, question-yes 14 (nameUtf8 bytes 168 22) utf8-hub)
+pub hub-superclass : superclassName hub hub-class-record ≡ value (textOf 0 182 8)
+unfolding fileOf decodeClassNameOf decodeNonzeroClassName decodeBoundName symbolOf bindAt lastAmong bindName strippedIn fitting starts sum64 nonzero choose counted
+hub-superclass = rw (opened-follow-bind hub hub-opened 0x1008, question-yes 18 (nameLent files bound) refl, question-yes 7 (nameInside files bound) inside-hub, question-yes 14 (nameUtf8 files bound) utf8-hub)
 
 -- Where a class decodes, its name goes before the bind: here were the class its own superclass.
-pub decoded-before-bind : classNameOf hub 0x1000 0x1000 ≡ value (textOf 0x90 3)
-unfolding decodeClassNameOf decodeNonzeroClassName decodeClassName decodeRoData pickedIn picked pickedWide mapped dataArm64e readable readableAt lookup rows ends holds placed sum64 stored word stripped le textIn textAt text utf8 judge nonzero choose counted
+pub decoded-before-bind : classNameOf hub 0x1000 0x1000 ≡ value (textOf 0 0x90 3)
+unfolding fileOf decodeClassNameOf decodeNonzeroClassName decodeClassName decodeRoData pickedIn picked pickedWide mapped dataArm64e readable readableAt lookup rows ends holds placed sum64 stored word stripped le textIn textFrom text utf8 judge nonzero choose counted
 decoded-before-bind = rw (no-rebase 0x1020, pointer-stored 0x1028 24 0x1040 0x1090 refl refl)

@@ -45,7 +45,7 @@ list-at-most t va l e =
     let b = then-came (evenList va) _ l (a .2) in
     let p = then-came (readable (imageIn t) va 8) _ l (b .2) in
     let s = then-came (sum64 va 8) _ l (p .2) in
-    let h : min (wordIn (t .image) 8 (p .0) 0) 1048576 ≡ l .count = cc in
+    let h : min (wordIn (t .files) 8 (p .0) 0) 1048576 ≡ l .count = cc in
     omega arith
 
 -- At most k of k slots are there.

@@ -6,7 +6,8 @@ use mathlib.Core.List.{List, [], _∷_}
 use lib.ListN.{replicate}
 use Rattle.reads.specs.Address.{stripped}
 use Rattle.reads.specs.Outcome.{absent, choose, nonzero, sum64}
-use Rattle.reads.specs.Place.{le, readableAt, readable, word, wordIn}
+use Rattle.reads.specs.Files.{fileOf}
+use Rattle.reads.specs.Place.{le, readableAt, readable, word, wordIn, leIn}
 use Rattle.reads.specs.Segment.{rows, ends, holds, placed, lookup}
 use Rattle.reads.specs.Table.{tabulate}
 use Rattle.reads.specs.declared.answer.Reason.the-variants.{NullAddress, Unresolved, Unreadable, FieldOverflow, OddList}
@@ -19,7 +20,7 @@ use Rattle.walks.specs.ProtocolNames.{protocolListAt, decodeProtocolList
 
 -- Bytes whose first `size` are mapped at va, with no rebase and no bind.
 abbrev mappedAt : List ℕ → ℕ → ℕ → Tables
-mappedAt bytes va size = tablesOf bytes (va ∷ size ∷ 0 ∷ size ∷ []) (replicate 15 0) (replicate 8 0) [] [] []
+mappedAt bytes va size = tablesOf (bytes ∷ []) (va ∷ size ∷ 0 ∷ size ∷ 0 ∷ []) (replicate 15 0) (replicate 8 0) [] [] []
 
 -- At 0; odd; 8 bytes; address + 8.
 protocol-list-reasons : protocolListAt (mappedAt (replicate 8 0) 0x1000 8) 0
@@ -28,7 +29,7 @@ protocol-list-reasons : protocolListAt (mappedAt (replicate 8 0) 0x1000 8) 0
     ∷ protocolListAt (mappedAt (replicate 8 0) (2 ^ 64 - 8) 7) (2 ^ 64 - 8)
     ∷ []
     ≡ absent NullAddress ∷ absent OddList ∷ absent Unreadable ∷ absent FieldOverflow ∷ []
-unfolding decodeProtocolList evenList readable readableAt lookup rows tabulate ends holds placed sum64 wordIn le nonzero choose
+unfolding fileOf decodeProtocolList evenList readable readableAt lookup rows tabulate ends holds placed sum64 wordIn leIn le nonzero choose
 protocol-list-reasons = refl
 
 -- The slot does not resolve; it holds 0; it holds an address where no protocol can be read. No bind names it, which is never the reason.
@@ -37,5 +38,5 @@ name-reasons : nameIn (mappedAt [] 0x1000 0) 0x1000
     ∷ nameIn (mappedAt (0 ∷ 16 ∷ replicate 6 0) 0x1000 8) 0x1000
     ∷ []
     ≡ absent Unresolved ∷ absent NullAddress ∷ absent Unreadable ∷ []
-unfolding decodeNameIn decodeProtocolNameIn decodeProtocolName decodeProtocol symbolOf bindAt resolve rebaseAt follow followFrom stored stripped word readable readableAt lookup rows tabulate ends holds placed sum64 le nonzero choose
+unfolding fileOf decodeNameIn decodeProtocolNameIn decodeProtocolName decodeProtocol symbolOf bindAt resolve rebaseAt follow followFrom stored stripped word readable readableAt lookup rows tabulate ends holds placed sum64 le nonzero choose
 name-reasons = refl

@@ -5,13 +5,14 @@ use mathlib.Core.Bool.{true, false}
 use mathlib.Core.List.{List, [], _∷_, _++_, map}
 use lib.ListN.{replicate}
 use Rattle.reads.specs.Outcome.{value, number, choose, sum64, nonzero}
+use Rattle.reads.specs.Files.{fileOf, longest}
 use Rattle.reads.specs.Place.{le, readableAt, readable, word}
 use Rattle.reads.specs.Segment.{rows, ends, holds, placed, lookup}
 use Rattle.reads.specs.Address.{stripped, dataArm64e, data64, mapped, pickedWide, picked}
 use Rattle.reads.specs.Relative.{slotAddress}
 use Rattle.reads.specs.declared.answer.Reason.the-variants.{Unreadable}
 use Rattle.pointers.specs.Tables.{Tables, tablesOf, withIndex}
-use Rattle.pointers.specs.Question.{question, imageFits, wholeRows, sectionFits, every, sectionTable, infoWhole, indexFits, askedTables, askedIndex, askedLent}
+use Rattle.pointers.specs.Question.{question, imageFits, wholeRows, segmentFiles, sectionFits, every, sectionTable, infoWhole, indexFits, askedTables, askedIndex, askedLent}
 use Rattle.pointers.specs.Section.{sectionAt}
 use Rattle.pointers.specs.Chain.{followFrom, follow}
 use Rattle.pointers.specs.Slot.{rebaseAt, stored, resolve}
@@ -39,7 +40,7 @@ bytes =
 -- class_list has the first three, nlclslist the last two.
 abbrev pub example : Tables
 example =
-    tablesOf bytes (4096 ∷ 72 ∷ 0 ∷ 72 ∷ []) (1 ∷ 4136 ∷ 24 ∷ 1 ∷ 4152 ∷ 16 ∷ 0 ∷ 0 ∷ 0 ∷ 0 ∷ 0 ∷ 0 ∷ 0 ∷ 0 ∷ 0 ∷ []) (replicate 8 0) [] [] (replicate 8192 0)
+    tablesOf (bytes ∷ []) (4096 ∷ 72 ∷ 0 ∷ 72 ∷ 0 ∷ []) (1 ∷ 4136 ∷ 24 ∷ 1 ∷ 4152 ∷ 16 ∷ 0 ∷ 0 ∷ 0 ∷ 0 ∷ 0 ∷ 0 ∷ 0 ∷ 0 ∷ 0 ∷ []) (replicate 8 0) [] [] (replicate 8192 0)
 
 abbrev pub listedClass : ObjcClass
 listedClass = record { address = 4096; isa = 4104; «superclass_address» = 0; bits = 0; «is_meta» = false }
@@ -90,11 +91,11 @@ refusals =
     ∷ []
 
 pub step-cases : map (λ (c : Case). stepOf classes example (c .walk) (c .ledger)) (taken ++ (by-hand ++ refusals)) ≡ map (λ (c : Case). c .expected) (taken ++ (by-hand ++ refusals))
-unfolding stepOf stepBy askedLedger askedSlot slotFits ledgerFits sectionSlots slotsFrom askedLent askedTables askedIndex question imageFits wholeRows sectionTable every sectionFits infoWhole indexFits takeSlot takeNew takeWaiting slotTaken among decodeAddress sectionAt slotAddress resolve rebaseAt follow followFrom stored stripped word readable readableAt lookup rows ends holds placed le nonzero choose sum64 decodeClass decodeData bitsOf picked pickedWide mapped dataArm64e data64 metaOf
+unfolding fileOf stepOf stepBy askedLedger askedSlot slotFits ledgerFits sectionSlots slotsFrom askedLent askedTables askedIndex question imageFits longest segmentFiles wholeRows sectionTable every sectionFits infoWhole indexFits takeSlot takeNew takeWaiting slotTaken among decodeAddress sectionAt slotAddress resolve rebaseAt follow followFrom stored stripped word readable readableAt lookup rows ends holds placed le nonzero choose sum64 decodeClass decodeData bitsOf picked pickedWide mapped dataArm64e data64 metaOf
 step-cases = refl
 
 pub plain-case : plainClasses example ≡ value (listedClass ∷ listedMeta ∷ [])
-unfolding plainClasses listed withMeta addressesIn gather sectionSlots slotsFrom without once decodeAddress sectionAt slotAddress resolve rebaseAt follow followFrom stored stripped word readable readableAt lookup rows ends holds placed le nonzero choose sum64 decodeClass decodeData bitsOf picked pickedWide mapped dataArm64e data64 metaOf
+unfolding fileOf plainClasses listed withMeta addressesIn gather sectionSlots slotsFrom without once decodeAddress sectionAt slotAddress resolve rebaseAt follow followFrom stored stripped word readable readableAt lookup rows ends holds placed le nonzero choose sum64 decodeClass decodeData bitsOf picked pickedWide mapped dataArm64e data64 metaOf
 plain-case = refl
 
 -- With an index of which each word is 7 every chain begins above the record count: 9, which is not left out.

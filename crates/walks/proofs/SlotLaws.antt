@@ -280,8 +280,9 @@ asked-answered : (t : Tables) → Answered (asked t)
 unfolding askedLent askedTables askedIndex
 asked-answered t =
     answered-then _
-    (answered-then _ (answered-question 1 _) (λ a. answered-then _ (answered-question 2 _) (λ b. answered-then _ (answered-question 3 _)
-    (λ c. answered-then _ (answered-question 4 _) (λ d. answered-then _ (answered-question 5 _) (λ e. answered-question 6 _))))))
+    (answered-then _ (answered-question 1 _) (λ a. answered-then _ (answered-question 2 _) (λ g. answered-then _ (answered-question 18 _)
+    (λ b. answered-then _ (answered-question 3 _) (λ c. answered-then _ (answered-question 4 _) (λ d. answered-then _ (answered-question 5 _)
+    (λ e. answered-question 6 _)))))))
     (λ f. answered-question 8 _)
 
 asked-never-absent : {o : Outcome (Unit {0})} (r : Reason) → Answered o → absent r ≡ o → ⊥

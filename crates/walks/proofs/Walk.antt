@@ -12,6 +12,9 @@ use lib.Dec.{leb}
 use lib.ListN.{length, replicate}
 use borrow.Author.Tests.{le-leb}
 use Rattle.reads.specs.Outcome.{Outcome, value, absent, number, Unrefused, is-value, is-absent, andThen}
+use Rattle.reads.specs.Files.{longest}
+use Rattle.reads.specs.Segment.{segmentWords}
+use Rattle.reads.specs.Table.{records}
 use Rattle.reads.specs.declared.answer.Reason.{Reason}
 use Rattle.pointers.specs.Open.{Opened}
 use Rattle.pointers.specs.Question.{question, asked}
@@ -263,6 +266,6 @@ module _ (t : Tables) (opened : Opened t) (k : ListKind) (list : ℕ) where
         ≡ map (entryRow t h) (readables (imageIn t) h) ++ replicate n (value rowsFinished)
     walk-meets-each-readable-once n = meets-from (readables (imageIn t) h) 0 n (omega arith) (sym (rest-from-0 (imageIn t) h)) _ refl
 
-    -- D3d. There are at most S x floor(n / 12) of them: S the rows of the segment table, n the image's length, in any order and overlap.
-    pub settled-bound : length (readables (imageIn t) h) ≤ length (t .segments) / 4 * (length (t .image) / 12)
+    -- D3d. There are at most S x floor(n / 12) of them: S the rows of the segment table, n the length of the longest file, in any order and overlap.
+    pub settled-bound : length (readables (imageIn t) h) ≤ records segmentWords (t .segments) * (longest (t .files) / 12)
     settled-bound = readables-few (imageIn t) h (list-least t k list h there)

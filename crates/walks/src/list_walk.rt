@@ -121,7 +121,7 @@ impl ListWalk {
     // Settles entry j, which can be read.
     fn settle(
         self,
-        image: &[u8],
+        files: &[&[u8]],
         segments: &[u64],
         sections: &[u64],
         info: &[u8],
@@ -132,14 +132,14 @@ impl ListWalk {
         j: u64,
     ) -> ListStepped
         requires { ⌜ (j < h .count) × (entryAddress h j < 2 ^ 64) ⌝ }
-        ensures { λ r. let t = under (self .setting) (lent image segments sections info rebases binds index) in
+        ensures { λ r. let t = under (self .setting) (lent files segments sections info rebases binds index) in
             ⌜ rowLeft r ≡ settles self j (rowAt t (h .kind) (entryAddress h j)) ⌝ }
     {
         let kind = h.kind;
         let setting = self.setting;
         let va = h.base + j * (h.size as u64);
         match row_at(
-            image,
+            files,
             segments,
             sections,
             info,
@@ -161,7 +161,7 @@ impl ListWalk {
     // A step over a list: 10, then the next entry that can be read.
     fn over_list(
         self,
-        image: &[u8],
+        files: &[&[u8]],
         segments: &[u64],
         sections: &[u64],
         info: &[u8],
@@ -170,16 +170,16 @@ impl ListWalk {
         index: &[u32],
         h: Layout,
     ) -> ListStepped
-        ensures { λ r. let t = under (self .setting) (lent image segments sections info rebases binds index) in
+        ensures { λ r. let t = under (self .setting) (lent files segments sections info rebases binds index) in
             ⌜ rowLeft r ≡ overRows t self (value h) ⌝ }
     {
         if h.count < self.cursor {
             return self.refused(10);
         }
         let cursor = self.cursor;
-        match first_readable(image, segments, h, cursor) {
+        match first_readable(files, segments, h, cursor) {
             Entry::At(j) => self.settle(
-                image,
+                files,
                 segments,
                 sections,
                 info,
@@ -196,7 +196,7 @@ impl ListWalk {
     // A step over tables that no question refuses: 10 past the first entry of a list that is missing.
     fn walked_list(
         self,
-        image: &[u8],
+        files: &[&[u8]],
         segments: &[u64],
         sections: &[u64],
         info: &[u8],
@@ -204,14 +204,14 @@ impl ListWalk {
         binds: &[u64],
         index: &[u32],
     ) -> ListStepped
-        ensures { λ r. let t = under (self .setting) (lent image segments sections info rebases binds index) in
+        ensures { λ r. let t = under (self .setting) (lent files segments sections info rebases binds index) in
             ⌜ rowLeft r ≡ overRows t self (listAt t (self .kind) (self .list)) ⌝ }
     {
         let kind = self.kind;
         let list = self.list;
         let setting = self.setting;
         match list_at(
-            image,
+            files,
             segments,
             sections,
             info,
@@ -223,7 +223,7 @@ impl ListWalk {
             list,
         ) {
             LayoutAnswer::List(h) => self.over_list(
-                image,
+                files,
                 segments,
                 sections,
                 info,
@@ -244,7 +244,7 @@ impl ListWalk {
     // The next step: 1 to 6 and 8 are asked, then 10; then the next entry that can be read is settled.
     pub fn next(
         self,
-        image: &[u8],
+        files: &[&[u8]],
         segments: &[u64],
         sections: &[u64],
         info: &[u8],
@@ -252,11 +252,11 @@ impl ListWalk {
         binds: &[u64],
         index: &[u32],
     ) -> ListStepped
-        ensures { λ r. let t = lent image segments sections info rebases binds index in
+        ensures { λ r. let t = lent files segments sections info rebases binds index in
             ⌜ rowLeft r ≡ nextOf t self ⌝ }
     {
-        match ask(image, segments, sections, info, rebases, binds, index) {
-            Asked::Yes => self.walked_list(image, segments, sections, info, rebases, binds, index),
+        match ask(files, segments, sections, info, rebases, binds, index) {
+            Asked::Yes => self.walked_list(files, segments, sections, info, rebases, binds, index),
             Asked::Refused(k) => self.refused(k),
         }
     }

@@ -86,7 +86,7 @@ fn capped(count: u64) -> u64
 
 // protocol_list_t: a u64 count, then the slots.
 fn protocol_list_at(
-    image: &[u8],
+    files: &[&[u8]],
     segments: &[u64],
     sections: &[u64],
     info: &[u8],
@@ -96,7 +96,7 @@ fn protocol_list_at(
     setting: Setting,
     va: u64,
 ) -> ProtocolListAnswer
-    ensures { λ r. let t = under setting (lent image segments sections info rebases binds index) in
+    ensures { λ r. let t = under setting (lent files segments sections info rebases binds index) in
         ⌜ protocolListOutcome r ≡ protocolListAt t va ⌝ }
 {
     match nonzero(va) {
@@ -107,7 +107,7 @@ fn protocol_list_at(
         Word::Value(_) => {}
         Word::Missing(m) => return ProtocolListAnswer::Missing(m),
     }
-    let p = match readable(image, segments, va, ProtocolList::HEADER_SIZE) {
+    let p = match readable(files, segments, va, ProtocolList::HEADER_SIZE) {
         Placed::At(p) => p,
         Placed::Missing(m) => return ProtocolListAnswer::Missing(m),
     };
@@ -117,7 +117,7 @@ fn protocol_list_at(
     };
     ProtocolListAnswer::List(ProtocolList {
         base,
-        count: capped(u64_in(image, p, ProtocolList::COUNT)),
+        count: capped(u64_in(files, p, ProtocolList::COUNT)),
     })
 }
 
@@ -133,7 +133,7 @@ fn has_slot(list: ProtocolList, i: u64) -> bool
 
 // The name of the protocol at an address that is not 0.
 fn protocol_name_at(
-    image: &[u8],
+    files: &[&[u8]],
     segments: &[u64],
     sections: &[u64],
     info: &[u8],
@@ -143,7 +143,7 @@ fn protocol_name_at(
     setting: Setting,
     va: u64,
 ) -> TextAnswer
-    ensures { λ r. let t = under setting (lent image segments sections info rebases binds index) in
+    ensures { λ r. let t = under setting (lent files segments sections info rebases binds index) in
         ⌜ textOutcome r ≡ protocolNameAt t va ⌝ }
 {
     let proto_va = match nonzero(va) {
@@ -151,7 +151,7 @@ fn protocol_name_at(
         Word::Missing(m) => return TextAnswer::Missing(m),
     };
     match protocol_at(
-        image,
+        files,
         segments,
         sections,
         info,
@@ -171,7 +171,7 @@ fn protocol_name_at(
 
 // The name of the protocol whose address a slot holds.
 fn protocol_name_in(
-    image: &[u8],
+    files: &[&[u8]],
     segments: &[u64],
     sections: &[u64],
     info: &[u8],
@@ -181,12 +181,12 @@ fn protocol_name_in(
     setting: Setting,
     slot: u64,
 ) -> TextAnswer
-    ensures { λ r. let t = under setting (lent image segments sections info rebases binds index) in
+    ensures { λ r. let t = under setting (lent files segments sections info rebases binds index) in
         ⌜ textOutcome r ≡ protocolNameIn t slot ⌝ }
 {
-    match resolve_pointer(image, segments, rebases, index, slot) {
+    match resolve_pointer(files, segments, rebases, index, slot) {
         Word::Value(va) => protocol_name_at(
-            image,
+            files,
             segments,
             sections,
             info,
@@ -203,7 +203,7 @@ fn protocol_name_in(
 // The name of a slot: of the protocol that it holds, else its bind's less the prefix. Where both are absent the reason is the
 // protocol's.
 fn name_in(
-    image: &[u8],
+    files: &[&[u8]],
     segments: &[u64],
     sections: &[u64],
     info: &[u8],
@@ -213,11 +213,11 @@ fn name_in(
     setting: Setting,
     slot: u64,
 ) -> TextAnswer
-    ensures { λ r. let t = under setting (lent image segments sections info rebases binds index) in
+    ensures { λ r. let t = under setting (lent files segments sections info rebases binds index) in
         ⌜ textOutcome r ≡ nameIn t slot ⌝ }
 {
     match protocol_name_in(
-        image,
+        files,
         segments,
         sections,
         info,
@@ -230,7 +230,7 @@ fn name_in(
         TextAnswer::Found(name) => TextAnswer::Found(name),
         TextAnswer::Missing(m) => match m {
             Missing::Absent(why) => text_because(
-                symbol_at(image, rebases, binds, index, slot),
+                symbol_at(files, rebases, binds, index, slot),
                 why,
             ),
             Missing::Refused(k) => TextAnswer::Missing(Missing::Refused(k)),
@@ -323,7 +323,7 @@ impl ProtocolNameWalk {
     // The next slot; with none left the cursor becomes the count.
     fn step_in(
         self,
-        image: &[u8],
+        files: &[&[u8]],
         segments: &[u64],
         sections: &[u64],
         info: &[u8],
@@ -332,14 +332,14 @@ impl ProtocolNameWalk {
         index: &[u32],
         list: ProtocolList,
     ) -> ProtocolNameStepped
-        ensures { λ r. let t = under (self .setting) (lent image segments sections info rebases binds index) in
+        ensures { λ r. let t = under (self .setting) (lent files segments sections info rebases binds index) in
             ⌜ nameLeft r ≡ stepIn t self list ⌝ }
     {
         if has_slot(list, self.cursor) {
             let slot = list.base + 8 * self.cursor;
             let setting = self.setting;
             let name = name_in(
-                image,
+                files,
                 segments,
                 sections,
                 info,
@@ -357,7 +357,7 @@ impl ProtocolNameWalk {
     // A step over tables that no question refuses: 10, by the count of the list, 0 for one that is missing.
     fn walked_list(
         self,
-        image: &[u8],
+        files: &[&[u8]],
         segments: &[u64],
         sections: &[u64],
         info: &[u8],
@@ -365,13 +365,13 @@ impl ProtocolNameWalk {
         binds: &[u64],
         index: &[u32],
     ) -> ProtocolNameStepped
-        ensures { λ r. let t = under (self .setting) (lent image segments sections info rebases binds index) in
+        ensures { λ r. let t = under (self .setting) (lent files segments sections info rebases binds index) in
             ⌜ nameLeft r ≡ overNames t self (protocolListAt t (self .list)) ⌝ }
     {
         let list = self.list;
         let setting = self.setting;
         match protocol_list_at(
-            image,
+            files,
             segments,
             sections,
             info,
@@ -385,7 +385,7 @@ impl ProtocolNameWalk {
                 if list.count < self.cursor {
                     return self.refused(10);
                 }
-                self.step_in(image, segments, sections, info, rebases, binds, index, list)
+                self.step_in(files, segments, sections, info, rebases, binds, index, list)
             }
             ProtocolListAnswer::Missing(m) => {
                 if 0 < self.cursor {
@@ -399,7 +399,7 @@ impl ProtocolNameWalk {
     // The name in the next slot.
     pub fn next(
         self,
-        image: &[u8],
+        files: &[&[u8]],
         segments: &[u64],
         sections: &[u64],
         info: &[u8],
@@ -407,11 +407,11 @@ impl ProtocolNameWalk {
         binds: &[u64],
         index: &[u32],
     ) -> ProtocolNameStepped
-        ensures { λ r. let t = lent image segments sections info rebases binds index in
+        ensures { λ r. let t = lent files segments sections info rebases binds index in
             ⌜ nameLeft r ≡ nextName t self ⌝ }
     {
-        match ask(image, segments, sections, info, rebases, binds, index) {
-            Asked::Yes => self.walked_list(image, segments, sections, info, rebases, binds, index),
+        match ask(files, segments, sections, info, rebases, binds, index) {
+            Asked::Yes => self.walked_list(files, segments, sections, info, rebases, binds, index),
             Asked::Refused(k) => self.refused(k),
         }
     }

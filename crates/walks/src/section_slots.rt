@@ -118,7 +118,7 @@ impl ClassSlots {
     // Takes the metaclass that waits.
     fn take_meta(
         self,
-        image: &[u8],
+        files: &[&[u8]],
         segments: &[u64],
         sections: &[u64],
         info: &[u8],
@@ -127,12 +127,12 @@ impl ClassSlots {
         index: &[u32],
         setting: Setting,
     ) -> ClassTaken
-        ensures { λ r. let t = under setting (lent image segments sections info rebases binds index) in
+        ensures { λ r. let t = under setting (lent files segments sections info rebases binds index) in
             ⌜ ((l : List ℕ) → classTaken r l ≡ takeWaiting classes t (classSlots self) l) ⌝ }
     {
         let slots = self.slots;
         match class_at(
-            image,
+            files,
             segments,
             sections,
             info,
@@ -157,7 +157,7 @@ impl ClassSlots {
     // Takes an address first met: the ledger word is the last write, and with a number there is none.
     fn take_new(
         self,
-        image: &[u8],
+        files: &[&[u8]],
         segments: &[u64],
         sections: &[u64],
         info: &[u8],
@@ -169,12 +169,12 @@ impl ClassSlots {
         ledger: &mut [u64],
     ) -> ClassTaken
         requires { ⌜ Room (self .slots) (length (now ledger)) ⌝ }
-        ensures { λ r. let t = under setting (lent image segments sections info rebases binds index) in
+        ensures { λ r. let t = under setting (lent files segments sections info rebases binds index) in
             ⌜ classTaken r (after ledger) ≡ takeNew classes t (classSlots self) (before ledger) va ⌝ }
     {
         let slots = self.slots;
         match class_at(
-            image,
+            files,
             segments,
             sections,
             info,
@@ -205,7 +205,7 @@ impl ClassSlots {
     // The waiting metaclass, where no question refuses the step over a ledger of `len` words.
     fn next_meta(
         self,
-        image: &[u8],
+        files: &[&[u8]],
         segments: &[u64],
         sections: &[u64],
         info: &[u8],
@@ -215,12 +215,12 @@ impl ClassSlots {
         setting: Setting,
         len: usize,
     ) -> ClassTaken
-        ensures { λ r. let t = under setting (lent image segments sections info rebases binds index) in
+        ensures { λ r. let t = under setting (lent files segments sections info rebases binds index) in
             ⌜ ((l : List ℕ) → length l ≡ len → classTaken r l ≡ nextWaiting classes t (classSlots self) l) ⌝ }
     {
         let slots = self.slots;
         match slots.ask_ledger(
-            image,
+            files,
             segments,
             sections,
             info,
@@ -232,7 +232,7 @@ impl ClassSlots {
             len,
         ) {
             Asked::Yes => self.take_meta(
-                image,
+                files,
                 segments,
                 sections,
                 info,
@@ -248,7 +248,7 @@ impl ClassSlots {
     // One step: the waiting metaclass, or else the next slot.
     pub(crate) fn next(
         self,
-        image: &[u8],
+        files: &[&[u8]],
         segments: &[u64],
         sections: &[u64],
         info: &[u8],
@@ -258,13 +258,13 @@ impl ClassSlots {
         setting: Setting,
         ledger: &mut [u64],
     ) -> ClassTaken
-        ensures { λ r. let t = under setting (lent image segments sections info rebases binds index) in
+        ensures { λ r. let t = under setting (lent files segments sections info rebases binds index) in
             ⌜ classTaken r (after ledger) ≡ stepOf classes t (classSlots self) (before ledger) ⌝ }
     {
         if self.meta != 0 {
             let len = ledger.len();
             return self.next_meta(
-                image,
+                files,
                 segments,
                 sections,
                 info,
@@ -277,7 +277,7 @@ impl ClassSlots {
         }
         let slots = self.slots;
         match slots.next_new(
-            image,
+            files,
             segments,
             sections,
             info,
@@ -289,7 +289,7 @@ impl ClassSlots {
             ledger,
         ) {
             SlotStep::Address(va) => self.take_new(
-                image,
+                files,
                 segments,
                 sections,
                 info,
@@ -353,7 +353,7 @@ impl CategorySlots {
     // Takes an address first met: the ledger word is the last write, and with a number there is none.
     fn take_new(
         self,
-        image: &[u8],
+        files: &[&[u8]],
         segments: &[u64],
         sections: &[u64],
         info: &[u8],
@@ -365,12 +365,12 @@ impl CategorySlots {
         ledger: &mut [u64],
     ) -> CategoryTaken
         requires { ⌜ Room (self .slots) (length (now ledger)) ⌝ }
-        ensures { λ r. let t = under setting (lent image segments sections info rebases binds index) in
+        ensures { λ r. let t = under setting (lent files segments sections info rebases binds index) in
             ⌜ categoryTaken r (after ledger) ≡ takeNew categories t (categorySlots self) (before ledger) va ⌝ }
     {
         let slots = self.slots;
         match category_at(
-            image,
+            files,
             segments,
             sections,
             info,
@@ -396,7 +396,7 @@ impl CategorySlots {
     // One step: the next slot.
     pub(crate) fn next(
         self,
-        image: &[u8],
+        files: &[&[u8]],
         segments: &[u64],
         sections: &[u64],
         info: &[u8],
@@ -406,12 +406,12 @@ impl CategorySlots {
         setting: Setting,
         ledger: &mut [u64],
     ) -> CategoryTaken
-        ensures { λ r. let t = under setting (lent image segments sections info rebases binds index) in
+        ensures { λ r. let t = under setting (lent files segments sections info rebases binds index) in
             ⌜ categoryTaken r (after ledger) ≡ stepOf categories t (categorySlots self) (before ledger) ⌝ }
     {
         let slots = self.slots;
         match slots.next_new(
-            image,
+            files,
             segments,
             sections,
             info,
@@ -423,7 +423,7 @@ impl CategorySlots {
             ledger,
         ) {
             SlotStep::Address(va) => self.take_new(
-                image,
+                files,
                 segments,
                 sections,
                 info,
@@ -474,7 +474,7 @@ impl ProtocolSlots {
     // Takes an address: a protocol listed twice comes twice.
     fn take(
         self,
-        image: &[u8],
+        files: &[&[u8]],
         segments: &[u64],
         sections: &[u64],
         info: &[u8],
@@ -485,12 +485,12 @@ impl ProtocolSlots {
         va: u64,
     ) -> ProtocolTaken
         requires { ⌜ self .slot + 1 < 2 ^ 64 ⌝ }
-        ensures { λ r. let t = under setting (lent image segments sections info rebases binds index) in
+        ensures { λ r. let t = under setting (lent files segments sections info rebases binds index) in
             ⌜ protocolTaken r ≡ takeProtocol t (protocolSlots self) [] va ⌝ }
     {
         let slots = self.past();
         match protocol_at(
-            image,
+            files,
             segments,
             sections,
             info,
@@ -517,7 +517,7 @@ impl ProtocolSlots {
     // One step: the next slot.
     pub(crate) fn next(
         self,
-        image: &[u8],
+        files: &[&[u8]],
         segments: &[u64],
         sections: &[u64],
         info: &[u8],
@@ -526,11 +526,11 @@ impl ProtocolSlots {
         index: &[u32],
         setting: Setting,
     ) -> ProtocolTaken
-        ensures { λ r. let t = under setting (lent image segments sections info rebases binds index) in
+        ensures { λ r. let t = under setting (lent files segments sections info rebases binds index) in
             ⌜ protocolTaken r ≡ protocolStepOf t (protocolSlots self) [] ⌝ }
     {
         match next_slot(
-            image,
+            files,
             segments,
             sections,
             info,
@@ -542,7 +542,7 @@ impl ProtocolSlots {
             self.slot,
         ) {
             SlotStep::Address(va) => self.take(
-                image,
+                files,
                 segments,
                 sections,
                 info,

@@ -104,7 +104,7 @@ impl ClassWalk {
     // One step, under the setting that the walk began with.
     pub fn next(
         self,
-        image: &[u8],
+        files: &[&[u8]],
         segments: &[u64],
         sections: &[u64],
         info: &[u8],
@@ -113,13 +113,13 @@ impl ClassWalk {
         index: &[u32],
         ledger: &mut [u64],
     ) -> ClassStepped
-        ensures { λ r. let t = under (self .setting) (lent image segments sections info rebases binds index) in
+        ensures { λ r. let t = under (self .setting) (lent files segments sections info rebases binds index) in
             ⌜ (classLeft r (after ledger) ≡ stepOf classes t (classWalk self) (before ledger)) × (r .walk .setting ≡ self .setting) ⌝ }
     {
         let slots = self.slots;
         let setting = self.setting;
         let taken = slots.next(
-            image,
+            files,
             segments,
             sections,
             info,
@@ -162,7 +162,7 @@ impl CategoryWalk {
     // One step, under the setting that the walk began with.
     pub fn next(
         self,
-        image: &[u8],
+        files: &[&[u8]],
         segments: &[u64],
         sections: &[u64],
         info: &[u8],
@@ -171,13 +171,13 @@ impl CategoryWalk {
         index: &[u32],
         ledger: &mut [u64],
     ) -> CategoryStepped
-        ensures { λ r. let t = under (self .setting) (lent image segments sections info rebases binds index) in
+        ensures { λ r. let t = under (self .setting) (lent files segments sections info rebases binds index) in
             ⌜ (categoryLeft r (after ledger) ≡ stepOf categories t (categoryWalk self) (before ledger)) × (r .walk .setting ≡ self .setting) ⌝ }
     {
         let slots = self.slots;
         let setting = self.setting;
         let taken = slots.next(
-            image,
+            files,
             segments,
             sections,
             info,
@@ -220,7 +220,7 @@ impl ProtocolWalk {
     // One step, under the setting that the walk began with.
     pub fn next(
         self,
-        image: &[u8],
+        files: &[&[u8]],
         segments: &[u64],
         sections: &[u64],
         info: &[u8],
@@ -228,13 +228,13 @@ impl ProtocolWalk {
         binds: &[u64],
         index: &[u32],
     ) -> ProtocolStepped
-        ensures { λ r. let t = under (self .setting) (lent image segments sections info rebases binds index) in
+        ensures { λ r. let t = under (self .setting) (lent files segments sections info rebases binds index) in
             ⌜ (protocolLeft r ≡ protocolStepOf t (protocolWalk self) []) × (r .walk .setting ≡ self .setting) ⌝ }
     {
         let slots = self.slots;
         let setting = self.setting;
         let taken = slots.next(
-            image,
+            files,
             segments,
             sections,
             info,

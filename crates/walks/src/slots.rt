@@ -95,7 +95,7 @@ fn slot_at(sections: &[u64], lists: Lists, k: u64) -> u64
 
 // The address in a slot, absent if it is 0.
 fn address_in(
-    image: &[u8],
+    files: &[&[u8]],
     segments: &[u64],
     sections: &[u64],
     info: &[u8],
@@ -105,10 +105,10 @@ fn address_in(
     setting: Setting,
     slot: u64,
 ) -> Word
-    ensures { λ r. let t = under setting (lent image segments sections info rebases binds index) in
+    ensures { λ r. let t = under setting (lent files segments sections info rebases binds index) in
         ⌜ wordOutcome r ≡ addressIn t slot ⌝ }
 {
-    match slot_or_0(image, segments, rebases, index, slot) {
+    match slot_or_0(files, segments, rebases, index, slot) {
         Word::Value(va) => nonzero(va),
         Word::Missing(m) => Word::Missing(m),
     }
@@ -206,7 +206,7 @@ fn ledger_fits(sections: &[u64], lists: Lists, words: usize) -> bool
 
 // Takes slot k, or there is none.
 fn take_slot(
-    image: &[u8],
+    files: &[&[u8]],
     segments: &[u64],
     sections: &[u64],
     info: &[u8],
@@ -218,7 +218,7 @@ fn take_slot(
     k: u64,
 ) -> SlotStep
     requires { ⌜ k ≤ length (slotsOf lists (now sections)) ⌝ }
-    ensures { λ r. let t = under setting (lent image segments sections info rebases binds index) in
+    ensures { λ r. let t = under setting (lent files segments sections info rebases binds index) in
         ⌜ slotOutcome r ≡ slotTaken t (slotsOf lists (before sections)) k ⌝ }
 {
     if k == slot_count(sections, lists) {
@@ -226,7 +226,7 @@ fn take_slot(
     }
     let at = slot_at(sections, lists, k);
     match address_in(
-        image,
+        files,
         segments,
         sections,
         info,
@@ -246,7 +246,7 @@ fn take_slot(
 
 // The next slot of a walk that takes an address as often as it is listed.
 pub(crate) fn next_slot(
-    image: &[u8],
+    files: &[&[u8]],
     segments: &[u64],
     sections: &[u64],
     info: &[u8],
@@ -257,16 +257,16 @@ pub(crate) fn next_slot(
     lists: Lists,
     slot: u64,
 ) -> SlotStep
-    ensures { λ r. let t = under setting (lent image segments sections info rebases binds index) in
+    ensures { λ r. let t = under setting (lent files segments sections info rebases binds index) in
         ⌜ slotOutcome r ≡ nextSlot t (slotsOf lists (before sections)) slot ⌝ }
 {
-    match ask(image, segments, sections, info, rebases, binds, index) {
+    match ask(files, segments, sections, info, rebases, binds, index) {
         Asked::Yes => {
             if !slot_fits(sections, lists, slot, 0) {
                 return SlotStep::Refused(10);
             }
             take_slot(
-                image,
+                files,
                 segments,
                 sections,
                 info,
@@ -297,7 +297,7 @@ impl SlotWalk {
     // 1 to 6 and 8, then 10 and 11, with a ledger of so many words.
     pub(crate) fn ask_ledger(
         self,
-        image: &[u8],
+        files: &[&[u8]],
         segments: &[u64],
         sections: &[u64],
         info: &[u8],
@@ -308,10 +308,10 @@ impl SlotWalk {
         lists: Lists,
         words: usize,
     ) -> Asked
-        ensures { λ r. let t = under setting (lent image segments sections info rebases binds index) in
+        ensures { λ r. let t = under setting (lent files segments sections info rebases binds index) in
             ⌜ askedOutcome r ≡ askedLedger t (slotsOf lists (before sections)) (self .slot) (self .used) words ⌝ }
     {
-        match ask(image, segments, sections, info, rebases, binds, index) {
+        match ask(files, segments, sections, info, rebases, binds, index) {
             Asked::Yes => {
                 if !slot_fits(sections, lists, self.slot, self.used) {
                     return Asked::Refused(10);
@@ -328,7 +328,7 @@ impl SlotWalk {
     // The next slot, with the words of the ledger in use as the addresses met before.
     pub(crate) fn next_new(
         self,
-        image: &[u8],
+        files: &[&[u8]],
         segments: &[u64],
         sections: &[u64],
         info: &[u8],
@@ -339,11 +339,11 @@ impl SlotWalk {
         lists: Lists,
         ledger: &[u64],
     ) -> SlotStep
-        ensures { λ r. let t = under setting (lent image segments sections info rebases binds index) in
+        ensures { λ r. let t = under setting (lent files segments sections info rebases binds index) in
             ⌜ slotOutcome r ≡ nextNew t (slotsOf lists (before sections)) (self .slot) (self .used) (self .highest) (before ledger) ⌝ }
     {
         match self.ask_ledger(
-            image,
+            files,
             segments,
             sections,
             info,
@@ -356,7 +356,7 @@ impl SlotWalk {
         ) {
             Asked::Yes => {
                 let step = take_slot(
-                    image,
+                    files,
                     segments,
                     sections,
                     info,

@@ -200,9 +200,13 @@ fn main() -> ExitCode {
     std::io::stdin().read_to_end(&mut input).expect("standard input");
     let bin = match bundle::open(&input) {
         Ok(bin) => bin,
-        Err(number) => {
+        Err(bundle::Unlisted::Refused(number)) => {
             println!("refused {number}");
             return ExitCode::SUCCESS;
+        }
+        Err(bundle::Unlisted::Spans) => {
+            eprintln!("oracle: the bundle spans files, and the Rust has one image");
+            return ExitCode::from(3);
         }
     };
     let rt = ObjcRuntime::build(&bin).expect("build gives None only for 32 bits or without image info");

@@ -103,10 +103,10 @@ fn binary(t: &Tables) -> MachoBinary<'_> {
     }
     MachoBinary {
         image: &t.image,
-        segments: t.segments.chunks(4).map(|c| Segment(c.try_into().unwrap())).collect(),
+        segments: t.segments.chunks(5).map(|c| Segment(c[..4].try_into().unwrap())).collect(),
         sections,
         rebases: t.rebases.chunks(2).map(|c| Rebase(c.try_into().unwrap())).collect(),
-        imports: t.binds.chunks(3).map(|c| Import { address: c[0], name: bind_name(t, c), dylib: "" }).collect(),
+        imports: t.binds.chunks(4).map(|c| Import { address: c[0], name: bind_name(t, c), dylib: "" }).collect(),
     }
 }
 
@@ -207,9 +207,9 @@ fn fuzz(libs: &[Face], rounds: u64, seed: u64) {
                 2 => next() << 20,
                 3 => t.image.len() as u64,
                 4 => s[(next() % s.len() as u64) as usize],
-                5 => s[(next() % s.len() as u64) as usize / 4 * 4].wrapping_add(s[(next() % s.len() as u64) as usize / 4 * 4 + 1]),
+                5 => s[(next() % s.len() as u64) as usize / 5 * 5].wrapping_add(s[(next() % s.len() as u64) as usize / 5 * 5 + 1]),
                 6 if !t.rebases.is_empty() => t.rebases[(next() % t.rebases.len() as u64) as usize],
-                _ => s[(next() % s.len() as u64) as usize / 4 * 4].wrapping_add(next() % 4096),
+                _ => s[(next() % s.len() as u64) as usize / 5 * 5].wrapping_add(next() % 4096),
             };
             match next() % 4 {
                 0 => base,
@@ -220,18 +220,19 @@ fn fuzz(libs: &[Face], rounds: u64, seed: u64) {
         };
         // more segments, in any order, that overlap the others
         for _ in 0..next() % 4 {
-            let at = (next() % (t.segments.len() as u64 / 4 + 1)) as usize * 4;
-            let row: Vec<u64> = (0..4).map(|_| some(&mut next, &t)).collect();
+            let at = (next() % (t.segments.len() as u64 / 5 + 1)) as usize * 5;
+            let mut row: Vec<u64> = (0..4).map(|_| some(&mut next, &t)).collect();
+            row.push(0);
             let row = if next() % 2 == 0 {
                 // a part of a segment, elsewhere in the file
-                let k = (next() % (t.segments.len() as u64 / 4)) as usize * 4;
-                vec![t.segments[k].wrapping_add(next() % (t.segments[k + 1] % 0x10000 + 1)), next() % 0x3000, next() % (t.image.len() as u64 + 1), next() % 0x3000]
+                let k = (next() % (t.segments.len() as u64 / 5)) as usize * 5;
+                vec![t.segments[k].wrapping_add(next() % (t.segments[k + 1] % 0x10000 + 1)), next() % 0x3000, next() % (t.image.len() as u64 + 1), next() % 0x3000, 0]
             } else { row };
             t.segments.splice(at..at, row);
         }
         for _ in 0..next() % 4 {
             let k = (next() % t.segments.len() as u64) as usize;
-            t.segments[k] = some(&mut next, &t);
+            t.segments[k] = if k % 5 == 4 { next() % 2 } else { some(&mut next, &t) };
         }
         for _ in 0..[0, 0, 3, 40, 400][(next() % 5) as usize] {
             let k = (next() % t.image.len() as u64) as usize;
@@ -245,7 +246,7 @@ fn fuzz(libs: &[Face], rounds: u64, seed: u64) {
         if next() % 3 == 0 {
             let n = (next() % t.image.len() as u64) as usize;
             t.image.truncate(n.max(8));
-            for b in t.binds.chunks_mut(3) {
+            for b in t.binds.chunks_mut(4) {
                 b[1] = b[1].min(t.image.len() as u64 - 1);
                 b[2] = b[2].min(t.image.len() as u64 - b[1]);
             }
@@ -264,7 +265,7 @@ fn fuzz(libs: &[Face], rounds: u64, seed: u64) {
                 t.rebases[k] = some(&mut next, &t);
             }
         }
-        let mut index = vec![0u32; 8192 + t.rebases.len() / 2 + t.binds.len() / 3];
+        let mut index = vec![0u32; 8192 + t.rebases.len() / 2 + t.binds.len() / 4];
         let opened = ours_open(&libs[0], &t, &mut index);
         if next() % 4 == 0 {
             for _ in 0..1 + next() % 60 {
@@ -352,7 +353,7 @@ fn main() {
             for (k, (f, b)) in libs.iter().zip(&mut best).enumerate() {
                 let mut ours = [0u64; 16];
                 let at = now();
-                let mut index = vec![0u32; 8192 + t.rebases.len() / 2 + t.binds.len() / 3];
+                let mut index = vec![0u32; 8192 + t.rebases.len() / 2 + t.binds.len() / 4];
                 assert_eq!(ours_open(f, black_box(&t), &mut index), 0, "open refused");
                 keep(&mut b[0], at);
                 let at = now();
@@ -373,7 +374,7 @@ fn main() {
         }
         if only != 1 {
             let at = now();
-            for c in t.binds.chunks(3) {
+            for c in t.binds.chunks(4) {
                 black_box(bind_name(&t, c));
             }
             keep(&mut rust[2], at);
@@ -403,7 +404,7 @@ fn main() {
     println!(
         "{} {}% legacy{} classes {} image {:.1} MB rebases {} binds {} steps {} runs {}",
         if shape.rebased { "rebased" } else { "plain" }, shape.legacy, if shape.shuffled { " shuffled" } else { "" }, shape.classes,
-        t.image.len() as f64 / 1e6, t.rebases.len() / 2, t.binds.len() / 3, steps, runs,
+        t.image.len() as f64 / 1e6, t.rebases.len() / 2, t.binds.len() / 4, steps, runs,
     );
     if only != 1 {
         println!("  {:<24} open {:>9.3} (+names {:.3})      list {:>10.3} ms              median {:>10.3}", "rust", ms(rust[0]), ms(rust[2]), ms(rust[1]), ms(median(&all[libs.len()])));

@@ -28,7 +28,7 @@ loop-again c =
     let inv = c .before .before .loop .inv in (
       simp length-set (omega arith),
       simp length-set (inv .1),
-      words-more _ _ _ _ _ (omega arith) (inv .2) (c .u64-in .ensures),
+      words-more _ _ _ _ _ (omega arith) (inv .2) (c .u64-from .ensures),
     )
 
 same-length : tie.Need-same-length Inv-loop μ-loop

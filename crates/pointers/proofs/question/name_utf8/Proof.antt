@@ -1,41 +1,45 @@
-use mathlib.Core.Path.{_≡_, ap}
-use Prim.Native.Nat.{_+_, _-_}
-use native.Mathlib.Omega.{arith}
-use lib.ListN.{length}
-use Rattle.reads.specs.Place.{part}
-use Rattle.pointers.proofs.Questions as laws
+use Rattle.reads.specs.Files.{filesLent}
+use Rattle.reads.proofs.LentFiles.{file-lent, file-not-lent, lent-below, said-lent, said-not}
+use Rattle.pointers.proofs.Questions.{name-utf8-by}
 use borrow.Author.Needs.{needs}
 use Rattle.pointers.proofs.question.name_utf8.Statement.{statement}
 use Rattle.pointers.proofs.question.name_utf8.Tie as tie
 
 returns : tie.Need-returns
-returns c = laws.utf8-past _ _ _ (c .if1 .taken)
+returns c =
+    let a = c .before .before .before .before .args in
+    let f = a .name .file in
+    name-utf8-by (filesLent (a .files .now)) (a .name) _
+    (file-not-lent (a .files .now) f (said-not (a .files .now) f _ (c .before .before .before .is-lent .ensures) (c .before .before .if1 .taken))) (c .part-utf8 .ensures)
+
+multiple : tie.Need-mul-bytes
+multiple c =
+    let a = c .before .before .args in
+    let h = lent-below (a .files .now) (a .name .file) (said-lent (a .files .now) (a .name .file) _ (c .before .is-lent .ensures) (c .if1 .left)) in
+    search needs
+
+inside : tie.Need-shared-slice-copy-out-bytes
+inside c =
+    let a = c .before .before .args in
+    let h = lent-below (a .files .now) (a .name .file) (said-lent (a .files .now) (a .name .file) _ (c .before .is-lent .ensures) (c .if1 .left)) in
+    search needs
 
 returns-2 : tie.Need-returns-2
 returns-2 c =
-    let a = c .before .before .before .before .before .args in
-    laws.utf8-by (a .image .now) (a .offset) (a .len) (length (a .image .now) - a .offset) (laws.part-cut (a .image .now) (a .offset) (a .len) (c .before .before .before .if1 .left) (c .before .before .if2 .taken))
-    (c .utf8 .ensures)
-
-returns-3 : tie.Need-returns-3
-returns-3 c =
-    let a = c .before .before .before .before .before .args in
-    let k : a .offset + a .len - a .offset ≡ a .len = omega arith in
-    laws.utf8-by (a .image .now) (a .offset) (a .len) (a .offset + a .len - a .offset) (ap (part (a .image .now) (a .offset)) k) (c .utf82 .ensures)
+    let a = c .before .before .before .before .args in
+    let f = a .name .file in
+    name-utf8-by (filesLent (a .files .now)) (a .name) _
+    (file-lent (a .files .now) f _ (said-lent (a .files .now) f _ (c .before .before .before .is-lent .ensures) (c .before .before .if1 .left))) (c .part-utf82 .ensures)
 
 pub name-utf8-spec : {M : Type 1} → statement M
 name-utf8-spec =
     tie.close
     (tie.spec
+    (λ c κs. search needs)
+    (λ c. search needs)
+    (λ c κs. search needs)
     returns
-    (λ c. search needs)
-    (λ c. search needs)
-    (λ c. search needs)
+    multiple
+    inside
     (λ c κs. search needs)
-    returns-2
-    (λ c. search needs)
-    (λ c. search needs)
-    (λ c. search needs)
-    (λ c. search needs)
-    (λ c κs. search needs)
-    returns-3)
+    returns-2)

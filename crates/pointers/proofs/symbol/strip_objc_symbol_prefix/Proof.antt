@@ -1,45 +1,49 @@
-use Prim.Native.Nat.{_+_, _-_, _≤_}
-use native.Mathlib.Omega.{arith}
+use mathlib.Core.Path.{ap, _∙_}
+use mathlib.Core.List.{List}
+use Prim.Native.Nat.{ℕ}
+use Rattle.reads.proofs.LentFiles.{file-lent, file-not-lent, lent-below, said-lent, said-not}
+use Rattle.pointers.specs.Symbol.{strippedIn}
 use borrow.Author.Needs.{needs}
-use Rattle.pointers.specs.Symbol.{prefixes}
-use Rattle.pointers.proofs.Prefixes.{fitting-part, stripped-by, stripped-past}
 use Rattle.pointers.proofs.symbol.strip_objc_symbol_prefix.Statement.{statement}
 use Rattle.pointers.proofs.symbol.strip_objc_symbol_prefix.Tie as tie
 
--- The prefix is no longer than the bytes that are there.
-short : (c : tie.After-prefix-length) → c .prefix-length .result ≤ c .before .before .before .least .result
-short c =
-    let l = c .before .before .before in
-    let a = l .before .before .before .before .before .args in
-    omega (arith, c .prefix-length .ensures, fitting-part prefixes (a .image .now) (a .name .offset) (a .name .offset + l .least .result - a .name .offset))
-
 returns : tie.Need-returns
-returns c = stripped-past _ _ (c .if1 .taken)
+returns c =
+    let a = c .before .before .before .before .args in
+    let f = a .name .file in
+    c .strip-in .ensures
+    ∙ ap (λ (bs : List ℕ). strippedIn bs (a .name))
+    (file-not-lent (a .files .now) f (said-not (a .files .now) f _ (c .before .before .before .is-lent .ensures) (c .before .before .if1 .taken)))
 
-add-t10 : tie.Need-add-t10
-add-t10 c = omega (arith, short (c .before))
+multiple : tie.Need-mul-bytes
+multiple c =
+    let a = c .before .before .args in
+    let h = lent-below (a .files .now) (a .name .file) (said-lent (a .files .now) (a .name .file) _ (c .before .is-lent .ensures) (c .if1 .left)) in
+    search needs
 
-sub-t15 : tie.Need-sub-t15
-sub-t15 c = omega (arith, short (c .before .before))
+inside : tie.Need-shared-slice-copy-out-bytes
+inside c =
+    let a = c .before .before .args in
+    let h = lent-below (a .files .now) (a .name .file) (said-lent (a .files .now) (a .name .file) _ (c .before .is-lent .ensures) (c .if1 .left)) in
+    search needs
 
 returns-2 : tie.Need-returns-2
 returns-2 c =
-    let l = c .before .before .before .before .before in
-    let a = l .before .before .before .before .before .args in
-    stripped-by (a .image .now) (a .name) (a .name .offset + l .least .result - a .name .offset) _ (omega arith) (c .before .before .prefix-length .ensures)
+    let a = c .before .before .before .before .args in
+    let f = a .name .file in
+    c .strip-in2 .ensures
+    ∙ ap (λ (bs : List ℕ). strippedIn bs (a .name))
+    (file-lent (a .files .now) f _ (said-lent (a .files .now) f _ (c .before .before .before .is-lent .ensures) (c .before .before .if1 .left)))
 
 pub strip-objc-symbol-prefix-spec : {M : Type 1} → statement M
 strip-objc-symbol-prefix-spec =
     tie.close
     (tie.spec
+    (λ c κs. search needs)
+    (λ c. search needs)
+    (λ c κs. search needs)
     returns
-    (λ c. search needs)
+    multiple
+    inside
     (λ c κs. search needs)
-    (λ c. search needs)
-    (λ c. search needs)
-    (λ c. search needs)
-    (λ c. search needs)
-    (λ c κs. search needs)
-    add-t10
-    sub-t15
     returns-2)

@@ -6,7 +6,7 @@ use Rattle.reads.proofs.place.be2.Statement.{statement}
 use Rattle.reads.proofs.place.be2.Tie as tie
 
 returns : tie.Need-returns
-returns c = (omega (arith, be-part (c .before .before .before .before .before .args .image .now) (c .before .before .before .before .before .args .at) 1 1 (omega arith), be-one (c .before .before .before .before .before .args .image .now) (c .before .before .before .before .before .args .at) (omega arith), be-one (c .before .before .before .before .before .args .image .now) (c .before .before .before .before .before .args .at + 1) (omega arith)), omega arith)
+returns c = (omega (arith, be-part (c .before .before .before .before .before .args .bytes .now) (c .before .before .before .before .before .args .at) 1 1 (omega arith), be-one (c .before .before .before .before .before .args .bytes .now) (c .before .before .before .before .before .args .at) (omega arith), be-one (c .before .before .before .before .before .args .bytes .now) (c .before .before .before .before .before .args .at + 1) (omega arith)), omega arith)
 
 pub be2-spec : {M : Type 1} → statement M
 be2-spec =

@@ -1,7 +1,8 @@
 use mathlib.Core.Path.{refl, ap, sym, _∙_}
 use Rattle.reads.specs.Answer.{missed, missingBecause, placeOutcome}
 use Rattle.reads.specs.Outcome.{because}
-use Rattle.reads.specs.Place.{readable}
+use Prim.Native.Nat.{ℕ}
+use Rattle.reads.specs.Place.{readableAt, readable}
 use Rattle.reads.specs.declared.answer.Reason.the-variants.{Unreadable}
 use Rattle.reads.specs.declared.place.Placed.{Placed}
 use Rattle.reads.proofs.Outcomes.{missed-because, on-value, on-missing}
@@ -12,8 +13,10 @@ use Rattle.reads.proofs.place.readable.Tie as tie
 returns : tie.Need-returns
 unfolding readable
 returns c =
-    on-value (λ (w : Placed). because Unreadable (placeOutcome w)) _ (ap (because Unreadable) (c .before .before .before .before .vm-to-file-offset-in .ensures))
-    (c .before .before .p .given .1) refl (c .readable-at .ensures)
+    let p = c .before .before .before .p .given in
+    on-value (λ (w : Placed). because Unreadable (placeOutcome w)) _
+    (ap (because Unreadable) (c .before .before .before .before .before .vm-to-file-offset-in .ensures)) (p .1) refl
+    (c .readable-at .ensures ∙ ap (λ (n : ℕ). readableAt n (p .0 .0) (c .before .before .before .before .before .before .before .args .k)) (c .before .file-len .ensures))
 
 returns-2 : tie.Need-returns-2
 unfolding readable
@@ -29,6 +32,7 @@ readable-spec =
     (tie.spec
     (λ c κs. search needs)
     (λ c. search needs)
+    (λ c κs. search needs)
     (λ c κs. search needs)
     (λ c. search needs)
     (λ c κs. search needs)

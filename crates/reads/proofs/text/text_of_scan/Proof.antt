@@ -9,18 +9,18 @@ returns : tie.Need-returns
 returns c =
     let d = c .before .before in
     let a = d .before .before .args in
-    scan-endless (a .offset) (a .scan) (d .enum-told2 .given .1) (sym (c .before .ended .ensures) ∙ not-true _ (c .if1 .taken))
+    scan-endless (a .p) (a .scan) (d .enum-told2 .given .1) (sym (c .before .ended .ensures) ∙ not-true _ (c .if1 .taken))
 
 returns-2 : tie.Need-returns-2
 returns-2 c =
     let a = c .before .before .before .args in
-    c .good-text .ensures ∙ scan-old (a .offset) (a .scan) (c .before .enum-told .given .1)
+    c .good-text .ensures ∙ scan-old (a .p) (a .scan) (c .before .enum-told .given .1)
 
 returns-3 : tie.Need-returns-3
 returns-3 c =
     let d = c .before .before .before in
     let a = d .before .before .args in
-    c .good-text2 .ensures ∙ scan-ended (a .offset) (a .scan) (d .enum-told2 .given .1) (sym (c .before .before .ended .ensures) ∙ not-false _ (c .before .if1 .left))
+    c .good-text2 .ensures ∙ scan-ended (a .p) (a .scan) (d .enum-told2 .given .1) (sym (c .before .before .ended .ensures) ∙ not-false _ (c .before .if1 .left))
 
 pub text-of-scan-spec : {M : Type 1} → statement M
 text-of-scan-spec =

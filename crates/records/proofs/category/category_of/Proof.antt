@@ -1,5 +1,6 @@
 use mathlib.Core.Path.{_≡_, sym, ap, _∙_}
 use Rattle.reads.specs.Answer.{placeOutcome, textOutcome, wordOutcome}
+use Rattle.reads.specs.Files.{filesLent}
 use Rattle.pointers.specs.Tables.{Tables, tablesOf, under}
 use Rattle.records.specs.Decode.{Decode, run}
 use Rattle.records.proofs.Stages.{rest, past, stops}
@@ -11,22 +12,22 @@ use Rattle.records.proofs.category.category_of.Tie as tie
 
 -- All that the function is lent, and its definition.
 abbrev tables : tie.Start → Tables
-tables s = under (s .args .setting) (tablesOf (s .args .image .now) (s .args .segments .now) (s .args .sections .now) (s .args .info .now) (s .args .rebases .now) (s .args .binds .now) (s .args .index .now))
+tables s = under (s .args .setting) (tablesOf (filesLent (s .args .files .now)) (s .args .segments .now) (s .args .sections .now) (s .args .info .now) (s .args .rebases .now) (s .args .binds .now) (s .args .index .now))
 
 abbrev whole : tie.Start → Decode ObjcCategory
 whole s = decodeCategoryOf (s .args .va) (s .args .wide)
 
 -- Past whole-category.
 abbrev start-1 : tie.After-known-told → tie.Start
-start-1 c = c .before .before .before .before .before .before .before .before .before .before .before
+start-1 c = c .before .before .before .before .before .before .before .before .before .before
 
 abbrev rest-1 : tie.After-known-told → Decode ObjcCategory
 unfolding decodeCategoryOf
-rest-1 c = rest (whole (c .before .before .before .before .before .before .before .before .before .before .before)) (c .before .p .given .0 .0)
+rest-1 c = rest (whole (c .before .before .before .before .before .before .before .before .before .before)) (c .before .p .given .0 .0)
 
 reach-1 : (c : tie.After-known-told) → run (tables (start-1 c)) (whole (start-1 c)) ≡ run (tables (start-1 c)) (rest-1 c)
 unfolding decodeCategoryOf
-reach-1 c = past (tables (start-1 c)) (whole (c .before .before .before .before .before .before .before .before .before .before .before)) (c .before .p .given .0 .0) (sym (c .before .before .before .whole-category .ensures) ∙ ap placeOutcome (c .before .p .given .1))
+reach-1 c = past (tables (start-1 c)) (whole (c .before .before .before .before .before .before .before .before .before .before)) (c .before .p .given .0 .0) (sym (c .before .before .before .whole-category .ensures) ∙ ap placeOutcome (c .before .p .given .1))
 
 -- Past resolve-pointer.
 abbrev start-2 : tie.After-known-told3 → tie.Start
@@ -90,7 +91,7 @@ reach-6 c = reach-5 (c .before .before .before .before) ∙ past (tables (start-
 
 returns : tie.Need-returns
 unfolding decodeCategoryOf
-returns c = stops (tables (c .before .before .before .before .before .before .before .before .before .before .before)) (whole (c .before .before .before .before .before .before .before .before .before .before .before)) (c .before .m .given .0 .0) (sym (c .before .before .before .whole-category .ensures) ∙ ap placeOutcome (c .before .m .given .1))
+returns c = stops (tables (c .before .before .before .before .before .before .before .before .before .before)) (whole (c .before .before .before .before .before .before .before .before .before .before)) (c .before .m .given .0 .0) (sym (c .before .before .before .whole-category .ensures) ∙ ap placeOutcome (c .before .m .given .1))
 
 returns-2 : tie.Need-returns-2
 unfolding decodeCategoryOf

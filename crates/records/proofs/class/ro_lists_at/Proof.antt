@@ -1,5 +1,6 @@
 use mathlib.Core.Path.{_≡_, sym, ap, _∙_}
 use Rattle.reads.specs.Answer.{wordOutcome}
+use Rattle.reads.specs.Files.{filesLent}
 use Rattle.pointers.specs.Tables.{Tables, tablesOf, under}
 use Rattle.records.specs.Decode.{Decode, run}
 use Rattle.records.proofs.Stages.{rest, past, stops}
@@ -13,22 +14,22 @@ use Rattle.records.proofs.class.ro_lists_at.Tie as tie
 
 -- All that the function is lent, and its definition.
 abbrev tables : tie.Start → Tables
-tables s = under (s .args .setting) (tablesOf (s .args .image .now) (s .args .segments .now) (s .args .sections .now) (s .args .info .now) (s .args .rebases .now) (s .args .binds .now) (s .args .index .now))
+tables s = under (s .args .setting) (tablesOf (filesLent (s .args .files .now)) (s .args .segments .now) (s .args .sections .now) (s .args .info .now) (s .args .rebases .now) (s .args .binds .now) (s .args .index .now))
 
 abbrev whole : tie.Start → Decode RoLists
 whole s = decodeRoLists (s .args .va)
 
 -- Past field-or-0.
 abbrev start-1 : tie.After-known-told → tie.Start
-start-1 c = c .before .before .before .before .before .before .before .before .before .before .before
+start-1 c = c .before .before .before .before .before .before .before .before .before .before
 
 abbrev rest-1 : tie.After-known-told → Decode RoLists
 unfolding decodeRoLists
-rest-1 c = rest (whole (c .before .before .before .before .before .before .before .before .before .before .before)) (c .before .methods .given .0 .0)
+rest-1 c = rest (whole (c .before .before .before .before .before .before .before .before .before .before)) (c .before .methods .given .0 .0)
 
 reach-1 : (c : tie.After-known-told) → run (tables (start-1 c)) (whole (start-1 c)) ≡ run (tables (start-1 c)) (rest-1 c)
 unfolding decodeRoLists
-reach-1 c = past (tables (start-1 c)) (whole (c .before .before .before .before .before .before .before .before .before .before .before)) (c .before .methods .given .0 .0) (sym (c .before .before .before .field-or-0 .ensures) ∙ ap wordOutcome (c .before .methods .given .1))
+reach-1 c = past (tables (start-1 c)) (whole (c .before .before .before .before .before .before .before .before .before .before)) (c .before .methods .given .0 .0) (sym (c .before .before .before .field-or-0 .ensures) ∙ ap wordOutcome (c .before .methods .given .1))
 
 -- Past field-or-02.
 abbrev start-2 : tie.After-known-told3 → tie.Start
@@ -80,7 +81,7 @@ reach-5 c = reach-4 (c .before .before .before .before) ∙ past (tables (start-
 
 returns : tie.Need-returns
 unfolding decodeRoLists
-returns c = stops (tables (c .before .before .before .before .before .before .before .before .before .before .before)) (whole (c .before .before .before .before .before .before .before .before .before .before .before)) (c .before .m .given .0 .0) (sym (c .before .before .before .field-or-0 .ensures) ∙ ap wordOutcome (c .before .m .given .1))
+returns c = stops (tables (c .before .before .before .before .before .before .before .before .before .before)) (whole (c .before .before .before .before .before .before .before .before .before .before)) (c .before .m .given .0 .0) (sym (c .before .before .before .field-or-0 .ensures) ∙ ap wordOutcome (c .before .m .given .1))
 
 returns-2 : tie.Need-returns-2
 unfolding decodeRoLists
@@ -106,23 +107,23 @@ pub ro-lists-at-spec : {M : Type 1} → statement M
 ro-lists-at-spec =
     tie.close
     (tie.spec
-    (λ c κs. near-less (c .before .before .before .before .before .before .before .pre) (omega arith))
+    (λ c κs. near-less (c .before .before .before .before .before .before .pre) (omega arith))
     (λ c. search needs)
     (λ c. search needs)
     returns
-    (λ c κs. near-less (c .before .before .before .before .before .before .before .before .before .before .before .pre) (omega arith))
+    (λ c κs. near-less (c .before .before .before .before .before .before .before .before .before .before .pre) (omega arith))
     (λ c. search needs)
     (λ c. search needs)
     returns-2
-    (λ c κs. near-less (c .before .before .before .before .before .before .before .before .before .before .before .before .before .before .before .pre) (omega arith))
+    (λ c κs. near-less (c .before .before .before .before .before .before .before .before .before .before .before .before .before .before .pre) (omega arith))
     (λ c. search needs)
     (λ c. search needs)
     returns-3
-    (λ c κs. near-less (c .before .before .before .before .before .before .before .before .before .before .before .before .before .before .before .before .before .before .before .pre) (omega arith))
+    (λ c κs. near-less (c .before .before .before .before .before .before .before .before .before .before .before .before .before .before .before .before .before .before .pre) (omega arith))
     (λ c. search needs)
     (λ c. search needs)
     returns-4
-    (λ c κs. near-less (c .before .before .before .before .before .before .before .before .before .before .before .before .before .before .before .before .before .before .before .before .before .before .before .pre) (omega arith))
+    (λ c κs. near-less (c .before .before .before .before .before .before .before .before .before .before .before .before .before .before .before .before .before .before .before .before .before .before .pre) (omega arith))
     (λ c. search needs)
     (λ c. search needs)
     returns-5

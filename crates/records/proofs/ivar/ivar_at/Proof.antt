@@ -9,6 +9,7 @@ use Rattle.records.specs.Row.{offsetOutcome, decodeIvar}
 use Rattle.records.specs.declared.ivar.Ivar.{Ivar}
 use Prim.Native.Nat.{ℕ, _≤_}
 use native.Mathlib.Omega.{arith}
+use Rattle.reads.specs.Files.{filesLent}
 use Rattle.reads.specs.Place.{imageOf}
 use Rattle.reads.proofs.Spots.{spot-place-readable}
 use Rattle.records.specs.Near.{Near}
@@ -19,24 +20,24 @@ use Rattle.records.proofs.ivar.ivar_at.Tie as tie
 
 -- All that the function is lent, and its definition.
 abbrev tables : tie.Start → Tables
-tables s = under (s .args .setting) (tablesOf (s .args .image .now) (s .args .segments .now) (s .args .sections .now) (s .args .info .now) (s .args .rebases .now) (s .args .binds .now) (s .args .index .now))
+tables s = under (s .args .setting) (tablesOf (filesLent (s .args .files .now)) (s .args .segments .now) (s .args .sections .now) (s .args .info .now) (s .args .rebases .now) (s .args .binds .now) (s .args .index .now))
 
 abbrev whole : tie.Start → Decode Ivar
 whole s = decodeIvar (s .args .va)
 
 -- Past spot-place.
 abbrev start-1 : tie.After-known-told → tie.Start
-start-1 c = c .before .before .before .before .before .before .before .before .before .before .before .before
+start-1 c = c .before .before .before .before .before .before .before .before .before .before .before
 
 abbrev rest-1 : tie.After-known-told → Decode Ivar
 unfolding decodeIvar
-rest-1 c = rest (whole (c .before .before .before .before .before .before .before .before .before .before .before .before)) (c .before .p .given .0 .0)
+rest-1 c = rest (whole (c .before .before .before .before .before .before .before .before .before .before .before)) (c .before .p .given .0 .0)
 
 reach-1 : (c : tie.After-known-told) → run (tables (start-1 c)) (whole (start-1 c)) ≡ run (tables (start-1 c)) (rest-1 c)
 unfolding decodeIvar
-reach-1 c = past (tables (start-1 c)) (whole (c .before .before .before .before .before .before .before .before .before .before .before .before)) (c .before .p .given .0 .0) (sym (spot-place-readable _ _ _ (omega arith) _ (c .before .before .before .before .readable-spot .ensures)) ∙ sym (c .before .before .before .spot-place .ensures) ∙ ap placeOutcome (c .before .p .given .1))
+reach-1 c = past (tables (start-1 c)) (whole (c .before .before .before .before .before .before .before .before .before .before .before)) (c .before .p .given .0 .0) (sym (spot-place-readable _ _ _ (omega arith) _ (c .before .before .before .before .readable-spot .ensures)) ∙ sym (c .before .before .before .spot-place .ensures) ∙ ap placeOutcome (c .before .p .given .1))
 
-near : (c : tie.After-known-told) (reach : ℕ) → reach ≤ 32 → Near (imageOf (start-1 c .args .image .now) (start-1 c .args .segments .now)) (start-1 c .args .va) (c .before .before .before .before .readable-spot .result) reach
+near : (c : tie.After-known-told) (reach : ℕ) → reach ≤ 32 → Near (imageOf (filesLent (start-1 c .args .files .now)) (start-1 c .args .segments .now)) (start-1 c .args .va) (c .before .before .before .before .readable-spot .result) reach
 near c reach h = near-placed _ _ _ reach _ (c .before .before .before .before .readable-spot .ensures) (sym (c .before .before .before .spot-place .ensures) ∙ ap placeOutcome (c .before .p .given .1)) h
 
 -- Past first-slot-or-0.
@@ -113,7 +114,7 @@ reach-7 c = reach-6 (c .before .before .before .before) ∙ past (tables (start-
 
 returns : tie.Need-returns
 unfolding decodeIvar
-returns c = stops (tables (c .before .before .before .before .before .before .before .before .before .before .before .before)) (whole (c .before .before .before .before .before .before .before .before .before .before .before .before)) (c .before .m .given .0 .0) (sym (spot-place-readable _ _ _ (omega arith) _ (c .before .before .before .before .readable-spot .ensures)) ∙ sym (c .before .before .before .spot-place .ensures) ∙ ap placeOutcome (c .before .m .given .1))
+returns c = stops (tables (c .before .before .before .before .before .before .before .before .before .before .before)) (whole (c .before .before .before .before .before .before .before .before .before .before .before)) (c .before .m .given .0 .0) (sym (spot-place-readable _ _ _ (omega arith) _ (c .before .before .before .before .readable-spot .ensures)) ∙ sym (c .before .before .before .spot-place .ensures) ∙ ap placeOutcome (c .before .m .given .1))
 
 returns-2 : tie.Need-returns-2
 unfolding decodeIvar

@@ -1,6 +1,7 @@
 use mathlib.Core.Path.{_≡_, _∙_}
 use Prim.Native.Nat.{_<_}
 use native.Mathlib.Omega.{arith}
+use Rattle.reads.specs.Files.{filesLent}
 use Rattle.reads.specs.Place.{imageOf}
 use Rattle.records.specs.Search.{firstReadable}
 use Rattle.records.specs.Tries.{ahead}
@@ -10,10 +11,10 @@ use Rattle.records.proofs.list.search.Statement.{statement}
 use Rattle.records.proofs.list.search.Tie as tie
 
 abbrev Inv-loop : tie.InvT-loop
-Inv-loop image segments h from budget i₀ left₀ i left = (ahead (imageOf image segments) h i < left) × (firstReadable (imageOf image segments) h i ≡ firstReadable (imageOf image segments) h from)
+Inv-loop files segments h from budget i₀ left₀ i left = (ahead (imageOf (filesLent files) segments) h i < left) × (firstReadable (imageOf (filesLent files) segments) h i ≡ firstReadable (imageOf (filesLent files) segments) h from)
 
 abbrev μ-loop : tie.MeasureT-loop
-μ-loop image segments h from budget i₀ left₀ i left = left
+μ-loop files segments h from budget i₀ left₀ i left = left
 
 returns : tie.Need-returns Inv-loop μ-loop
 returns c = laws.stopped _ _ _ (c .before .before .before .try-at .result) (c .before .before .before .try-at .ensures) _ (c .before .entry .given .1) ∙ c .before .before .before .before .loop .inv .1

@@ -10,7 +10,7 @@ returns : tie.Need-returns
 returns c = laws.search-past _ _ _ (search needs)
 
 mul-way : tie.Need-mul-way
-mul-way c = omega (arith, laws.product-fits (c .before .before .before .before .before .args .i) (c .before .before .before .before .before .args .h .size) (omega arith) (omega arith))
+mul-way c = omega (arith, laws.product-fits (c .before .before .before .before .args .i) (c .before .before .before .before .args .h .size) (omega arith) (omega arith))
 
 returns-2 : tie.Need-returns-2
 returns-2 c = laws.search-over _ _ _ (omega arith) (omega arith)
@@ -31,10 +31,10 @@ sub-gap-2 : tie.Need-sub-gap-2
 sub-gap-2 c = omega (arith, next-break-above _ _ _ (sym (c .before .before .before .before .next-break .ensures) ∙ c .before .before .b .given .1))
 
 returns-6 : tie.Need-returns-6
-returns-6 c = laws.jump-out _ _ _ (omega arith) (cc) (omega arith) (search needs) (c .before .before .before .b .given .0 .0) (cc) (search needs)
+returns-6 c = laws.jump-out _ _ _ (omega arith) (cc) (search needs) (c .before .before .before .b .given .0 .0) (cc) (search needs)
 
 returns-7 : tie.Need-returns-7
-returns-7 c = (laws.jump-same _ _ _ (omega arith) (cc) (omega arith) (search needs) (c .before .before .before .b .given .0 .0) (cc) (search needs), laws.jump-fewer _ _ _ (omega arith) (cc) (omega arith) (search needs) (c .before .before .before .b .given .0 .0) (cc))
+returns-7 c = (laws.jump-same _ _ _ (omega arith) (cc) (search needs) (c .before .before .before .b .given .0 .0) (cc) (search needs), laws.jump-fewer _ _ _ (omega arith) (cc) (search needs) (c .before .before .before .b .given .0 .0) (cc))
 
 pub try-at-spec : {M : Type 1} → statement M
 try-at-spec =

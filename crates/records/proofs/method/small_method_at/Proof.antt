@@ -1,5 +1,6 @@
 use mathlib.Core.Path.{_≡_, sym, ap, _∙_}
 use Rattle.reads.specs.Answer.{placeOutcome, textOutcome, wordOutcome}
+use Rattle.reads.specs.Files.{filesLent}
 use Rattle.pointers.specs.Tables.{Tables, tablesOf, under}
 use Rattle.pointers.specs.Bytes.{i32In, u32In}
 use Rattle.records.specs.Decode.{Decode, run}
@@ -13,22 +14,22 @@ use Rattle.records.proofs.method.small_method_at.Tie as tie
 
 -- All that the function is lent, and its definition.
 abbrev tables : tie.Start → Tables
-tables s = under (s .args .setting) (tablesOf (s .args .image .now) (s .args .segments .now) (s .args .sections .now) (s .args .info .now) (s .args .rebases .now) (s .args .binds .now) (s .args .index .now))
+tables s = under (s .args .setting) (tablesOf (filesLent (s .args .files .now)) (s .args .segments .now) (s .args .sections .now) (s .args .info .now) (s .args .rebases .now) (s .args .binds .now) (s .args .index .now))
 
 abbrev whole : tie.Start → Decode Method
 whole s = decodeSmallMethod (s .args .va) (s .args .direct)
 
 -- Past readable.
 abbrev start-1 : tie.After-known-told → tie.Start
-start-1 c = c .before .before .before .before .before .before .before .before .before .before .before
+start-1 c = c .before .before .before .before .before .before .before .before .before .before
 
 abbrev rest-1 : tie.After-known-told → Decode Method
 unfolding decodeSmallMethod
-rest-1 c = rest (rest (rest (rest (whole (c .before .before .before .before .before .before .before .before .before .before .before)) (c .before .p .given .0 .0)) (i32In (tables (start-1 c)) (c .before .p .given .0 .0) small·name)) (i32In (tables (start-1 c)) (c .before .p .given .0 .0) small·types)) (u32In (tables (start-1 c)) (c .before .p .given .0 .0) small·imp)
+rest-1 c = rest (rest (rest (rest (whole (c .before .before .before .before .before .before .before .before .before .before)) (c .before .p .given .0 .0)) (i32In (tables (start-1 c)) (c .before .p .given .0 .0) small·name)) (i32In (tables (start-1 c)) (c .before .p .given .0 .0) small·types)) (u32In (tables (start-1 c)) (c .before .p .given .0 .0) small·imp)
 
 reach-1 : (c : tie.After-known-told) → run (tables (start-1 c)) (whole (start-1 c)) ≡ run (tables (start-1 c)) (rest-1 c)
 unfolding decodeSmallMethod
-reach-1 c = past (tables (start-1 c)) (whole (c .before .before .before .before .before .before .before .before .before .before .before)) (c .before .p .given .0 .0) (sym (c .before .before .before .readable .ensures) ∙ ap placeOutcome (c .before .p .given .1))
+reach-1 c = past (tables (start-1 c)) (whole (c .before .before .before .before .before .before .before .before .before .before)) (c .before .p .given .0 .0) (sym (c .before .before .before .readable .ensures) ∙ ap placeOutcome (c .before .p .given .1))
 
 -- Past checked-add.
 abbrev start-2 : tie.After-known-told3 → tie.Start
@@ -92,7 +93,7 @@ reach-6 c = reach-5 (c .before .before .before .before) ∙ past (tables (start-
 
 returns : tie.Need-returns
 unfolding decodeSmallMethod
-returns c = stops (tables (c .before .before .before .before .before .before .before .before .before .before .before)) (whole (c .before .before .before .before .before .before .before .before .before .before .before)) (c .before .m .given .0 .0) (sym (c .before .before .before .readable .ensures) ∙ ap placeOutcome (c .before .m .given .1))
+returns c = stops (tables (c .before .before .before .before .before .before .before .before .before .before)) (whole (c .before .before .before .before .before .before .before .before .before .before)) (c .before .m .given .0 .0) (sym (c .before .before .before .readable .ensures) ∙ ap placeOutcome (c .before .m .given .1))
 
 returns-2 : tie.Need-returns-2
 unfolding decodeSmallMethod

@@ -1,5 +1,6 @@
 use mathlib.Core.Path.{_≡_, sym, ap, _∙_}
 use Rattle.reads.specs.Answer.{placeOutcome, wordOutcome}
+use Rattle.reads.specs.Files.{filesLent}
 use Rattle.pointers.specs.Bytes.{u64In}
 use Rattle.pointers.specs.Tables.{Tables, tablesOf, under}
 use Rattle.records.specs.Decode.{Decode, run}
@@ -13,22 +14,22 @@ use Rattle.walks.proofs.protocol_names.protocol_list_at.Tie as tie
 
 -- All that the function is lent, and its definition.
 abbrev tables : tie.Start → Tables
-tables s = under (s .args .setting) (tablesOf (s .args .image .now) (s .args .segments .now) (s .args .sections .now) (s .args .info .now) (s .args .rebases .now) (s .args .binds .now) (s .args .index .now))
+tables s = under (s .args .setting) (tablesOf (filesLent (s .args .files .now)) (s .args .segments .now) (s .args .sections .now) (s .args .info .now) (s .args .rebases .now) (s .args .binds .now) (s .args .index .now))
 
 abbrev whole : tie.Start → Decode ProtocolList
 whole s = decodeProtocolList (s .args .va)
 
 -- Past nonzero.
 abbrev start-1 : tie.After-enum-told → tie.Start
-start-1 c = c .before .before .before .before .before .before .before .before .before .before
+start-1 c = c .before .before .before .before .before .before .before .before .before
 
 abbrev rest-1 : tie.After-enum-told → Decode ProtocolList
 unfolding decodeProtocolList
-rest-1 c = rest (whole (c .before .before .before .before .before .before .before .before .before .before)) (c .enum-told .given .0 .0)
+rest-1 c = rest (whole (c .before .before .before .before .before .before .before .before .before)) (c .enum-told .given .0 .0)
 
 reach-1 : (c : tie.After-enum-told) → run (tables (start-1 c)) (whole (start-1 c)) ≡ run (tables (start-1 c)) (rest-1 c)
 unfolding decodeProtocolList
-reach-1 c = past (tables (start-1 c)) (whole (c .before .before .before .before .before .before .before .before .before .before)) (c .enum-told .given .0 .0) (sym (c .before .before .nonzero .ensures) ∙ ap wordOutcome (c .enum-told .given .1))
+reach-1 c = past (tables (start-1 c)) (whole (c .before .before .before .before .before .before .before .before .before)) (c .enum-told .given .0 .0) (sym (c .before .before .nonzero .ensures) ∙ ap wordOutcome (c .enum-told .given .1))
 
 -- Past even-list.
 abbrev start-2 : tie.After-enum-told2 → tie.Start
@@ -68,7 +69,7 @@ reach-4 c = reach-3 (c .before .before .before .before) ∙ past (tables (start-
 
 returns : tie.Need-returns
 unfolding decodeProtocolList
-returns c = stops (tables (c .before .before .before .before .before .before .before .before .before .before .before)) (whole (c .before .before .before .before .before .before .before .before .before .before .before)) (c .before .m .given .0 .0) (sym (c .before .before .before .nonzero .ensures) ∙ ap wordOutcome (c .before .m .given .1))
+returns c = stops (tables (c .before .before .before .before .before .before .before .before .before .before)) (whole (c .before .before .before .before .before .before .before .before .before .before)) (c .before .m .given .0 .0) (sym (c .before .before .before .nonzero .ensures) ∙ ap wordOutcome (c .before .m .given .1))
 
 returns-2 : tie.Need-returns-2
 unfolding decodeProtocolList

@@ -1,5 +1,6 @@
 use mathlib.Core.Path.{_≡_, sym, _∙_}
 use lib.ListN.{length}
+use Rattle.reads.specs.Files.{filesLent}
 use Rattle.pointers.specs.Tables.{tablesOf}
 use Rattle.printing.specs.Pieces.{standingOf}
 use Rattle.printing.proofs.Comes.{leftIn}
@@ -11,24 +12,24 @@ use Rattle.printing.proofs.pieces.Progress.fill.Statement.{statement}
 use Rattle.printing.proofs.pieces.Progress.fill.Tie as tie
 
 abbrev Inv-loop : tie.InvT-loop
-Inv-loop image segments sections info rebases binds index ledger₀ out₀ progress₀ at₀ ledger out progress at =
+Inv-loop files segments sections info rebases binds index ledger₀ out₀ progress₀ at₀ ledger out progress at =
     (length ledger ≡ length ledger₀)
-    × Filling (tablesOf image segments sections info rebases binds index) (standingOf progress₀ ledger₀) out₀ (standingOf progress ledger) out at
+    × Filling (tablesOf (filesLent files) segments sections info rebases binds index) (standingOf progress₀ ledger₀) out₀ (standingOf progress ledger) out at
 
 abbrev μ-loop : tie.MeasureT-loop
-μ-loop image segments sections info rebases binds index ledger₀ out₀ progress₀ at₀ ledger out progress at =
+μ-loop files segments sections info rebases binds index ledger₀ out₀ progress₀ at₀ ledger out progress at =
     leftIn (standingOf progress ledger)
 
 loop-holds : tie.Need-loop-holds Inv-loop μ-loop
 loop-holds c =
-    let entry = c .before .before .before .before .before .before .before .before .before in
+    let entry = c .before .before .before .before .before .before .before .before in
     (search needs, filling-start _ _ _ (progress-sound (entry .args .self) (entry .args .ledger .now) _ (entry .good .0)))
 
 returns : tie.Need-returns Inv-loop μ-loop
 returns c =
     let at-hand-out = c .before .before .before .before in
     let at-loop = at-hand-out .before .before in
-    let entry = at-loop .before .before .before .before .before .before .before .before .before .before in
+    let entry = at-loop .before .before .before .before .before .before .before .before .before in
     let e = piece-full _ _ _ (at-loop .loop .progress) _ _ _ (at-loop .loop .inv .1) (at-hand-out .hand-out .result)
     (at-hand-out .hand-out .ensures .0) _ (at-hand-out .hand-out .ensures .1) (search needs) in
     (e, piece-rest _ _ _ _ (at-hand-out .hand-out .result) _ _ (progress-sound (entry .args .self) _ _ (entry .good .0)) e)
@@ -38,7 +39,7 @@ returns-2 c =
     let at-goes-on = c .before in
     let at-hand-out = at-goes-on .before .before .before .before .before in
     let at-loop = at-hand-out .before .before in
-    let entry = at-loop .before .before .before .before .before .before .before .before .before .before in
+    let entry = at-loop .before .before .before .before .before .before .before .before .before in
     let e = piece-over _ _ _ (at-loop .loop .progress) _ _ _ (at-loop .loop .inv .1) (at-hand-out .hand-out .result)
     (at-hand-out .hand-out .ensures .0) _ (at-hand-out .hand-out .ensures .1) (search needs) (sym (at-goes-on .goes-on .ensures) ∙ not-true _ (c .if2 .taken)) in
     (e, piece-rest _ _ _ _ (at-hand-out .hand-out .result) _ _ (progress-sound (entry .args .self) _ _ (entry .good .0)) e)

@@ -9,7 +9,7 @@ use Rattle.printing.proofs.pieces.Progress.step.Tie as tie
 returns : tie.Need-returns
 returns c =
     let at-next = c .before .before .before in
-    let entry = at-next .before .before .before .before .before .before .before .before .before .before .before in
+    let entry = at-next .before .before .before .before .before .before .before .before .before .before in
     stepped-by _ (entry .args .self .listing) _ _ (at-next .next .result) (entry .args .self .said) (entry .args .self .out) (at-next .next .ensures)
 
 pub step-spec : {M : Type 1} → statement M

@@ -9,10 +9,10 @@ use Rattle.walks.proofs.section_slots.CategorySlots.next.Statement.{sta
 use Rattle.walks.proofs.section_slots.CategorySlots.next.Tie as tie
 
 take-new-requires : tie.Need-take-new-requires
-take-new-requires c κs = new-room _ Categories _ _ (c .before .before .before .before .next-new .ensures) (c .before .before .va .given .1) refl (λ j. omega (arith, c .before .before .before .before .before .before .before .before .before .before .before .before .shared-slice-known3 .given j))
+take-new-requires c κs = new-room _ Categories _ _ (c .before .before .before .before .next-new .ensures) (c .before .before .va .given .1) refl (λ j. omega (arith, c .before .before .before .before .before .before .before .before .before .before .before .before .shared-slice-known2 .given j))
 
 past-requires : tie.Need-past-requires
-past-requires c κs = new-room _ Categories _ _ (c .before .before .next-new .ensures) (c .enum-told .given .1) refl (λ j. omega (arith, c .before .before .before .before .before .before .before .before .before .before .shared-slice-known3 .given j)) .further
+past-requires c κs = new-room _ Categories _ _ (c .before .before .next-new .ensures) (c .enum-told .given .1) refl (λ j. omega (arith, c .before .before .before .before .before .before .before .before .before .before .shared-slice-known2 .given j)) .further
 
 returns : tie.Need-returns
 returns c = step-slot categories _ _ _ refl (rw (← c .before .before .before .before .before .before .before .next-new .ensures, c .before .before .before .before .before .va .given .1) (c .before .before .take-new .ensures))

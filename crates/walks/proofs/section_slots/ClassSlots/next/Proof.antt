@@ -12,10 +12,10 @@ returns : tie.Need-returns
 returns c = step-waiting classes _ _ _ (c .before .if1 .taken) (c .next-meta .ensures _ refl)
 
 take-new-requires : tie.Need-take-new-requires
-take-new-requires c κs = new-room _ Classes _ _ (c .before .before .before .before .next-new .ensures) (c .before .before .va .given .1) refl (λ j. omega (arith, c .before .before .before .before .before .before .before .before .before .before .before .before .before .before .shared-slice-known3 .given j))
+take-new-requires c κs = new-room _ Classes _ _ (c .before .before .before .before .next-new .ensures) (c .before .before .va .given .1) refl (λ j. omega (arith, c .before .before .before .before .before .before .before .before .before .before .before .before .before .before .shared-slice-known2 .given j))
 
 past-requires : tie.Need-past-requires
-past-requires c κs = new-room _ Classes _ _ (c .before .before .next-new .ensures) (c .enum-told .given .1) refl (λ j. omega (arith, c .before .before .before .before .before .before .before .before .before .before .before .before .shared-slice-known3 .given j)) .further
+past-requires c κs = new-room _ Classes _ _ (c .before .before .next-new .ensures) (c .enum-told .given .1) refl (λ j. omega (arith, c .before .before .before .before .before .before .before .before .before .before .before .before .shared-slice-known2 .given j)) .further
 
 returns-2 : tie.Need-returns-2
 returns-2 c = step-slot classes _ _ _ (c .before .before .before .before .before .before .before .before .before .before .if1 .left) (rw (← c .before .before .before .before .before .before .before .next-new .ensures, c .before .before .before .before .before .va .given .1) (c .before .before .take-new .ensures))

@@ -8,10 +8,10 @@ use Rattle.walks.proofs.section_slots.ProtocolSlots.next.Statement.{sta
 use Rattle.walks.proofs.section_slots.ProtocolSlots.next.Tie as tie
 
 take-requires : tie.Need-take-requires
-take-requires c κs = next-room _ Protocols _ (c .before .before .before .next-slot .ensures) (c .before .va .given .1) refl (λ j. omega (arith, c .before .before .before .before .before .before .before .before .shared-slice-known3 .given j))
+take-requires c κs = next-room _ Protocols _ (c .before .before .before .next-slot .ensures) (c .before .va .given .1) refl (λ j. omega (arith, c .before .before .before .before .before .before .before .before .shared-slice-known2 .given j))
 
 past-requires : tie.Need-past-requires
-past-requires c κs = next-room _ Protocols _ (c .before .before .next-slot .ensures) (c .enum-told .given .1) refl (λ j. omega (arith, c .before .before .before .before .before .before .before .shared-slice-known3 .given j))
+past-requires c κs = next-room _ Protocols _ (c .before .before .next-slot .ensures) (c .enum-told .given .1) refl (λ j. omega (arith, c .before .before .before .before .before .before .before .shared-slice-known2 .given j))
 
 returns : tie.Need-returns
 returns c = protocol-step _ _ _ (rw (← c .before .before .before .before .next-slot .ensures, c .before .before .va .given .1) (c .take .ensures))

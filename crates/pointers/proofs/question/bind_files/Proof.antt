@@ -1,0 +1,59 @@
+use Prim.Native.Nat.{_≤_, _-_}
+use mathlib.Core.Path.{_≡_, refl, sym, _∙_}
+use mathlib.Core.Bool.{true}
+use native.Mathlib.Omega.{arith}
+use borrow.Author.Needs.{needs}
+use borrow.Author.Tests.{not-true, not-false}
+use Rattle.reads.specs.Files.{filesLent}
+use Rattle.reads.specs.Table.{records}
+use Rattle.pointers.specs.Tables.{bindWords}
+use Rattle.pointers.specs.Question.{every, bindLent, bindFiles}
+use Rattle.pointers.proofs.Questions.{every-more, every-fails, lent-by}
+use Rattle.pointers.proofs.question.bind_files.Statement.{statement}
+use Rattle.pointers.proofs.question.bind_files.Tie as tie
+
+-- The files of the first i names are lent.
+abbrev Inv-loop : tie.InvT-loop
+Inv-loop files binds i₀ i = (i ≤ records bindWords binds) × (every (bindLent (filesLent files) binds) i ≡ true)
+
+abbrev μ-loop : tie.MeasureT-loop
+μ-loop files binds i₀ i = records bindWords binds - i
+
+loop-holds : tie.Need-loop-holds Inv-loop μ-loop
+unfolding every
+loop-holds c = (omega arith, refl)
+
+returns : tie.Need-returns Inv-loop μ-loop
+unfolding bindFiles
+returns c =
+    let a = c .before .before .before .before .before .before .args in
+    let lent = lent-by (filesLent (a .files .now)) (a .binds .now) _ _ (c .before .before .at .ensures) (c .before .is-lent .ensures) in
+    every-fails _ _ _ (c .before .before .before .loop-test .taken)
+    (sym lent ∙ not-true _ (c .if1 .taken))
+
+loop-again : tie.Need-loop-again Inv-loop μ-loop
+loop-again c =
+    let a = c .before .before .before .before .before .before .args in
+    let lent = lent-by (filesLent (a .files .now)) (a .binds .now) _ _ (c .before .before .at .ensures) (c .before .is-lent .ensures) in
+    (omega arith, every-more _ _ (c .before .before .before .before .loop .inv .1) (sym lent ∙ not-false _ (c .if1 .left)))
+
+returns-2 : tie.Need-returns-2 Inv-loop μ-loop
+unfolding bindFiles
+returns-2 c =
+    let past : c .before .loop .i ≡ records bindWords (c .before .before .before .args .binds .now) = omega arith in
+    sym (rw past at (c .before .loop .inv .1))
+
+pub bind-files-spec : {M : Type 1} → statement M
+bind-files-spec =
+    tie.close
+    (tie.spec
+    Inv-loop
+    μ-loop
+    loop-holds
+    (λ c κs. search needs)
+    (λ c κs. search needs)
+    returns
+    (λ c. search needs)
+    (λ c. search needs)
+    loop-again
+    returns-2)
