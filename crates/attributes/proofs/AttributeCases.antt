@@ -17,9 +17,9 @@ abbrev found : ℕ → ℕ → ℕ → Outcome Attributes
 found count start len = value (record { count = count; «type_encoding» = valueOf start len })
 
 -- T with the value @"NSString", C, N, V with the value _name.
-name : told (ascii "T@\"NSString\",C,N,V_name") ≡ 0x54 ∷ 1 ∷ 11 ∷ 0x43 ∷ 14 ∷ 0 ∷ 0x4E ∷ 16 ∷ 0 ∷ 0x56 ∷ 18 ∷ 5 ∷ []
+name-items : told (ascii "T@\"NSString\",C,N,V_name") ≡ 0x54 ∷ 1 ∷ 11 ∷ 0x43 ∷ 14 ∷ 0 ∷ 0x4E ∷ 16 ∷ 0 ∷ 0x56 ∷ 18 ∷ 5 ∷ []
 unfolding words items itemsFrom itemOf valueLength first splits quotes choose
-name = refl
+name-items = refl
 
 name-found : attributesOf (ascii "T@\"NSString\",C,N,V_name") 12 ≡ found 4 1 11
 unfolding attributesOf handedOut attributes typeAmong isType items itemsFrom itemOf valueLength first splits quotes itemsFit question judge choose
@@ -63,9 +63,9 @@ last-comma : told (ascii "N,") ≡ 0x4E ∷ 1 ∷ 0 ∷ []
 unfolding words items itemsFrom itemOf valueLength first splits quotes choose
 last-comma = refl
 
-empty : attributesOf [] 0 ≡ found 0 0 0
+empty-items : attributesOf [] 0 ≡ found 0 0 0
 unfolding attributesOf handedOut attributes typeAmong items itemsFrom itemsFit question judge choose
-empty = refl
+empty-items = refl
 
 -- The type is the first T value that is not empty, and (0, 0) without one.
 first-type : attributesOf (ascii "T,Ti,Tj") 9 ≡ found 3 3 1
@@ -77,9 +77,9 @@ unfolding attributesOf handedOut attributes typeAmong isType items itemsFrom ite
 no-type = refl
 
 -- Bytes that are not UTF-8 are absent, with the first bad offset, though the item would not fit either.
-not-utf8 : attributesOf (0x54 ∷ 0xFF ∷ []) 0 ≡ absent (NotUtf8 1)
+items-not-utf8 : attributesOf (0x54 ∷ 0xFF ∷ []) 0 ≡ absent (NotUtf8 1)
 unfolding attributesOf handedOut judge choose
-not-utf8 = refl
+items-not-utf8 = refl
 
 -- The word behind the items stays; of a buffer that is too short every word does.
 seventh-word : itemsLeft (ascii "T,,R") (9 ∷ 9 ∷ 9 ∷ 9 ∷ 9 ∷ 9 ∷ 9 ∷ []) ≡ 0x54 ∷ 1 ∷ 0 ∷ 0x2C ∷ 3 ∷ 1 ∷ 9 ∷ []

@@ -43,9 +43,9 @@ property type readonly copy retain nonatomic dynamic weak collectable getter set
     }
 
 -- Its type is @"NSString", it is copy and nonatomic, its variable is _name. No unknown letter wants a word.
-name : declaredOf (ascii "T@\"NSString\",C,N,V_name") 0 ≡ value (property (at 1 11) o (at 14 0) o (at 16 0) o o o o o o (at 18 5) 0)
+name-declared : declaredOf (ascii "T@\"NSString\",C,N,V_name") 0 ≡ value (property (at 1 11) o (at 14 0) o (at 16 0) o o o o o o (at 18 5) 0)
 unfolding declaredOf handedOut declared firstValue unknowns among items itemsFrom itemOf valueLength first splits quotes itemsFit question judge choose
-name = refl
+name-declared = refl
 
 -- Every letter, out of order.
 every-letter : declaredOf (ascii "V_v,tc,SsetA:,GisA,P,W,D,N,&,C,R,Tc") 0
@@ -97,9 +97,9 @@ unknown-untouched : unknownLeft (ascii "x,R") (9 ∷ 9 ∷ []) ≡ 9 ∷ 9 ∷ [
 unfolding unknownLeft filled words declaredOf handedOut declared firstValue unknowns among items itemsFrom itemOf valueLength first splits quotes itemsFit question judge choose
 unknown-untouched = refl
 
-not-utf8 : declaredOf (0x78 ∷ 0xFF ∷ []) 0 ≡ absent (NotUtf8 1)
+declared-not-utf8 : declaredOf (0x78 ∷ 0xFF ∷ []) 0 ≡ absent (NotUtf8 1)
 unfolding declaredOf handedOut judge choose
-not-utf8 = refl
+declared-not-utf8 = refl
 
 -- Nothing is written as the empty text, into a buffer of no bytes.
 nothing-written : writtenOf [] (property o o o o o o o o o o o o 0) [] 0 ≡ value 0

@@ -139,8 +139,8 @@ module _ {text : List ℕ} {start i : ℕ} {quoted : Bool} (at : Reached text st
         let e : start + (i - start) ≡ i = omega (arith, at .from) in
         getD-drop start text (i - start) 0 ∙ ap (λ (k : ℕ). getD text k 0) e
 
-    goes-on : {next : Bool} → Passed (drop start text) (i - start + 1) next → Reached text start (i + 1) next
-    goes-on p =
+    reach-on : {next : Bool} → Passed (drop start text) (i - start + 1) next → Reached text start (i + 1) next
+    reach-on p =
         let e : i + 1 - start ≡ i - start + 1 = omega (arith, at .from) in
         record { from = omega (arith, at .from); to = omega arith; passed = rw e p }
 
@@ -148,10 +148,10 @@ module _ {text : List ℕ} {start i : ℕ} {quoted : Bool} (at : Reached text st
     reached-comma e q = ends-at (passed-comma (at .passed) inside (here ∙ e) q)
 
     pub reached-quote : getD text i 0 ≡ 0x22 → Reached text start (i + 1) (not quoted)
-    reached-quote e = goes-on (passed-quote (at .passed) inside (here ∙ e))
+    reached-quote e = reach-on (passed-quote (at .passed) inside (here ∙ e))
 
     pub reached-quoted : getD text i 0 ≡ 0x2C → not quoted ≡ false → Reached text start (i + 1) quoted
-    reached-quoted e q = goes-on (passed-quoted (at .passed) inside (here ∙ e) q)
+    reached-quoted e q = reach-on (passed-quoted (at .passed) inside (here ∙ e) q)
 
     pub reached-other : (getD text i 0 ≡ 0x22 → ⊥) → (getD text i 0 ≡ 0x2C → ⊥) → Reached text start (i + 1) quoted
-    reached-other e f = goes-on (passed-other (at .passed) inside (λ z. e (sym here ∙ z)) (λ z. f (sym here ∙ z)))
+    reached-other e f = reach-on (passed-other (at .passed) inside (λ z. e (sym here ∙ z)) (λ z. f (sym here ∙ z)))

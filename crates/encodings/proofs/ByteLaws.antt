@@ -68,8 +68,8 @@ Begins b Structure = b ≡ code "{"
 Begins b Union = b ≡ code "("
 Begins b Other = Unit {0}
 
-pub begins : (b : ℕ) {c : Class} → classOf b ≡ c → Begins b c
-begins b e = subst (Begins b) e of-class
+pub byte-begins : (b : ℕ) {c : Class} → classOf b ≡ c → Begins b c
+byte-begins b e = subst (Begins b) e of-class
   where
     of-class : Begins b (classOf b)
     of-class =
@@ -117,21 +117,21 @@ unfoldable pub startByte : ℕ → Bool
 startByte b = not (digitByte b) && (quotedByte b && not (among (ascii "]})") b))
 
 module _ (b : ℕ) (h : startByte b ≡ true) where
-  parts : (not (digitByte b) ≡ true) × ((quotedByte b && not (among (ascii "]})") b)) ≡ true)
-  parts = unfold startByte in both-true _ _ h
+  start-parts : (not (digitByte b) ≡ true) × ((quotedByte b && not (among (ascii "]})") b)) ≡ true)
+  start-parts = unfold startByte in both-true _ _ h
 
   pub start-digit : digitByte b ≡ false
-  start-digit = not-true _ (parts .0)
+  start-digit = not-true _ (start-parts .0)
 
   pub start-quoted : quotedByte b ≡ true
-  start-quoted = both-true _ _ (parts .1) .0
+  start-quoted = both-true _ _ (start-parts .1) .0
 
   pub start-closer : (k : Composite) → eqb b (closer k) ≡ false
   start-closer k =
       ne-eqb b (closer k) (λ e. true≢false (sym (ap (λ (x : ℕ). among (ascii "]})") x) e ∙ closing k) ∙ no-closing))
     where
       no-closing : among (ascii "]})") b ≡ false
-      no-closing = not-true (among (ascii "]})") b) (both-true (quotedByte b) (not (among (ascii "]})") b)) (parts .1) .1)
+      no-closing = not-true (among (ascii "]})") b) (both-true (quotedByte b) (not (among (ascii "]})") b)) (start-parts .1) .1)
 
       closing : (k : Composite) → among (ascii "]})") (closer k) ≡ true
       closing structure = unfold among in refl

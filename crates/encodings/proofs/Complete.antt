@@ -83,17 +83,17 @@ record First (e : Encoding) (s : List ℕ) : Type 0 where
   is : spell e s ≡ byte ∷ rest
   starts : startByte byte ≡ true
 
-first : (e : Encoding) → Allowed e → (s : List ℕ) → First e s
+type-first : (e : Encoding) → Allowed e → (s : List ℕ) → First e s
 unfolding startByte digitByte quotedByte among
-first (basic b) a s = record { byte = b; rest = s; is = refl; starts = basic-starts b a }
-first object a s = record { byte = code "@"; rest = s; is = refl; starts = refl }
-first (instance n) a s = record { byte = code "@"; rest = code "\"" ∷ n ++ code "\"" ∷ s; is = refl; starts = refl }
-first (bitField d ds) a s = record { byte = code "b"; rest = d ∷ ds ++ s; is = refl; starts = refl }
-first (qualified q e) a s = record { byte = q; rest = spell e s; is = refl; starts = qualifier-starts q (a .0) }
-first (pointer e) a s = record { byte = code "^"; rest = spell e s; is = refl; starts = refl }
-first (array d ds e) a s = record { byte = code "["; rest = d ∷ ds ++ spell e (code "]" ∷ s); is = refl; starts = refl }
-first (opaque k n) a s = record { byte = opener k; rest = n ++ closer k ∷ s; is = refl; starts = opener-starts k }
-first (defined k n fs) a s =
+type-first (basic b) a s = record { byte = b; rest = s; is = refl; starts = basic-starts b a }
+type-first object a s = record { byte = code "@"; rest = s; is = refl; starts = refl }
+type-first (instance n) a s = record { byte = code "@"; rest = code "\"" ∷ n ++ code "\"" ∷ s; is = refl; starts = refl }
+type-first (bitField d ds) a s = record { byte = code "b"; rest = d ∷ ds ++ s; is = refl; starts = refl }
+type-first (qualified q e) a s = record { byte = q; rest = spell e s; is = refl; starts = qualifier-starts q (a .0) }
+type-first (pointer e) a s = record { byte = code "^"; rest = spell e s; is = refl; starts = refl }
+type-first (array d ds e) a s = record { byte = code "["; rest = d ∷ ds ++ spell e (code "]" ∷ s); is = refl; starts = refl }
+type-first (opaque k n) a s = record { byte = opener k; rest = n ++ closer k ∷ s; is = refl; starts = opener-starts k }
+type-first (defined k n fs) a s =
     record { byte = opener k; rest = n ++ code "=" ∷ spellFields fs (closer k ∷ s); is = refl; starts = opener-starts k }
 
 -- ---- Steps
@@ -119,7 +119,7 @@ module _ (l : ℕ) where
       → ((b : ℕ) → startByte b ≡ true → step l x b (classOf b) ≡ step l y b (classOf b)) → run l (spell e s) x ≡ run l (spell e s) y
   unfolding run
   alike e a s x y f =
-      let b = first e a s in
+      let b = type-first e a s in
       ap (λ (t : List ℕ). run l t x) (b .is) ∙ ap (λ (o : Outcome State). andThen o (λ z. run l (b .rest) z)) (f (b .byte) (b .starts))
       ∙ ap (λ (t : List ℕ). run l t y) (sym (b .is))
 

@@ -18,7 +18,7 @@ use Rattle.encodings.specs.Grammar.{structure, union, closer, Encoding, 
 use Rattle.encodings.specs.Machine.{classOf, Open, qualifying, pointing, inArray, inComposite, wanted, counting, counted, naming, named, quoting, sizing, sized, atSign, ended, offset, State, at, outside, tooDeep, depth, within, begin, after, step, outermost, finish, run, parse}
 use Rattle.encodings.specs.declared.bytes.Class.{Class}
 use Rattle.encodings.specs.declared.bytes.Class.the-variants.{Basic, Qualifier, Object, BitField, Pointer, Array, Structure, Union, Other}
-use Rattle.encodings.proofs.ByteLaws.{begins}
+use Rattle.encodings.proofs.ByteLaws.{byte-begins}
 use Rattle.encodings.proofs.Choices.{by-both}
 use Rattle.encodings.proofs.States.{spellState, Good, Keeps}
 use Rattle.encodings.proofs.Sound.{step-keeps, first-good, sound}
@@ -52,8 +52,8 @@ unfolding digitByte
 c-no-digit = refl
 
 module _ (l : ℕ) where
-  first : (b : ℕ) (x y : State) → step l x b (classOf b) ≡ value y → Ends l y → Ends l x
-  first b x y e w = (b ∷ w .0, w .1, moves l b (w .0) x y e ∙ w .2)
+  ends-before : (b : ℕ) (x y : State) → step l x b (classOf b) ≡ value y → Ends l y → Ends l x
+  ends-before b x y e w = (b ∷ w .0, w .1, moves l b (w .0) x y e ∙ w .2)
 
   ends : (ts : Types) (os : List Open) (e : Encoding) (x : State) → finish x ≡ outermost ts os e
       → ((b : ℕ) → Closing b → step l x b (classOf b) ≡ after l ts os e b (classOf b)) → Ends l x
@@ -62,10 +62,10 @@ module _ (l : ℕ) where
   ends ts (qualifying q ∷ os) e x f g = ends ts os (qualified q e) x f g
   ends ts (pointing ∷ os) e x f g = ends ts os (pointer e) x f g
   ends ts (inArray d ds ∷ os) e x f g =
-      first (code "]") x (at ts (ended (array d ds e)) os) (g (code "]") closing-bracket ∙ choose-true _ _ refl)
+      ends-before (code "]") x (at ts (ended (array d ds e)) os) (g (code "]") closing-bracket ∙ choose-true _ _ refl)
       (ends ts os (array d ds e) (at ts (ended (array d ds e)) os) refl (λ b h. refl))
   ends ts (inComposite k n fs ∷ os) e x f g =
-      first (closer k) x (at ts (ended (defined k n (fs then e))) os)
+      ends-before (closer k) x (at ts (ended (defined k n (fs then e))) os)
       (g (closer k) (closing k) ∙ choose-true _ _ (eq-eqb (closer k) (closer k) refl))
       (ends ts os (defined k n (fs then e)) (at ts (ended (defined k n (fs then e))) os) refl (λ b h. refl))
 
@@ -77,25 +77,25 @@ module _ (l : ℕ) where
 
   counted-ends : (ts : Types) (d : ℕ) (ds : List ℕ) (os : List Open) → Ends l (at ts (counted d ds) os)
   counted-ends ts d ds os =
-      first (code "c") (at ts (counted d ds) os) (at ts (ended (basic (code "c"))) (inArray d ds ∷ os))
+      ends-before (code "c") (at ts (counted d ds) os) (at ts (ended (basic (code "c"))) (inArray d ds ∷ os))
       (choose-false _ _ c-no-digit ∙ ap (λ (c : Class). begin l ts (inArray d ds ∷ os) (code "c") c) class-c)
       (ended-ends ts (basic (code "c")) (inArray d ds ∷ os))
 
   live : (x : State) → Ends l x
   unfolding run
   live (at ts wanted os) =
-      first (code "c") (at ts wanted os) (at ts (ended (basic (code "c"))) os) (ap (λ (c : Class). begin l ts os (code "c") c) class-c)
+      ends-before (code "c") (at ts wanted os) (at ts (ended (basic (code "c"))) os) (ap (λ (c : Class). begin l ts os (code "c") c) class-c)
       (ended-ends ts (basic (code "c")) os)
-  live (at ts counting os) = first (code "0") (at ts counting os) (at ts (counted (code "0") []) os) (choose-true _ _ zero-digit) (counted-ends ts (code "0") [] os)
+  live (at ts counting os) = ends-before (code "0") (at ts counting os) (at ts (counted (code "0") []) os) (choose-true _ _ zero-digit) (counted-ends ts (code "0") [] os)
   live (at ts (counted d ds) os) = counted-ends ts d ds os
   live (at ts (naming k n) os) =
-      first (closer k) (at ts (naming k n) os) (at ts (ended (opaque k n)) os) (close-name l ts k n os) (ended-ends ts (opaque k n) os)
+      ends-before (closer k) (at ts (naming k n) os) (at ts (ended (opaque k n)) os) (close-name l ts k n os) (ended-ends ts (opaque k n) os)
   live (at ts (named k n) os) =
-      first (closer k) (at ts (named k n) os) (at ts (ended (defined k n nothing)) os) (choose-true _ _ (eq-eqb (closer k) (closer k) refl))
+      ends-before (closer k) (at ts (named k n) os) (at ts (ended (defined k n nothing)) os) (choose-true _ _ (eq-eqb (closer k) (closer k) refl))
       (ended-ends ts (defined k n nothing) os)
   live (at ts (quoting n) os) =
-      first (code "\"") (at ts (quoting n) os) (at ts (ended (instance n)) os) (choose-false _ _ no-quoted) (ended-ends ts (instance n) os)
-  live (at ts sizing os) = first (code "0") (at ts sizing os) (at ts (sized (code "0") []) os) (choose-true _ _ zero-digit) (sized-ends ts (code "0") [] os)
+      ends-before (code "\"") (at ts (quoting n) os) (at ts (ended (instance n)) os) (choose-false _ _ no-quoted) (ended-ends ts (instance n) os)
+  live (at ts sizing os) = ends-before (code "0") (at ts sizing os) (at ts (sized (code "0") []) os) (choose-true _ _ zero-digit) (sized-ends ts (code "0") [] os)
   live (at ts (sized d ds) os) = sized-ends ts d ds os
   live (at ts atSign os) = ends ts os object (at ts atSign os) refl (λ b h. choose-true _ _ (h .quoted))
   live (at ts (ended e) os) = ended-ends ts e os
@@ -125,10 +125,10 @@ module _ (l m : ℕ) (more : l < m) where
     begin-grows ts os v Qualifier e = refl
     begin-grows ts os v Object e = refl
     begin-grows ts os v BitField e = refl
-    begin-grows ts os v Pointer e = within-grows os (at ts wanted (pointing ∷ os)) v (opener-byte _ (begins b e) refl)
-    begin-grows ts os v Array e = within-grows os (at ts counting os) v (opener-byte _ (begins b e) refl)
-    begin-grows ts os v Structure e = within-grows os (at ts (naming structure []) os) v (opener-byte _ (begins b e) refl)
-    begin-grows ts os v Union e = within-grows os (at ts (naming union []) os) v (opener-byte _ (begins b e) refl)
+    begin-grows ts os v Pointer e = within-grows os (at ts wanted (pointing ∷ os)) v (opener-byte _ (byte-begins b e) refl)
+    begin-grows ts os v Array e = within-grows os (at ts counting os) v (opener-byte _ (byte-begins b e) refl)
+    begin-grows ts os v Structure e = within-grows os (at ts (naming structure []) os) v (opener-byte _ (byte-begins b e) refl)
+    begin-grows ts os v Union e = within-grows os (at ts (naming union []) os) v (opener-byte _ (byte-begins b e) refl)
     begin-grows ts os v Other e = (refl, refl)
 
     after-grows : (ts : Types) (os : List Open) (e : Encoding) → depth os ≤ l → (c : Class) → classOf b ≡ c
@@ -302,7 +302,7 @@ module _ (l : ℕ) where
             opens = d .opens;
             fits = (a .0, a .1, r .0, r .1);
             begins = (a′ .0, a′ .1, r′ .0);
-            deeper = λ s ts w. beyond ts (λ h. never s ts w h);
+            deeper = λ s ts w. beyond ts (λ h. no-reading s ts w h);
           }
         where
           beyond : (ts : Types) → (nestingTypes ts ≤ l → ⊥) → l < nestingTypes ts
@@ -312,8 +312,8 @@ module _ (l : ℕ) where
               test true e = ltb-true _ _ e
               test false e = absurd (f (ltb-false _ _ e))
 
-          never : (s : List ℕ) (ts : Types) → Reading (d .before ++ d .opening ∷ s) ts → nestingTypes ts ≤ l → ⊥
-          never s ts w h =
+          no-reading : (s : List ℕ) (ts : Types) → Reading (d .before ++ d .opening ∷ s) ts → nestingTypes ts ≤ l → ⊥
+          no-reading s ts w h =
               value-deep ts
               (sym (complete l _ ts w h) ∙ d .goes (d .opening ∷ s) ∙ ap (λ (o : Outcome State). andThen o (λ y. run l s y)) (d .stops))
 

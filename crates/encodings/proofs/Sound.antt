@@ -11,7 +11,7 @@ use Rattle.encodings.specs.Grammar.{closer, Encoding, object, bitField, 
 use Rattle.encodings.specs.Machine.{classOf, Open, qualifying, pointing, inArray, inComposite, wanted, counting, counted, naming, named, quoting, sizing, sized, atSign, ended, offset, State, at, depth, begin, after, step, outermost, finish, run, parse}
 use Rattle.encodings.specs.declared.bytes.Class.{Class}
 use Rattle.encodings.specs.declared.bytes.Class.the-variants.{Basic, Qualifier, Object, BitField, Pointer, Array, Structure, Union, Other}
-use Rattle.encodings.proofs.ByteLaws.{begins, quote}
+use Rattle.encodings.proofs.ByteLaws.{byte-begins, quote}
 use Rattle.encodings.proofs.States.{spellOpen, spellState, GoodOpen, Good, Keeps}
 
 -- One more byte at the end.
@@ -26,18 +26,18 @@ snoc (a ∷ l) b s = ap (λ (x : List ℕ). a ∷ x) (snoc l b s)
 module _ (l : ℕ) (ts : Types) (at′ : AllowedTypes ts) (nt : nestingTypes ts ≤ l) where
   begin-keeps : (os : List Open) → GoodOpen l os → depth os ≤ l → (b : ℕ) (c : Class) → classOf b ≡ c
       → Keeps l (λ s. spellTypes ts (spellOpen os (b ∷ s))) (begin l ts os b c)
-  begin-keeps os g v b Basic e = ((at′, nt, g, (begins b e, refl, omega arith)), λ s. refl)
-  begin-keeps os g v b Qualifier e = ((at′, nt, (begins b e, g), v), λ s. refl)
-  begin-keeps os g v b Object e = ((at′, nt, g, v), λ s. rw (begins b e))
-  begin-keeps os g v b BitField e = ((at′, nt, g, v), λ s. rw (begins b e))
+  begin-keeps os g v b Basic e = ((at′, nt, g, (byte-begins b e, refl, omega arith)), λ s. refl)
+  begin-keeps os g v b Qualifier e = ((at′, nt, (byte-begins b e, g), v), λ s. refl)
+  begin-keeps os g v b Object e = ((at′, nt, g, v), λ s. rw (byte-begins b e))
+  begin-keeps os g v b BitField e = ((at′, nt, g, v), λ s. rw (byte-begins b e))
   begin-keeps os g v b Pointer e =
-      by-choose (Keeps l (λ s. spellTypes ts (spellOpen os (b ∷ s)))) (λ h. ((at′, nt, g, ltb-true _ _ h), λ s. rw (begins b e))) (λ h. tt)
+      by-choose (Keeps l (λ s. spellTypes ts (spellOpen os (b ∷ s)))) (λ h. ((at′, nt, g, ltb-true _ _ h), λ s. rw (byte-begins b e))) (λ h. tt)
   begin-keeps os g v b Array e =
-      by-choose (Keeps l (λ s. spellTypes ts (spellOpen os (b ∷ s)))) (λ h. ((at′, nt, g, ltb-true _ _ h), λ s. rw (begins b e))) (λ h. tt)
+      by-choose (Keeps l (λ s. spellTypes ts (spellOpen os (b ∷ s)))) (λ h. ((at′, nt, g, ltb-true _ _ h), λ s. rw (byte-begins b e))) (λ h. tt)
   begin-keeps os g v b Structure e =
-      by-choose (Keeps l (λ s. spellTypes ts (spellOpen os (b ∷ s)))) (λ h. ((at′, nt, g, (tt, ltb-true _ _ h)), λ s. rw (begins b e))) (λ h. tt)
+      by-choose (Keeps l (λ s. spellTypes ts (spellOpen os (b ∷ s)))) (λ h. ((at′, nt, g, (tt, ltb-true _ _ h)), λ s. rw (byte-begins b e))) (λ h. tt)
   begin-keeps os g v b Union e =
-      by-choose (Keeps l (λ s. spellTypes ts (spellOpen os (b ∷ s)))) (λ h. ((at′, nt, g, (tt, ltb-true _ _ h)), λ s. rw (begins b e))) (λ h. tt)
+      by-choose (Keeps l (λ s. spellTypes ts (spellOpen os (b ∷ s)))) (λ h. ((at′, nt, g, (tt, ltb-true _ _ h)), λ s. rw (byte-begins b e))) (λ h. tt)
   begin-keeps os g v b Other e = tt
 
 module _ (l : ℕ) (ts : Types) (at′ : AllowedTypes ts) (nt : nestingTypes ts ≤ l) where

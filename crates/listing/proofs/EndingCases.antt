@@ -93,21 +93,21 @@ selectorIn whole = ascii "up" ++ 0 ∷ ascii "x"
 selectorIn cut = ascii "up"
 
 -- The segment is longer than either file.
-abbrev pub segments : List ℕ
-segments = 0x1000 ∷ 256 ∷ 0 ∷ 256 ∷ 0 ∷ []
+abbrev pub fileSegments : List ℕ
+fileSegments = 0x1000 ∷ 256 ∷ 0 ∷ 256 ∷ 0 ∷ []
 
 abbrev pub sections : List ℕ
 sections = 1 ∷ 0x1070 ∷ 8 ∷ 0 ∷ 0 ∷ 0 ∷ 0 ∷ 0 ∷ 0 ∷ 0 ∷ 0 ∷ 0 ∷ 0 ∷ 0 ∷ 0 ∷ []
 
 abbrev pub file : List ℕ → File → Tables
-file before f = tablesOf (bytes (selectorIn f) ∷ []) segments sections (replicate 8 0) [] [] (indexed [] [] before)
+file before f = tablesOf (bytes (selectorIn f) ∷ []) fileSegments sections (replicate 8 0) [] [] (indexed [] [] before)
 
 -- C 1000 0 0 1028 - and R 1028 0 8 8 3:Hub
-abbrev the-class : ObjcClass
-the-class = record { address = 0x1000; isa = 0; «superclass_address» = 0; bits = 0x1028; «is_meta» = false }
+abbrev file-class : ObjcClass
+file-class = record { address = 0x1000; isa = 0; «superclass_address» = 0; bits = 0x1028; «is_meta» = false }
 
 abbrev the-record : Record
-the-record = aRecord.Class the-class
+the-record = aRecord.Class file-class
 
 abbrev the-ro : ClassRo
 the-ro =
@@ -133,9 +133,9 @@ abbrev the-row : Row
 the-row = row.Method (methodOf (textOf 0 0x9E 2) (textOf 0 0x9C 1) (imp.At 0x2000) kind.Legacy)
 
 -- The lines: I 0 0 and the reading, C, R, the method's if it is shown, and E 1 1.
-abbrev pub lines : Reading → List Line → List Line
-lines r method =
-    plain.infoLine (infoOf 0 0) (readingUnder r) ∷ plain.classLine the-class named.Nothing ∷ line.Ro the-ro ∷ (method ++ (plain.endLine 1 1 ∷ []))
+abbrev pub fileLines : Reading → List Line → List Line
+fileLines r method =
+    plain.infoLine (infoOf 0 0) (readingUnder r) ∷ plain.classLine file-class named.Nothing ∷ line.Ro the-ro ∷ (method ++ (plain.endLine 1 1 ∷ []))
 
 abbrev pub method-line : Line
 method-line = plain.rowLine 0 the-row
@@ -150,25 +150,25 @@ same-place a b e = cc
 module _ (before : List ℕ) where
   -- What both files hold under any setting: the class, and the method list of one entry, which is readable.
   module _ (u : Setting) where
-    class-addresses : (f : File) → listed (under u (file before f)) Classes ≡ value (0x1000 ∷ [])
+    file-classes : (f : File) → listed (under u (file before f)) Classes ≡ value (0x1000 ∷ [])
     unfolding fileOf listed once without addressesIn gather sectionSlots slotsFrom sectionAt slotAddress decodeAddress resolve readable readableAt lookup rows ends holds placed sum64 stored word stripped le nonzero choose bytes
-    class-addresses whole = simp (no-rebase before)
-    class-addresses cut = simp (no-rebase before)
+    file-classes whole = simp (no-rebase before)
+    file-classes cut = simp (no-rebase before)
 
-    class-there : (f : File) → classAt (under u (file before f)) 0x1000 false ≡ value the-class
+    class-there : (f : File) → classAt (under u (file before f)) 0x1000 false ≡ value file-class
     unfolding fileOf decodeClass decodeData bitsOf picked pickedWide mapped dataArm64e data64 resolve readable readableAt lookup rows ends holds placed sum64 stored word stripped le nonzero choose bytes
     class-there whole = simp (no-rebase before)
     class-there cut = simp (no-rebase before)
 
-    classes-there : (f : File) → plainClasses (under u (file before f)) ≡ value (the-class ∷ [])
+    classes-there : (f : File) → plainClasses (under u (file before f)) ≡ value (file-class ∷ [])
     unfolding plainClasses withMeta metaOf gather nonzero choose
-    classes-there f = rw (class-addresses f, class-there f)
+    classes-there f = rw (file-classes f, class-there f)
 
-    records-there : (f : File) → plainRecords (under u (file before f)) ≡ value (the-record ∷ [])
+    file-records : (f : File) → plainRecords (under u (file before f)) ≡ value (the-record ∷ [])
     unfolding plainRecords plainProtocols plainCategories listed once addressesIn gather sectionSlots slotsFrom sectionAt choose
-    records-there f = rw (classes-there f)
+    file-records f = rw (classes-there f)
 
-    superclass-absent : (f : File) → superclassName (under u (file before f)) the-class ≡ absent NullAddress
+    superclass-absent : (f : File) → superclassName (under u (file before f)) file-class ≡ absent NullAddress
     unfolding decodeClassNameOf decodeNonzeroClassName decodeBoundName symbolOf sum64 nonzero choose
     superclass-absent f = rw (no-bind before (bytes (selectorIn f) ∷ []) 0x1008)
 
@@ -183,12 +183,12 @@ module _ (before : List ℕ) where
     one-readable cut = refl
 
   -- The class_ro, whose name ends, and the method: in the file that is cut off its selector is there under the old reading alone.
-  old-ro : (f : File) → roOf (underOld (file before f)) the-class ≡ value the-ro
+  old-ro : (f : File) → roOf (underOld (file before f)) file-class ≡ value the-ro
   unfolding fileOf decodeRoOf decodeClassRo decodeRoLists picked pickedWide mapped dataArm64e data64 pointerAt pointerOr0At wordIn leIn textIn textFrom text utf8 judge resolve readable readableAt lookup rows ends holds placed sum64 stored word stripped le nonzero choose bytes
   old-ro whole = simp (no-rebase before)
   old-ro cut = simp (no-rebase before)
 
-  new-ro : roOf (underNew (file before cut)) the-class ≡ value the-ro
+  new-ro : roOf (underNew (file before cut)) file-class ≡ value the-ro
   unfolding fileOf decodeRoOf decodeClassRo decodeRoLists picked pickedWide mapped dataArm64e data64 pointerAt pointerOr0At wordIn leIn textIn textFrom text utf8 judge resolve readable readableAt lookup rows ends holds placed sum64 stored word stripped le nonzero choose bytes
   new-ro = simp (no-rebase before)
 
@@ -206,20 +206,20 @@ module _ (before : List ℕ) where
     abbrev tables : Tables
     tables = under (readingUnder r) (file before f)
 
-    module _ (ro : roOf tables the-class ≡ value the-ro) where
-      own-there : plain.ownLines tables the-record ≡ value (plain.classLine the-class named.Nothing ∷ line.Ro the-ro ∷ [])
+    module _ (ro : roOf tables file-class ≡ value the-ro) where
+      record-lines : plain.ownLines tables the-record ≡ value (plain.classLine file-class named.Nothing ∷ line.Ro the-ro ∷ [])
       unfolding plain.ownLines
-      own-there = rw (superclass-absent (readingUnder r) f, ro)
+      record-lines = rw (superclass-absent (readingUnder r) f, ro)
 
-      fields-there : plain.recordFields tables the-record ≡ value (plain.roFields the-ro)
+      ro-fields : plain.recordFields tables the-record ≡ value (plain.roFields the-ro)
       unfolding plain.recordFields
-      fields-there = rw ro
+      ro-fields = rw ro
 
       -- The whole, of the lines of its lists and of what these settle.
       listed-with : (method : List Line) (e : Event) → plain.fieldsLines tables 0 (plain.roFields the-ro) ≡ value method → plain.fieldEvents tables 0 0 (plain.roFields the-ro) ≡ value (e ∷ [])
-          → (plainListing tables ≡ value (lines r method)) × (plainEvents tables ≡ value (e ∷ []))
+          → (plainListing tables ≡ value (fileLines r method)) × (plainEvents tables ≡ value (e ∷ []))
       unfolding fileOf plainListing gather plain.linesOf eventsFrom plain.recordEvents wordIn leIn le choose
-      listed-with method e ls es = (rw (records-there (readingUnder r) f, own-there, fields-there, ls, es, append-nil method), rw (records-there (readingUnder r) f, fields-there, es))
+      listed-with method e ls es = (rw (file-records (readingUnder r) f, record-lines, ro-fields, ls, es, append-nil method), rw (file-records (readingUnder r) f, ro-fields, es))
 
     shown-lines : rowAt tables Legacy 0x1080 ≡ value the-row → plain.fieldsLines tables 0 (plain.roFields the-ro) ≡ value (method-line ∷ [])
     unfolding plain.fieldsLines plain.fieldLines protocolNames gather
@@ -239,31 +239,31 @@ module _ (before : List ℕ) where
       skipped-entry = rw (methods-there (readingUnder r) f, one-readable (readingUnder r) f, there, no-list tables Ivars, no-list tables Properties)
 
   -- Under the old reading both files show the method.
-  pub old-lists : (f : File) → plainListing (underOld (file before f)) ≡ value (lines Old (method-line ∷ []))
+  pub old-lists : (f : File) → plainListing (underOld (file before f)) ≡ value (fileLines Old (method-line ∷ []))
   old-lists f = listed-with Old f (old-ro f) _ _ (shown-lines Old f (old-row f)) (shown-entry Old f (old-row f)) .0
 
   -- The first file: of its strings the name is asked for three times, for line R and for the lists that the class_ro names, once for their lines
   -- and once for what they settle; selector and types twice. Each ends, and yet the file's last byte is not 0. So the new reading lists the same.
-  abbrev old : Tables
-  old = underOld (file before whole)
+  abbrev wholeOld : Tables
+  wholeOld = underOld (file before whole)
 
-  strings-of-records : strings old (decode.decodeRecords sections) ≡ []
+  strings-of-records : strings wholeOld (decode.decodeRecords sections) ≡ []
   unfolding fileOf stringsAmong asks decode.gather decode.decodeRecords decode.decodeClasses decode.decodeListed decode.decodeAddresses decode.decodeWithMeta decode.decodeProtocols decode.decodeCategories once without metaOf sectionSlots slotsFrom sectionAt slotAddress decodeAddress decodeClass decodeData bitsOf picked pickedWide mapped dataArm64e data64 resolve readable readableAt lookup rows ends holds placed sum64 stored word stripped le nonzero choose bytes
   strings-of-records = simp (no-rebase before)
 
-  strings-of-own : strings old (decode.decodeOwnLines the-record) ≡ 0x1098 ∷ []
+  strings-of-own : strings wholeOld (decode.decodeOwnLines the-record) ≡ 0x1098 ∷ []
   unfolding fileOf stringsAmong asks decode.decodeOwnLines decodeClassNameOf decodeNonzeroClassName decodeBoundName symbolOf decodeRoOf decodeClassRo decodeRoLists picked pickedWide mapped dataArm64e data64 pointerAt pointerOr0At wordIn leIn textIn textFrom text utf8 judge resolve readable readableAt lookup rows ends holds placed sum64 stored word stripped le nonzero choose bytes
   strings-of-own = simp (no-rebase before, no-bind before)
 
-  strings-of-fields : strings old (decode.decodeFields the-record) ≡ 0x1098 ∷ []
+  strings-of-fields : strings wholeOld (decode.decodeFields the-record) ≡ 0x1098 ∷ []
   unfolding fileOf stringsAmong asks decode.decodeFields decodeRoOf decodeClassRo decodeRoLists picked pickedWide mapped dataArm64e data64 pointerAt pointerOr0At wordIn leIn textIn textFrom text utf8 judge resolve readable readableAt lookup rows ends holds placed sum64 stored word stripped le nonzero choose bytes
   strings-of-fields = simp (no-rebase before)
 
-  strings-of-lists : strings old (decode.decodeFieldsLines 0 (plain.roFields the-ro)) ≡ 0x109E ∷ 0x109C ∷ []
+  strings-of-lists : strings wholeOld (decode.decodeFieldsLines 0 (plain.roFields the-ro)) ≡ 0x109E ∷ 0x109C ∷ []
   unfolding fileOf stringsAmong asks decode.decodeFieldsLines decode.decodeFieldLines decode.decodeProtocolNames decode.gather decode.decodeIndex decode.decodeIndices decodeList evenList entrySize methodRows bit decodeRow decodeLegacyMethod legacyImp decodeProtocolList pointerAt pointerOr0At wordIn leIn textIn textFrom text utf8 judge resolve readable readableAt lookup rows ends holds placed sum64 stored word stripped le nonzero choose bytes
   strings-of-lists = simp (no-rebase before)
 
-  strings-of-entries : strings old (decode.decodeFieldEvents 0 0 (plain.roFields the-ro)) ≡ 0x109E ∷ 0x109C ∷ []
+  strings-of-entries : strings wholeOld (decode.decodeFieldEvents 0 0 (plain.roFields the-ro)) ≡ 0x109E ∷ 0x109C ∷ []
   unfolding fileOf stringsAmong asks decode.decodeFieldEvents decode.decodeEntries decode.gather decode.decodeIndex decode.decodeIndices decodeList evenList entrySize methodRows bit decodeRow decodeLegacyMethod legacyImp decodeProtocolList pointerAt pointerOr0At wordIn leIn textIn textFrom text utf8 judge resolve readable readableAt lookup rows ends holds placed sum64 stored word stripped le nonzero choose bytes
   strings-of-entries = simp (no-rebase before)
 
@@ -271,15 +271,15 @@ module _ (before : List ℕ) where
   unfolding stringsAmong asks decodeListing decode.gather decode.decodeLinesOf decode.decodeEventsFrom decode.decodeRecordEvents
   strings-asked =
       let fields = plain.roFields the-ro in
-      let records = records-run old ∙ records-there (readingUnder Old) whole in
-      let own = own-lines-run old the-record ∙ own-there Old whole (old-ro whole) in
-      let named = fields-run old the-record ∙ fields-there Old whole (old-ro whole) in
-      let listed = fields-lines-run old 0 fields ∙ shown-lines Old whole (old-row whole) in
-      let settled = field-events-run old 0 0 fields ∙ shown-entry Old whole (old-row whole) in
+      let records = records-run wholeOld ∙ file-records (readingUnder Old) whole in
+      let own = own-lines-run wholeOld the-record ∙ record-lines Old whole (old-ro whole) in
+      let named = fields-run wholeOld the-record ∙ ro-fields Old whole (old-ro whole) in
+      let listed = fields-lines-run wholeOld 0 fields ∙ shown-lines Old whole (old-row whole) in
+      let settled = field-events-run wholeOld 0 0 fields ∙ shown-entry Old whole (old-row whole) in
       rw (records, own, named, listed, settled) (simp (strings-append, strings-of-records, strings-of-own, strings-of-fields, strings-of-lists, strings-of-entries))
 
   -- A string between offset 0x98 and the zero byte at 0xA0.
-  string-ends : (offset va : ℕ) → lookup (rows segments) va ≡ value (placeAt 0 offset) → offset ≤ 0xA0 → StringEnds (imageIn (file before whole)) va
+  string-ends : (offset va : ℕ) → lookup (rows fileSegments) va ≡ value (placeAt 0 offset) → offset ≤ 0xA0 → StringEnds (imageIn (file before whole)) va
   unfolding fileOf bytes
   string-ends offset va there h other n q l =
       let same : other ≡ placeAt 0 offset = same-place other (placeAt 0 offset) (sym q ∙ there) in
@@ -297,27 +297,27 @@ module _ (before : List ℕ) where
   unfolding bytes
   last-byte = refl
 
-  pub new-lists-whole : plainListing (underNew (file before whole)) ≡ value (lines New (method-line ∷ []))
+  pub new-lists-whole : plainListing (underNew (file before whole)) ≡ value (fileLines New (method-line ∷ []))
   new-lists-whole = rw (listed-as-before (file before whole) whole-ends, old-lists whole)
 
   -- The second: the new reading skips the method, since its selector has no end. So its strings do not all end.
-  pub new-lists-cut : (plainListing (underNew (file before cut)) ≡ value (lines New [])) × (plainEvents (underNew (file before cut)) ≡ value (event 0 0 (withoutRow 0 Unterminated) ∷ []))
+  pub new-lists-cut : (plainListing (underNew (file before cut)) ≡ value (fileLines New [])) × (plainEvents (underNew (file before cut)) ≡ value (event 0 0 (withoutRow 0 Unterminated) ∷ []))
   new-lists-cut = listed-with New cut new-ro _ _ (skipped-lines New cut Unterminated new-row) (skipped-entry New cut Unterminated new-row)
 
   pub cut-endless : StringsEnd (file before cut) (decodeListing sections) → ⊥
   cut-endless ends =
       let same = listed-as-before (file before cut) ends in
-      let old = old-lists cut in
+      let wholeOld = old-lists cut in
       let new = new-lists-cut .0 in
       let z : _≡_ {A = ℕ} 0 1 = cc in
       omega arith
 
   -- Opening accepts the tables of both, with an index of at least 8,192 words.
-  accepts : 8192 ≤ length before → (f : File) → askedOpening (withIndex (file before f) before) ≡ value tt
+  file-accepted : 8192 ≤ length before → (f : File) → askedOpening (withIndex (file before f) before) ≡ value tt
   unfolding askedOpening askedTables askedIndex question imageFits longest segmentFiles wholeRows every sectionFits sectionTable infoWhole bindFiles namesInside namesUtf8 indexFits choose bytes
-  accepts enough whole = rw (le-leb 8192 (length before) enough)
-  accepts enough cut = rw (le-leb 8192 (length before) enough)
+  file-accepted enough whole = rw (le-leb 8192 (length before) enough)
+  file-accepted enough cut = rw (le-leb 8192 (length before) enough)
 
   pub file-opened : 8192 ≤ length before → (f : File) → Opened (file before f)
   unfolding opening openedIndex imageInfo le choose
-  file-opened enough f = record { indexBefore = before; gave = infoOf 0 0; accepted = rw (accepts enough f); left = rw (accepts enough f) }
+  file-opened enough f = record { indexBefore = before; gave = infoOf 0 0; accepted = rw (file-accepted enough f); left = rw (file-accepted enough f) }

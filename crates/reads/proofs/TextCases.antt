@@ -120,22 +120,22 @@ unfolding readFrom text choose
 count-cut-by-the-end = refl
 
 -- The same bytes, mapped to 0x1000 with room for eight: an address of a text, 0, one that is not mapped, and one past the file's end.
-abbrev mapped : Image
-mapped = imageOf (malformed ∷ []) (0x1000 ∷ 8 ∷ 0 ∷ 8 ∷ 0 ∷ [])
+abbrev mappedImage : Image
+mappedImage = imageOf (malformed ∷ []) (0x1000 ∷ 8 ∷ 0 ∷ 8 ∷ 0 ∷ [])
 
-count-in : readIn mapped 0x1002 ≡ 2
+count-in : readIn mappedImage 0x1002 ≡ 2
 unfolding readIn readFrom fileOf text nonzero lookup rows ends holds placed sum64 choose
 count-in = refl
 
-count-at-address-zero : readIn mapped 0 ≡ 0
+count-at-address-zero : readIn mappedImage 0 ≡ 0
 unfolding readIn nonzero choose
 count-at-address-zero = refl
 
-count-not-mapped : readIn mapped 0x2000 ≡ 0
+count-not-mapped : readIn mappedImage 0x2000 ≡ 0
 unfolding readIn nonzero lookup rows ends holds placed sum64 choose
 count-not-mapped = refl
 
-count-past-the-end : readIn mapped 0x1006 ≡ 0
+count-past-the-end : readIn mappedImage 0x1006 ≡ 0
 unfolding readIn readFrom fileOf text nonzero lookup rows ends holds placed sum64 choose
 count-past-the-end = refl
 

@@ -82,14 +82,14 @@ module _ (m : Image) (h : Layout) (i : ℕ) where
 
     -- The next breakpoint is b.
     module _ (sized : h .size ≡ 0 → ⊥) (b : ℕ) (next : nextBreak (breaksOf m (least (h .kind))) (entryAddress h i) ≡ At b) where
-      over : entryAddress h i < b
-      over = next-break-above (breaksOf m (least (h .kind))) (entryAddress h i) b next
+      entry-under : entryAddress h i < b
+      entry-under = next-break-above (breaksOf m (least (h .kind))) (entryAddress h i) b next
 
       below : (x : ℕ) → i ≤ x → x ≤ i + gap h i b → entryAddress h x < b
       below x l u =
           let d = le-dest l in
           let s : d .0 * h .size ≤ gap h i b * h .size = mul-le-mul-right (h .size) (omega arith) in
-          rw (← d .1) (omega (arith, over, div-mul-le-self (b - entryAddress h i - 1) (h .size)))
+          rw (← d .1) (omega (arith, entry-under, div-mul-le-self (b - entryAddress h i - 1) (h .size)))
 
       fails : (x : ℕ) → i ≤ x → x ≤ i + gap h i b → entry m h x ≡ false
       fails x l u =
@@ -106,7 +106,7 @@ module _ (m : Image) (h : Layout) (i : ℕ) where
       unfolding ahead
       jump-fewer =
           above-falls (breaksOf m (least (h .kind))) (entryAddress h i) b (entryAddress h (i + gap h i b + 1)) next
-          (omega (arith, over, lt-div-mul-add {a = b - entryAddress h i - 1} {b = h .size} (omega arith)))
+          (omega (arith, entry-under, lt-div-mul-add {a = b - entryAddress h i - 1} {b = h .size} (omega arith)))
 
   -- The budget of 3 x S + 1 covers the breakpoints ahead of any entry.
   pub ahead-few : ahead m h i < searchBudget (m .words)

@@ -29,13 +29,13 @@ abbrev laid : ℕ → ℕ → ℕ → RowKind → Layout
 laid base size count kind = record { base = base; size = size; count = count; kind = kind }
 
 -- One segment at 0x1000 that maps the whole of one file.
-abbrev over : List ℕ → Tables
-over bytes = tablesOf (bytes ∷ []) (0x1000 ∷ length bytes ∷ 0 ∷ length bytes ∷ 0 ∷ []) [] [] [] [] []
+abbrev inFile : List ℕ → Tables
+inFile bytes = tablesOf (bytes ∷ []) (0x1000 ∷ length bytes ∷ 0 ∷ length bytes ∷ 0 ∷ []) [] [] [] [] []
 
 -- The list at 0x1000 whose header is a word of four bytes and the count 3.
 abbrev headed : ListKind → ℕ → Outcome Layout
 headed kind w =
-    listAt (over (w % 256 ∷ w / 2 ^ 8 % 256 ∷ w / 2 ^ 16 % 256 ∷ w / 2 ^ 24 ∷ 3 ∷ 0 ∷ 0 ∷ 0 ∷ [])) kind 0x1000
+    listAt (inFile (w % 256 ∷ w / 2 ^ 8 % 256 ∷ w / 2 ^ 16 % 256 ∷ w / 2 ^ 24 ∷ 3 ∷ 0 ∷ 0 ∷ 0 ∷ [])) kind 0x1000
 
 -- ◆ 27: legacy, 24. ◆ 23: absent. ◆ 0x8000000C: small. ◆ 0x80000008: absent. 0xC000000C: small, with direct selectors.
 -- 0x4000001B: legacy, since bit 30 says nothing of it.
@@ -64,7 +64,7 @@ ivar-words = refl
 abbrev odd : List ℕ
 odd = 0 ∷ 33 ∷ 0 ∷ 0 ∷ 0 ∷ 1 ∷ 0 ∷ 0 ∷ 0 ∷ []
 
-pub odd-lists : map (λ kind. listAt (over odd) kind 0x1001) (list.Methods ∷ list.Ivars ∷ list.Properties ∷ [])
+pub odd-lists : map (λ kind. listAt (inFile odd) kind 0x1001) (list.Methods ∷ list.Ivars ∷ list.Properties ∷ [])
     ≡ absent OddList ∷ value (laid 0x1009 33 1 row.Ivar) ∷ absent OddList ∷ []
 unfolding fileOf decodeList evenList entrySize nonzero readable readableAt lookup rows ends holds placed sum64 wordIn leIn le choose
 odd-lists = refl
