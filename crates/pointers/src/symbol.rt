@@ -19,7 +19,7 @@ const PREFIXES: [[u8; 24]; 5] = [
 const PREFIX_LENGTHS: [usize; 5] = [14, 18, 17, 12, 23];
 
 // Whether s starts with p.
-fn starts_with(s: &[u8], p: &[u8]) -> bool
+pub fn starts_with(s: &[u8], p: &[u8]) -> bool
     ensures { λ r. ⌜ r ≡ starts (before p) (before s) ⌝ }
 {
     if s.len() < p.len() {
