@@ -7,6 +7,7 @@ pub mod SectionLaws
 pub mod Moves
 pub mod PlainWalks
 pub mod OpenedSections
+pub mod MetAddresses
 pub mod SectionCases
 pub mod ReasonCases
 pub mod ProtocolLists

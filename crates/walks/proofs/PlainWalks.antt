@@ -30,11 +30,11 @@ use Rattle.walks.proofs.SectionLaws.{step-by-ledger, highest-at-start, 
 use Rattle.walks.proofs.Moves.{highest-after}
 
 -- The addresses that are not among those seen.
-unseen : List ℕ → List ℕ → List ℕ
+pub unseen : List ℕ → List ℕ → List ℕ
 unseen seen [] = []
 unseen seen (b ∷ bs) = unless (among b seen) b (unseen seen bs)
 
-unseen-none : (bs : List ℕ) → unseen [] bs ≡ bs
+pub unseen-none : (bs : List ℕ) → unseen [] bs ≡ bs
 unfolding unseen among
 unseen-none [] = refl
 unseen-none (b ∷ bs) = ap (λ (l : List ℕ). b ∷ l) (unseen-none bs)
@@ -61,20 +61,20 @@ unseen-more seen a (b ∷ bs) = go (eqb b a) refl (unseen-more seen a bs)
     go true g h = rw (among-end b seen a, eq-eqb a b (sym (eqb-true b a g)), or-true (among b seen)) h
     go false g h = unfold unseen in rw (among-end b seen a, ne-eqb a b (λ (u : a ≡ b). eqb-false b a g (sym u)), or-false (among b seen), h)
 
-once-none : (seen : List ℕ) → unseen seen (once []) ≡ []
+pub once-none : (seen : List ℕ) → unseen seen (once []) ≡ []
 unfolding unseen once
 once-none seen = refl
 
-once-met : (seen : List ℕ) (a : ℕ) (rest : List ℕ) → among a seen ≡ true → unseen seen (once (a ∷ rest)) ≡ unseen seen (once rest)
+pub once-met : (seen : List ℕ) (a : ℕ) (rest : List ℕ) → among a seen ≡ true → unseen seen (once (a ∷ rest)) ≡ unseen seen (once rest)
 unfolding unseen once
 once-met seen a rest e = rw e (unseen-without seen a e (once rest))
 
-once-new : (seen : List ℕ) (a : ℕ) (rest : List ℕ) → among a seen ≡ false → unseen seen (once (a ∷ rest)) ≡ a ∷ unseen (seen ++ (a ∷ [])) (once rest)
+pub once-new : (seen : List ℕ) (a : ℕ) (rest : List ℕ) → among a seen ≡ false → unseen seen (once (a ∷ rest)) ≡ a ∷ unseen (seen ++ (a ∷ [])) (once rest)
 unfolding unseen once
 once-new seen a rest e = rw (e, unseen-more seen a (once rest))
 
 -- The slots from one on.
-slots-from : (slots : List ℕ) (k : ℕ) → k < length slots → drop k slots ≡ getD slots k 0 ∷ drop (k + 1) slots
+pub slots-from : (slots : List ℕ) (k : ℕ) → k < length slots → drop k slots ≡ getD slots k 0 ∷ drop (k + 1) slots
 slots-from slots k h = rw add-one (drop-cons slots k 0 h)
 
 -- A walk that meets each address once, where no question refuses the tables.

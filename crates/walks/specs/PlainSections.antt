@@ -1,7 +1,7 @@
 -- The records of the section lists, with no ledger and no state (document 01, Section walk); and what a walk of many steps gives. The first
 -- number that a lookup gives is the outcome, in the Rust's order: of classes and categories all slots come before the records, of protocols
 -- each record comes after its slot.
-use Prim.Native.Nat.{ℕ, suc, _≤_}
+use Prim.Native.Nat.{ℕ, zero, suc, _≤_}
 use mathlib.Core.Path.{_≡_}
 use mathlib.Core.Bool.{Bool, true, false}
 use mathlib.Core.List.{List, [], _∷_}
@@ -14,7 +14,7 @@ use Rattle.records.specs.Category.{categoryAt}
 use Rattle.records.specs.Protocol.{protocolAt}
 use Rattle.walks.specs.Gather.{joined, gather, ofValue, present}
 use Rattle.walks.specs.Slots.{slotsOf, addressIn}
-use Rattle.walks.specs.Sections.{Walk, atStart, found, passed, dropped, finished, Left, leaves, metaOf}
+use Rattle.walks.specs.Sections.{Walk, atStart, metIn, found, passed, dropped, finished, Left, leaves, metaOf}
 use Rattle.walks.specs.declared.slots.Lists.{Lists}
 use Rattle.walks.specs.declared.slots.Lists.the-variants.{Classes, Categories, Protocols}
 use Rattle.records.specs.declared.class.ObjcClass.{ObjcClass}
@@ -71,6 +71,15 @@ pub data Gives {A : Type 0} (step : Walk → List ℕ → Left A) : ℕ → Walk
 -- A run from the first slot, of at most so many steps before finished.
 abbrev pub Run : {A : Type 0} → (Walk → List ℕ → Left A) → ℕ → List ℕ → List A → Type 0
 Run step most l rs = (n : ℕ) × (n ≤ most) × Gives step n atStart l rs
+
+-- What step n gives and leaves, counted from 0.
+unfoldable pub leftAfter : {A : Type 0} → (Walk → List ℕ → Left A) → ℕ → Walk → List ℕ → Left A
+leftAfter step zero w l = step w l
+leftAfter step (suc n) w l = leftAfter step n (step w l .walk) (step w l .ledger)
+
+-- Where a step says that the walk has finished, the words of the ledger in use are what the lists hold, each address once.
+abbrev pub Met : {A : Type 0} → Left A → Outcome (List ℕ) → Type 0
+Met x addresses = x .answer ≡ value finished → addresses ≡ value (metIn (x .walk) (x .ledger))
 
 -- A plain definition gives records, no number, and the walk with a ledger gives exactly these.
 pub record Walked {A : Type 0} (step : Walk → List ℕ → Left A) (most : ℕ) (l : List ℕ) (plain : Outcome (List A)) : Type 0 where

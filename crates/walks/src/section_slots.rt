@@ -32,7 +32,7 @@ ghost use Rattle.walks.specs.Sections.{walk, atStart, passed, dropped, l
 
 // Where a walk over classes stands: the slots, and the address of the metaclass that waits (0: none).
 pub struct ClassSlots {
-    slots: SlotWalk,
+    pub(crate) slots: SlotWalk,
     meta: u64,
 }
 

@@ -101,6 +101,13 @@ impl ClassWalk {
         }
     }
 
+    // How many words of the ledger are in use: the addresses met so far.
+    pub fn used(self) -> u64
+        ensures { λ r. ⌜ r ≡ classWalk self .used ⌝ }
+    {
+        self.slots.slots.used
+    }
+
     // One step, under the setting that the walk began with.
     pub fn next(
         self,

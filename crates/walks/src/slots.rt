@@ -38,7 +38,7 @@ pub(crate) enum SlotStep {
 // Where a walk that meets each address once stands: the next slot, the words of the ledger in use, and the highest of them.
 pub struct SlotWalk {
     slot: u64,
-    used: u64,
+    pub(crate) used: u64,
     highest: u64,
 }
 
