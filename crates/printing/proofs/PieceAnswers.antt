@@ -1,13 +1,18 @@
 -- What the code's progress means: at the start, after a step, and by what was said.
-use Prim.Native.Nat.{ℕ, _+_, _-_}
+use Prim.Native.Nat.{ℕ, _+_, _-_, _^_, _<_}
 use mathlib.Core.Path.{_≡_, sym, ap}
-use mathlib.Core.List.{List}
+use mathlib.Core.Bool.{true, false}
+use mathlib.Core.List.{List, [], _∷_}
 use native.Mathlib.Omega.{arith}
+use borrow.Author.Tests.{le-leb, leb-true}
+use Rattle.reads.specs.Files.{longest}
 use Rattle.reads.specs.Outcome.{value, number}
 use Rattle.reads.specs.declared.answer.Reason.{Reason}
 use Rattle.reads.specs.declared.answer.Missing.{Missing}
 use Rattle.reads.specs.declared.answer.Missing.the-variants.{Absent, Refused}
 use Rattle.pointers.specs.ImageInfo.{infoOutcome}
+use Rattle.reads.proofs.Tests.{choose-true, choose-false}
+use Rattle.pointers.specs.Question.{imageFits}
 use Rattle.pointers.specs.Tables.{Tables}
 use Rattle.pointers.specs.declared.imageinfo.ImageInfo.{ImageInfo}
 use Rattle.pointers.specs.declared.imageinfo.ImageInfoAnswer.{ImageInfoAnswer}
@@ -23,7 +28,7 @@ use Rattle.listing.specs.declared.listing.Said.the-variants as said
 use Rattle.pointers.specs.declared.setting.Setting.{Setting}
 use Rattle.printing.specs.Buffer.{Buffer, putAll}
 use Rattle.printing.specs.LineText.{lineText, refusedText}
-use Rattle.printing.specs.Pieces.{saidText, standing, stepped, begun, further}
+use Rattle.printing.specs.Pieces.{saidText, standing, stepped, begun, further, withFiles, listable}
 use Rattle.printing.specs.declared.pieces.Piece.{Piece}
 use Rattle.printing.specs.declared.pieces.Progress.{Progress}
 use Rattle.printing.proofs.Puts.{put-empty}
@@ -67,3 +72,16 @@ module _ (files : List (List ℕ)) (x : Said) (s : Buffer) where
 pub further-by : (p : Progress) (at len k : ℕ) → len ≡ at + k
     → _≡_ {A = Piece} (record { len = len; progress = record { said = p .said; out = p .out + (len - at); listing = p .listing } }) (further p at k)
 further-by p at len k e = let z : at + k - at ≡ k = omega arith in rw (e, z)
+
+-- Question 1 takes files of less than 2^32 bytes.
+pub fits-short : (n : ℕ) → imageFits n ≡ true → n < 2 ^ 32
+unfolding imageFits
+fits-short n e = omega (arith, leb-true n 4294967295 e)
+
+-- Files that question 1 takes are read themselves, others count as one empty file.
+pub listable-short : (t : Tables) → longest (t .files) < 2 ^ 32 → listable t ≡ t
+unfolding imageFits
+listable-short t h = ap (withFiles t) (choose-true (t .files) ([] ∷ []) (le-leb (longest (t .files)) 4294967295 (omega arith)))
+
+pub listable-long : (t : Tables) → imageFits (longest (t .files)) ≡ false → listable t ≡ withFiles t ([] ∷ [])
+listable-long t e = ap (withFiles t) (choose-false (t .files) ([] ∷ []) e)

@@ -63,25 +63,27 @@ module _ (t : Tables) where
 start-words : (u : Setting) → InWords (start u)
 start-words u = record { slot = omega arith; cursor = omega arith }
 
-begun-sound : (u : Setting) (o : Outcome ImageInfo) (l : List ℕ) → Sound (begun u o l)
+pub begun-sound : (u : Setting) (o : Outcome ImageInfo) (l : List ℕ) → Sound (begun u o l)
 begun-sound u o l = record { words = λ e. start-words u }
 
--- A ledger of 8,192 words is always enough for files of at most 32,768 bytes.
-module _ (t : Tables) (o : Opened t) (short : longest (t .files) ≤ 32768) (l : List ℕ) (long : length l ≡ 8192) where
-  room : (first second : ℕ) → first < 5 → second < 5 → slotCount (t .sections) first second ≤ length l
-  room first second a b = omega (arith, pair-slots t o first second a b)
+-- With a ledger for the slots of each pair of sections the plain listing's text comes.
+pub listing-comes : (t : Tables) (o : Opened t) (l : List ℕ) → slotCount (t .sections) 0 1 ≤ length l → slotCount (t .sections) 2 3 ≤ length l
+    → toCome t (begun (t .setting) (value (o .gave)) l) ≡ listingText (t .files) (plainListing t)
+listing-comes t o l classes categories =
+    let lines = there-known (listing-there t o) in
+    let events = there-known (plain-events-there t o) in
+    let rest = whole-rest t o l classes categories (lines .known) (events .known) (lines .is) (events .is) in
+    come-step t (begun (t .setting) (value (o .gave)) l) (begun-sound (t .setting) (value (o .gave)) l)
+    ∙ rest-comes t rest (start-words (t .setting))
+    ∙ ap (listingText (t .files)) (sym (lines .is))
 
-  listing-comes : toCome t (begun (t .setting) (value (o .gave)) l) ≡ listingText (t .files) (plainListing t)
-  listing-comes =
-      let lines = there-known (listing-there t o) in
-      let events = there-known (plain-events-there t o) in
-      let rest = whole-rest t o l (room 0 1 (omega arith) (omega arith)) (room 2 3 (omega arith) (omega arith)) (lines .known) (events .known) (lines .is) (events .is) in
-      come-step t (begun (t .setting) (value (o .gave)) l) (begun-sound (t .setting) (value (o .gave)) l)
-      ∙ rest-comes t rest (start-words (t .setting))
-      ∙ ap (listingText (t .files)) (sym (lines .is))
+-- A ledger of 8,192 words is always enough for files of at most 32,768 bytes.
+ledger-room : (t : Tables) → Opened t → longest (t .files) ≤ 32768 → (l : List ℕ) → length l ≡ 8192
+    → (first second : ℕ) → first < 5 → second < 5 → slotCount (t .sections) first second ≤ length l
+ledger-room t o short l long first second a b = omega (arith, pair-slots t o first second a b)
 
 -- A number that refuses comes as its text, and nothing comes where nothing was said.
-over-comes : (u : Setting) (t v : Tables) (o : Outcome ImageInfo) (l : List ℕ) → goesOn (begun u o l .said) ≡ false → toCome t (begun u o l) ≡ openedText v o
+pub over-comes : (u : Setting) (t v : Tables) (o : Outcome ImageInfo) (l : List ℕ) → goesOn (begun u o l .said) ≡ false → toCome t (begun u o l) ≡ openedText v o
 over-comes u t v (value info) l e = let z : _≡_ {A = ℕ} 0 1 = cc in absurd (omega arith)
 over-comes u t v (absent r) l e = come-step t (begun u (absent r) l) (begun-sound u (absent r) l)
 over-comes u t v (number k) l e = come-step t (begun u (number k) l) (begun-sound u (number k) l) ∙ append-nil (refusedText k)
@@ -137,7 +139,9 @@ module _ (u : Setting) (bytes : List ℕ) (c : Counts) (a : Accepted bytes c) (m
         let o : Opened tablesSaid = record { indexBefore = zeros; gave = info; accepted = e; left = refl } in
         ap (λ (t : Tables). toCome t (begun u (value info) l)) read-said
         ∙ sym (come-under u tablesSaid (begun u (value info) l))
-        ∙ listing-comes (under u tablesSaid) (opened-under u o) (files-length bytes c a) l long
+        ∙ listing-comes (under u tablesSaid) (opened-under u o) l
+        (ledger-room (under u tablesSaid) (opened-under u o) (files-length bytes c a) l long 0 1 (omega arith) (omega arith))
+        (ledger-room (under u tablesSaid) (opened-under u o) (files-length bytes c a) l long 2 3 (omega arith) (omega arith))
 
   accepted-comes : toCome read (begun u (opening (tablesIn bytes c wordsRead index)) l) ≡ openedText (under u tablesSaid) (opening (bundled bytes c zeros))
   accepted-comes = rw opens-same (go (opening (bundled bytes c zeros)) refl)

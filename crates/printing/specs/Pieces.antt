@@ -2,11 +2,13 @@
 -- more.
 use Prim.Native.Nat.{ℕ, zero, suc, _+_, _-_}
 use mathlib.Core.Bool.{Bool, true, false}
-use mathlib.Core.List.{List, [], _++_}
+use mathlib.Core.List.{List, [], _∷_, _++_}
 use lib.Dec.{leb}
 use lib.ListN.{length, take, drop}
 use Rattle.reads.specs.Outcome.{Outcome, value, absent, number, choose}
-use Rattle.pointers.specs.Tables.{Tables}
+use Rattle.reads.specs.Files.{longest}
+use Rattle.pointers.specs.Question.{imageFits}
+use Rattle.pointers.specs.Tables.{Tables, tablesOf, under}
 use Rattle.pointers.specs.declared.imageinfo.ImageInfo.{ImageInfo}
 use Rattle.pointers.specs.declared.setting.Setting.{Setting}
 use Rattle.listing.specs.Listing.{State, start, Answer, says, lacks, nothing, ended, listingStep}
@@ -132,3 +134,11 @@ fits files p bytes at = fitting (held bytes (p .out) at) (saidText files (saidOf
 
 abbrev pub further : Progress → ℕ → ℕ → Piece
 further p at k = record { len = at + k; progress = record { said = p .said; out = p .out + k; listing = p .listing } }
+
+-- Tables with other files.
+abbrev pub withFiles : Tables → List (List ℕ) → Tables
+withFiles t files = under (t .setting) (tablesOf files (t .segments) (t .sections) (t .info) (t .rebases) (t .binds) (t .index))
+
+-- The tables that pieces are read from: files that question 1 refuses, over which no listing is begun, count as one empty file.
+abbrev pub listable : Tables → Tables
+listable t = withFiles t (choose (imageFits (longest (t .files))) (t .files) ([] ∷ []))

@@ -207,16 +207,7 @@ fn piece_counted(
     let image2 = &bytes[at2..at3];
     let image3 = &bytes[at3..];
     let files = [image0, image1, image2, image3];
-    piece_files(
-        progress,
-        &files,
-        bytes,
-        counts,
-        words,
-        index,
-        ledger,
-        out,
-    )
+    piece_files(progress, &files, bytes, counts, words, index, ledger, out)
 }
 
 // The next piece; a bundle that is not accepted has no tables, and an empty file.

@@ -4,7 +4,9 @@ use crate::print;
 use listing::listing::Listing;
 use listing::listing::Said;
 use pointers::imageinfo::ImageInfoAnswer;
+use pointers::question::image_fits;
 use reads::answer::Missing;
+use reads::files::longest;
 use reads::text::Reading;
 ghost use Prim.Native.Nat.{_<_, _^_};
 ghost use mathlib.Core.Path.{_≡_};
@@ -17,7 +19,7 @@ ghost use Rattle.pointers.specs.Tables.{lent, readingNew, readingUnder};
 ghost use Rattle.listing.specs.ListingAnswer.{saidOf};
 ghost use Rattle.listing.proofs.Remaining.{goesOn};
 ghost use Rattle.printing.specs.Buffer.{buffer, putAll};
-ghost use Rattle.printing.specs.Pieces.{saidText, standingOf, stepped, begun, refusing, toCome, handedOf, pieceOf, fits, further};
+ghost use Rattle.printing.specs.Pieces.{saidText, standingOf, stepped, begun, refusing, toCome, handedOf, pieceOf, fits, further, listable};
 
 // Where the printing of a listing stands: what the last step said, how many bytes of its text are out, and the listing after it.
 pub struct Progress {
@@ -205,5 +207,52 @@ impl Progress {
                 ledger,
             );
         }
+    }
+
+    // The next piece of a listing over these tables: its length, 0 where nothing is still to come, and where the printing stands after it.
+    // Over files that question 1 refuses no listing is begun; they count as one empty file.
+    pub fn next_piece(
+        self,
+        files: &[&[u8]],
+        segments: &[u64],
+        sections: &[u64],
+        info: &[u8],
+        rebases: &[u64],
+        binds: &[u64],
+        index: &[u32],
+        ledger: &mut [u64],
+        out: &mut [u8],
+    ) -> Piece
+        ensures piece { λ r. let t = listable (lent files segments sections info rebases binds index) in
+            ⌜ handedOf r (after ledger) (after out) ≡ pieceOf t (standingOf self (before ledger)) (length (before out)) (before out) ⌝ }
+        ensures rest { λ r. let t = listable (lent files segments sections info rebases binds index) in
+            ⌜ toCome t (standingOf (r .progress) (after ledger)) ≡ drop (length (before out)) (toCome t (standingOf self (before ledger))) ⌝ }
+    {
+        if !image_fits(longest(files)) {
+            let empty = &info[0..0];
+            let none = [empty];
+            return self.fill(
+                &none,
+                segments,
+                sections,
+                info,
+                rebases,
+                binds,
+                index,
+                ledger,
+                out,
+            );
+        }
+        self.fill(
+            files,
+            segments,
+            sections,
+            info,
+            rebases,
+            binds,
+            index,
+            ledger,
+            out,
+        )
     }
 }
