@@ -18,23 +18,23 @@ use Rattle.macho.specs.FileTables.{overFile, fileTables}
 use Rattle.macho.specs.OpenFile.{segmentTableWords, askedLent, askedFile, openingFile, segmentsLeft}
 
 -- Numbers in little-endian order.
-u32 : ℕ → List ℕ
+unfoldable pub u32 : ℕ → List ℕ
 u32 n = n % 256 ∷ n / 256 % 256 ∷ n / 2 ^ 16 % 256 ∷ n / 2 ^ 24 % 256 ∷ []
 
-u64 : ℕ → List ℕ
+unfoldable pub u64 : ℕ → List ℕ
 u64 n = u32 (n % 2 ^ 32) ++ u32 (n / 2 ^ 32)
 
 -- mach_header_64, with a magic, ncmds and sizeofcmds.
-header : ℕ → ℕ → ℕ → List ℕ
+unfoldable pub header : ℕ → ℕ → ℕ → List ℕ
 header magic count size = u32 magic ++ u32 0x100000C ++ u32 0 ++ u32 2 ++ u32 count ++ u32 size ++ u32 0 ++ u32 0
 
 -- segment_command_64, with its cmdsize.
-command : ℕ → ℕ → ℕ → ℕ → ℕ → ℕ → List ℕ
+unfoldable pub command : ℕ → ℕ → ℕ → ℕ → ℕ → ℕ → List ℕ
 command size vmaddr vmsize fileoff filesize sections =
     u32 0x19 ++ u32 size ++ replicate 16 0 ++ u64 vmaddr ++ u64 vmsize ++ u64 fileoff ++ u64 filesize ++ u32 7 ++ u32 5 ++ u32 sections ++ u32 0
 
 -- section_64.
-section : List ℕ → ℕ → ℕ → ℕ → List ℕ
+unfoldable pub section : List ℕ → ℕ → ℕ → ℕ → List ℕ
 section name addr size offset = name ++ replicate (16 - length name) 0 ++ replicate 16 0 ++ u64 addr ++ u64 size ++ u32 offset ++ replicate 28 0
 
 -- A name that another starts with (__objc_catlist and __objc_catlist2), and a name twice (__objc_classlist).
