@@ -1,0 +1,161 @@
+-- The text that comes of a file after it was opened is the file's text, under either reading, whatever the buffers held; with a number
+-- nothing lent is written.
+use Prim.Native.Nat.{ℕ, _*_, _≤_}
+use mathlib.Core.Path.{_≡_, refl, sym, ap, _∙_}
+use mathlib.Core.List.{List, _++_, append-nil}
+use native.Mathlib.Omega.{arith}
+use lib.ListN.{length, take, drop, length-replicate, replicate, take-append-drop}
+use lib.Seq.{length-take-le, take-at}
+use Rattle.reads.specs.Files.{longest}
+use Rattle.reads.specs.Outcome.{Outcome, value, absent, number, andThen}
+use Rattle.pointers.specs.Index.{indexed, indexLength}
+use Rattle.pointers.specs.Open.{Opened, opening, openedIndex}
+use Rattle.pointers.specs.Tables.{Tables, under, withIndex, sectionTableWords}
+use Rattle.pointers.specs.declared.imageinfo.ImageInfo.{ImageInfo}
+use Rattle.pointers.specs.declared.setting.Setting.{Setting}
+use Rattle.pointers.proofs.OpenedTables.{opened-room, opened-under}
+use Rattle.walks.specs.Slots.{slotCount}
+use Rattle.macho.specs.FileTables.{sectionTable, fileTables}
+use Rattle.macho.specs.OpenFile.{segmentTableWords, askedFile, openedFile, openingFile, segmentsLeft, sectionsLeft, indexLeft, laterTables}
+use Rattle.macho.specs.declared.open.OpenedFile.{OpenedFile}
+use Rattle.macho.proofs.FileOpened.{index-written, left-are-tables, opening-gives, number-keeps}
+use Rattle.printing.specs.BundleText.{openedText}
+use Rattle.printing.specs.LineText.{refusedText}
+use Rattle.printing.specs.Pieces.{toCome, begun, pieces, listable}
+use Rattle.printing.proofs.BundleOpens.{opening-same, index-whole, index-long}
+use Rattle.printing.proofs.Comes.{come-under, pieces-text}
+use Rattle.printing.proofs.PieceAnswers.{listable-short}
+use Rattle.printing.proofs.Printed.{begun-sound, listing-comes, over-comes}
+use Rattle.filelist.specs.FileText.{infoIn, zeroIndex, tablesFor, fileOpening, fileText}
+use Rattle.filelist.specs.FileLent.{indexUsed, indexAfter, tablesBy, tablesLent}
+
+-- Of what it fills and of the index opening asks the length alone.
+opens-same : (file rebases binds s t c d i j : List ℕ) → length s ≡ length t → length c ≡ length d → length i ≡ length j
+    → openingFile file s c rebases binds i ≡ openingFile file t d rebases binds j
+unfolding openingFile fileTables
+opens-same file rebases binds s t c d i j a b e =
+    rw (a, b)
+    (ap (λ (o : Outcome ImageInfo). andThen (askedFile file (length t) (length d)) (λ _. andThen o (λ info. value (openedFile file info))))
+    (opening-same (fileTables file rebases binds j) i j e))
+
+module _ (file rebases binds : List ℕ) where
+  -- The tables for the file, opened: whatever the index held.
+  abbrev tablesSaid : Tables
+  tablesSaid = withIndex (tablesFor file rebases binds) (openedIndex (tablesFor file rebases binds))
+
+  module _ (i : List ℕ) (long : length i ≡ indexLength rebases binds) (info : ImageInfo) (e : opening (fileTables file rebases binds i) ≡ value info) where
+    zeros-open : opening (tablesFor file rebases binds) ≡ value info
+    unfolding fileTables
+    zeros-open =
+        opening-same (fileTables file rebases binds i) (zeroIndex rebases binds) i (length-replicate (indexLength rebases binds) 0 ∙ sym long) ∙ e
+
+    same-index : openedIndex (fileTables file rebases binds i) ≡ openedIndex (tablesFor file rebases binds)
+    unfolding fileTables
+    same-index =
+        index-whole (fileTables file rebases binds i) i long info e
+        ∙ sym (index-whole (tablesFor file rebases binds) (zeroIndex rebases binds) (length-replicate (indexLength rebases binds) 0) info zeros-open)
+
+    said-same : withIndex (fileTables file rebases binds i) (openedIndex (fileTables file rebases binds i)) ≡ tablesSaid
+    unfolding fileTables
+    said-same = ap (withIndex (fileTables file rebases binds i)) same-index
+
+    said-opened : Opened tablesSaid
+    unfolding fileTables
+    said-opened = record { indexBefore = zeroIndex rebases binds; gave = info; accepted = zeros-open; left = refl }
+
+    index-kept-long : length (openedIndex (fileTables file rebases binds i)) ≡ indexLength rebases binds
+    unfolding fileTables
+    index-kept-long = index-long (fileTables file rebases binds i) i long info e ∙ long
+
+module _ (u : Setting) (file segments sections rebases binds index l : List ℕ) where
+  abbrev gave : Outcome OpenedFile
+  gave = openingFile file segments sections rebases binds (indexUsed rebases binds index)
+
+  -- What pieces are read from after the file was opened.
+  abbrev pub tablesAfter : Tables
+  tablesAfter =
+      tablesLent gave file
+      (segmentsLeft file segments sections rebases binds (indexUsed rebases binds index))
+      (sectionsLeft file segments sections rebases binds (indexUsed rebases binds index))
+      rebases binds
+      (indexAfter file segments sections rebases binds index)
+
+  -- A number comes as its text, and nothing lent is written with it.
+  module _ (k : ℕ) (e : gave ≡ number k) where
+    pub refused-comes : toCome tablesAfter (begun u (infoIn gave) l) ≡ refusedText k
+    refused-comes = rw e (over-comes u _ tablesAfter (number k) l refl)
+
+    pub file-unwritten : (segmentsLeft file segments sections rebases binds (indexUsed rebases binds index) ≡ segments)
+        × (sectionsLeft file segments sections rebases binds (indexUsed rebases binds index) ≡ sections)
+        × (indexAfter file segments sections rebases binds index ≡ index)
+    file-unwritten =
+        let kept = number-keeps file segments sections rebases binds (indexUsed rebases binds index) k e in
+        (kept .0, kept .1, rw (kept .2) (take-append-drop (indexLength rebases binds) index))
+
+  module _ (long : indexLength rebases binds ≤ length index) where
+    used-long : length (indexUsed rebases binds index) ≡ indexLength rebases binds
+    used-long = length-take-le (indexLength rebases binds) index long
+
+    -- The ledger has a word for each slot of the two class sections, and of the two category sections.
+    module _ (classes : slotCount (sectionTable file) 0 1 ≤ length l) (categories : slotCount (sectionTable file) 2 3 ≤ length l) where
+      module _ (o : OpenedFile) (e : gave ≡ value o) where
+        opens : opening (fileTables file rebases binds (indexUsed rebases binds index)) ≡ value (o .info)
+        opens = opening-gives file segments sections rebases binds (indexUsed rebases binds index) o e
+
+        left-index : indexLeft file segments sections rebases binds (indexUsed rebases binds index)
+            ≡ openedIndex (fileTables file rebases binds (indexUsed rebases binds index))
+        left-index = index-written file segments sections rebases binds (indexUsed rebases binds index) o e
+
+        index-back : indexUsed rebases binds (indexAfter file segments sections rebases binds index)
+            ≡ indexLeft file segments sections rebases binds (indexUsed rebases binds index)
+        index-back =
+            take-at (indexLeft file segments sections rebases binds (indexUsed rebases binds index)) (drop (indexLength rebases binds) index)
+            (indexLength rebases binds)
+            (ap length left-index ∙ index-kept-long file rebases binds (indexUsed rebases binds index) used-long (o .info) opens)
+
+        read-said : tablesBy gave file (segmentsLeft file segments sections rebases binds (indexUsed rebases binds index))
+            (sectionsLeft file segments sections rebases binds (indexUsed rebases binds index)) rebases binds
+            (indexUsed rebases binds (indexAfter file segments sections rebases binds index))
+            ≡ tablesSaid file rebases binds
+        read-said =
+            rw (index-back, e)
+            (left-are-tables file segments sections rebases binds (indexUsed rebases binds index) o e
+            ∙ said-same file rebases binds (indexUsed rebases binds index) used-long (o .info) opens)
+
+        opened : Opened (tablesSaid file rebases binds)
+        opened = said-opened file rebases binds (indexUsed rebases binds index) used-long (o .info) opens
+
+        after-said : tablesAfter ≡ tablesSaid file rebases binds
+        after-said = ap listable read-said ∙ listable-short (tablesSaid file rebases binds) (opened-room (tablesSaid file rebases binds) opened .imageLength)
+
+        opened-comes : toCome tablesAfter (begun u (value (o .info)) l) ≡ openedText (under u (tablesSaid file rebases binds)) (value (o .info))
+        unfolding fileTables
+        opened-comes =
+            ap (λ (t : Tables). toCome t (begun u (value (o .info)) l)) after-said
+            ∙ sym (come-under u (tablesSaid file rebases binds) (begun u (value (o .info)) l))
+            ∙ listing-comes (under u (tablesSaid file rebases binds)) (opened-under u opened) l classes categories
+
+      comes : toCome tablesAfter (begun u (infoIn gave) l) ≡ openedText (under u (tablesSaid file rebases binds)) (infoIn gave)
+      comes = go gave refl
+        where
+          go : (o : Outcome OpenedFile) → gave ≡ o → toCome tablesAfter (begun u (infoIn o) l) ≡ openedText (under u (tablesSaid file rebases binds)) (infoIn o)
+          go (value o) e = opened-comes o e
+          go (absent r) e = over-comes u tablesAfter (under u (tablesSaid file rebases binds)) (absent r) l refl
+          go (number k) e = over-comes u tablesAfter (under u (tablesSaid file rebases binds)) (number k) l refl
+
+      module _ (rows : length segments ≡ segmentTableWords) (words : length sections ≡ sectionTableWords) where
+        asked-same : gave ≡ openingFile file (replicate segmentTableWords 0) (replicate sectionTableWords 0) rebases binds (zeroIndex rebases binds)
+        asked-same =
+            opens-same file rebases binds segments (replicate segmentTableWords 0) sections (replicate sectionTableWords 0) (indexUsed rebases binds index)
+            (zeroIndex rebases binds)
+            (rows ∙ sym (length-replicate {A = ℕ} segmentTableWords 0))
+            (words ∙ sym (length-replicate {A = ℕ} sectionTableWords 0))
+            (used-long ∙ sym (length-replicate {A = ℕ} (indexLength rebases binds) 0))
+
+        pub file-printed : toCome tablesAfter (begun u (infoIn gave) l) ≡ fileText u file rebases binds
+        unfolding fileText fileOpening
+        file-printed = comes ∙ ap (λ (o : Outcome OpenedFile). openedText (under u (tablesSaid file rebases binds)) (infoIn o)) asked-same
+
+        -- The pieces that are handed out, of n bytes each, one after the other, are the file's text.
+        pub file-printed-pieces : (n k : ℕ) → pieces tablesAfter n k (begun u (infoIn gave) l) ≡ take (k * n) (fileText u file rebases binds)
+        file-printed-pieces n k = pieces-text tablesAfter n k (begun u (infoIn gave) l) (begun-sound u (infoIn gave) l) ∙ ap (take (k * n)) file-printed

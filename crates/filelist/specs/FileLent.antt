@@ -1,0 +1,33 @@
+-- What the calls over a file are lent and leave.
+use Prim.Native.Nat.{ℕ, _*_}
+use mathlib.Core.List.{List, [], _++_}
+use lib.ListN.{take, drop}
+use Rattle.reads.specs.Outcome.{Outcome, value, absent, number}
+use Rattle.reads.specs.Place.{part}
+use Rattle.reads.specs.Segment.{segmentWords}
+use Rattle.pointers.specs.Index.{indexLength}
+use Rattle.pointers.specs.Tables.{Tables}
+use Rattle.macho.specs.FileTables.{overFile}
+use Rattle.macho.specs.OpenFile.{indexLeft}
+use Rattle.macho.specs.declared.open.OpenedFile.{OpenedFile}
+use Rattle.printing.specs.Pieces.{listable}
+
+-- The words of the index that are used: as many as question 8 asks.
+abbrev pub indexUsed : List ℕ → List ℕ → List ℕ → List ℕ
+indexUsed rebases binds index = take (indexLength rebases binds) index
+
+-- The index lent, after opening; with a number it is as it was (`file-unwritten`, proofs/FilePrinted.antt).
+abbrev pub indexAfter : List ℕ → List ℕ → List ℕ → List ℕ → List ℕ → List ℕ → List ℕ
+indexAfter file segments sections rebases binds index =
+    indexLeft file segments sections rebases binds (indexUsed rebases binds index) ++ drop (indexLength rebases binds) index
+
+-- What a listing reads, by what opening gave: of an opened file the rows of its segments and the bytes of its image info, of another neither.
+abbrev pub tablesBy : Outcome OpenedFile → List ℕ → List ℕ → List ℕ → List ℕ → List ℕ → List ℕ → Tables
+tablesBy (value o) file segments sections rebases binds index =
+    overFile file (take (segmentWords * o .segments) segments) sections (part file (o .«info_at») (o .«info_len»)) rebases binds index
+tablesBy (absent r) file segments sections rebases binds index = overFile file [] sections [] rebases binds index
+tablesBy (number k) file segments sections rebases binds index = overFile file [] sections [] rebases binds index
+
+abbrev pub tablesLent : Outcome OpenedFile → List ℕ → List ℕ → List ℕ → List ℕ → List ℕ → List ℕ → Tables
+tablesLent o file segments sections rebases binds index =
+    listable (tablesBy o file segments sections rebases binds (indexUsed rebases binds index))

@@ -1,0 +1,3 @@
+-- The definitions that the contracts of filelist cite.
+pub mod FileText
+pub mod FileLent

@@ -1,0 +1,209 @@
+// The listing of a Mach-O file: it is opened over what is lent, and its text handed out piece by piece. Rebases and binds are lent. Of the
+// index as many words are used as question 8 asks. With a number nothing lent is written, and the text is `refused` and that number.
+use macho::header::range_of;
+use macho::open::FileAnswer;
+use macho::open::open_file;
+use pointers::imageinfo::ImageInfoAnswer;
+use pointers::table::Bind;
+use pointers::table::Rebase;
+use printing::pieces::Piece;
+use printing::pieces::Progress;
+use reads::segment::Segment;
+use reads::text::Reading;
+ghost use Prim.Native.Nat.{_*_, min};
+ghost use mathlib.Core.Path.{_≡_};
+ghost use mathlib.Core.List.{_++_};
+ghost use lib.ListN.{length, take, drop};
+ghost use Rattle.reads.specs.Reference.{before, after};
+ghost use Rattle.reads.specs.Segment.{segmentWords};
+ghost use Rattle.pointers.specs.ImageInfo.{infoOutcome};
+ghost use Rattle.pointers.specs.Index.{indexLength};
+ghost use Rattle.pointers.specs.Tables.{readingNew, readingUnder};
+ghost use Rattle.macho.specs.FileTables.{overFile};
+ghost use Rattle.macho.specs.OpenFile.{fileOutcome, openingFile, segmentsLeft, sectionsLeft, indexLeft};
+ghost use Rattle.printing.specs.Pieces.{standingOf, begun, listable, toCome, handedOf, pieceOf};
+ghost use Rattle.filelist.specs.FileText.{infoIn};
+ghost use Rattle.filelist.specs.FileLent.{indexUsed, indexAfter, tablesLent};
+
+// A listing that is begun: what opening the file answered, and where the printing stands.
+pub struct FileListing {
+    pub answer: FileAnswer,
+    pub progress: Progress,
+}
+
+// The words of the index that question 8 asks, or all that are lent.
+fn index_words(rebases: &[u64], binds: &[u64], lent: usize) -> usize
+    ensures { λ r. ⌜ r ≡ min (indexLength (before rebases) (before binds)) lent ⌝ }
+{
+    let asked = 8192 + rebases.len() / Rebase::WORDS + binds.len() / Bind::WORDS;
+    if lent <= asked {
+        return lent;
+    }
+    asked
+}
+
+// The words of so many segments, or all that are lent.
+fn segment_words(count: u64, lent: usize) -> usize
+    ensures { λ r. ⌜ r ≡ min (segmentWords * count) lent ⌝ }
+{
+    if ((lent / Segment::WORDS) as u64) < count {
+        return lent;
+    }
+    Segment::WORDS * count as usize
+}
+
+// The image info of an opened file.
+fn info_of(answer: FileAnswer) -> ImageInfoAnswer
+    ensures { λ r. ⌜ infoOutcome r ≡ infoIn (fileOutcome answer) ⌝ }
+{
+    match answer {
+        FileAnswer::File(opened) => {
+            let info = opened.info;
+            ImageInfoAnswer::Info(info)
+        }
+        FileAnswer::Missing(m) => ImageInfoAnswer::Missing(m),
+    }
+}
+
+// The listing of a file under the new reading, begun.
+pub fn list_file(
+    file: &[u8],
+    segments: &mut [u64],
+    sections: &mut [u64],
+    rebases: &[u64],
+    binds: &[u64],
+    index: &mut [u32],
+) -> FileListing
+    ensures answer { λ r. ⌜ fileOutcome (r .answer) ≡ openingFile (before file) (before segments) (before sections) (before rebases) (before binds) (indexUsed (before rebases) (before binds) (before index)) ⌝ }
+    ensures progress { λ r. ⌜ standingOf (r .progress) ≡ begun readingNew (infoIn (fileOutcome (r .answer))) ⌝ }
+    ensures segments { λ _. ⌜ after segments ≡ segmentsLeft (before file) (before segments) (before sections) (before rebases) (before binds) (indexUsed (before rebases) (before binds) (before index)) ⌝ }
+    ensures sections { λ _. ⌜ after sections ≡ sectionsLeft (before file) (before segments) (before sections) (before rebases) (before binds) (indexUsed (before rebases) (before binds) (before index)) ⌝ }
+    ensures index { λ _. ⌜ after index ≡ indexAfter (before file) (before segments) (before sections) (before rebases) (before binds) (before index) ⌝ }
+{
+    list_file_under(
+        Reading::New,
+        file,
+        segments,
+        sections,
+        rebases,
+        binds,
+        index,
+    )
+}
+
+// The same under either reading.
+pub fn list_file_under(
+    reading: Reading,
+    file: &[u8],
+    segments: &mut [u64],
+    sections: &mut [u64],
+    rebases: &[u64],
+    binds: &[u64],
+    index: &mut [u32],
+) -> FileListing
+    ensures answer { λ r. ⌜ fileOutcome (r .answer) ≡ openingFile (before file) (before segments) (before sections) (before rebases) (before binds) (indexUsed (before rebases) (before binds) (before index)) ⌝ }
+    ensures progress { λ r. ⌜ standingOf (r .progress) ≡ begun (readingUnder reading) (infoIn (fileOutcome (r .answer))) ⌝ }
+    ensures segments { λ _. ⌜ after segments ≡ segmentsLeft (before file) (before segments) (before sections) (before rebases) (before binds) (indexUsed (before rebases) (before binds) (before index)) ⌝ }
+    ensures sections { λ _. ⌜ after sections ≡ sectionsLeft (before file) (before segments) (before sections) (before rebases) (before binds) (indexUsed (before rebases) (before binds) (before index)) ⌝ }
+    ensures index { λ _. ⌜ after index ≡ indexAfter (before file) (before segments) (before sections) (before rebases) (before binds) (before index) ⌝ }
+{
+    let entries = index_words(rebases, binds, index.len());
+    let answer = open_file(
+        file,
+        segments,
+        sections,
+        rebases,
+        binds,
+        &mut index[0..entries],
+    );
+    FileListing {
+        answer,
+        progress: Progress::under(reading, info_of(answer)),
+    }
+}
+
+// The next piece over the rows of so many segments and the bytes of an image info.
+fn piece_over(
+    progress: Progress,
+    count: u64,
+    info: &[u8],
+    file: &[u8],
+    segments: &[u64],
+    sections: &[u64],
+    rebases: &[u64],
+    binds: &[u64],
+    index: &[u32],
+    ledger: &mut [u64],
+    out: &mut [u8],
+) -> Piece
+    ensures piece { λ r. let t = listable (overFile (before file) (take (segmentWords * count) (before segments)) (before sections) (before info) (before rebases) (before binds) (indexUsed (before rebases) (before binds) (before index))) in
+        ⌜ handedOf r (after ledger) (after out) ≡ pieceOf t (standingOf progress (before ledger)) (length (before out)) (before out) ⌝ }
+    ensures rest { λ r. let t = listable (overFile (before file) (take (segmentWords * count) (before segments)) (before sections) (before info) (before rebases) (before binds) (indexUsed (before rebases) (before binds) (before index))) in
+        ⌜ toCome t (standingOf (r .progress) (after ledger)) ≡ drop (length (before out)) (toCome t (standingOf progress (before ledger))) ⌝ }
+{
+    let words = segment_words(count, segments.len());
+    let entries = index_words(rebases, binds, index.len());
+    let files = [file];
+    progress.next_piece(
+        &files,
+        &segments[0..words],
+        sections,
+        info,
+        rebases,
+        binds,
+        &index[0..entries],
+        ledger,
+        out,
+    )
+}
+
+// The next piece of the text: its length, 0 where nothing is still to come, and where the printing stands after it.
+pub fn next_piece(
+    progress: Progress,
+    answer: FileAnswer,
+    file: &[u8],
+    segments: &[u64],
+    sections: &[u64],
+    rebases: &[u64],
+    binds: &[u64],
+    index: &[u32],
+    ledger: &mut [u64],
+    out: &mut [u8],
+) -> Piece
+    ensures piece { λ r. let t = tablesLent (fileOutcome answer) (before file) (before segments) (before sections) (before rebases) (before binds) (before index) in
+        ⌜ handedOf r (after ledger) (after out) ≡ pieceOf t (standingOf progress (before ledger)) (length (before out)) (before out) ⌝ }
+    ensures rest { λ r. let t = tablesLent (fileOutcome answer) (before file) (before segments) (before sections) (before rebases) (before binds) (before index) in
+        ⌜ toCome t (standingOf (r .progress) (after ledger)) ≡ drop (length (before out)) (toCome t (standingOf progress (before ledger))) ⌝ }
+{
+    match answer {
+        FileAnswer::File(opened) => {
+            let info = range_of(file, opened.info_at, opened.info_len);
+            piece_over(
+                progress,
+                opened.segments,
+                info,
+                file,
+                segments,
+                sections,
+                rebases,
+                binds,
+                index,
+                ledger,
+                out,
+            )
+        }
+        FileAnswer::Missing(_) => piece_over(
+            progress,
+            0,
+            &file[0..0],
+            file,
+            segments,
+            sections,
+            rebases,
+            binds,
+            index,
+            ledger,
+            out,
+        ),
+    }
+}
