@@ -1,0 +1,59 @@
+use Prim.Native.Nat.{_-_, _≤_}
+use mathlib.Core.Path.{_≡_, refl, sym}
+use mathlib.Core.Bool.{true}
+use native.Mathlib.Omega.{arith}
+use lib.Dec.{leb}
+use lib.ListN.{getD}
+use borrow.Author.Tests.{le-leb, lt-leb}
+use Rattle.pointers.specs.Question.{every}
+use Rattle.pointers.proofs.Questions.{every-fails, every-more}
+use Rattle.ancestry.specs.Rebases.{headsFall}
+use borrow.Author.Needs.{needs}
+use Rattle.ancestry.proofs.rebases.heads_fall.Statement.{statement}
+use Rattle.ancestry.proofs.rebases.heads_fall.Tie as tie
+
+abbrev Inv-loop : tie.InvT-loop
+Inv-loop index count c₀ c = (c ≤ 4096) × (every (λ k. leb (getD index k 0) count) c ≡ true)
+
+abbrev μ-loop : tie.MeasureT-loop
+μ-loop index count c₀ c = 4096 - c
+
+loop-holds : tie.Need-loop-holds Inv-loop μ-loop
+unfolding every
+loop-holds c = (omega arith, refl)
+
+cast-if1 : tie.Need-cast-if1 Inv-loop μ-loop
+cast-if1 c = omega (arith, c .shared-slice-known .given (c .before .before .loop .c))
+
+returns : tie.Need-returns Inv-loop μ-loop
+unfolding headsFall
+returns c =
+    let a = c .before .before .before .before .args in
+    every-fails (λ k. leb (getD (a .index .now) k 0) (a .count)) 4096 (c .before .before .before .loop .c) (c .before .before .loop-test .taken) (lt-leb (getD (a .index .now) (c .before .before .before .loop .c) 0) (a .count) (c .if1 .taken))
+
+loop-again : tie.Need-loop-again Inv-loop μ-loop
+loop-again c =
+    let a = c .before .before .before .before .args in
+    (omega arith, every-more (λ k. leb (getD (a .index .now) k 0) (a .count)) (c .before .before .before .loop .c) (c .before .before .before .loop .inv .1) (le-leb (getD (a .index .now) (c .before .before .before .loop .c) 0) (a .count) (c .if1 .left)))
+
+returns-2 : tie.Need-returns-2 Inv-loop μ-loop
+unfolding headsFall
+returns-2 c =
+    let past : c .before .loop .c ≡ 4096 = omega arith in
+    sym (rw past at (c .before .loop .inv .1))
+
+pub heads-fall-spec : {M : Type 1} → statement M
+heads-fall-spec =
+    tie.close
+    (tie.spec
+    Inv-loop
+    μ-loop
+    loop-holds
+    (λ c. search needs)
+    (λ c. search needs)
+    cast-if1
+    returns
+    (λ c. search needs)
+    (λ c. search needs)
+    loop-again
+    returns-2)
