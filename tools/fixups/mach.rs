@@ -129,11 +129,14 @@ pub mod load_command {
         pub command: CommandVariant,
     }
 
-    /// Chained fixups of 16 bytes or more; every other command is no matter here.
+    /// Chained fixups of 16 bytes or more and bind opcodes of 48 or more; every other command is no matter here.
     pub fn of(file: &[u8], c: &crate::reader::Command) -> LoadCommand {
         let word = |i: usize| u32::from_le_bytes(file[c.at + i..c.at + i + 4].try_into().unwrap());
         let command = if c.cmd == 0x8000_0034 && c.cmdsize >= 16 {
             CommandVariant::DyldChainedFixups(LinkeditDataCommand { dataoff: word(8), datasize: word(12) })
+        } else if (c.cmd == 0x22 || c.cmd == 0x8000_0022) && c.cmdsize >= 48 {
+            let (bind_off, bind_size, lazy_bind_off, lazy_bind_size) = (word(16), word(20), word(32), word(36));
+            CommandVariant::DyldInfo(DyldInfoCommand { bind_off, bind_size, lazy_bind_off, lazy_bind_size, export_off: 0, export_size: 0 })
         } else {
             CommandVariant::Other(c.cmdsize)
         };

@@ -108,7 +108,7 @@ pub mod codesign {
     }
 }
 
-/// One bind, as the Rust's import.rs declares it. A file without LC_DYLD_INFO has chained ones alone.
+/// One bind, as the Rust's import.rs declares it. The streams of bind opcodes are kept as binary.rs hands them over; nothing reads them here.
 pub mod import {
     use std::{ops::Range, sync::Arc};
     pub struct BindSegment {
@@ -123,10 +123,14 @@ pub mod import {
         pub dylibs: Vec<&'a str>,
         pub pointer_size: u8,
     }
-    pub struct BindStream<'a>(super::PhantomData<&'a ()>);
+    pub struct BindStream<'a> {
+        pub image: Arc<BindImage<'a>>,
+        pub range: Range<usize>,
+        pub is_lazy: bool,
+    }
     impl<'a> BindStream<'a> {
-        pub fn new(_: Arc<BindImage<'a>>, _: Range<usize>, _: bool) -> Self {
-            Self(super::PhantomData)
+        pub fn new(image: Arc<BindImage<'a>>, range: Range<usize>, is_lazy: bool) -> Self {
+            Self { image, range, is_lazy }
         }
     }
     pub struct Import<'a> {
@@ -140,17 +144,19 @@ pub mod import {
         pub addend: i64,
         pub bind_offset: u64,
     }
-    pub struct ImportIter<'a>(std::vec::IntoIter<Import<'a>>);
+    pub struct ImportIter<'a> {
+        pub legacy: Vec<BindStream<'a>>,
+        chained: std::vec::IntoIter<Import<'a>>,
+    }
     impl<'a> ImportIter<'a> {
         pub fn new(legacy: Vec<BindStream<'a>>, chained: Vec<Import<'a>>) -> Self {
-            assert!(legacy.is_empty());
-            Self(chained.into_iter())
+            Self { legacy, chained: chained.into_iter() }
         }
     }
     impl<'a> Iterator for ImportIter<'a> {
         type Item = Import<'a>;
         fn next(&mut self) -> Option<Import<'a>> {
-            self.0.next()
+            self.chained.next()
         }
     }
 }
