@@ -1,0 +1,60 @@
+use mathlib.Core.Path.{_≡_, refl}
+use Rattle.reads.specs.Files.{filesLent}
+use Rattle.pointers.specs.Tables.{under, tablesOf}
+use Rattle.dispatch.specs.Position.{ahead, weight}
+use Rattle.dispatch.specs.Written.{fewRows}
+use Rattle.dispatch.proofs.Scans.{row-lighter, passed-lighter, rows-none, rows-row, rows-passed, rows-end, rows-refused}
+use borrow.Author.Needs.{needs}
+use Rattle.dispatch.proofs.effective.rows_fit.Statement.{statement}
+use Rattle.dispatch.proofs.effective.rows_fit.Tie as tie
+
+abbrev Inv-loop : tie.InvT-loop
+Inv-loop files segments sections info rebases binds index setting side class room p₀ left₀ p left = fewRows (ahead (under setting (tablesOf (filesLent files) segments sections info rebases binds index)) side class p .rows) left ≡ fewRows (ahead (under setting (tablesOf (filesLent files) segments sections info rebases binds index)) side class p₀ .rows) room
+
+abbrev μ-loop : tie.MeasureT-loop
+μ-loop files segments sections info rebases binds index setting side class room p₀ left₀ p left = weight (under setting (tablesOf (filesLent files) segments sections info rebases binds index)) p
+
+loop-holds : tie.Need-loop-holds Inv-loop μ-loop
+loop-holds c = refl
+
+returns : tie.Need-returns Inv-loop μ-loop
+returns c = rows-none (c .before .before .before .before .step-from .ensures) _ (c .before .before .before .before .before .loop .inv) (c .before .before .r .given .1) (c .if1 .taken)
+
+loop-less : tie.Need-loop-less Inv-loop μ-loop
+loop-less c = row-lighter (c .before .before .before .before .before .step-from .ensures) (c .before .before .before .r .given .1)
+
+loop-again : tie.Need-loop-again Inv-loop μ-loop
+loop-again c = rows-row (c .before .before .before .before .before .step-from .ensures) _ (c .before .before .before .before .before .before .loop .inv) (c .before .before .before .r .given .1) (c .before .if1 .left)
+
+loop-less-2 : tie.Need-loop-less-2 Inv-loop μ-loop
+loop-less-2 c = passed-lighter (c .before .before .before .step-from .ensures) (c .before .q .given .1)
+
+loop-again-2 : tie.Need-loop-again-2 Inv-loop μ-loop
+loop-again-2 c = rows-passed (c .before .before .before .step-from .ensures) _ (c .before .before .before .before .loop .inv) (c .before .q .given .1)
+
+returns-2 : tie.Need-returns-2 Inv-loop μ-loop
+returns-2 c = rows-end (c .before .before .step-from .ensures) _ (c .before .before .before .loop .inv) (c .enum-told .given .1)
+
+returns-3 : tie.Need-returns-3 Inv-loop μ-loop
+returns-3 c = rows-refused (c .before .before .step-from .ensures) _ (c .before .before .before .loop .inv) (c .enum-told2 .given .1)
+
+pub rows-fit-spec : {M : Type 1} → statement M
+rows-fit-spec =
+    tie.close
+    (tie.spec
+    Inv-loop
+    μ-loop
+    loop-holds
+    (λ c κs. search needs)
+    (λ c. search needs)
+    returns
+    (λ c. search needs)
+    loop-less
+    loop-again
+    (λ c. search needs)
+    loop-less-2
+    loop-again-2
+    (λ c. search needs)
+    returns-2
+    (λ c. search needs)
+    returns-3)
