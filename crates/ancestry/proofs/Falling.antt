@@ -6,7 +6,7 @@ use native.Mathlib.Omega.{arith}
 use lib.Dec.{leb, eqb}
 use lib.ListN.{getD}
 use borrow.Author.Tests.{leb-true, eqb-false}
-use Rattle.reads.specs.Outcome.{value, number, Unrefused, is-value, is-absent, nonzero}
+use Rattle.reads.specs.Outcome.{value, Unrefused, is-value, is-absent, nonzero}
 use Rattle.reads.proofs.Tests.{by-choose, both-true}
 use Rattle.reads.proofs.Unrefused.{unrefused-then, unrefused-else, unrefused-because, unrefused-zero, sum-unrefused, nonzero-unrefused, readable-unrefused, word-unrefused, picked-unrefused}
 use Rattle.reads.specs.Address.{stripped}
@@ -23,22 +23,22 @@ use Rattle.ancestry.specs.Ancestry.{superAt, upIn}
 use Rattle.ancestry.specs.Rebases.{headsFall, nextsFall, chainsFall}
 
 module _ (t : Tables) (fall : chainsFall (t .rebases) (t .index) ≡ true) where
-  abbrev count : ℕ
-  count = records rebaseWords (t .rebases)
+  abbrev rebaseCount : ℕ
+  rebaseCount = records rebaseWords (t .rebases)
 
-  head : (c : ℕ) → c < chains → getD (t .index) c 0 ≤ count
+  head : (c : ℕ) → c < chains → getD (t .index) c 0 ≤ rebaseCount
   unfolding chainsFall headsFall
   head c h =
-      let b = both-true (headsFall (t .index) count) (nextsFall (t .index) count) fall in
-      leb-true (getD (t .index) c 0) count (every-at (λ c. leb (getD (t .index) c 0) count) chains (b .0) c h)
+      let b = both-true (headsFall (t .index) rebaseCount) (nextsFall (t .index) rebaseCount) fall in
+      leb-true (getD (t .index) c 0) rebaseCount (every-at (λ c. leb (getD (t .index) c 0) rebaseCount) chains (b .0) c h)
 
-  next : (k : ℕ) → k < count → getD (t .index) (2 * chains + k) 0 ≤ k
+  next : (k : ℕ) → k < rebaseCount → getD (t .index) (2 * chains + k) 0 ≤ k
   unfolding chainsFall nextsFall
   next k h =
-      let b = both-true (headsFall (t .index) count) (nextsFall (t .index) count) fall in
-      leb-true (getD (t .index) (2 * chains + k) 0) k (every-at (λ k. leb (getD (t .index) (2 * chains + k) 0) k) count (b .1) k h)
+      let b = both-true (headsFall (t .index) rebaseCount) (nextsFall (t .index) rebaseCount) fall in
+      leb-true (getD (t .index) (2 * chains + k) 0) k (every-at (λ k. leb (getD (t .index) (2 * chains + k) 0) k) rebaseCount (b .1) k h)
 
-  from-unrefused : (a limit n : ℕ) → limit ≤ count → n ≤ limit → Unrefused (followFrom rebaseWords (t .rebases) (2 * chains) a (t .index) limit n)
+  from-unrefused : (a limit n : ℕ) → limit ≤ rebaseCount → n ≤ limit → Unrefused (followFrom rebaseWords (t .rebases) (2 * chains) a (t .index) limit n)
   unfolding followFrom
   from-unrefused a zero n h l =
       let z : n ≡ 0 = omega arith in
@@ -53,7 +53,7 @@ module _ (t : Tables) (fall : chainsFall (t .rebases) (t .index) ≡ true) where
   rebase-falls a =
       let low : 0 + chainOf a ≡ chainOf a = omega arith in
       unrefused-then (λ n. value (rebaseRecord (t .rebases) (n - 1) .target))
-      (from-unrefused a count _ (omega arith) (rw low (head (chainOf a) (omega arith))))
+      (from-unrefused a rebaseCount _ (omega arith) (rw low (head (chainOf a) (omega arith))))
       (λ n. is-value (rebaseRecord (t .rebases) (n - 1) .target))
 
   stored-unrefused : (a : ℕ) → Unrefused (stored (imageIn t) a)

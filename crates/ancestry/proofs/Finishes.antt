@@ -52,9 +52,9 @@ rows-records (a ∷ b ∷ d ∷ out) (x ∷ xs) room all =
 
 -- What finishing row i changes.
 module _ (out : List ℕ) (i : ℕ) where
-  other : (k : ℕ) → (k ≡ i * 3 → ⊥) → (k ≡ i * 3 + 2 → ⊥) → getD (finishedAt out i) k 0 ≡ getD out k 0
+  finished-other : (k : ℕ) → (k ≡ i * 3 → ⊥) → (k ≡ i * 3 + 2 → ⊥) → getD (finishedAt out i) k 0 ≡ getD out k 0
   unfolding finishedAt
-  other k a b =
+  finished-other k a b =
       getD-set-other (set out (i * 3) (getD out (i * 3) 0 / 4)) (i * 3 + 2) k (getD out (i * 3) 0 % 4) 0 b
       ∙ getD-set-other out (i * 3) k (getD out (i * 3) 0 / 4) 0 a
 
@@ -89,7 +89,7 @@ module _ (out : List ℕ) where
   finished-next i now room f =
       record {
         done = λ j h. elim (ℕ-discrete j i) [ yes same ↦ rw same here | no different ↦ before j (omega arith) different ];
-        rest = λ k h. other now i k (λ e. omega arith) (λ e. omega arith) ∙ f .rest k (omega arith);
+        rest = λ k h. finished-other now i k (λ e. omega arith) (λ e. omega arith) ∙ f .rest k (omega arith);
         size = length-finished now i ∙ f .size;
       }
     where
@@ -102,7 +102,7 @@ module _ (out : List ℕ) where
           let two = f .rest (i * 3 + 1) (omega arith) in
           record {
             first = first-finished now i fits ∙ rw one;
-            second = other now i (i * 3 + 1) (λ e. omega arith) (λ e. omega arith) ∙ two;
+            second = finished-other now i (i * 3 + 1) (λ e. omega arith) (λ e. omega arith) ∙ two;
             third = third-finished now i fits ∙ rw one;
           }
 
@@ -110,9 +110,9 @@ module _ (out : List ℕ) where
       before j h n =
           let w = f .done j h in
           record {
-            first = other now i (j * 3) (λ e. omega arith) (λ e. omega arith) ∙ w .first;
-            second = other now i (j * 3 + 1) (λ e. omega arith) (λ e. omega arith) ∙ w .second;
-            third = other now i (j * 3 + 2) (λ e. omega arith) (λ e. omega arith) ∙ w .third;
+            first = finished-other now i (j * 3) (λ e. omega arith) (λ e. omega arith) ∙ w .first;
+            second = finished-other now i (j * 3 + 1) (λ e. omega arith) (λ e. omega arith) ∙ w .second;
+            third = finished-other now i (j * 3 + 2) (λ e. omega arith) (λ e. omega arith) ∙ w .third;
           }
 
   finished-to : (i : ℕ) → i * 3 ≤ length out → Finished out i (finishedTo out i)

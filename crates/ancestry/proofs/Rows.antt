@@ -5,7 +5,7 @@ use mathlib.Core.Logic.{_⊎_, inl, inr, ⊎-elim}
 use native.Mathlib.Omega.{arith}
 use lib.Dec.{eqb, leb}
 use borrow.Author.Tests.{leb-true, leb-false, eqb-true, eqb-false}
-use Rattle.reads.specs.Outcome.{value, number}
+use Rattle.reads.specs.Outcome.{value}
 use Rattle.reads.proofs.Tests.{by-choose}
 use Rattle.ancestry.specs.Chain.{above, Loops, ended, looping, lastAt, climb}
 use Rattle.ancestry.specs.Doubling.{Ground, Endless, Followed, Row, joinedOf}

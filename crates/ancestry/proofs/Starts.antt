@@ -14,7 +14,7 @@ use Rattle.ancestry.specs.Doubling.{nodeAt, putAt, Row, Rows, Following}
 use Rattle.ancestry.specs.Following.{groundOf, Ready, Unfollowed}
 use Rattle.ancestry.specs.declared.doubling.State.{State}
 use Rattle.ancestry.proofs.Climbs.{limit-small}
-use Rattle.ancestry.proofs.Rounds.{rows-more, put-node, drop-put, length-put}
+use Rattle.ancestry.proofs.Rounds.{rows-more, put-node, drop-put, length-put-at}
 
 -- The first i rows.
 pub record Starting (t : Tables) (listed : ℕ) (out₀ : List ℕ) (i : ℕ) (out : List ℕ) : Type 0 where
@@ -59,5 +59,5 @@ module _ (t : Tables) (listed : ℕ) (out₀ : List ℕ) where
         rows = rows-more (groundOf t out₀ listed) 1 i out s (omega (arith, together .room, w .size)) (w .rows) (row-same t listed i out out₀ s (w .nodes) r);
         nodes = λ j. put-node out i s j ∙ w .nodes j;
         tail = drop-put out i s listed h ∙ w .tail;
-        size = length-put out i s ∙ w .size;
+        size = length-put-at out i s ∙ w .size;
       }

@@ -16,7 +16,7 @@ use Rattle.reads.specs.declared.text.Verdict.the-variants.{Good, Bad}
 use Rattle.reads.proofs.Tests.{by-choose}
 use Rattle.pointers.specs.Question.{question}
 use Rattle.attributes.specs.Attributes.{valueLength, itemOf, itemsFrom, items, itemsFit, ifUtf8, handedOut, words, filled}
-use Rattle.attributes.specs.Property.{letters, unknowns, declared, declaredOf, unknownLeft}
+use Rattle.attributes.specs.Property.{unknowns, declared, declaredOf, unknownLeft}
 use Rattle.attributes.specs.Written.{Declaration, partOf, declarationIn, declaration, written, itemsIn, writtenText, writtenOf, writtenLeft}
 use Rattle.attributes.specs.RoundTrip.{Writable, decodedAs, writtenBy, Rewritten, DecodesTo}
 use Rattle.attributes.specs.declared.items.Item.{Item}

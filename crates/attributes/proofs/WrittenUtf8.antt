@@ -14,7 +14,6 @@ use Rattle.reads.specs.declared.text.Verdict.{Verdict}
 use Rattle.reads.specs.declared.text.Verdict.the-variants.{Good, Bad}
 use Rattle.reads.proofs.Tests.{by-choose}
 use Rattle.reads.proofs.Grammar.{accepts, utf8-accepts}
-use Rattle.attributes.specs.Property.{letters}
 use Rattle.attributes.specs.Written.{Part, Declaration, frontLetters, backLetters, declaration, given, inOrder, following, joined, written}
 use Rattle.attributes.specs.RoundTrip.{Each}
 use Rattle.attributes.proofs.Parts.{partsFrom, parts-of}

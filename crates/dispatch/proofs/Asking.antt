@@ -1,6 +1,6 @@
 -- The numbers that the lookups of listed categories give: of all slots, then of all categories, each as often as it is listed; and that this
 -- is the number of the plain definition.
-use Prim.Native.Nat.{ℕ, zero, suc, _+_, _<_, _≤_}
+use Prim.Native.Nat.{ℕ, _+_, _<_, _≤_}
 use mathlib.Core.Path.{_≡_, refl, sym, ap, _∙_}
 use mathlib.Core.Bool.{Bool, true, false}
 use mathlib.Core.List.{List, [], _∷_, _++_}

@@ -4,7 +4,7 @@ use mathlib.Core.Path.{_≡_, refl}
 use mathlib.Core.List.{List, [], _∷_, _++_, map}
 use lib.ListN.{replicate}
 use Rattle.reads.specs.Breaks.{canRead}
-use Rattle.reads.specs.Outcome.{Outcome, value, absent, number, choose, sum64, nonzero, textOf}
+use Rattle.reads.specs.Outcome.{value, absent, number, choose, sum64, nonzero, textOf}
 use Rattle.reads.specs.Files.{fileOf, longest}
 use Rattle.reads.specs.Place.{le, readableAt, readable, word, wordIn, leIn}
 use Rattle.reads.specs.Address.{stripped, dataArm64e, data64, mapped, pickedWide, picked}

@@ -14,8 +14,7 @@ use Rattle.records.specs.declared.category.ObjcCategory.{ObjcCategory}
 use Rattle.walks.specs.Slots.{addressIn, among}
 use Rattle.walks.proofs.SlotLaws.{among-other, among-word}
 use Rattle.dispatch.specs.declared.sources.Side.{Side}
-use Rattle.dispatch.specs.declared.sources.Source.{Source}
-use Rattle.dispatch.specs.Sources.{sourceOf, methodsOn, categorySource}
+use Rattle.dispatch.specs.Sources.{sourceOf, methodsOn}
 use Rattle.reads.specs.Text.{orNone}
 use Rattle.dispatch.specs.SlotSources.{categorySlots, listedAt, heldIn, held, heldBefore, taking, slotTotal}
 

@@ -8,7 +8,6 @@ use lib.Dec.{leb, ltb}
 use lib.ListN.{length, drop}
 use borrow.Author.Tests.{lt-ltb, le-ltb}
 use Rattle.reads.specs.Outcome.{Outcome, value, absent, number, andThen, choose}
-use Rattle.reads.proofs.Tests.{choose-true, choose-false}
 use Rattle.pointers.specs.Tables.{Tables, imageIn}
 use Rattle.records.specs.List.{listAt, entryAddress}
 use Rattle.records.specs.Search.{readables}

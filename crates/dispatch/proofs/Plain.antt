@@ -9,18 +9,18 @@ use lib.Dec.{eqb}
 use lib.ListN.{length, getD, take, drop, drop-of-length-le}
 use lib.Seq.{take-suc}
 use borrow.Author.Tests.{ne-eqb, eqb-true, eqb-false}
-use Rattle.reads.specs.Outcome.{Outcome, value, absent, number, andThen, choose, orZero}
+use Rattle.reads.specs.Outcome.{Outcome, value, absent, choose}
 use Rattle.reads.specs.Outcome as outcome
 use Rattle.reads.specs.declared.answer.Reason.{Reason}
-use Rattle.reads.specs.declared.answer.Reason.the-variants.{NoRecord, NullAddress}
-use Rattle.reads.proofs.Outcomes.{then-came, nonzero-zero}
+use Rattle.reads.specs.declared.answer.Reason.the-variants.{NoRecord}
+use Rattle.reads.proofs.Outcomes.{then-came}
 use Rattle.reads.proofs.Tests.{by-choose, choose-true, choose-false}
 use Rattle.pointers.specs.Tables.{Tables}
 use Rattle.records.specs.Decode.{run, or0, slot}
 use Rattle.records.specs.Category.{categoryAt}
 use Rattle.records.specs.declared.category.ObjcCategory.{ObjcCategory}
 use Rattle.records.specs.declared.class.ObjcClass.{ObjcClass}
-use Rattle.walks.specs.Gather.{joined, gather, ofValue, present}
+use Rattle.walks.specs.Gather.{gather, ofValue, present}
 use Rattle.walks.specs.Slots.{decodeAddress, addressIn, among}
 use Rattle.walks.specs.PlainSections.{addressesIn, once, listed, plainCategories}
 use Rattle.walks.proofs.Gathers.{Parts, gather-none, gather-parts, Held, held-one, held-none, present-held}

@@ -18,7 +18,6 @@ use Rattle.records.specs.declared.row.Row.{Row}
 use Rattle.records.specs.declared.row.Row.the-variants as row
 use Rattle.records.proofs.Headers.{list-unrefused}
 use Rattle.records.proofs.Decodes.{class-unrefused, ro-unrefused, row-unrefused}
-use Rattle.walks.specs.PlainSections.{plainCategories}
 use Rattle.walks.proofs.Gathers.{There, is-there}
 use Rattle.walks.proofs.OpenedSections.{categories-there}
 use Rattle.records.specs.declared.category.ObjcCategory.{ObjcCategory}

@@ -5,11 +5,10 @@ use mathlib.Core.Path.{_≡_, refl}
 use mathlib.Core.Bool.{Bool, true, false, _&&_}
 use mathlib.Core.List.{List, [], _∷_, _++_}
 use lib.ListN.{replicate}
-use lib.Dec.{eqb}
 use Rattle.pointers.specs.Question.{question}
 use Rattle.pointers.specs.Symbol.{ascii}
 use Rattle.reads.specs.Outcome.{Outcome, value, absent, number, choose}
-use Rattle.encodings.specs.Grammar.{structure, union, basic, object, instance, bitField, qualified, pointer, array, opaque, defined, nothing, _then_, Types, none, plain, framed, among, digitByte, nameByte, quotedByte}
+use Rattle.encodings.specs.Grammar.{structure, union, basic, object, instance, bitField, pointer, array, opaque, defined, nothing, _then_, Types, none, plain, framed, among, digitByte, nameByte, quotedByte}
 use Rattle.encodings.specs.Machine.{classOf, outside, run, parse}
 use Rattle.encodings.specs.Words.{wordsFit, typesOf, typesLeft}
 

@@ -10,7 +10,7 @@ use Rattle.reads.specs.Outcome.{Outcome, value, andThen}
 use Rattle.reads.proofs.Tests.{choose-true, choose-false}
 use Rattle.encodings.specs.Grammar.{Composite, structure, union, closer, Encoding, object, bitField, qualified, pointer, nothing, _then_, Types, plain, framed, spell, spellTypes, count, size}
 use Rattle.encodings.specs.Machine.{classOf, Open, qualifying, pointing, inArray, inComposite, Doing, wanted, counting, counted, naming, named, quoting, sizing, sized, atSign, ended, offset, State, at, levels, begin, after, step, outermost, finish}
-use Rattle.encodings.specs.Parser.{Kept, kept, opened, begun, belowPointers, followed, stepIn, endOf, finishIn}
+use Rattle.encodings.specs.Parser.{Kept, kept, begun, belowPointers, followed, stepIn, endOf, finishIn}
 use Rattle.encodings.specs.declared.bytes.Class.{Class}
 use Rattle.encodings.specs.declared.bytes.Class.the-variants.{Basic, Qualifier, Object, BitField, Pointer, Array, Structure, Union, Other}
 use Rattle.encodings.specs.declared.parser.Mode.{Mode}

@@ -8,15 +8,12 @@ use borrow.Author.Tests.{ne-eqb}
 use lib.ListN.{length, drop, length-append, length-drop}
 use lib.Seq.{sets, sets-eq, take-at, drop-append-add, drop-drop}
 use Rattle.reads.specs.Outcome.{Outcome, value, absent, number}
-use Rattle.reads.specs.declared.answer.Word.the-variants as word
 use Rattle.reads.proofs.Tests.{by-choose, choose-true, choose-false}
 use Rattle.encodings.specs.Grammar.{Encoding, object, bitField, qualified, pointer, nothing, _then_, Types, none, plain, framed, spell, spellTypes, count, size, wordsOf, filled}
 use Rattle.encodings.specs.Machine.{Open, qualifying, pointing, inArray, inComposite, wanted, counting, counted, naming, named, quoting, sizing, sized, atSign, ended, offset, State, at, outside, begin, after, step, outermost, finish}
 use Rattle.encodings.specs.Parser.{typeEnd, row, Ordered}
 use Rattle.encodings.specs.declared.bytes.Class.{Class}
 use Rattle.encodings.specs.declared.bytes.Class.the-variants.{Basic, Qualifier, Object, BitField, Pointer, Array, Structure, Union, Other}
-use Rattle.encodings.specs.declared.parser.Mode.the-variants as mode
-use Rattle.encodings.specs.declared.parser.Next.the-variants as next
 use Rattle.encodings.proofs.Lengths.{length-spell, length-types, spell-some}
 use Rattle.encodings.proofs.Shows.{offsetIn}
 use Rattle.encodings.proofs.States.{spellOpen, spellDoing, spellState, Good}

@@ -8,7 +8,7 @@ use lib.Dec.{eqb, ltb}
 use lib.ListN.{length, getD}
 use lib.Seq.{sets}
 use Rattle.reads.specs.Answer.{missed}
-use Rattle.reads.specs.Outcome.{Outcome, value, number, andThen, choose}
+use Rattle.reads.specs.Outcome.{Outcome, value, andThen, choose}
 use Rattle.pointers.specs.Symbol.{ascii}
 use Rattle.encodings.specs.Grammar.{Types, count, filled, digitByte, nameByte, quotedByte}
 use Rattle.encodings.specs.Machine.{outside, tooDeep, classOf, parse}

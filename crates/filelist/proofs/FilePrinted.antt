@@ -2,13 +2,11 @@
 -- nothing lent is written.
 use Prim.Native.Nat.{ℕ, _*_, _≤_}
 use mathlib.Core.Path.{_≡_, refl, sym, ap, _∙_}
-use mathlib.Core.List.{List, _++_, append-nil}
-use native.Mathlib.Omega.{arith}
+use mathlib.Core.List.{List}
 use lib.ListN.{length, take, drop, length-replicate, replicate, take-append-drop}
 use lib.Seq.{length-take-le, take-at}
-use Rattle.reads.specs.Files.{longest}
 use Rattle.reads.specs.Outcome.{Outcome, value, absent, number, andThen}
-use Rattle.pointers.specs.Index.{indexed, indexLength}
+use Rattle.pointers.specs.Index.{indexLength}
 use Rattle.pointers.specs.Open.{Opened, opening, openedIndex}
 use Rattle.pointers.specs.Tables.{Tables, under, withIndex, sectionTableWords}
 use Rattle.pointers.specs.declared.imageinfo.ImageInfo.{ImageInfo}
@@ -16,7 +14,7 @@ use Rattle.pointers.specs.declared.setting.Setting.{Setting}
 use Rattle.pointers.proofs.OpenedTables.{opened-room, opened-under}
 use Rattle.walks.specs.Slots.{slotCount}
 use Rattle.macho.specs.FileTables.{sectionTable, fileTables}
-use Rattle.macho.specs.OpenFile.{segmentTableWords, askedFile, openedFile, openingFile, segmentsLeft, sectionsLeft, indexLeft, laterTables}
+use Rattle.macho.specs.OpenFile.{segmentTableWords, askedFile, openedFile, openingFile, segmentsLeft, sectionsLeft, indexLeft}
 use Rattle.macho.specs.declared.open.OpenedFile.{OpenedFile}
 use Rattle.macho.proofs.FileOpened.{index-written, left-are-tables, opening-gives, number-keeps}
 use Rattle.printing.specs.BundleText.{openedText}

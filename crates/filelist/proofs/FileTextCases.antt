@@ -5,7 +5,7 @@ use mathlib.Core.List.{List, [], _∷_, _++_, flatMap}
 use lib.ListN.{take, replicate}
 use Rattle.reads.specs.Address.{stripped, dataArm64e, data64, mapped, pickedWide, picked}
 use Rattle.reads.specs.Files.{fileOf, longest}
-use Rattle.reads.specs.Outcome.{value, choose, sum64, nonzero}
+use Rattle.reads.specs.Outcome.{choose, sum64, nonzero}
 use Rattle.reads.specs.Place.{le, readableAt, readable, word, leIn, wordIn}
 use Rattle.reads.specs.Relative.{slotAddress}
 use Rattle.reads.specs.Segment.{rows, ends, holds, placed, lookup}

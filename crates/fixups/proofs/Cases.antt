@@ -105,10 +105,10 @@ unfolding leIn le choose zeroFrom textAt importAt stepOf originOf targetOf slotO
 no-command = refl
 
 -- Its two rebases and its bind, in tables that have a word to spare; 6 without room for the bind, and both tables as they were.
-pub filled : settled (fixupsFound small) (replicate 5 7) (replicate 5 7)
+pub tables-filled : settled (fixupsFound small) (replicate 5 7) (replicate 5 7)
     ≡ result (value (pair 2 1)) (0x1000 ∷ 0xAB00000000001010 ∷ 0x1010 ∷ 0x1020 ∷ 7 ∷ []) (0x1008 ∷ 209 ∷ 2 ∷ 0 ∷ 7 ∷ [])
 unfolding settled rowsOf written leIn le choose zeroFrom textAt importAt stepOf originOf targetOf slotOf entryOf visitOf chain joined pageAt pagesFrom known segmentStarts firstStarts infoOf infosFrom imageStarts walkOf headed sectioned fits allFit askedCommands question ofKind named starts baseOf fixupsFrom fixupsIn fixupsFound
-filled = refl
+tables-filled = refl
 
 pub short-binds : settled (fixupsFound small) (replicate 5 7) (replicate 3 7) ≡ result (number 6) (replicate 5 7) (replicate 3 7)
 unfolding settled rowsOf written leIn le choose zeroFrom textAt importAt stepOf originOf targetOf slotOf entryOf visitOf chain joined pageAt pagesFrom known segmentStarts firstStarts infoOf infosFrom imageStarts walkOf headed sectioned fits allFit askedCommands question ofKind named starts baseOf fixupsFrom fixupsIn fixupsFound

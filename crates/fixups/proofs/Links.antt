@@ -96,9 +96,9 @@ module _ (file body : List ℕ) (f : Fixups) (s : Starts) (page o : ℕ) (st : S
 -- What the code sees of a slot: v, with what it leaves in the tables.
 module _ (file body : List ℕ) (f : Fixups) (s : Starts) (page o : ℕ) (st : State) (h : o < s .size)
     (v : Visit) (rs bs : List ℕ) (seen : steppedOf v rs bs ≡ andThen (visitOf file body f s (page + o)) (after st)) where
-  pub refused : (k : ℕ) → v ≡ Refused k → number k ≡ told (chainAt file body f s page o) st
+  pub chain-refused : (k : ℕ) → v ≡ Refused k → number k ≡ told (chainAt file body f s page o) st
   unfolding told
-  refused k e = rw (chain-rule file body f s page o h) (go (visitOf file body f s (page + o)) (rw e at seen))
+  chain-refused k e = rw (chain-rule file body f s page o h) (go (visitOf file body f s (page + o)) (rw e at seen))
     where
       go : (W : Outcome Met) → number k ≡ andThen W (after st)
           → number k ≡ andThen (andThen W (λ m. onward m (chainAt file body f s page (o + m .step)))) (λ xs. value (puts xs st))

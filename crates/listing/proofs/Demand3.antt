@@ -26,7 +26,6 @@ use Rattle.listing.specs.Listing.{classes, categories, State, state, sta
 use Rattle.listing.specs.ListingRun.{eventsAt, answerAt, GivesNoNumber, Lists, ListsWhole}
 use Rattle.listing.specs.declared.at.At.the-variants as place
 use Rattle.listing.specs.declared.line.Line.{Line}
-use Rattle.listing.specs.declared.line.Line.the-variants as line
 use Rattle.listing.proofs.Bounds.{settled-few}
 use Rattle.listing.proofs.Events.{events-of}
 use Rattle.listing.proofs.LoanSettings.{loan-lists, loan-numberless}

@@ -15,10 +15,10 @@ use Rattle.pointers.specs.declared.setting.Setting.{Setting}
 use Rattle.records.specs.Category.{categoryClassName}
 use Rattle.records.specs.Class.{roOf, superclassName}
 use Rattle.records.specs.declared.class.ClassRo.{ClassRo}
-use Rattle.walks.specs.ProtocolNames.{ReachedName, nameReached, namePassed, namesFinished, nextNameUnder, nextName}
+use Rattle.walks.specs.ProtocolNames.{ReachedName, nameReached, namePassed, namesFinished, nextName}
 use Rattle.walks.specs.Sections as sections
 use Rattle.walks.specs.Sections.{Walk, atStart, Step, found, passed, dropped, finished, stepOf, protocolStepOf}
-use Rattle.walks.specs.Walk.{ReachedRow, rowReached, rowSkipped, rowsFinished, nextUnder, nextOf}
+use Rattle.walks.specs.Walk.{ReachedRow, rowReached, rowSkipped, rowsFinished, nextOf}
 use Rattle.walks.specs.declared.list_walk.ListWalk.{ListWalk}
 use Rattle.walks.specs.declared.protocol_names.ProtocolNameWalk.{ProtocolNameWalk}
 use Rattle.walks.proofs.Moves.{RowMoves, row-step-moved, NameMoves, name-step-moved, Further, past-slot, past-waiting, SectionMoves, section-step-moved, protocol-step-moved}

@@ -3,18 +3,17 @@
 use Prim.Native.Nat.{ℕ, zero, suc}
 use mathlib.Core.Path.{_≡_, refl, sym, ap, subst, _∙_}
 use mathlib.Core.List.{List}
-use Rattle.reads.specs.Outcome.{Outcome, value, number}
+use Rattle.reads.specs.Outcome.{number}
 use Rattle.pointers.specs.Tables.{Tables, under}
 use Rattle.pointers.specs.declared.setting.Setting.{Setting}
 use Rattle.walks.specs.Gather.{joined}
 use Rattle.listing.specs.PlainListing.{Event}
-use Rattle.listing.specs.Listing.{Begun, walks, SectionWalk, State, Answer, Left, start, onSection, sectionStep, stepAt, listingStep}
+use Rattle.listing.specs.Listing.{Begun, walks, State, Answer, Left, start, onSection, sectionStep, stepAt, listingStep}
 use Rattle.listing.specs.ListingRun.{eventsAt, eventsIn, lineSaid, settledAt, answerAt, linesBy, eventsBy, Answered, Lists}
 use Rattle.listing.specs.declared.at.At.{At}
 use Rattle.listing.specs.declared.at.At.the-variants as place
 use Rattle.listing.specs.declared.at.FieldWalk.{FieldWalk}
 use Rattle.listing.specs.declared.at.FieldWalk.the-variants as fieldWalk
-use Rattle.listing.specs.declared.at.ListAt.{ListAt}
 use Rattle.listing.specs.declared.at.Owner.{Owner}
 use Rattle.listing.specs.declared.at.Record.{Record}
 use Rattle.listing.specs.declared.at.Record.the-variants as aRecord

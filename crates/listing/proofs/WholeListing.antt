@@ -28,7 +28,6 @@ use Rattle.listing.specs.declared.at.At.the-variants as place
 use Rattle.listing.specs.declared.at.Record.{Record}
 use Rattle.listing.specs.declared.at.Record.the-variants as aRecord
 use Rattle.listing.specs.declared.line.Line.{Line}
-use Rattle.listing.specs.declared.line.Line.the-variants as line
 use Rattle.listing.proofs.Bounds.{records-few, events-few}
 use Rattle.listing.proofs.Events.{events-of, events-append}
 use Rattle.listing.proofs.FieldRests.{less}

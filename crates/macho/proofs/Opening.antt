@@ -22,7 +22,6 @@ use Rattle.macho.specs.Segments.{segmentTableOf, written}
 use Rattle.macho.specs.Sections.{sectionNamed, infoName, sectionTableOf}
 use Rattle.macho.specs.FileTables.{segmentTable, sectionTable, overFile, fileTables}
 use Rattle.macho.specs.OpenFile.{askedFile, openedFile, openingFile, segmentsLeft, sectionsLeft, indexLeft}
-use Rattle.macho.specs.declared.open.OpenedFile.{OpenedFile}
 use Rattle.macho.specs.declared.section.Section.{Section}
 
 left-missing : (A : Type 0) (m : Missing) (new old : List ℕ) → old ≡ leftBy (missed {A = A} m) new old

@@ -107,8 +107,8 @@ module _ (n : ℕ) where
   abbrev Named : Outcome Opcode → Type 0
   Named o = Each (λ d. NameIn n (d .says)) o
 
-  one : (x : Instruction) (k : ℕ) → NameIn n x → Named (value (opcode x k))
-  one x k h = each-value (λ d. NameIn n (d .says)) x k h
+  one-named : (x : Instruction) (k : ℕ) → NameIn n x → Named (value (opcode x k))
+  one-named x k h = each-value (λ d. NameIn n (d .says)) x k h
 
   no : (k : ℕ) → Named (number k)
   no k = each-number (λ d. NameIn n (d .says)) k
@@ -126,27 +126,27 @@ module _ (n : ℕ) where
   plain-named : (parts : Bool) (rest : List ℕ) (op imm : ℕ) → Named (plain parts rest op imm)
   unfolding plain
   plain-named parts rest op imm =
-      by-choose Named (λ _. one Pass _ unnamed-pass) (λ _.
-      by-choose Named (λ _. one Pass 0 unnamed-pass) (λ _.
-      by-choose Named (λ _. one Pass 0 unnamed-pass) (λ _.
-      by-choose Named (λ _. by-choose Named (λ _. one Pass 0 unnamed-pass) (λ _. no 19)) (λ _.
-      by-choose Named (λ _. one (Bind 1 8) 0 (unnamed-bind 1 8)) (λ _.
-      by-choose Named (λ _. one (Bind 1 (8 + 8 * imm)) 0 (unnamed-bind 1 (8 + 8 * imm))) (λ _. no 19))))))
+      by-choose Named (λ _. one-named Pass _ unnamed-pass) (λ _.
+      by-choose Named (λ _. one-named Pass 0 unnamed-pass) (λ _.
+      by-choose Named (λ _. one-named Pass 0 unnamed-pass) (λ _.
+      by-choose Named (λ _. by-choose Named (λ _. one-named Pass 0 unnamed-pass) (λ _. no 19)) (λ _.
+      by-choose Named (λ _. one-named (Bind 1 8) 0 (unnamed-bind 1 8)) (λ _.
+      by-choose Named (λ _. one-named (Bind 1 (8 + 8 * imm)) 0 (unnamed-bind 1 (8 + 8 * imm))) (λ _. no 19))))))
 
   times-named : (rest : List ℕ) → Named (timesSkipping rest)
   unfolding timesSkipping skipping
   times-named rest =
       onto (operand (uleb128 rest)) _ (λ u e.
       onto (operand (uleb128 (drop (u .consumed) rest))) _ (λ v g.
-      by-choose Named (λ t. one (Bind (u .value) (v .value + 8)) _ (unnamed-bind (u .value) (v .value + 8))) (λ _. no 20)))
+      by-choose Named (λ t. one-named (Bind (u .value) (v .value + 8)) _ (unnamed-bind (u .value) (v .value + 8))) (λ _. no 20)))
 
   decode-named : (parts : Bool) (place b : ℕ) (rest : List ℕ) → place + length rest ≤ n → Named (decode parts place b rest)
   unfolding decode byOpcode symbolAt addend withNumber Below
   decode-named parts place b rest h =
-      by-choose Named (λ _. onto (zeroFrom 0 rest) _ (λ k e. one (Symbol place k) _ (named-symbol place k (omega (arith, zero-in 0 rest k e))))) (λ _.
-      by-choose Named (λ _. onto (operand (sleb128 rest)) _ (λ s e. one Pass _ unnamed-pass)) (λ _.
+      by-choose Named (λ _. onto (zeroFrom 0 rest) _ (λ k e. one-named (Symbol place k) _ (named-symbol place k (omega (arith, zero-in 0 rest k e))))) (λ _.
+      by-choose Named (λ _. onto (operand (sleb128 rest)) _ (λ s e. one-named Pass _ unnamed-pass)) (λ _.
       by-choose Named (λ _. times-named rest) (λ _.
-      by-choose Named (λ _. onto (operand (uleb128 rest)) _ (λ u e. one _ _ (numbered-named (b - b % 16) (b % 16) (u .value))))
+      by-choose Named (λ _. onto (operand (uleb128 rest)) _ (λ u e. one-named _ _ (numbered-named (b - b % 16) (b % 16) (u .value))))
       (λ _. plain-named parts rest (b - b % 16) (b % 16)))))
 
 -- A stream.

@@ -103,8 +103,8 @@ paced-run k n h l = λ count stride e. let p : n ≡ stride = cc in inr (omega a
 abbrev Strides : Outcome Opcode → Type 0
 Strides o = Each (λ d. Paced (d .says)) o
 
-one : (x : Instruction) (n : ℕ) → Paced x → Strides (value (opcode x n))
-one x n h = each-value (λ d. Paced (d .says)) x n h
+one-paced : (x : Instruction) (n : ℕ) → Paced x → Strides (value (opcode x n))
+one-paced x n h = each-value (λ d. Paced (d .says)) x n h
 
 none : (k : ℕ) → Strides (number k)
 none k = each-number (λ d. Paced (d .says)) k
@@ -119,12 +119,12 @@ numbered-paced op imm n =
 plain-paced : (parts : Bool) (rest : List ℕ) (op imm : ℕ) → Strides (plain parts rest op imm)
 unfolding plain
 plain-paced parts rest op imm =
-    by-choose Strides (λ _. one Pass _ paced-pass) (λ _.
-    by-choose Strides (λ _. one Pass 0 paced-pass) (λ _.
-    by-choose Strides (λ _. one Pass 0 paced-pass) (λ _.
-    by-choose Strides (λ _. by-choose Strides (λ _. one Pass 0 paced-pass) (λ _. none 19)) (λ _.
-    by-choose Strides (λ _. one (Bind 1 8) 0 (paced-one 8)) (λ _.
-    by-choose Strides (λ _. one (Bind 1 (8 + 8 * imm)) 0 (paced-one (8 + 8 * imm))) (λ _. none 19))))))
+    by-choose Strides (λ _. one-paced Pass _ paced-pass) (λ _.
+    by-choose Strides (λ _. one-paced Pass 0 paced-pass) (λ _.
+    by-choose Strides (λ _. one-paced Pass 0 paced-pass) (λ _.
+    by-choose Strides (λ _. by-choose Strides (λ _. one-paced Pass 0 paced-pass) (λ _. none 19)) (λ _.
+    by-choose Strides (λ _. one-paced (Bind 1 8) 0 (paced-one 8)) (λ _.
+    by-choose Strides (λ _. one-paced (Bind 1 (8 + 8 * imm)) 0 (paced-one (8 + 8 * imm))) (λ _. none 19))))))
 
 times-paced : (rest : List ℕ) → Strides (timesSkipping rest)
 unfolding timesSkipping skipping
@@ -132,17 +132,17 @@ times-paced rest =
     each-then (λ d. Paced (d .says)) (operand (uleb128 rest)) _ (λ u e.
     each-then (λ d. Paced (d .says)) (operand (uleb128 (drop (u .consumed) rest))) _ (λ v g.
     by-choose Strides
-    (λ t. one (Bind (u .value) (v .value + 8)) _ (paced-run (u .value) (v .value + 8) (omega arith) (ltb-true (v .value + 8) (2 ^ 64) t)))
+    (λ t. one-paced (Bind (u .value) (v .value + 8)) _ (paced-run (u .value) (v .value + 8) (omega arith) (ltb-true (v .value + 8) (2 ^ 64) t)))
     (λ _. none 20)))
 
 decode-paced : (parts : Bool) (place b : ℕ) (rest : List ℕ) → Strides (decode parts place b rest)
 unfolding decode byOpcode symbolAt addend withNumber
 decode-paced parts place b rest =
-    by-choose Strides (λ _. each-then (λ d. Paced (d .says)) (zeroFrom 0 rest) _ (λ n e. one (Symbol place n) _ (paced-symbol place n))) (λ _.
-    by-choose Strides (λ _. each-then (λ d. Paced (d .says)) (operand (sleb128 rest)) _ (λ s e. one Pass _ paced-pass)) (λ _.
+    by-choose Strides (λ _. each-then (λ d. Paced (d .says)) (zeroFrom 0 rest) _ (λ n e. one-paced (Symbol place n) _ (paced-symbol place n))) (λ _.
+    by-choose Strides (λ _. each-then (λ d. Paced (d .says)) (operand (sleb128 rest)) _ (λ s e. one-paced Pass _ paced-pass)) (λ _.
     by-choose Strides (λ _. times-paced rest) (λ _.
     by-choose Strides
-    (λ _. each-then (λ d. Paced (d .says)) (operand (uleb128 rest)) _ (λ u e. one _ _ (numbered-paced (b - b % 16) (b % 16) (u .value))))
+    (λ _. each-then (λ d. Paced (d .says)) (operand (uleb128 rest)) _ (λ u e. one-paced _ _ (numbered-paced (b - b % 16) (b % 16) (u .value))))
     (λ _. plain-paced parts rest (b - b % 16) (b % 16)))))
 
 -- A run makes as many binds as it counts.

@@ -2,27 +2,26 @@
 use Prim.Native.Nat.{ℕ, zero, suc, _+_, _-_, _*_, _≤_, _<_}
 use mathlib.Core.Path.{_≡_, refl, ap, sym, _∙_}
 use mathlib.Core.Bool.{Bool, true, false}
-use mathlib.Core.List.{List, [], _∷_}
+use mathlib.Core.List.{List, _∷_}
 use native.Mathlib.Nat.{add-zero}
 use native.Mathlib.Omega.{arith}
 use borrow.Author.Tests.{lt-ltb}
-use lib.Dec.{leb, eqb}
+use lib.Dec.{leb}
 use lib.ListN.{length, getD}
-use Rattle.reads.specs.Outcome.{Outcome, value, absent, number, andThen, because, orElse, orZero, choose, sum64}
-use Rattle.reads.specs.Table.{records, wordOf, tabulate}
+use Rattle.reads.specs.Outcome.{Outcome, value, absent, number, andThen, orZero, choose, sum64}
+use Rattle.reads.specs.Table.{records, tabulate}
 use Rattle.reads.specs.Files.{fileOf}
 use Rattle.reads.specs.Place.{imageOf, part}
 use Rattle.reads.specs.Utf8.{utf8}
 use Rattle.reads.specs.declared.text.Text.{Text}
 use Rattle.reads.proofs.OneImage as image
 use Rattle.reads.proofs.OneFile.{Widened, textInFile, textsInFile, word-one}
-use Rattle.reads.proofs.OneFile as reads
 use Rattle.pointers.specs.Tables.{chains, slotOf, bindRecord}
 use Rattle.pointers.specs.Question.{question, nameLent, nameInside, nameUtf8}
-use Rattle.pointers.specs.Index.{chainOf, latest, headsOf, nextsOf, bindNexts, indexed}
+use Rattle.pointers.specs.Index.{chainOf, latest, bindNexts, indexed}
 use Rattle.pointers.specs.Chain.{followFrom, follow}
 use Rattle.pointers.specs.Symbol.{strippedIn, strippedName}
-use Rattle.pointers.specs.Slot.{rebaseAt, bindName, bindAt, symbolOf, stored, resolve, pointerAt, pointerOr0At}
+use Rattle.pointers.specs.Slot.{bindName, bindAt, symbolOf, stored, resolve, pointerAt, pointerOr0At}
 use Rattle.pointers.proofs.Chains.{follow-value}
 use Rattle.pointers.proofs.OneImage as one
 use Rattle.pointers.proofs.Questions.{question-yes}

@@ -1,6 +1,6 @@
 -- The definitions of pointer slots, bind names and the index as they were before images could span files (document 02, note 6): one image,
 -- three words a bind. OneFile.antt says that one file with number 0 gives what they gave.
-use Prim.Native.Nat.{ℕ, _+_, _-_, _*_}
+use Prim.Native.Nat.{ℕ, _+_, _-_}
 use mathlib.Core.List.{List, _++_}
 use lib.Dec.{leb}
 use lib.ListN.{length, drop}

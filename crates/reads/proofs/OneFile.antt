@@ -10,7 +10,7 @@ use lib.ListN.{length, drop}
 use Rattle.reads.specs.Outcome.{Outcome, value, absent, number, andThen, because, orElse, choose, sum64, nonzero, textOf}
 use Rattle.reads.specs.Table.{records, wordOf, tabulate}
 use Rattle.reads.specs.Files.{fileOf}
-use Rattle.reads.specs.Segment.{segment, segmentWords, segmentAt, rows, ends, holds, placeAt, placed, lookup}
+use Rattle.reads.specs.Segment.{segment, segmentAt, rows, ends, holds, placeAt, placed, lookup}
 use Rattle.reads.specs.Place.{imageOf, le, part, readableAt, readable, word}
 use Rattle.reads.specs.Address.{dataArm64e, data64, mapped, pickedWide, picked}
 use Rattle.reads.specs.Text.{scanOf, ifGood, ended, ifEnded, textFrom, textAt, textIn}

@@ -9,7 +9,7 @@ use crate::place::Placed;
 use crate::segment::Segment;
 ghost use mathlib.Core.Path.{_≡_};
 ghost use mathlib.Core.Bool.{true, false};
-ghost use Prim.Native.Nat.{_<_, _^_};
+ghost use Prim.Native.Nat.{_<_};
 ghost use Rattle.reads.specs.Reference.{before};
 ghost use Rattle.reads.specs.Answer.{placeOutcome};
 ghost use Rattle.reads.specs.Place.{lentImage};

@@ -6,7 +6,6 @@ use mathlib.Core.Option.{none, some}
 use native.Mathlib.Nat.{mul-zero, mul-le-mul, le-dest, mul-le-mul-right, div-mul-le-self, lt-div-mul-add}
 use native.Mathlib.Omega.{arith}
 use borrow.Author.Tests.{lt-ltb, le-ltb}
-use lib.ListN.{length}
 use Rattle.reads.specs.Breaks.{canRead, breaksOf, nextBreak, above}
 use Rattle.reads.specs.Place.{Image}
 use Rattle.reads.specs.declared.breaks.Break.the-variants.{At, Nothing}

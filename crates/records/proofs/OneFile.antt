@@ -3,7 +3,7 @@
 use Prim.Native.Nat.{ℕ, zero, suc, _+_}
 use mathlib.Core.Path.{_≡_, refl, ap}
 use mathlib.Core.List.{List, [], _∷_}
-use lib.ListN.{length, getD, replicate}
+use lib.ListN.{getD, replicate}
 use Rattle.reads.specs.Outcome as outcomes
 use Rattle.reads.specs.Outcome.{Outcome, value, absent, number, andThen, orElse, orFirst, choose}
 use Rattle.reads.specs.Address as address

@@ -2,7 +2,7 @@
 use Prim.Native.Nat.{ℕ, _+_, _-_, _*_, _%_, _^_}
 use mathlib.Core.Bool.{Bool, true, false, _&&_}
 use lib.Dec.{ltb}
-use Rattle.reads.specs.Outcome.{Outcome, value, absent, choose}
+use Rattle.reads.specs.Outcome.{Outcome, value, choose}
 use Rattle.reads.specs.Answer.{missed}
 use Rattle.reads.specs.Breaks.{canRead}
 use Rattle.reads.specs.Place.{Image}

@@ -22,7 +22,6 @@ use reads::text::TextAnswer;
 use reads::text::read_cstr;
 use reads::text::read_cstr_or_empty;
 ghost use mathlib.Core.Path.{_≡_};
-ghost use Rattle.reads.specs.Reference.{before};
 ghost use Rattle.reads.specs.Answer.{wordOutcome, textOutcome};
 ghost use Rattle.reads.specs.Relative.{relative, signedIn};
 ghost use Rattle.reads.specs.Files.{filesOf};

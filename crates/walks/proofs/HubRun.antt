@@ -1,7 +1,7 @@
 -- ◆ The listing's image (document 01, "The program's listing") meets what the whole claim asks: its tables are opened, and a run of steps over
 -- its method list, which claims 4,294,967,295 rows, is computed whole from the laws.
 use Prim.Native.Nat.{ℕ, _+_, _-_, _≤_, _<_}
-use mathlib.Core.Option.{none, some}
+use mathlib.Core.Option.{some}
 use mathlib.Core.Path.{_≡_, refl, ap, _∙_}
 use mathlib.Core.Bool.{true, false}
 use mathlib.Core.List.{List, [], _∷_}

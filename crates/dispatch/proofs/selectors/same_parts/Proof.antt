@@ -1,4 +1,3 @@
-use native.Mathlib.Omega.{arith}
 use Rattle.dispatch.proofs.Bytes.{same-parts-by}
 use borrow.Author.Needs.{needs}
 use Rattle.dispatch.proofs.selectors.same_parts.Statement.{statement}

@@ -1,4 +1,4 @@
-use mathlib.Core.Path.{sym, ap, _∙_}
+use mathlib.Core.Path.{ap, _∙_}
 use native.Mathlib.Omega.{arith}
 use Rattle.printing.specs.Pieces.{begun}
 use Rattle.pointers.specs.Tables.{readingUnder}

@@ -1,4 +1,4 @@
-use mathlib.Core.Path.{ap, sym, _∙_}
+use mathlib.Core.Path.{ap}
 use Rattle.printing.specs.Pieces.{listable}
 use Rattle.printing.proofs.BundleAnswers.{piece-same}
 use Rattle.filelist.proofs.FileAnswers.{opened-parts, no-parts}

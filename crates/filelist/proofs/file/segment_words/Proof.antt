@@ -1,5 +1,4 @@
 use native.Mathlib.Omega.{arith}
-use borrow.Author.Needs.{needs}
 use Rattle.filelist.proofs.file.segment_words.Statement.{statement}
 use Rattle.filelist.proofs.file.segment_words.Tie as tie
 

@@ -1,4 +1,3 @@
-use native.Mathlib.Omega.{arith}
 use mathlib.Core.Path.{sym, _∙_, ap}
 use Rattle.pointers.specs.Question.{askedOutcome}
 use Rattle.fixups.specs.Fixups.{settled}

@@ -1,7 +1,5 @@
-use native.Mathlib.Omega.{arith}
-use Prim.Native.Nat.{ℕ}
 use mathlib.Core.Path.{_≡_}
-use mathlib.Core.List.{List, []}
+use mathlib.Core.List.{[]}
 use Rattle.fixups.proofs.Building.{nil-of}
 use borrow.Author.Needs.{needs}
 use Rattle.fixups.proofs.build.count_records.Statement.{statement}

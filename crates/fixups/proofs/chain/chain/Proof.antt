@@ -55,7 +55,7 @@ same-length-4 c = (c .before .before .before .before .before .before .before .vi
 
 returns-2 : tie.Need-returns-2 Inv-loop μ-loop
 returns-2 c = let a = c .before .before .before .before .before .before .before .before .before .before .before .before .before .before .before .before .before .args in let l = c .before .before .before .before .before .before .before .before .before .before .before .loop in
-    laws.refused (a .file .now) (a .body .now) (a .f) (a .s) (a .page) (l .o) (state (l .rebased) (l .bound) (l .rebases) (l .binds)) (omega arith)
+    laws.chain-refused (a .file .now) (a .body .now) (a .f) (a .s) (a .page) (l .o) (state (l .rebased) (l .bound) (l .rebases) (l .binds)) (omega arith)
     (c .before .before .before .before .before .before .before .visit-slot .result) (c .before .before .before .before .before .before .before .visit-slot .last .1 .1 .1 .1 .1 .1 .1 .0) (c .before .before .before .before .before .before .before .visit-slot .last .1 .1 .1 .1 .1 .1 .1 .1 .0) (c .before .before .before .before .before .before .before .visit-slot .ensures) _ (c .before .k .given .1) ∙ sym (l .inv .0)
 
 same-length-5 : tie.Need-same-length-5 Inv-loop μ-loop

@@ -1,4 +1,3 @@
-use native.Mathlib.Omega.{arith}
 use Rattle.fixups.specs.Chain.{slotOf}
 use Rattle.fixups.proofs.Visits.{entry-rebase, entry-bind, entry-not}
 use borrow.Author.Needs.{needs}

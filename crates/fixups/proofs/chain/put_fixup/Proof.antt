@@ -1,4 +1,3 @@
-use native.Mathlib.Omega.{arith}
 use Rattle.fixups.proofs.Visits.{put-rebase-is, put-bind-is}
 use borrow.Author.Needs.{needs}
 use Rattle.fixups.proofs.chain.put_fixup.Statement.{statement}

@@ -1,6 +1,6 @@
 use native.Mathlib.Omega.{arith}
 use mathlib.Core.Path.{_∙_}
-use Prim.Native.Nat.{_+_, _*_}
+use Prim.Native.Nat.{_*_}
 use Rattle.fixups.proofs.Names.{import-none, import-out, import-in}
 use borrow.Author.Needs.{needs}
 use Rattle.fixups.proofs.name.import_at.Statement.{statement}

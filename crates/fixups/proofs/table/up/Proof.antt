@@ -1,6 +1,5 @@
 use native.Mathlib.Omega.{arith}
 use Rattle.fixups.proofs.Rows.{up-one, up-full}
-use borrow.Author.Needs.{needs}
 use Rattle.fixups.proofs.table.up.Statement.{statement}
 use Rattle.fixups.proofs.table.up.Tie as tie
 

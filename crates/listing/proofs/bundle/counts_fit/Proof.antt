@@ -2,7 +2,6 @@ use Prim.Native.Nat.{_≤_, _-_}
 use mathlib.Core.Path.{_≡_, refl, sym}
 use mathlib.Core.Bool.{true}
 use native.Mathlib.Omega.{arith}
-use borrow.Author.Tests.{le-leb, lt-leb}
 use Rattle.pointers.specs.Question.{every}
 use Rattle.pointers.proofs.Questions.{every-more, every-fails}
 use Rattle.listing.specs.Bundle.{countFits}

@@ -1,7 +1,6 @@
 -- Each return is the first question that says no, after a yes to those before it.
 use mathlib.Core.Path.{sym, ap, _∙_}
 use Prim.Native.Nat.{ℕ}
-use mathlib.Core.List.{List}
 use borrow.Author.Tests.{not-true, not-false}
 use Rattle.pointers.specs.Question.{imageFits, sectionTable, askedTables}
 use Rattle.pointers.proofs.Questions as laws

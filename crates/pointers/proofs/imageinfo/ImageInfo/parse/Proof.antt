@@ -1,4 +1,3 @@
-use native.Mathlib.Omega.{arith}
 use Rattle.pointers.proofs.Infos.{info-short, info-by}
 use borrow.Author.Needs.{needs}
 use Rattle.pointers.proofs.imageinfo.ImageInfo.parse.Statement.{statement}
