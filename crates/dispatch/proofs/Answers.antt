@@ -1,11 +1,11 @@
 -- The call's answer and the result buffer that it leaves, by the questions that it asks.
 use Prim.Native.Nat.{ℕ, _-_, _*_, _/_, _≤_}
-use mathlib.Core.Path.{_≡_, refl, ap, sym, _∙_}
-use mathlib.Core.Bool.{Bool, true, false, not}
+use mathlib.Core.Path.{_≡_, refl, ap, sym, subst, _∙_}
+use mathlib.Core.Bool.{Bool, true, false}
 use mathlib.Core.List.{List}
 use native.Mathlib.Omega.{arith}
 use lib.ListN.{length}
-use borrow.Author.Tests.{leb-true, leb-false, le-leb, lt-leb, not-true, not-false}
+use borrow.Author.Tests.{leb-true, leb-false, le-leb, lt-leb}
 use Rattle.reads.specs.Answer.{missed}
 use Rattle.reads.specs.Outcome.{Outcome, value, number, andThen}
 use Rattle.reads.specs.declared.answer.Missing.{Missing}
@@ -22,9 +22,12 @@ use Rattle.records.specs.declared.class.ObjcClass.{ObjcClass}
 use Rattle.records.specs.declared.class.ClassAnswer.{ClassAnswer}
 use Rattle.records.specs.declared.class.ClassAnswer.the-variants as classes
 use Rattle.walks.specs.PlainSections.{plainCategories}
+use Rattle.dispatch.specs.declared.effective.Survey.{Survey}
+use Rattle.dispatch.specs.declared.effective.Survey.the-variants as survey
+use Rattle.dispatch.specs.declared.effective.Fit.{Fit}
+use Rattle.dispatch.specs.declared.effective.Fit.the-variants as fit
 use Rattle.dispatch.specs.declared.sources.Side.{Side}
 use Rattle.dispatch.specs.declared.sources.SourceAnswer.{SourceAnswer}
-use Rattle.dispatch.specs.declared.rows.Appearance.{Appearance}
 use Rattle.dispatch.specs.declared.rows.Position.{Position}
 use Rattle.dispatch.specs.declared.rows.Entered.{Entered}
 use Rattle.dispatch.specs.declared.rows.Entered.the-variants as entered
@@ -33,12 +36,12 @@ use Rattle.dispatch.specs.Appearances.{Rows, appearances}
 use Rattle.dispatch.specs.SlotSources.{slotRows, slotTotal, slotAppearances, settled}
 use Rattle.dispatch.specs.Dispatch.{firsts, effectiveOf, effectiveAmong, effective, Left, leaves, left}
 use Rattle.dispatch.specs.Position.{ahead, EnteredAt}
-use Rattle.dispatch.specs.Written.{fewFirsts, WroteAll}
+use Rattle.dispatch.specs.Written.{fewFirsts, Surveyed, RoomFor, WroteAll}
 use Rattle.dispatch.proofs.Asking.{settled-value, settled-number}
 use Rattle.dispatch.proofs.Matches.{left-same}
 use Rattle.dispatch.proofs.Places.{appearances-ordered, slots-ordered}
 use Rattle.dispatch.proofs.Plain.{slots-plain}
-use Rattle.dispatch.proofs.Scans.{length-effective}
+use Rattle.dispatch.proofs.Scans.{length-effective, rows-suffice}
 use Rattle.dispatch.proofs.Walks.{was-entered}
 
 left-missed : (m : Missing) (result : List ℕ) → leaves (missed m) result ≡ left (missed m) result
@@ -50,32 +53,52 @@ left-number : (k : ℕ) (result : List ℕ) → leaves (number k) result ≡ lef
 unfolding left
 left-number k result = refl
 
-module _ (files : List (List ℕ)) (rs : Rows) (result : List ℕ) (a : Asked) (e : askedOutcome a ≡ rs .end) where
-  pub from-refused : {k : ℕ} → a ≡ asks.Refused k → leaves (number k) result ≡ left (effectiveAmong files rs) result
+module _ (files : List (List ℕ)) (rs : Rows) (result : List ℕ) {a : Fit} (w : RoomFor files rs (length result / 4) a) where
+  told-by : {b : Fit} → a ≡ b → RoomFor files rs (length result / 4) b
+  told-by e = subst (λ (x : Fit). RoomFor files rs (length result / 4) x) e w
+
+  pub from-refused : {k : ℕ} → a ≡ fit.Refused k → leaves (number k) result ≡ left (effectiveAmong files rs) result
   unfolding effectiveAmong
-  from-refused {k} g = rw (← e, g) (left-number k result)
+  from-refused {k} g = rw (told-by g .told) (left-number k result)
 
-  module _ (g : a ≡ asks.Yes) where
-    found : effectiveAmong files rs ≡ value (effectiveOf files (rs .rows))
-    unfolding effectiveAmong
-    found = rw (← e, g)
+  found : rs .end ≡ value tt → effectiveAmong files rs ≡ value (effectiveOf files (rs .rows))
+  unfolding effectiveAmong
+  found e = rw e
 
-    module _ {y : Bool} (f : y ≡ fewFirsts files (rs .rows) (rs .rows) (length result / 4)) where
-      pub from-room : not y ≡ false → 4 * length (firsts files (rs .rows) (rs .rows)) ≤ length result
-      unfolding fewFirsts
-      from-room h = let l = leb-true (length (firsts files (rs .rows) (rs .rows))) (length result / 4) (sym f ∙ not-false y h) in omega arith
+  pub from-short : a ≡ fit.Short → leaves (number 22) result ≡ left (effectiveAmong files rs) result
+  unfolding fewFirsts left
+  from-short g =
+      let l = leb-false (length (firsts files (rs .rows) (rs .rows))) (length result / 4) (told-by g .told .1) in
+      rw (found (told-by g .told .0))
+      (sym (choose-false _ _ (lt-leb (4 * length (effectiveOf files (rs .rows))) (length result) (omega (arith, length-effective files (rs .rows))))))
 
-      pub from-short : not y ≡ true → leaves (number 22) result ≡ left (effectiveAmong files rs) result
-      unfolding fewFirsts left
-      from-short h =
-          let l = leb-false (length (firsts files (rs .rows) (rs .rows))) (length result / 4) (sym f ∙ not-true y h) in
-          rw found (sym (choose-false _ _ (lt-leb (4 * length (effectiveOf files (rs .rows))) (length result) (omega (arith, length-effective files (rs .rows))))))
+  module _ (g : a ≡ fit.Enough) where
+    pub from-room : 4 * length (firsts files (rs .rows) (rs .rows)) ≤ length result
+    unfolding fewFirsts
+    from-room = let l = leb-true (length (firsts files (rs .rows) (rs .rows))) (length result / 4) (told-by g .told .1) in omega arith
 
-      pub from-written : not y ≡ false → {n : ℕ} {after : List ℕ} → WroteAll files (rs .rows) result n after → leaves (value n) after ≡ left (effectiveAmong files rs) result
-      unfolding left
-      from-written h w =
-          rw (found, w .counted, w .contents, ← length-effective files (rs .rows))
-          (sym (choose-true _ _ (le-leb (4 * length (effectiveOf files (rs .rows))) (length result) (omega (arith, from-room h, length-effective files (rs .rows))))))
+    pub from-written : {n : ℕ} {after : List ℕ} → WroteAll files (rs .rows) result n after → leaves (value n) after ≡ left (effectiveAmong files rs) result
+    unfolding left
+    from-written v =
+        rw (found (told-by g .told .0), v .counted, v .contents, ← length-effective files (rs .rows))
+        (sym (choose-true _ _ (le-leb (4 * length (effectiveOf files (rs .rows))) (length result) (omega (arith, from-room, length-effective files (rs .rows))))))
+
+-- 22, once all rows are reached.
+module _ (files : List (List ℕ)) (rs : Rows) (room : ℕ) {a : Survey} (w : Surveyed rs room a) where
+  found-by : {b : Survey} → a ≡ b → Surveyed rs room b
+  found-by e = subst (λ (x : Survey). Surveyed rs room x) e w
+
+  pub room-fits : a ≡ survey.Fits → RoomFor files rs room fit.Enough
+  room-fits g = let f = found-by g .found in record { told = (f .0, sym (rows-suffice files (rs .rows) room (sym (f .1)) refl)) }
+
+  pub room-counted : a ≡ survey.More → {y : Bool} → y ≡ fewFirsts files (rs .rows) (rs .rows) room → y ≡ true → RoomFor files rs room fit.Enough
+  room-counted g e h = record { told = (found-by g .found, sym e ∙ h) }
+
+  pub room-short : a ≡ survey.More → {y : Bool} → y ≡ fewFirsts files (rs .rows) (rs .rows) room → y ≡ false → RoomFor files rs room fit.Short
+  room-short g e h = record { told = (found-by g .found, sym e ∙ h) }
+
+  pub room-refused : {k : ℕ} → a ≡ survey.Refused k → RoomFor files rs room (fit.Refused k)
+  room-refused g = record { told = found-by g .found }
 
 -- The rows from the first entry of the class's own list on are all.
 module _ (t : Tables) (s : Side) (c : ObjcClass) (a : SourceAnswer) (o : sourceOutcome a ≡ ownSource t s c) {r : Entered}

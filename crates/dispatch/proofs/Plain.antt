@@ -9,7 +9,7 @@ use lib.Dec.{eqb}
 use lib.ListN.{length, getD, take, drop, drop-of-length-le}
 use lib.Seq.{take-suc}
 use borrow.Author.Tests.{ne-eqb, eqb-true, eqb-false}
-use Rattle.reads.specs.Outcome.{Outcome, value, absent, choose}
+use Rattle.reads.specs.Outcome.{Outcome, value, absent}
 use Rattle.reads.specs.Outcome as outcome
 use Rattle.reads.specs.declared.answer.Reason.{Reason}
 use Rattle.reads.specs.declared.answer.Reason.the-variants.{NoRecord}
@@ -29,7 +29,7 @@ use Rattle.walks.proofs.PlainWalks.{unseen, unseen-none, once-none, once-met, o
 use Rattle.dispatch.specs.declared.sources.Side.{Side}
 use Rattle.dispatch.specs.declared.sources.Source.{Source}
 use Rattle.dispatch.specs.Sources.{ownSource, categorySource, ofClass}
-use Rattle.dispatch.specs.Appearances.{Rows, ended, sourceRows, categoryRows, appearances}
+use Rattle.dispatch.specs.Appearances.{ended, sourceRows, categoryRows, appearances}
 use Rattle.reads.specs.Text.{orNone}
 use Rattle.dispatch.specs.SlotSources.{categorySlots, listedAt, held, heldBefore, taking, slotSource, slotRows, slotTotal, slotAppearances, settled, recordsIn}
 use Rattle.dispatch.proofs.Held.{held-total, held-listed}

@@ -241,10 +241,6 @@ module _ {t : Tables} {s : Side} {class : ℕ} {p : Position} {r : Step} (h : St
 
   -- The rows counted.
   module _ (room : ℕ) {e : Bool} (i : fewRows (ahead t s class p .rows) room ≡ e) where
-    pub rows-none : {x : Reached} → r ≡ step.Row x → room ≡ 0 → false ≡ e
-    unfolding fewRows
-    rows-none {x} g z = sym (lt-leb (suc (length (ahead t s class (x .next) .rows))) room (omega arith)) ∙ by-row (λ q. fewRows (q .rows) room) i g
-
     pub rows-row : {x : Reached} → r ≡ step.Row x → (room ≡ 0 → ⊥) → fewRows (ahead t s class (x .next) .rows) (room - 1) ≡ e
     unfolding fewRows
     rows-row {x} g n =
@@ -257,10 +253,6 @@ module _ {t : Tables} {s : Side} {class : ℕ} {p : Position} {r : Step} (h : St
     pub rows-end : r ≡ step.End → true ≡ e
     unfolding fewRows
     rows-end g = sym (le-leb 0 room (omega arith)) ∙ by-end (λ q. fewRows (q .rows) room) i g
-
-    pub rows-refused : {k : ℕ} → r ≡ step.Refused k → true ≡ e
-    unfolding fewRows
-    rows-refused g = sym (le-leb 0 room (omega arith)) ∙ by-refused (λ q. fewRows (q .rows) room) i g
 
   -- Question 22.
   module _ (files : List (List ℕ)) (all : List Appearance) (room : ℕ) {e : Bool} (i : fewFirsts files all (ahead t s class p .rows) room ≡ e) where

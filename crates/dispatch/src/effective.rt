@@ -25,14 +25,13 @@ ghost use lib.ListN.{length};
 ghost use Rattle.reads.specs.Reference.{before, after};
 ghost use Rattle.reads.specs.Outcome.{andThen};
 ghost use Rattle.reads.specs.Files.{filesOf, filesLent};
-ghost use Rattle.pointers.specs.Question.{askedOutcome};
 ghost use Rattle.pointers.specs.Tables.{tablesOf, lent, under};
 ghost use Rattle.walks.specs.PlainSections.{plainCategories};
 ghost use Rattle.dispatch.specs.Appearances.{appearances};
 ghost use Rattle.dispatch.specs.SlotSources.{slotAppearances};
 ghost use Rattle.dispatch.specs.Dispatch.{methodsOutcome, hasEarlier, firsts, effectiveAmong, effective, leaves, left};
 ghost use Rattle.dispatch.specs.Position.{ahead};
-ghost use Rattle.dispatch.specs.Written.{fewRows, fewFirsts, CountedAll, Tabled, WroteAll};
+ghost use Rattle.dispatch.specs.Written.{fewFirsts, Surveyed, CountedAll, RoomFor, Tabled, WroteAll};
 
 // How many selectors there are.
 pub enum MethodsAnswer {
@@ -46,7 +45,21 @@ pub enum Counted {
     AtLeast(usize),
 }
 
-// Whether every row can be reached.
+// All rows can be reached and are at most so many; they can be reached and are more; or the number of the question that refuses.
+pub enum Survey {
+    Fits,
+    More,
+    Refused(u8),
+}
+
+// There is room for each selector, or not; or the number of the question that refuses.
+pub enum Fit {
+    Enough,
+    Short,
+    Refused(u8),
+}
+
+// Goes over all rows to the end, and counts them as far as the room.
 fn reach_end(
     files: &[&[u8]],
     segments: &[u64],
@@ -59,11 +72,14 @@ fn reach_end(
     side: Side,
     class: u64,
     start: Position,
-) -> Asked
+    room: u64,
+) -> Survey
     ensures { λ r. let t = under setting (lent files segments sections info rebases binds index) in
-        ⌜ askedOutcome r ≡ ahead t side class start .end ⌝ }
+        ⌜ Surveyed (ahead t side class start) room r ⌝ }
 {
     let mut p = start;
+    let mut left = room;
+    let mut more = false;
     loop {
         match step_from(
             files,
@@ -80,15 +96,23 @@ fn reach_end(
         ) {
             Step::Row(r) => {
                 p = r.next;
+                if left == 0 {
+                    more = true;
+                    continue;
+                }
+                left -= 1;
             }
             Step::Passed(q) => {
                 p = q;
             }
             Step::End => {
-                return Asked::Yes;
+                if more {
+                    return Survey::More;
+                }
+                return Survey::Fits;
             }
             Step::Refused(k) => {
-                return Asked::Refused(k);
+                return Survey::Refused(k);
             }
         }
     }
@@ -148,60 +172,6 @@ fn has_earlier(
             }
             Step::Refused(_) => {
                 return false;
-            }
-        }
-    }
-}
-
-// Are there at most so many rows?
-fn rows_fit(
-    files: &[&[u8]],
-    segments: &[u64],
-    sections: &[u64],
-    info: &[u8],
-    rebases: &[u64],
-    binds: &[u64],
-    index: &[u32],
-    setting: Setting,
-    side: Side,
-    class: u64,
-    start: Position,
-    room: u64,
-) -> bool
-    ensures { λ r. let t = under setting (lent files segments sections info rebases binds index) in
-        ⌜ r ≡ fewRows (ahead t side class start .rows) room ⌝ }
-{
-    let mut p = start;
-    let mut left = room;
-    loop {
-        match step_from(
-            files,
-            segments,
-            sections,
-            info,
-            rebases,
-            binds,
-            index,
-            setting,
-            side,
-            class,
-            p,
-        ) {
-            Step::Row(r) => {
-                if left == 0 {
-                    return false;
-                }
-                left -= 1;
-                p = r.next;
-            }
-            Step::Passed(q) => {
-                p = q;
-            }
-            Step::End => {
-                return true;
-            }
-            Step::Refused(_) => {
-                return true;
             }
         }
     }
@@ -470,9 +440,9 @@ fn write_selectors(
     count as u64
 }
 
-// 22: has each selector room? Rows that all have room need no look at their selectors; up to 8,192 selectors are counted in one pass, and
-// only where there may be more is each row compared with all before it.
-fn has_room(
+// 22, of rows that are more than the room: up to 8,192 selectors are counted in one pass, and only where there may be more is each row
+// compared with all before it.
+fn count_fits(
     files: &[&[u8]],
     segments: &[u64],
     sections: &[u64],
@@ -489,22 +459,6 @@ fn has_room(
     ensures { λ r. let t = under setting (lent files segments sections info rebases binds index) in
         ⌜ r ≡ fewFirsts (filesOf files) (ahead t side class start .rows) (ahead t side class start .rows) room ⌝ }
 {
-    if rows_fit(
-        files,
-        segments,
-        sections,
-        info,
-        rebases,
-        binds,
-        index,
-        setting,
-        side,
-        class,
-        start,
-        room,
-    ) {
-        return true;
-    }
     match count_few(
         files,
         segments,
@@ -541,6 +495,62 @@ fn has_room(
     }
 }
 
+// Every row can be reached; and 22: has each selector room? Rows that all have room need no look at their selectors.
+fn has_room(
+    files: &[&[u8]],
+    segments: &[u64],
+    sections: &[u64],
+    info: &[u8],
+    rebases: &[u64],
+    binds: &[u64],
+    index: &[u32],
+    setting: Setting,
+    side: Side,
+    class: u64,
+    start: Position,
+    room: u64,
+) -> Fit
+    ensures { λ r. let t = under setting (lent files segments sections info rebases binds index) in
+        ⌜ RoomFor (filesOf files) (ahead t side class start) room r ⌝ }
+{
+    match reach_end(
+        files,
+        segments,
+        sections,
+        info,
+        rebases,
+        binds,
+        index,
+        setting,
+        side,
+        class,
+        start,
+        room,
+    ) {
+        Survey::Fits => Fit::Enough,
+        Survey::More => {
+            if count_fits(
+                files,
+                segments,
+                sections,
+                info,
+                rebases,
+                binds,
+                index,
+                setting,
+                side,
+                class,
+                start,
+                room,
+            ) {
+                return Fit::Enough;
+            }
+            Fit::Short
+        }
+        Survey::Refused(k) => Fit::Refused(k),
+    }
+}
+
 // The effective methods among the rows from the first on.
 fn effective_from(
     files: &[&[u8]],
@@ -560,26 +570,8 @@ fn effective_from(
     ensures { λ r. let t = under setting (lent files segments sections info rebases binds index) in
         ⌜ leaves (methodsOutcome r) (after result) ≡ left (effectiveAmong (filesOf files) (ahead t side class start)) (before result) ⌝ }
 {
-    match reach_end(
-        files,
-        segments,
-        sections,
-        info,
-        rebases,
-        binds,
-        index,
-        setting,
-        side,
-        class,
-        start,
-    ) {
-        Asked::Yes => {}
-        Asked::Refused(k) => {
-            return MethodsAnswer::Missing(Missing::Refused(k));
-        }
-    }
     let room = (result.len() / 4) as u64;
-    if !has_room(
+    match has_room(
         files,
         segments,
         sections,
@@ -593,7 +585,13 @@ fn effective_from(
         start,
         room,
     ) {
-        return MethodsAnswer::Missing(Missing::Refused(22));
+        Fit::Enough => {}
+        Fit::Short => {
+            return MethodsAnswer::Missing(Missing::Refused(22));
+        }
+        Fit::Refused(k) => {
+            return MethodsAnswer::Missing(Missing::Refused(k));
+        }
     }
     let count = write_selectors(
         files,
