@@ -106,7 +106,7 @@ pub record Others : Type 0 where
 
 thin-cases : Thin
 unfolding partWanted partAt kindOf beIn leIn le choose thinWanted isArch
-thin-cases = record { whole = refl; same = refl; other = refl; no-header = refl; none = refl; told = refl; told-once = refl; }
+thin-cases = record { whole = refl; same = refl; other = refl; no-header = refl; none = refl; told = refl; told-once = refl }
 
 two-cases : Two
 unfolding partWanted partAt kindOf beIn leIn le choose fatWanted fatAt tableFits chosen firstArch isSought isArch archAt fatArch inFile
