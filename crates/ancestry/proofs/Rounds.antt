@@ -25,17 +25,17 @@ module _ (out : List ℕ) (i : ℕ) (s : State) where
       drop-set-lt (n * 3) (set out (i * 3) (s .count * 4 + s .mark)) (i * 3 + 1) (s .place) (omega arith)
       ∙ drop-set-lt (n * 3) out (i * 3) (s .count * 4 + s .mark) (omega arith)
 
-  put-other : (k : ℕ) → (k ≡ i * 3 → ⊥) → (k ≡ i * 3 + 1 → ⊥) → getD (putAt out i s) k 0 ≡ getD out k 0
-  put-other k a b =
+  put-word : (k : ℕ) → (k ≡ i * 3 → ⊥) → (k ≡ i * 3 + 1 → ⊥) → getD (putAt out i s) k 0 ≡ getD out k 0
+  put-word k a b =
       getD-set-other (set out (i * 3) (s .count * 4 + s .mark)) (i * 3 + 1) k (s .place) 0 b
       ∙ getD-set-other out (i * 3) k (s .count * 4 + s .mark) 0 a
 
   pub put-other : (j : ℕ) → (j ≡ i → ⊥) → stateAt (putAt out i s) j ≡ stateAt out j
   put-other j n =
-      rw (put-other (j * 3) (λ e. omega arith) (λ e. omega arith), put-other (j * 3 + 1) (λ e. omega arith) (λ e. omega arith))
+      rw (put-word (j * 3) (λ e. omega arith) (λ e. omega arith), put-word (j * 3 + 1) (λ e. omega arith) (λ e. omega arith))
 
   pub put-node : (j : ℕ) → nodeAt (putAt out i s) j ≡ nodeAt out j
-  put-node j = put-other (j * 3 + 2) (λ e. omega arith) (λ e. omega arith)
+  put-node j = put-word (j * 3 + 2) (λ e. omega arith) (λ e. omega arith)
 
   module _ (room : i * 3 + 2 < length out) (mark : s .mark ≤ 2) where
     first-put : getD (putAt out i s) (i * 3) 0 ≡ s .count * 4 + s .mark
