@@ -6,6 +6,7 @@ use lib.Dec.{leb}
 use lib.ListN.{getD}
 use borrow.Author.Tests.{le-leb, lt-leb}
 use Rattle.pointers.specs.Question.{every}
+use Rattle.pointers.specs.Tables.{chains}
 use Rattle.pointers.proofs.Questions.{every-fails, every-more}
 use Rattle.ancestry.specs.Rebases.{headsFall}
 use borrow.Author.Needs.{needs}
@@ -13,10 +14,10 @@ use Rattle.ancestry.proofs.rebases.heads_fall.Statement.{statement}
 use Rattle.ancestry.proofs.rebases.heads_fall.Tie as tie
 
 abbrev Inv-loop : tie.InvT-loop
-Inv-loop index count c₀ c = (c ≤ 4096) × (every (λ k. leb (getD index k 0) count) c ≡ true)
+Inv-loop index count c₀ c = (c ≤ chains) × (every (λ k. leb (getD index k 0) count) c ≡ true)
 
 abbrev μ-loop : tie.MeasureT-loop
-μ-loop index count c₀ c = 4096 - c
+μ-loop index count c₀ c = chains - c
 
 loop-holds : tie.Need-loop-holds Inv-loop μ-loop
 unfolding every
@@ -29,7 +30,7 @@ returns : tie.Need-returns Inv-loop μ-loop
 unfolding headsFall
 returns c =
     let a = c .before .before .before .before .args in
-    every-fails (λ k. leb (getD (a .index .now) k 0) (a .count)) 4096 (c .before .before .before .loop .c) (c .before .before .loop-test .taken) (lt-leb (getD (a .index .now) (c .before .before .before .loop .c) 0) (a .count) (c .if1 .taken))
+    every-fails (λ k. leb (getD (a .index .now) k 0) (a .count)) chains (c .before .before .before .loop .c) (c .before .before .loop-test .taken) (lt-leb (getD (a .index .now) (c .before .before .before .loop .c) 0) (a .count) (c .if1 .taken))
 
 loop-again : tie.Need-loop-again Inv-loop μ-loop
 loop-again c =
@@ -39,7 +40,7 @@ loop-again c =
 returns-2 : tie.Need-returns-2 Inv-loop μ-loop
 unfolding headsFall
 returns-2 c =
-    let past : c .before .loop .c ≡ 4096 = omega arith in
+    let past : c .before .loop .c ≡ chains = omega arith in
     sym (rw past at (c .before .loop .inv .1))
 
 pub heads-fall-spec : {M : Type 1} → statement M
