@@ -104,22 +104,21 @@ info-unrefused body f k =
     (λ t e. let z : _≡_ {A = ℕ} 0 1 = cc in omega arith)
     (λ t e. let z : _≡_ {A = ℕ} 0 1 = cc in omega arith)
 
+first-number : (x : Ranges) (file body : List ℕ) (k : ℕ) (a o : Outcome (Unit {0}))
+    → andThen a (λ _. andThen (andThen o (λ _. imageInfo body)) (λ i. value (openedFile file i))) ≡ number k
+    → andThen a (λ _. andThen o (λ _. andThen (framesOf x) (λ w. withFrames w (imageInfo body)))) ≡ number k
+first-number x file body k (value u) (value v) e = absurd (info-unrefused body (openedFile file) k e)
+first-number x file body k (value u) (absent r) e = let z : _≡_ {A = ℕ} 0 1 = cc in absurd (omega arith)
+first-number x file body k (value u) (number n) e = let same : n ≡ k = cc in rw same
+first-number x file body k (absent r) o e = let z : _≡_ {A = ℕ} 0 1 = cc in absurd (omega arith)
+first-number x file body k (number n) o e = let same : n ≡ k = cc in rw same
+
 pub number-first : (x : Ranges) (file segments sections rebases binds index : List ℕ) (k : ℕ) → openingFile file segments sections rebases binds index ≡ number k
     → framedFile x file segments sections rebases binds index ≡ number k
 unfolding openingFile framedFile opening framedOpening
-number-first x file segments sections rebases binds index k =
-    go (askedFile file (length segments) (length sections)) (askedOpening (fileTables file rebases binds index))
-  where
-    abbrev body : List ℕ
-    body = fileTables file rebases binds index .info
-
-    go : (a o : Outcome (Unit {0})) → andThen a (λ _. andThen (andThen o (λ _. imageInfo body)) (λ i. value (openedFile file i))) ≡ number k
-        → andThen a (λ _. andThen o (λ _. andThen (framesOf x) (λ w. withFrames w (imageInfo body)))) ≡ number k
-    go (value u) (value v) e = absurd (info-unrefused body (openedFile file) k e)
-    go (value u) (absent r) e = let z : _≡_ {A = ℕ} 0 1 = cc in absurd (omega arith)
-    go (value u) (number n) e = let same : n ≡ k = cc in rw same
-    go (absent r) o e = let z : _≡_ {A = ℕ} 0 1 = cc in absurd (omega arith)
-    go (number n) o e = let same : n ≡ k = cc in rw same
+number-first x file segments sections rebases binds index k e =
+    first-number x file (fileTables file rebases binds index .info) k (askedFile file (length segments) (length sections))
+    (askedOpening (fileTables file rebases binds index)) e
 
 asked-not8 : (file : List ℕ) (segments sections : ℕ) → Not8 (askedFile file segments sections)
 unfolding askedFile askedCommands askedLent
