@@ -8,10 +8,10 @@ use Rattle.filelist.proofs.file.list_file_under.Statement.{statement}
 use Rattle.filelist.proofs.file.list_file_under.Tie as tie
 
 part-begin-end : tie.Need-part-begin-end
-part-begin-end c = omega (arith, c .before .before .before .before .before .index-words .ensures)
+part-begin-end c = omega (arith, c .before .before .before .before .before .before .index-words .ensures)
 
 part-ranges-refused-end : tie.Need-part-ranges-refused-end
-part-ranges-refused-end c = omega (arith, c .before .before .before .before .before .index-words .ensures)
+part-ranges-refused-end c = omega (arith, c .before .before .before .before .before .before .index-words .ensures)
 
 returns : tie.Need-returns
 returns c =

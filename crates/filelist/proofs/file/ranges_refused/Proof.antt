@@ -2,6 +2,7 @@ use Prim.Native.Nat.{ℕ}
 use mathlib.Core.Path.{sym, ap, _∙_}
 use mathlib.Core.List.{List, _++_}
 use Rattle.reads.specs.Answer.{missed}
+use Rattle.macho.specs.FileTables.{fileTables}
 use Rattle.macho.specs.OpenFile.{fileOutcome}
 use Rattle.filelist.proofs.FileAnswers.{refused-file, not-opened, none-written}
 use borrow.Author.Needs.{needs}
@@ -18,6 +19,7 @@ returns c =
     (sym (ap fileOutcome (c .enum-told .given .1)) ∙ at-open-file .open-file .ensures .0)
 
 returns-2 : tie.Need-returns-2
+unfolding fileTables
 returns-2 c =
     let at-m = c .before .before in
     let at-open-file = at-m .before .before .before .before .before .before .before .before in
