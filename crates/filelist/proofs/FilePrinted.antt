@@ -19,7 +19,6 @@ use Rattle.macho.specs.OpenFile.{segmentTableWords, askedFile, openedFile, open
 use Rattle.frames.specs.Marks.{framesOf}
 use Rattle.frames.specs.declared.frames.Frames.{Frames}
 use Rattle.frames.specs.declared.frames.Ranges.{Ranges}
-use Rattle.marking.specs.Framed.{framedOpening}
 use Rattle.marking.specs.declared.framed.Framed.{Framed}
 use Rattle.marking.proofs.Framing.{framed-given}
 use Rattle.macho.specs.declared.open.OpenedFile.{OpenedFile}

@@ -121,14 +121,7 @@ fn ranges_refused(
         binds.len() / Bind::WORDS,
         index.len(),
     );
-    match open_file(
-        file,
-        segments,
-        sections,
-        rebases,
-        binds,
-        &mut index[0..0],
-    ) {
+    match open_file(file, segments, sections, rebases, binds, &mut index[0..0]) {
         FileAnswer::File(_) => Missing::Refused(k),
         FileAnswer::Missing(m) => refused_last(m, fits, k),
     }

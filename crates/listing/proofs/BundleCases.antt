@@ -6,7 +6,6 @@ use lib.ListN.{replicate}
 use Rattle.reads.specs.Outcome.{value, number, choose}
 use Rattle.reads.specs.Place.{le, leIn}
 use Rattle.pointers.specs.Tables.{tablesOf}
-use Rattle.frames.specs.declared.frames.Ranges.{Ranges}
 use Rattle.listing.specs.Bundle.{wordsFrom, rangesOf, bundleFits, bundleCounts, bundled}
 use Rattle.listing.specs.declared.bundle.Counts.{Counts}
 

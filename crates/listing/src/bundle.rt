@@ -21,8 +21,11 @@ const COUNTS: u64 = 7;
 
 // Where the four ends stand, after the counts.
 const FIRST_FRAME_AT: u64 = 8 * COUNTS;
+
 const LAST_FRAME_AT: u64 = FIRST_FRAME_AT + 8;
+
 const FIRST_SLIDE_AT: u64 = LAST_FRAME_AT + 8;
+
 const LAST_SLIDE_AT: u64 = FIRST_SLIDE_AT + 8;
 
 // How many segments, rebases and binds a bundle has, and how many bytes each of the image's four files. Counts of an

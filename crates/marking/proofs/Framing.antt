@@ -1,6 +1,6 @@
 -- 23 after opening's questions and before its writes: opening over no index says all of them but 8, which is asked of the index that is lent.
 use Prim.Native.Nat.{ℕ, _+_, _*_}
-use mathlib.Core.Path.{_≡_, refl, sym, ap, _∙_}
+use mathlib.Core.Path.{_≡_, refl, ap, _∙_}
 use mathlib.Core.Bool.{Bool, true, false}
 use mathlib.Core.List.{List, []}
 use native.Mathlib.Omega.{arith}
@@ -15,8 +15,7 @@ use Rattle.reads.specs.declared.answer.Missing.{Missing}
 use Rattle.reads.specs.declared.answer.Missing.the-variants.{Absent, Refused}
 use Rattle.reads.proofs.Outcomes.{then-then, then-came}
 use Rattle.pointers.specs.ImageInfo.{imageInfo, infoOutcome}
-use Rattle.pointers.specs.Index.{indexed}
-use Rattle.pointers.specs.Open.{askedOpening, opening, leftBy, openedIndex}
+use Rattle.pointers.specs.Open.{askedOpening, opening, openedIndex}
 use Rattle.pointers.specs.Question.{question, indexFits, askedTables, askedIndex, bindFiles, namesInside, namesUtf8}
 use Rattle.pointers.specs.Tables.{Tables, withIndex, rebaseWords, bindWords, chains}
 use Rattle.pointers.specs.declared.imageinfo.ImageInfo.{ImageInfo}

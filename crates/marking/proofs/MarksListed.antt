@@ -1,7 +1,7 @@
 -- The mark of each m row says what the note says, by pairs and over the starts of all m rows; a method without imp has mark 0.
 use Prim.Native.Nat.{ℕ}
 use mathlib.Core.Path.{_≡_, refl}
-use mathlib.Core.List.{List, map, List·Memᴰ, List·Memᴰ·head, Memᴰ·of-map}
+use mathlib.Core.List.{List, List·Memᴰ, List·Memᴰ·head, Memᴰ·of-map}
 use native.Mathlib.Omega.{arith}
 use Rattle.reads.specs.Outcome.{value}
 use Rattle.records.specs.declared.method.Imp.{Imp}

@@ -7,7 +7,7 @@ use Rattle.reads.specs.Outcome.{Outcome, value}
 use Rattle.pointers.specs.Tables.{Tables}
 use Rattle.pointers.specs.declared.setting.Setting.{Setting}
 use Rattle.frames.specs.declared.frames.Frames.{Frames}
-use Rattle.listing.specs.Listing.{State, Left, start, Answer, says, nothing, listingStep}
+use Rattle.listing.specs.Listing.{State, start, Answer, says, nothing, listingStep}
 use Rattle.listing.specs.ListingAnswer.{stateOf, saidOf, leftOf}
 use Rattle.listing.specs.declared.line.Line.{Line}
 use Rattle.listing.specs.declared.listing.Listed.{Listed}
@@ -15,7 +15,7 @@ use Rattle.listing.specs.declared.listing.Listing.{Listing}
 use Rattle.listing.specs.declared.listing.Said.{Said}
 use Rattle.listing.specs.declared.listing.Said.the-variants as said
 use Rattle.marking.specs.Marked.{metLine, marked}
-use Rattle.marking.specs.MarkedListing.{Marking, marking, markedStart, markedLeaves, findsBy, finds, markedAnswer, tells, inPass, markedStep, markingOf, markedLeftOf}
+use Rattle.marking.specs.MarkedListing.{marking, markedStart, markedLeaves, findsBy, finds, markedAnswer, tells, inPass, markedStep, markingOf, markedLeftOf}
 use Rattle.marking.specs.declared.marked_listing.MarkedListed.{MarkedListed}
 use Rattle.marking.specs.declared.marked_listing.MarkedListing.{MarkedListing}
 

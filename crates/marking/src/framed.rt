@@ -113,7 +113,14 @@ pub fn open_framed(
             frames,
         ),
         FramesAnswer::Refused(k) => ranges_refused(
-            files, segments, sections, info, rebases, binds, index, k,
+            files,
+            segments,
+            sections,
+            info,
+            rebases,
+            binds,
+            index,
+            k,
         ),
     }
 }

@@ -34,6 +34,11 @@ fn finds(frames: Frames, listed: Listed) -> MarkedListed
 {
     let listing = listed.listing;
     let said = listed.said;
+    let on = MarkedListing {
+        finding: true,
+        frames,
+        listing,
+    };
     match said {
         Said::Line(line) => MarkedListed {
             said: Said::Nothing,
@@ -45,19 +50,11 @@ fn finds(frames: Frames, listed: Listed) -> MarkedListed
         },
         Said::Absent(_) => MarkedListed {
             said: Said::Nothing,
-            listing: MarkedListing {
-                finding: true,
-                frames,
-                listing,
-            },
+            listing: on,
         },
         Said::Nothing => MarkedListed {
             said: Said::Nothing,
-            listing: MarkedListing {
-                finding: true,
-                frames,
-                listing,
-            },
+            listing: on,
         },
         Said::Ended => MarkedListed {
             said: Said::Nothing,
@@ -69,11 +66,7 @@ fn finds(frames: Frames, listed: Listed) -> MarkedListed
         },
         Said::Refused(k) => MarkedListed {
             said: Said::Refused(k),
-            listing: MarkedListing {
-                finding: true,
-                frames,
-                listing,
-            },
+            listing: on,
         },
     }
 }

@@ -247,14 +247,7 @@ fn category(files: &[&[u8]], line: CategoryLine, out: &mut [u8], w: Window) -> W
 }
 
 // m: list number, selector, types, imp, kind, mark.
-fn method(
-    files: &[&[u8]],
-    list: u16,
-    m: Method,
-    mark: u8,
-    out: &mut [u8],
-    w: Window,
-) -> Window
+fn method(files: &[&[u8]], list: u16, m: Method, mark: u8, out: &mut [u8], w: Window) -> Window
     ensures { λ r. ⌜ buffer (after out) r ≡ putAll (buffer (before out) w) (methodText (filesOf files) list m mark) ⌝ }
 {
     let selector = m.selector;

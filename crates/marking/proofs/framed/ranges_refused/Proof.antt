@@ -11,14 +11,14 @@ use Rattle.marking.proofs.framed.ranges_refused.Statement.{statement}
 use Rattle.marking.proofs.framed.ranges_refused.Tie as tie
 
 returns : tie.Need-returns
-returns c = 
+returns c =
     let entry = (c .before .before .before .before .before .before .before .before .before .before .before .before .before) in
     let a = entry .args in
     let t = tablesOf (filesLent (a .files .now)) (a .segments .now) (a .sections .now) (a .info .now) (a .rebases .now) (a .binds .now) (a .index .now) in
     never-opened t _ (sym (ap infoOutcome ((c .enum-told) .given .1)) ∙ (c .before .before .before .before .«open») .ensures .0)
 
 returns-2 : tie.Need-returns-2
-returns-2 c = 
+returns-2 c =
     let entry = (c .before .before .before .before .before .before .before .before .before .before .before .before .before .before .before) in
     let a = entry .args in
     let t = tablesOf (filesLent (a .files .now)) (a .segments .now) (a .sections .now) (a .info .now) (a .rebases .now) (a .binds .now) (a .index .now) in
