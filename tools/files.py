@@ -41,8 +41,9 @@ def unpacked(data):
     if any(others) or Bundle.HEAD + tables + n != len(data):
         return None
     b = Bundle()
-    b.info = struct.unpack_from("<2I", data, 56)
-    at = 64
+    b.ends = struct.unpack_from("<4Q", data, 8 * Bundle.COUNTS)
+    b.info = struct.unpack_from("<2I", data, Bundle.INFO)
+    at = Bundle.INFO + 8
 
     def rows(count, width):
         nonlocal at
@@ -61,7 +62,7 @@ def unpacked(data):
 def over(b, images, segments, binds):
     """The bundle b over other images, with other segments and binds."""
     out = Bundle()
-    out.info, out.sections, out.rebases = b.info, b.sections, b.rebases
+    out.ends, out.info, out.sections, out.rebases = b.ends, b.info, b.sections, b.rebases
     out.segments, out.binds = segments, binds
     out.image, out.others = bytearray(images[0]), [bytes(x) for x in [*images[1:], b"", b"", b""][:3]]
     return out if out.size() <= 32768 else None

@@ -14,7 +14,7 @@ import sys
 
 from damage import Damage
 from edges import edges
-from image import Bundle, well_formed
+from image import M64, Bundle, well_formed
 import refusals
 
 _edges = None
@@ -44,6 +44,25 @@ def without_plan(rng):
     return b.pack()
 
 
+def ends(rng, starts):
+    """The four ends of a seed (document 02, note 11): all 0, or ranges about a start, or without plan; some with a range whose
+    first end exceeds its second."""
+    x = rng.random()
+    if x < 0.3:
+        return 0, 0, 0, 0
+    if x < 0.9 and starts:
+        def span():
+            return rng.choice([0, 0, 1, 3, 0x10, 0xFFF, 0x3FFF, 1 << 32, 1 << 47])
+        slide, slides = rng.choice([0, 0, 1, 0x1000, 0x4000, rng.randrange(1 << 40), 1 << 63]), span()
+        frame = rng.choice(starts) + slide + rng.choice([0, 0, 1, -1, 4, -0x10, slides, rng.randrange(1 << 12)])
+        out = frame, frame + span(), slide, slide + slides
+    else:
+        words = [0, 0, 1, 2, 0x1000, 0x2000, 1 << 47, 1 << 63, M64 - 1, M64]
+        out = tuple(rng.choice(words) for _ in range(4))
+    out = tuple(min(max(end, 0), M64) for end in out)
+    return out if rng.random() < 0.95 else (*out[:2][::-1], *out[2:][::-1])
+
+
 def seeded(seed):
     """What was done, and the bundle."""
     rng = random.Random(seed)
@@ -51,6 +70,7 @@ def seeded(seed):
     if x < 0.03:
         return "without plan", without_plan(rng)
     bundle, builder = well_formed(rng)
+    bundle.ends = ends(random.Random("ends %d" % seed), builder.starts())
     if x < 0.25:
         return "well-formed", bundle.pack()
     if x >= 0.97:

@@ -17,19 +17,20 @@ from collections import Counter
 import cases
 from lister import run
 
-FIELDS = {"I": "nnn", "C": "nnnno", "M": "nnnno", "R": "nnnnt", "P": "nnnt", "K": "nnto", "m": "nttxn", "v": "nttxnxx",
+FIELDS = {"I": "nnn", "C": "nnnno", "M": "nnnno", "R": "nnnnt", "P": "nnnt", "K": "nnto", "m": "nttxnn", "v": "nttxnxx",
           "p": "ntt", "q": "nt", "E": "nn"}
 LISTS = {"C": "class", "M": "metaclass", "P": "protocol", "K": "category"}
 FORMS = ["legacy", "small indirect", "small direct"]
 
 # What a run over enough cases is to show at least once.
 WANTED = (["line " + letter for letter in "ICMRPKmvpqE"]
-          + ["refused %d" % k for k in (2, 3, 7, 13, 14, 18)]
+          + ["refused %d" % k for k in (2, 3, 7, 13, 14, 18, 23)]
           + ["%s list %d: %s" % (record, k, row) for record, rows in
              (("class", "mvpq"), ("metaclass", "mvpq"), ("protocol", "mmmmppq"), ("category", "mmqpp"))
              for k, row in enumerate(rows)]
           + ["method " + form for form in FORMS]
           + ["imp none, " + form for form in FORMS] + ["imp 0, small indirect", "imp 0, small direct"]
+          + ["mark 0", "mark 1", "mark 2"]
           + ["types empty", "type empty", "attributes empty", "selector or name empty", "ivar offset none",
              "ivar offset 0", "alignment none", "aligned none", "aligned 0", "aligned 1", "superclass name none",
              "superclass name empty", "superclass name there", "class name none", "class name empty", "class name there",
@@ -92,6 +93,7 @@ def count(listing, table):
             form = FORMS[got[4]]
             table["method " + form] += 1
             table["types empty"] += not got[2]
+            table["mark %d" % got[5]] += 1
             if not got[3]:
                 table["imp %s, %s" % ("none" if got[3] is None else "0", form)] += 1
         if letter == "v":

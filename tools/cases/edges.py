@@ -907,8 +907,53 @@ def file_numbers():
         yield "files order %d" % k, b.pack()
 
 
+def frames():
+    """Note 11: ranges of frames and slides about the starts of a class, of its metaclass and of a category: 0, two equal ones,
+    one next to another, one far, and a method without imp; and where 23 stands."""
+    def image(imps):
+        s = Sketch()
+        lists = []
+        for of in imps:
+            rows = b"".join(struct.pack("<3Q", s.text("up"), s.text("v"), imp) for imp in of)
+            lists.append(s.add(struct.pack("<2I", 24, len(of)) + rows))
+        small = s.add(struct.pack("<2I3i", 0xC000000C, 1, 0, 0, 0))     # an offset of 0: no imp
+        for k, text in enumerate(("none", "v")):
+            struct.pack_into("<i", s.b.image, small + 8 + 4 * k - s.BASE, s.text(text) - small - 8 - 4 * k)
+        meta = s.words(0, 0, 0, 0, s.add(s.class_ro(lists[1])))
+        klass = s.words(meta, 0, 0, 0, s.add(s.class_ro(lists[0])))
+        s.section(CLASSES, klass)
+        s.section(CATEGORIES, s.words(s.text("More"), klass, lists[2], small, 0, 0))
+        return s
+
+    sets = [(0, 8, 8), (9, 0x20), (4, M64 >> 16)], [(8,), (), ()], [(), (4, 4), (2,)], [(1 << 40,), (3, 0), ()]
+    grid = (0, 1, 4, 8, 9, 12)
+    for k, imps in enumerate(sets):
+        for f0, f1, s0, s1 in itertools.product(grid, repeat=4):
+            if f0 <= f1 and s0 <= s1 or k == 1 and f0 in (0, 9):
+                s = image(imps)
+                s.b.ends = f0, f1, s0, s1
+                yield "frames %d %x %x slides %x %x" % (k, f0, f1, s0, s1), s.pack()
+        for ends in itertools.product((0, 8, M64 >> 16, M64), repeat=4):
+            s = image(imps)
+            s.b.ends = ends
+            yield "far frames %d %x %x slides %x %x" % (k, *ends), s.pack()
+    for k in range(16):     # 23 after 2, 3 and 7
+        b = diamond()
+        b.ends = [(0, 0, 0, 0), (1, 0, 0, 0)][k & 1]
+        b.segments += [(0, 0, 0, 0)] * (64 * (k >> 1 & 1))
+        if k & 4:
+            b.sections[3] = (2, 0, 0)
+        if k & 8:
+            b.binds.append((0, len(b.image), 1))
+        yield "ranges order %d" % k, b.pack()
+    whole = diamond().pack()
+    for at, value in itertools.product(range(4), (1, 0x2000, 0x2001, 1 << 63, M64)):
+        yield "end %d %x" % (at, value), whole[:56 + 8 * at] + struct.pack("<Q", value) + whole[64 + 8 * at:]
+
+
 FAMILIES = [lengths, refused, cuts, list_heads, windows, lookups, protocol_sizes, masks, chains, prefixes, zeros,
-            texts, alignments, relatives, sections, info, ranges, entries, differences, aligned, bind_names, ends, more_lengths, file_numbers]
+            texts, alignments, relatives, sections, info, ranges, entries, differences, aligned, bind_names, ends, more_lengths, file_numbers,
+            frames]
 
 
 def edges():

@@ -12,14 +12,17 @@ ATTRIBUTES = ['T@"NSString",C,N,V_name', "Ti,R", "TQ,N", "", 'T@"A,B",&,V_x', "T
 
 class Bundle:
     """The tables of a bundle: segments (vmaddr, vmsize, fileoff, filesize), sections (present, vmaddr, length),
-    rebases (slot, target), binds (slot, name offset, name length). The image is file 0, and so are all segments' and
-    binds' file numbers; a segment or bind with one word more has its own."""
+    rebases (slot, target), binds (slot, name offset, name length), ends (first and last frame, first and last slide).
+    The image is file 0, and so are all segments' and binds' file numbers; a segment or bind with one word more has its
+    own."""
 
     COUNTS = 7                      # segments, rebases, binds, and the bytes of four files
-    HEAD = 8 * COUNTS + 8 + 120     # the counts, the image info and the section table
+    INFO = 8 * COUNTS + 32          # where the image info stands, after the counts and the four ends
+    HEAD = INFO + 8 + 120           # with the image info and the section table
     SEGMENT, BIND = 40, 32
 
     def __init__(self):
+        self.ends = (0, 0, 0, 0)
         self.info = (0, 0)
         self.segments, self.rebases, self.binds = [], [], []
         self.sections = [(0, 0, 0)] * 5
@@ -33,7 +36,7 @@ class Bundle:
     def pack(self):
         files = [bytes(self.image), *self.others]
         counts = len(self.segments), len(self.rebases), len(self.binds), *map(len, files)
-        out = [struct.pack("<7Q2I", *counts, *self.info)]
+        out = [struct.pack("<11Q2I", *counts, *self.ends, *self.info)]
         segments = [(*row, 0)[:5] for row in self.segments]
         binds = [(*row, 0)[:4] for row in self.binds]
         for table in (segments, self.sections, self.rebases, binds):
@@ -73,6 +76,7 @@ class Builder:
         self.signed = rng.choice([0.0, 0.0, 0.5])
         self.texts = {}
         self.classes, self.protocols, self.categories = [], [], []
+        self.imps = []          # implementations, as addresses or as (segment, offset, distance)
 
     # -- places
 
@@ -160,12 +164,15 @@ class Builder:
                 self.pointer(e, 0, selector)
                 self.pointer(e, 8, types)
                 if r.random() < 0.8:
-                    self.put(e, 16, "Q", r.randrange(1 << 48) | (r.randrange(1 << 16) << 48
-                                                                 if r.random() < self.signed else 0))
+                    imp = r.randrange(1 << 48)
+                    self.imps.append(imp)
+                    self.put(e, 16, "Q", imp | (r.randrange(1 << 16) << 48 if r.random() < self.signed else 0))
             else:
                 self.relatives.append((*e, selector if form == "direct" else slots[i]))
                 self.relatives.append((e[0], e[1] + 4, types))
-                self.put(e, 8, "i", r.choice([0, 1, -1, 0x7FFFFFFF, -0x80000000, 0x400, -0x100000]))
+                distance = r.choice([0, 1, -1, 0x7FFFFFFF, -0x80000000, 0x400, -0x100000])
+                self.imps.append((e[0], e[1] + 8, distance))
+                self.put(e, 8, "i", distance)
         return at
 
     def ivar_list(self):
@@ -324,6 +331,10 @@ class Builder:
 
     def address(self, at):
         return (self.vmaddrs[at[0]] + at[1]) & M64
+
+    def starts(self):
+        """The starts of the methods, once addresses are given."""
+        return [i if isinstance(i, int) else (self.address(i[:2]) + i[2]) & M64 for i in self.imps]
 
     def build(self):
         r = self.rng

@@ -1,5 +1,5 @@
-"""Bundles that a question refuses. A bundle can reach 13, 2, 18, 3, 7 and 14: it is too short for 1, 5 and 6, and holds the 8
-bytes of 4; the program lends the index of 8. 9 to 12 are about what a caller lends later."""
+"""Bundles that a question refuses. A bundle can reach 13, 2, 18, 3, 7 and 14, and 23 by its ends: it is too short for 1, 5 and 6,
+and holds the 8 bytes of 4; the program lends the index of 8. 9 to 12 are about what a caller lends later."""
 import struct
 
 from damage import NOT_UTF8, U64
@@ -44,7 +44,7 @@ def length(rng, bundle):
     out = bytearray(bundle.pack())
     k = rng.randrange(7)
     if k == 0:
-        return bytes(out[:rng.choice([0, 1, 8, 55, 56, 63, 64, 183, 184, len(out) - 1, len(out) - 8])])
+        return bytes(out[:rng.choice([0, 1, 8, 55, 56, 87, 96, 215, 216, len(out) - 1, len(out) - 8])])
     if k == 1:
         return bytes(out) + bytes(rng.choice([1, 8, 16, 100]))
     if k in (2, 3):     # a count changed; some products pass 64 bits and would come out right modulo 2^64

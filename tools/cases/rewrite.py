@@ -1,30 +1,36 @@
 #!/usr/bin/env python3
-"""Rewrites a bundle of the form before note 6 (one image, segments of 4 words, binds of 3) to the form of four files.
+"""Rewrites a bundle of an earlier form to the form with four files and four ends (document 02, notes 6 and 11).
 
-    rewrite.py OLD NEW
+    rewrite.py OLD NEW                  the form of four files, without ends: all four become 0
+    rewrite.py --one-image OLD NEW      the form before note 6: one image, segments of 4 words, binds of 3
 
-The image becomes file 0, the other three files are empty, and every file number is 0. A bundle that was not as long as its
-counts say stays as many bytes too short or too long.
+Of one image file 0 is made, the other three files are empty, and every file number is 0. A bundle that was not as long as
+its counts say stays as many bytes too short or too long.
 """
 import struct
 import sys
 
-OLD, NEW = 40, 64           # counts and image info
+ENDS = bytes(32)
+
+
+def with_ends(old):
+    """The new form of one of four files, or None where it has not even its counts."""
+    return old[:56] + ENDS + old[56:] if len(old) >= 56 else None
 
 
 def rewritten(old):
-    """The new form, or None where the old one has not even its counts and image info."""
-    if len(old) < OLD:
+    """The new form of one image, or None where the tables do not lie in it."""
+    if len(old) < 40:
         return None
     segments, rebases, binds, n = struct.unpack_from("<4Q", old)
     sizes = 32 * segments, 120, 16 * rebases, 24 * binds
-    if OLD + sum(sizes) > len(old):
+    if 40 + sum(sizes) > len(old):
         return None
-    at, parts = OLD, []
+    at, parts = 40, []
     for size in sizes:
         parts.append(old[at:at + size])
         at += size
-    out = [struct.pack("<7Q", segments, rebases, binds, n, 0, 0, 0), old[32:40]]
+    out = [struct.pack("<7Q", segments, rebases, binds, n, 0, 0, 0), ENDS, old[32:40]]
     out += [parts[0][i:i + 32] + bytes(8) for i in range(0, sizes[0], 32)]
     out += parts[1:3]
     out += [parts[3][i:i + 24] + bytes(8) for i in range(0, sizes[3], 24)]
@@ -32,10 +38,12 @@ def rewritten(old):
 
 
 def main(args):
+    form = rewritten if args[:1] == ["--one-image"] else with_ends
+    args = args[form is rewritten:]
     if len(args) != 2:
         sys.exit(__doc__)
     with open(args[0], "rb") as source:
-        new = rewritten(source.read())
+        new = form(source.read())
     if new is None:
         sys.exit("rewrite.py: the tables do not lie in the bundle")
     with open(args[1], "wb") as out:

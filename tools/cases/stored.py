@@ -40,7 +40,7 @@ sys.path.insert(0, os.path.join(ROOT, "tools"))
 import files                # noqa: E402
 
 SEEDS = 16000
-NAMED = ["diamond", "empty", "length 446", "length 448", "total 32768", "total 32769", "segments 65", "order 2",
+NAMED = ["diamond", "empty", "length 478", "length 480", "total 32768", "total 32769", "segments 65", "order 2",
          "order 4", "cut cell vmsize 1 0", "head methods 2f ffffffff", "list methods 1 at +1", "list ivars 1 at +1",
          "protocol names 100001", "bits word, bit 38", "bits word, bit 39", "chain 04213", "prefixes 0",
          "sections from 2^64 - 16", "ranges of UTF-8", "alignment 3", "alignment 100", "alignment ffffffff",
@@ -54,7 +54,12 @@ NAMED = ["diamond", "empty", "length 446", "length 448", "total 32768", "total 3
          "protocol name ends by image", "listed protocol name ends by image", "bound protocol name ends by nothing",
          "category name ends by whole character", "file 4 of a segment 1000 at 1", "file 4 of a segment 9000 at 1",
          "file ffffffffffffffff of a segment ffffffffffffffff at 0", "file 4 of a bind at 0", "file 4 of a bind at 1",
-         "files order 2", "files order 6", "files order 8", "files order 24", "files order 56", "count 4 1"]
+         "files order 2", "files order 6", "files order 8", "files order 24", "files order 56", "count 4 1", "ranges order 1", "ranges order 3",
+         "ranges order 5", "ranges order 9", "end 1 2000", "end 1 2001", "end 2 1", "end 3 1", "end 1 ffffffffffffffff",
+         "frames 0 0 0 slides 0 0", "frames 0 8 8 slides 0 0", "frames 0 8 9 slides 0 0", "frames 0 8 9 slides 0 1",
+         "frames 0 4 c slides 1 8", "frames 0 1 4 slides 8 9", "frames 0 1 4 slides 4 9", "frames 1 1 4 slides 0 0",
+         "frames 1 9 8 slides 0 0", "frames 1 0 0 slides 1 0", "frames 2 4 8 slides 0 4", "frames 3 0 c slides 0 c",
+         "far frames 0 0 ffffffffffffffff slides 0 ffffffffffffffff"]
 SPANNING = 24               # bundles over several files, of each relation of tools/files.py
 LONG = ("texts", "alignments", "prefixes", "protocol names", "protocol list cap")   # long bundles, or long walks
 
@@ -68,7 +73,7 @@ def kinds(listing):
     while at < len(listing):
         letter = chr(listing[at])
         got, at = coverage.fields(listing, at + 1, coverage.FIELDS[letter])
-        kept = {"m": (0, 4), "v": (0,), "p": (0,), "q": (0,), "I": None, "E": None}.get(letter, ())
+        kept = {"m": (0, 4, 5), "v": (0,), "p": (0,), "q": (0,), "I": None, "E": None}.get(letter, ())
         out.add((letter, *[x if x is None or i in kept else bool(x) for i, x in enumerate(got) if kept is not None]))
     return out
 

@@ -18,6 +18,7 @@ import reader
 here = os.path.dirname(os.path.abspath(__file__))
 sys.path.insert(0, os.path.join(here, "../cases"))
 import cases
+from image import Bundle
 
 ap = argparse.ArgumentParser()
 ap.add_argument("--lib", default=os.path.join(here, "../../target/dispatch/libface.so"))
@@ -34,18 +35,18 @@ WHY = {1: reader.UNREADABLE, 2: reader.OVERFLOW}
 def bundle(number):
     """The tables of a bundle, and the addresses to ask for; none where its length is not what its counts say."""
     data = cases.case(number)
-    if len(data) < 184:
+    if len(data) < Bundle.HEAD:
         return None
     counts = struct.unpack_from("<7Q", data)
-    if max(counts) > 32768 or 184 + 40 * counts[0] + 16 * counts[1] + 32 * counts[2] + sum(counts[3:]) != len(data):
+    if max(counts) > 32768 or Bundle.HEAD + 40 * counts[0] + 16 * counts[1] + 32 * counts[2] + sum(counts[3:]) != len(data):
         return None
-    at = [64]
+    at = [Bundle.INFO + 8]
 
     def table(rows, width):
         out = [struct.unpack_from("<%dQ" % width, data, at[0] + 8 * width * i) for i in range(rows)]
         at[0] += 8 * width * rows
         return out
-    info = data[56:64]
+    info = data[Bundle.INFO:Bundle.INFO + 8]
     segments, sections, rebases, binds = table(counts[0], 5), table(5, 3), table(counts[1], 2), table(counts[2], 4)
     files = []
     for n in counts[3:]:

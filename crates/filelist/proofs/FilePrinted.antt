@@ -1,13 +1,14 @@
--- The text that comes of a file after it was opened is the file's text, under either reading, whatever the buffers held; with a number
--- nothing lent is written.
+-- The text that comes of a file after it was opened is the file's text, marks included, under either reading, whatever the buffers held; with a
+-- number nothing lent is written.
 use Prim.Native.Nat.{ℕ, _*_, _≤_}
 use mathlib.Core.Path.{_≡_, refl, sym, ap, _∙_}
-use mathlib.Core.List.{List}
+use mathlib.Core.List.{List, _++_}
 use lib.ListN.{length, take, drop, length-replicate, replicate, take-append-drop}
 use lib.Seq.{length-take-le, take-at}
 use Rattle.reads.specs.Outcome.{Outcome, value, absent, number, andThen}
+use Rattle.reads.proofs.Outcomes.{then-came}
 use Rattle.pointers.specs.Index.{indexLength}
-use Rattle.pointers.specs.Open.{Opened, opening, openedIndex}
+use Rattle.pointers.specs.Open.{Opened, opening, leftBy, openedIndex}
 use Rattle.pointers.specs.Tables.{Tables, under, withIndex, sectionTableWords}
 use Rattle.pointers.specs.declared.imageinfo.ImageInfo.{ImageInfo}
 use Rattle.pointers.specs.declared.setting.Setting.{Setting}
@@ -15,26 +16,31 @@ use Rattle.pointers.proofs.OpenedTables.{opened-room, opened-under}
 use Rattle.walks.specs.Slots.{slotCount}
 use Rattle.macho.specs.FileTables.{sectionTable, fileTables}
 use Rattle.macho.specs.OpenFile.{segmentTableWords, askedFile, openedFile, openingFile, segmentsLeft, sectionsLeft, indexLeft}
+use Rattle.frames.specs.Marks.{framesOf}
+use Rattle.frames.specs.declared.frames.Frames.{Frames}
+use Rattle.frames.specs.declared.frames.Ranges.{Ranges}
+use Rattle.marking.specs.declared.framed.Framed.{Framed}
+use Rattle.marking.proofs.Framing.{framed-given}
 use Rattle.macho.specs.declared.open.OpenedFile.{OpenedFile}
 use Rattle.macho.proofs.FileOpened.{index-written, left-are-tables, opening-gives, number-keeps}
 use Rattle.printing.specs.BundleText.{openedText}
 use Rattle.printing.specs.LineText.{refusedText}
 use Rattle.printing.specs.Pieces.{toCome, begun, pieces, listable}
-use Rattle.printing.proofs.BundleOpens.{opening-same, index-whole, index-long}
+use Rattle.printing.proofs.BundleOpens.{framed-same, opening-same, index-whole, index-long}
 use Rattle.printing.proofs.Comes.{come-under, pieces-text}
 use Rattle.printing.proofs.PieceAnswers.{listable-short}
 use Rattle.printing.proofs.Printed.{begun-sound, listing-comes, over-comes}
-use Rattle.filelist.specs.FileText.{infoIn, zeroIndex, tablesFor, fileOpening, fileText}
-use Rattle.filelist.specs.FileLent.{indexUsed, indexAfter, tablesBy, tablesLent}
+use Rattle.filelist.specs.FileText.{zeroIndex, tablesFor, framedFile, openedBy, fileOpening, fileText}
+use Rattle.filelist.specs.FileLent.{indexUsed, segmentsAfter, sectionsAfter, indexAfter, tablesBy, tablesLent}
+use Rattle.filelist.proofs.FileAnswers.{frames-taken}
 
 -- Of what it fills and of the index opening asks the length alone.
-opens-same : (file rebases binds s t c d i j : List ℕ) → length s ≡ length t → length c ≡ length d → length i ≡ length j
-    → openingFile file s c rebases binds i ≡ openingFile file t d rebases binds j
-unfolding openingFile fileTables
-opens-same file rebases binds s t c d i j a b e =
+opens-same : (x : Ranges) (file rebases binds s t c d i j : List ℕ) → length s ≡ length t → length c ≡ length d → length i ≡ length j
+    → framedFile x file s c rebases binds i ≡ framedFile x file t d rebases binds j
+unfolding framedFile fileTables
+opens-same x file rebases binds s t c d i j a b e =
     rw (a, b)
-    (ap (λ (o : Outcome ImageInfo). andThen (askedFile file (length t) (length d)) (λ _. andThen o (λ info. value (openedFile file info))))
-    (opening-same (fileTables file rebases binds j) i j e))
+    (ap (λ (o : Outcome Framed). andThen (askedFile file (length t) (length d)) (λ _. o)) (framed-same (fileTables file rebases binds j) i j e x))
 
 module _ (file rebases binds : List ℕ) where
   -- The tables for the file, opened: whatever the index held.
@@ -65,95 +71,123 @@ module _ (file rebases binds : List ℕ) where
     unfolding fileTables
     index-kept-long = index-long (fileTables file rebases binds i) i long info e ∙ long
 
-module _ (u : Setting) (file segments sections rebases binds index l : List ℕ) where
-  abbrev gave : Outcome OpenedFile
-  gave = openingFile file segments sections rebases binds (indexUsed rebases binds index)
+-- What a file that opening takes is read from, whatever the buffers held.
+module _ (file segments sections rebases binds index : List ℕ) (long : indexLength rebases binds ≤ length index) where
+  abbrev used : List ℕ
+  used = indexUsed rebases binds index
+
+  used-long : length used ≡ indexLength rebases binds
+  used-long = length-take-le (indexLength rebases binds) index long
+
+  module _ (o : OpenedFile) (e : openingFile file segments sections rebases binds used ≡ value o) where
+    opens : opening (fileTables file rebases binds used) ≡ value (o .info)
+    opens = opening-gives file segments sections rebases binds used o e
+
+    left-index : indexLeft file segments sections rebases binds used ≡ openedIndex (fileTables file rebases binds used)
+    left-index = index-written file segments sections rebases binds used o e
+
+    index-back : indexUsed rebases binds (indexLeft file segments sections rebases binds used ++ drop (indexLength rebases binds) index)
+        ≡ indexLeft file segments sections rebases binds used
+    index-back =
+        take-at (indexLeft file segments sections rebases binds used) (drop (indexLength rebases binds) index) (indexLength rebases binds)
+        (ap length left-index ∙ index-kept-long file rebases binds used used-long (o .info) opens)
+
+    read-said : tablesBy (value o) file (segmentsLeft file segments sections rebases binds used) (sectionsLeft file segments sections rebases binds used)
+        rebases binds (indexUsed rebases binds (indexLeft file segments sections rebases binds used ++ drop (indexLength rebases binds) index))
+        ≡ tablesSaid file rebases binds
+    read-said =
+        rw index-back
+        (left-are-tables file segments sections rebases binds used o e ∙ said-same file rebases binds used used-long (o .info) opens)
+
+    pub opened : Opened (tablesSaid file rebases binds)
+    opened = said-opened file rebases binds used used-long (o .info) opens
+
+    pub lent-said : tablesLent (value o) file (segmentsLeft file segments sections rebases binds used) (sectionsLeft file segments sections rebases binds used)
+        rebases binds (indexLeft file segments sections rebases binds used ++ drop (indexLength rebases binds) index)
+        ≡ tablesSaid file rebases binds
+    lent-said = ap listable read-said ∙ listable-short (tablesSaid file rebases binds) (opened-room (tablesSaid file rebases binds) opened .imageLength)
+
+module _ (u : Setting) (x : Ranges) (file segments sections rebases binds index l : List ℕ) where
+  abbrev gave : Outcome Framed
+  gave = framedFile x file segments sections rebases binds (indexUsed rebases binds index)
 
   -- What pieces are read from after the file was opened.
   abbrev pub tablesAfter : Tables
   tablesAfter =
-      tablesLent gave file
-      (segmentsLeft file segments sections rebases binds (indexUsed rebases binds index))
-      (sectionsLeft file segments sections rebases binds (indexUsed rebases binds index))
+      tablesLent (openedBy file gave) file
+      (segmentsAfter x file segments sections rebases binds index)
+      (sectionsAfter x file segments sections rebases binds index)
       rebases binds
-      (indexAfter file segments sections rebases binds index)
+      (indexAfter x file segments sections rebases binds index)
 
   -- A number comes as its text, and nothing lent is written with it.
   module _ (k : ℕ) (e : gave ≡ number k) where
-    pub refused-comes : toCome tablesAfter (begun u (infoIn gave) l) ≡ refusedText k
+    pub refused-comes : toCome tablesAfter (begun u gave l) ≡ refusedText k
     refused-comes = rw e (over-comes u _ tablesAfter (number k) l refl)
 
-    pub file-unwritten : (segmentsLeft file segments sections rebases binds (indexUsed rebases binds index) ≡ segments)
-        × (sectionsLeft file segments sections rebases binds (indexUsed rebases binds index) ≡ sections)
-        × (indexAfter file segments sections rebases binds index ≡ index)
-    file-unwritten =
-        let kept = number-keeps file segments sections rebases binds (indexUsed rebases binds index) k e in
-        (kept .0, kept .1, rw (kept .2) (take-append-drop (indexLength rebases binds) index))
+    pub file-unwritten : (segmentsAfter x file segments sections rebases binds index ≡ segments)
+        × (sectionsAfter x file segments sections rebases binds index ≡ sections)
+        × (indexAfter x file segments sections rebases binds index ≡ index)
+    file-unwritten = go (framesOf x) refl
+      where
+        whole : indexUsed rebases binds index ++ drop (indexLength rebases binds) index ≡ index
+        whole = take-append-drop (indexLength rebases binds) index
+
+        go : (f : Outcome Frames) → framesOf x ≡ f
+            → (leftBy f (segmentsLeft file segments sections rebases binds (indexUsed rebases binds index)) segments ≡ segments)
+            × (leftBy f (sectionsLeft file segments sections rebases binds (indexUsed rebases binds index)) sections ≡ sections)
+            × (leftBy f (indexLeft file segments sections rebases binds (indexUsed rebases binds index)) (indexUsed rebases binds index)
+            ++ drop (indexLength rebases binds) index ≡ index)
+        go (value w) g =
+            let refuses = frames-taken x w g file segments sections rebases binds (indexUsed rebases binds index) ∙ ap (openedBy file) e in
+            let kept = number-keeps file segments sections rebases binds (indexUsed rebases binds index) k refuses in
+            (kept .0, kept .1, rw (kept .2) whole)
+        go (absent r) g = (refl, refl, whole)
+        go (number j) g = (refl, refl, whole)
 
   module _ (long : indexLength rebases binds ≤ length index) where
-    used-long : length (indexUsed rebases binds index) ≡ indexLength rebases binds
-    used-long = length-take-le (indexLength rebases binds) index long
-
     -- The ledger has a word for each slot of the two class sections, and of the two category sections.
     module _ (classes : slotCount (sectionTable file) 0 1 ≤ length l) (categories : slotCount (sectionTable file) 2 3 ≤ length l) where
-      module _ (o : OpenedFile) (e : gave ≡ value o) where
-        opens : opening (fileTables file rebases binds (indexUsed rebases binds index)) ≡ value (o .info)
-        opens = opening-gives file segments sections rebases binds (indexUsed rebases binds index) o e
+      module _ (f : Framed) (e : gave ≡ value f) where
+        given : framesOf x ≡ value (f .frames)
+        unfolding framedFile
+        given = framed-given x _ f (then-came (askedFile file (length segments) (length sections)) _ f e .2) .frames
 
-        left-index : indexLeft file segments sections rebases binds (indexUsed rebases binds index)
-            ≡ openedIndex (fileTables file rebases binds (indexUsed rebases binds index))
-        left-index = index-written file segments sections rebases binds (indexUsed rebases binds index) o e
-
-        index-back : indexUsed rebases binds (indexAfter file segments sections rebases binds index)
-            ≡ indexLeft file segments sections rebases binds (indexUsed rebases binds index)
-        index-back =
-            take-at (indexLeft file segments sections rebases binds (indexUsed rebases binds index)) (drop (indexLength rebases binds) index)
-            (indexLength rebases binds)
-            (ap length left-index ∙ index-kept-long file rebases binds (indexUsed rebases binds index) used-long (o .info) opens)
-
-        read-said : tablesBy gave file (segmentsLeft file segments sections rebases binds (indexUsed rebases binds index))
-            (sectionsLeft file segments sections rebases binds (indexUsed rebases binds index)) rebases binds
-            (indexUsed rebases binds (indexAfter file segments sections rebases binds index))
-            ≡ tablesSaid file rebases binds
-        read-said =
-            rw (index-back, e)
-            (left-are-tables file segments sections rebases binds (indexUsed rebases binds index) o e
-            ∙ said-same file rebases binds (indexUsed rebases binds index) used-long (o .info) opens)
-
-        opened : Opened (tablesSaid file rebases binds)
-        opened = said-opened file rebases binds (indexUsed rebases binds index) used-long (o .info) opens
+        opens-file : openingFile file segments sections rebases binds (indexUsed rebases binds index) ≡ value (openedFile file (f .info))
+        opens-file = frames-taken x (f .frames) given file segments sections rebases binds (indexUsed rebases binds index) ∙ ap (openedBy file) e
 
         after-said : tablesAfter ≡ tablesSaid file rebases binds
-        after-said = ap listable read-said ∙ listable-short (tablesSaid file rebases binds) (opened-room (tablesSaid file rebases binds) opened .imageLength)
+        after-said = rw (e, given) (lent-said file segments sections rebases binds index long (openedFile file (f .info)) opens-file)
 
-        opened-comes : toCome tablesAfter (begun u (value (o .info)) l) ≡ openedText (under u (tablesSaid file rebases binds)) (value (o .info))
+        opened-comes : toCome tablesAfter (begun u (value f) l) ≡ openedText (under u (tablesSaid file rebases binds)) (value f)
         unfolding fileTables
         opened-comes =
-            ap (λ (t : Tables). toCome t (begun u (value (o .info)) l)) after-said
-            ∙ sym (come-under u (tablesSaid file rebases binds) (begun u (value (o .info)) l))
-            ∙ listing-comes (under u (tablesSaid file rebases binds)) (opened-under u opened) l classes categories
+            ap (λ (t : Tables). toCome t (begun u (value f) l)) after-said
+            ∙ sym (come-under u (tablesSaid file rebases binds) (begun u (value f) l))
+            ∙ listing-comes (under u (tablesSaid file rebases binds))
+            (opened-under u (opened file segments sections rebases binds index long (openedFile file (f .info)) opens-file)) f l classes categories
 
-      comes : toCome tablesAfter (begun u (infoIn gave) l) ≡ openedText (under u (tablesSaid file rebases binds)) (infoIn gave)
+      comes : toCome tablesAfter (begun u gave l) ≡ openedText (under u (tablesSaid file rebases binds)) gave
       comes = go gave refl
         where
-          go : (o : Outcome OpenedFile) → gave ≡ o → toCome tablesAfter (begun u (infoIn o) l) ≡ openedText (under u (tablesSaid file rebases binds)) (infoIn o)
-          go (value o) e = opened-comes o e
+          go : (o : Outcome Framed) → gave ≡ o → toCome tablesAfter (begun u o l) ≡ openedText (under u (tablesSaid file rebases binds)) o
+          go (value f) e = opened-comes f e
           go (absent r) e = over-comes u tablesAfter (under u (tablesSaid file rebases binds)) (absent r) l refl
           go (number k) e = over-comes u tablesAfter (under u (tablesSaid file rebases binds)) (number k) l refl
 
       module _ (rows : length segments ≡ segmentTableWords) (words : length sections ≡ sectionTableWords) where
-        asked-same : gave ≡ openingFile file (replicate segmentTableWords 0) (replicate sectionTableWords 0) rebases binds (zeroIndex rebases binds)
+        asked-same : gave ≡ framedFile x file (replicate segmentTableWords 0) (replicate sectionTableWords 0) rebases binds (zeroIndex rebases binds)
         asked-same =
-            opens-same file rebases binds segments (replicate segmentTableWords 0) sections (replicate sectionTableWords 0) (indexUsed rebases binds index)
+            opens-same x file rebases binds segments (replicate segmentTableWords 0) sections (replicate sectionTableWords 0) (indexUsed rebases binds index)
             (zeroIndex rebases binds)
             (rows ∙ sym (length-replicate {A = ℕ} segmentTableWords 0))
             (words ∙ sym (length-replicate {A = ℕ} sectionTableWords 0))
-            (used-long ∙ sym (length-replicate {A = ℕ} (indexLength rebases binds) 0))
+            (used-long file segments sections rebases binds index long ∙ sym (length-replicate {A = ℕ} (indexLength rebases binds) 0))
 
-        pub file-printed : toCome tablesAfter (begun u (infoIn gave) l) ≡ fileText u file rebases binds
+        pub file-printed : toCome tablesAfter (begun u gave l) ≡ fileText u x file rebases binds
         unfolding fileText fileOpening
-        file-printed = comes ∙ ap (λ (o : Outcome OpenedFile). openedText (under u (tablesSaid file rebases binds)) (infoIn o)) asked-same
+        file-printed = comes ∙ ap (openedText (under u (tablesSaid file rebases binds))) asked-same
 
         -- The pieces that are handed out, of n bytes each, one after the other, are the file's text.
-        pub file-printed-pieces : (n k : ℕ) → pieces tablesAfter n k (begun u (infoIn gave) l) ≡ take (k * n) (fileText u file rebases binds)
-        file-printed-pieces n k = pieces-text tablesAfter n k (begun u (infoIn gave) l) (begun-sound u (infoIn gave) l) ∙ ap (take (k * n)) file-printed
+        pub file-printed-pieces : (n k : ℕ) → pieces tablesAfter n k (begun u gave l) ≡ take (k * n) (fileText u x file rebases binds)
+        file-printed-pieces n k = pieces-text tablesAfter n k (begun u gave l) (begun-sound u gave l) ∙ ap (take (k * n)) file-printed

@@ -1,28 +1,41 @@
 // The listing of a Mach-O file: it is opened over what is lent, and its text handed out piece by piece. Rebases and binds are lent. Of the
-// index as many words are used as question 8 asks. With a number nothing lent is written, and the text is `refused` and that number.
+// index as many words are used as question 8 asks. With a number, 23 of the ranges last, nothing lent is written, and the text is `refused` and
+// that number.
+use frames::frames::Frames;
+use frames::frames::FramesAnswer;
+use frames::frames::Ranges;
 use macho::header::range_of;
 use macho::open::FileAnswer;
 use macho::open::open_file;
+use marking::framed::FramedAnswer;
+use marking::framed::refused_last;
+use marking::framed::with_frames;
 use pointers::imageinfo::ImageInfoAnswer;
+use pointers::index::HEADS;
+use pointers::question::index_fits;
 use pointers::table::Bind;
 use pointers::table::Rebase;
 use printing::pieces::Piece;
 use printing::pieces::Progress;
+use reads::answer::Missing;
 use reads::segment::Segment;
 use reads::text::Reading;
 ghost use Prim.Native.Nat.{_*_, min};
 ghost use mathlib.Core.Path.{_≡_};
 ghost use lib.ListN.{length, take, drop};
+ghost use Rattle.reads.specs.Answer.{missed};
 ghost use Rattle.reads.specs.Reference.{before, after};
 ghost use Rattle.reads.specs.Segment.{segmentWords};
 ghost use Rattle.pointers.specs.ImageInfo.{infoOutcome};
 ghost use Rattle.pointers.specs.Index.{indexLength};
 ghost use Rattle.pointers.specs.Tables.{readingNew, readingUnder};
 ghost use Rattle.macho.specs.FileTables.{overFile};
-ghost use Rattle.macho.specs.OpenFile.{fileOutcome, openingFile, segmentsLeft, sectionsLeft};
+ghost use Rattle.macho.specs.OpenFile.{fileOutcome, openingFile, segmentsLeft, sectionsLeft, indexLeft};
+ghost use Rattle.frames.specs.Frames.{noRanges};
+ghost use Rattle.marking.specs.Framed.{withFrames};
 ghost use Rattle.printing.specs.Pieces.{standingOf, begun, listable, toCome, handedOf, pieceOf};
-ghost use Rattle.filelist.specs.FileText.{infoIn};
-ghost use Rattle.filelist.specs.FileLent.{indexUsed, indexAfter, tablesLent};
+ghost use Rattle.filelist.specs.FileText.{infoIn, framedFile, openedBy, refusedFile};
+ghost use Rattle.filelist.specs.FileLent.{indexUsed, segmentsAfter, sectionsAfter, indexAfter, tablesLent};
 
 // A listing that is begun: what opening the file answered, and where the printing stands.
 pub struct FileListing {
@@ -34,7 +47,7 @@ pub struct FileListing {
 fn index_words(rebases: &[u64], binds: &[u64], lent: usize) -> usize
     ensures { λ r. ⌜ r ≡ min (indexLength (before rebases) (before binds)) lent ⌝ }
 {
-    let asked = 8192 + rebases.len() / Rebase::WORDS + binds.len() / Bind::WORDS;
+    let asked = HEADS + rebases.len() / Rebase::WORDS + binds.len() / Bind::WORDS;
     if lent <= asked {
         return lent;
     }
@@ -64,7 +77,57 @@ fn info_of(answer: FileAnswer) -> ImageInfoAnswer
     }
 }
 
-// The listing of a file under the new reading, begun.
+// Opens the file, and begins its listing for these frames.
+fn begin(
+    reading: Reading,
+    frames: Frames,
+    file: &[u8],
+    segments: &mut [u64],
+    sections: &mut [u64],
+    rebases: &[u64],
+    binds: &[u64],
+    index: &mut [u32],
+) -> FileListing
+    ensures answer { λ r. ⌜ fileOutcome (r .answer) ≡ openingFile (before file) (before segments) (before sections) (before rebases) (before binds) (before index) ⌝ }
+    ensures progress { λ r. ⌜ standingOf (r .progress) ≡ begun (readingUnder reading) (withFrames frames (infoIn (fileOutcome (r .answer)))) ⌝ }
+    ensures segments { λ _. ⌜ after segments ≡ segmentsLeft (before file) (before segments) (before sections) (before rebases) (before binds) (before index) ⌝ }
+    ensures sections { λ _. ⌜ after sections ≡ sectionsLeft (before file) (before segments) (before sections) (before rebases) (before binds) (before index) ⌝ }
+    ensures index { λ _. ⌜ after index ≡ indexLeft (before file) (before segments) (before sections) (before rebases) (before binds) (before index) ⌝ }
+{
+    let answer = open_file(file, segments, sections, rebases, binds, index);
+    FileListing {
+        answer,
+        progress: Progress::under(reading, with_frames(info_of(answer), frames)),
+    }
+}
+
+// What refuses where number k refuses the ranges: opened over no index the file is refused at the latest by 8, and nothing is written.
+fn ranges_refused(
+    file: &[u8],
+    segments: &mut [u64],
+    sections: &mut [u64],
+    rebases: &[u64],
+    binds: &[u64],
+    index: &mut [u32],
+    k: u8,
+) -> Missing
+    ensures outcome { λ r. ⌜ missed r ≡ refusedFile k (before file) (before segments) (before sections) (before rebases) (before binds) (before index) ⌝ }
+    ensures segments { λ _. ⌜ after segments ≡ before segments ⌝ }
+    ensures sections { λ _. ⌜ after sections ≡ before sections ⌝ }
+    ensures index { λ _. ⌜ after index ≡ before index ⌝ }
+{
+    let fits = index_fits(
+        rebases.len() / Rebase::WORDS,
+        binds.len() / Bind::WORDS,
+        index.len(),
+    );
+    match open_file(file, segments, sections, rebases, binds, &mut index[0..0]) {
+        FileAnswer::File(_) => Missing::Refused(k),
+        FileAnswer::Missing(m) => refused_last(m, fits, k),
+    }
+}
+
+// The listing of a file under the new reading and without ranges, so that nothing is marked; begun.
 pub fn list_file(
     file: &[u8],
     segments: &mut [u64],
@@ -73,14 +136,15 @@ pub fn list_file(
     binds: &[u64],
     index: &mut [u32],
 ) -> FileListing
-    ensures answer { λ r. ⌜ fileOutcome (r .answer) ≡ openingFile (before file) (before segments) (before sections) (before rebases) (before binds) (indexUsed (before rebases) (before binds) (before index)) ⌝ }
-    ensures progress { λ r. ⌜ standingOf (r .progress) ≡ begun readingNew (infoIn (fileOutcome (r .answer))) ⌝ }
-    ensures segments { λ _. ⌜ after segments ≡ segmentsLeft (before file) (before segments) (before sections) (before rebases) (before binds) (indexUsed (before rebases) (before binds) (before index)) ⌝ }
-    ensures sections { λ _. ⌜ after sections ≡ sectionsLeft (before file) (before segments) (before sections) (before rebases) (before binds) (indexUsed (before rebases) (before binds) (before index)) ⌝ }
-    ensures index { λ _. ⌜ after index ≡ indexAfter (before file) (before segments) (before sections) (before rebases) (before binds) (before index) ⌝ }
+    ensures answer { λ r. ⌜ fileOutcome (r .answer) ≡ openedBy (before file) (framedFile noRanges (before file) (before segments) (before sections) (before rebases) (before binds) (indexUsed (before rebases) (before binds) (before index))) ⌝ }
+    ensures progress { λ r. ⌜ standingOf (r .progress) ≡ begun readingNew (framedFile noRanges (before file) (before segments) (before sections) (before rebases) (before binds) (indexUsed (before rebases) (before binds) (before index))) ⌝ }
+    ensures segments { λ _. ⌜ after segments ≡ segmentsAfter noRanges (before file) (before segments) (before sections) (before rebases) (before binds) (before index) ⌝ }
+    ensures sections { λ _. ⌜ after sections ≡ sectionsAfter noRanges (before file) (before segments) (before sections) (before rebases) (before binds) (before index) ⌝ }
+    ensures index { λ _. ⌜ after index ≡ indexAfter noRanges (before file) (before segments) (before sections) (before rebases) (before binds) (before index) ⌝ }
 {
     list_file_under(
         Reading::New,
+        Ranges::none(),
         file,
         segments,
         sections,
@@ -90,9 +154,10 @@ pub fn list_file(
     )
 }
 
-// The same under either reading.
+// The same under either reading, its methods marked for frames and slides in these ranges.
 pub fn list_file_under(
     reading: Reading,
+    ranges: Ranges,
     file: &[u8],
     segments: &mut [u64],
     sections: &mut [u64],
@@ -100,24 +165,39 @@ pub fn list_file_under(
     binds: &[u64],
     index: &mut [u32],
 ) -> FileListing
-    ensures answer { λ r. ⌜ fileOutcome (r .answer) ≡ openingFile (before file) (before segments) (before sections) (before rebases) (before binds) (indexUsed (before rebases) (before binds) (before index)) ⌝ }
-    ensures progress { λ r. ⌜ standingOf (r .progress) ≡ begun (readingUnder reading) (infoIn (fileOutcome (r .answer))) ⌝ }
-    ensures segments { λ _. ⌜ after segments ≡ segmentsLeft (before file) (before segments) (before sections) (before rebases) (before binds) (indexUsed (before rebases) (before binds) (before index)) ⌝ }
-    ensures sections { λ _. ⌜ after sections ≡ sectionsLeft (before file) (before segments) (before sections) (before rebases) (before binds) (indexUsed (before rebases) (before binds) (before index)) ⌝ }
-    ensures index { λ _. ⌜ after index ≡ indexAfter (before file) (before segments) (before sections) (before rebases) (before binds) (before index) ⌝ }
+    ensures answer { λ r. ⌜ fileOutcome (r .answer) ≡ openedBy (before file) (framedFile ranges (before file) (before segments) (before sections) (before rebases) (before binds) (indexUsed (before rebases) (before binds) (before index))) ⌝ }
+    ensures progress { λ r. ⌜ standingOf (r .progress) ≡ begun (readingUnder reading) (framedFile ranges (before file) (before segments) (before sections) (before rebases) (before binds) (indexUsed (before rebases) (before binds) (before index))) ⌝ }
+    ensures segments { λ _. ⌜ after segments ≡ segmentsAfter ranges (before file) (before segments) (before sections) (before rebases) (before binds) (before index) ⌝ }
+    ensures sections { λ _. ⌜ after sections ≡ sectionsAfter ranges (before file) (before segments) (before sections) (before rebases) (before binds) (before index) ⌝ }
+    ensures index { λ _. ⌜ after index ≡ indexAfter ranges (before file) (before segments) (before sections) (before rebases) (before binds) (before index) ⌝ }
 {
     let entries = index_words(rebases, binds, index.len());
-    let answer = open_file(
-        file,
-        segments,
-        sections,
-        rebases,
-        binds,
-        &mut index[0..entries],
-    );
-    FileListing {
-        answer,
-        progress: Progress::under(reading, info_of(answer)),
+    match Frames::new(ranges) {
+        FramesAnswer::Frames(frames) => begin(
+            reading,
+            frames,
+            file,
+            segments,
+            sections,
+            rebases,
+            binds,
+            &mut index[0..entries],
+        ),
+        FramesAnswer::Refused(k) => {
+            let m = ranges_refused(
+                file,
+                segments,
+                sections,
+                rebases,
+                binds,
+                &mut index[0..entries],
+                k,
+            );
+            FileListing {
+                answer: FileAnswer::Missing(m),
+                progress: Progress::under(reading, FramedAnswer::Missing(m)),
+            }
+        }
     }
 }
 

@@ -8,8 +8,8 @@ use lib.Dec.{leb}
 use borrow.Author.Tests.{leb-true, leb-false, ltb-true, ltb-false, eqb-true, eqb-false}
 use Rattle.reads.specs.Outcome.{value, number, choose}
 use Rattle.reads.proofs.Tests.{by-choose, both-true}
-use Rattle.frames.specs.Frames.{Pair, unslid, Says, none, marked, certain}
-use Rattle.frames.specs.Marks.{isAt, anyPair, lowest, highest, addresses, inOrder, framesOf, metAll, markOf}
+use Rattle.frames.specs.Frames.{noRanges, Pair, unslid, Says, none, marked, certain}
+use Rattle.frames.specs.Marks.{isAt, anyPair, lowest, highest, addresses, inOrder, framesOf, noFrames, metAll, markOf}
 use Rattle.frames.specs.declared.frames.Floor.{Floor}
 use Rattle.frames.specs.declared.frames.Floor.the-variants.{At, Nothing}
 use Rattle.frames.specs.declared.frames.Frames.{Frames}
@@ -159,6 +159,14 @@ module _ (x : Ranges) (framesInOrder : x .«first_frame» ≤ x .«last_frame»)
         (λ atLowest. says-first any l (at-floor starts (lowest x) f p a atLowest) (below-floor starts (highest x) g q a m h notAtHighest))
         (λ notAtLowest. says-passed any l (below-floor starts (lowest x) f p a m l notAtLowest))))))
         (λ noPair. says-no-pair (leb-false (x .«first_slide») (x .«last_frame») noPair))
+
+-- No pair is possible where no ranges are given.
+pub no-pair-given : Pair noRanges → ⊥
+no-pair-given p = omega (arith, p .frameTo, p .slideFrom, p .notBelowZero)
+
+pub none-of-no-ranges : framesOf noRanges ≡ value noFrames
+unfolding framesOf inOrder addresses choose
+none-of-no-ranges = refl
 
 -- Ranges that 23 does not refuse are in order.
 module _ (x : Ranges) (w : Frames) where

@@ -4,6 +4,10 @@ use Prim.Native.Nat.{ℕ, _-_, _≤_, _<_}
 use mathlib.Core.List.{List, List·Memᴰ}
 use Rattle.frames.specs.declared.frames.Ranges.{Ranges}
 
+-- The ranges of a listing that is asked for without any: their only pair is below zero, so nothing is marked.
+abbrev pub noRanges : Ranges
+noRanges = record { «first_frame» = 0; «last_frame» = 0; «first_slide» = 1; «last_slide» = 1 }
+
 -- A possible pair: a frame and a slide of the two ranges, both ends included. Pairs below zero are left out.
 pub record Pair (x : Ranges) : Type 0 where
   pub frame : ℕ

@@ -46,6 +46,10 @@ addresses x =
 unfoldable pub framesOf : Ranges → Outcome Frames
 framesOf x = choose (inOrder x) (value (addresses x)) (number 23)
 
+-- No possible address: what the ranges that a listing without any is given leave (proofs/MarksRight.antt, `none-of-no-ranges`).
+abbrev pub noFrames : Frames
+noFrames = record { any = false; low = 0; high = 0; «low_floor» = Nothing; «high_floor» = Nothing }
+
 -- The greater of a floor and a start.
 abbrev pub later : Floor → ℕ → Floor
 later Nothing start = At start

@@ -1,7 +1,8 @@
 // Crash frames known within a range (note 11): the possible unslid addresses, the starts met, and the mark of a start.
 ghost use mathlib.Core.Path.{_≡_};
 ghost use Prim.Native.Nat.{_-_};
-ghost use Rattle.frames.specs.Marks.{framesOutcome, framesOf, raised, isAt, met, markOf};
+ghost use Rattle.frames.specs.Frames.{noRanges};
+ghost use Rattle.frames.specs.Marks.{framesOutcome, framesOf, noFrames, raised, isAt, met, markOf};
 
 // A range of frames and a range of slides, both ends included.
 pub struct Ranges {
@@ -29,6 +30,20 @@ pub struct Frames {
 pub enum FramesAnswer {
     Frames(Frames),
     Refused(u8),
+}
+
+impl Ranges {
+    // Ranges whose only pair is below zero: nothing is marked.
+    pub fn none() -> Ranges
+        ensures { λ r. ⌜ r ≡ noRanges ⌝ }
+    {
+        Ranges {
+            first_frame: 0,
+            last_frame: 0,
+            first_slide: 1,
+            last_slide: 1,
+        }
+    }
 }
 
 // 0 where b is the greater.
@@ -88,6 +103,19 @@ impl Frames {
             low_floor: Floor::Nothing,
             high_floor: Floor::Nothing,
         })
+    }
+
+    // No possible address.
+    pub fn none() -> Frames
+        ensures { λ r. ⌜ r ≡ noFrames ⌝ }
+    {
+        Frames {
+            any: false,
+            low: 0,
+            high: 0,
+            low_floor: Floor::Nothing,
+            high_floor: Floor::Nothing,
+        }
     }
 
     // One more start is met.

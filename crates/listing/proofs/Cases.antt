@@ -59,11 +59,11 @@ both-hold : (cs ds : List Case) → AllHold cs → AllHold ds → AllHold (cs ++
 both-hold [] ds h g = g
 both-hold (c ∷ cs) ds h g = (h .0, both-hold cs ds (h .1) g)
 
--- ◆ the listing's bundle: one segment, no rebase, one bind, 191 bytes of file 0 and none of the others; image info 0; segment; sections, of
+-- ◆ the listing's bundle: one segment, no rebase, one bind, 191 bytes of file 0 and none of the others; all four ends 0; image info 0; segment; sections, of
 -- which class_list is present; bind; file 0.
 abbrev pub hub-bundle : List ℕ
 hub-bundle =
-    eights (1 ∷ 0 ∷ 1 ∷ 191 ∷ 0 ∷ 0 ∷ 0 ∷ [])
+    eights (1 ∷ 0 ∷ 1 ∷ 191 ∷ 0 ∷ 0 ∷ 0 ∷ 0 ∷ 0 ∷ 0 ∷ 0 ∷ [])
     ++ (replicate 8 0
     ++ (eights (0x1000 ∷ 191 ∷ 0 ∷ 191 ∷ 0 ∷ [])
     ++ (eights (1 ∷ 0x10A0 ∷ 8 ∷ 0 ∷ 0 ∷ 0 ∷ 0 ∷ 0 ∷ 0 ∷ 0 ∷ 0 ∷ 0 ∷ 0 ∷ 0 ∷ 0 ∷ [])

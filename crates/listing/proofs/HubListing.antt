@@ -81,7 +81,7 @@ hub-fields : plain.recordFields hub (aRecord.Class hub-class-record) ≡ value (
 unfolding plain.recordFields
 hub-fields = rw (hub-ro-of, hub-ro)
 
--- m 0 2:up 1:v 2000 0
+-- m 0 2:up 1:v 2000 0 0
 abbrev pub row-line : Line
 row-line = plain.rowLine 0 up
 

@@ -17,9 +17,9 @@ use Rattle.listing.specs.declared.bundle.Counts.{Counts}
 use Rattle.listing.specs.declared.bundle.CountsAnswer.{CountsAnswer}
 use Rattle.listing.specs.declared.bundle.CountsAnswer.the-variants as countsAnswer
 
--- The length in document 01's order: counts, image info, the words of the four tables, the four files.
+-- The length in document 01's order: counts, ends, image info, the words of the four tables, the four files.
 pub said-length : (c : Counts)
-    → saidLength c ≡ 64 + 8 * (5 * c .segments + 15 + 2 * c .rebases + 4 * c .binds) + c .image0 + c .image1 + c .image2 + c .image3
+    → saidLength c ≡ 96 + 8 * (5 * c .segments + 15 + 2 * c .rebases + 4 * c .binds) + c .image0 + c .image1 + c .image2 + c .image3
 said-length c = omega arith
 
 module _ (bytes : List ℕ) where
@@ -90,6 +90,6 @@ accepted bytes c =
 pub measured : (r : CountsAnswer) (bytes : List ℕ) (c : Counts) → countsOutcome r ≡ bundleCounts bytes → r ≡ countsAnswer.Counts c → Accepted bytes c
 measured r bytes c e g = accepted bytes c (rw (← e, g))
 
--- The tables of an accepted bundle have at most 4,088 words together.
-pub tables-fit : (bytes : List ℕ) (c : Counts) → Accepted bytes c → segmentTableWords c + sectionTableWords + rebaseTableWords c + bindTableWords c ≤ 4088
+-- The tables of an accepted bundle have at most 4,084 words together.
+pub tables-fit : (bytes : List ℕ) (c : Counts) → Accepted bytes c → segmentTableWords c + sectionTableWords + rebaseTableWords c + bindTableWords c ≤ 4084
 tables-fit bytes c a = omega arith

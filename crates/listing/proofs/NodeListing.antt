@@ -404,10 +404,10 @@ module _ (before : List ℕ) where
         let other : slotCount node-sections 2 3 ≡ 1 = unfold slotCount sectionAt choose in refl in
         lists-with-room (node before) node-opened l (rw one room) (rw other room) twelve-lines six-events node-listing node-events
 
--- The same as a bundle: two segments, no rebase, no bind, 440 bytes of file 0 and 22 of file 1; image info 0; segments; sections; the files. It
+-- The same as a bundle: two segments, no rebase, no bind, 440 bytes of file 0 and 22 of file 1; all four ends 0; image info 0; segments; sections; the files. It
 -- is accepted, and its tables are those above.
 abbrev pub node-bundle : List ℕ
-node-bundle = eights (2 ∷ 0 ∷ 0 ∷ 440 ∷ 22 ∷ 0 ∷ 0 ∷ []) ++ (replicate 8 0 ++ (eights node-segments ++ (eights node-sections ++ (node-bytes ++ name-bytes))))
+node-bundle = eights (2 ∷ 0 ∷ 0 ∷ 440 ∷ 22 ∷ 0 ∷ 0 ∷ 0 ∷ 0 ∷ 0 ∷ 0 ∷ []) ++ (replicate 8 0 ++ (eights node-segments ++ (eights node-sections ++ (node-bytes ++ name-bytes))))
 
 abbrev pub node-counts : Counts
 node-counts = record { segments = 2; rebases = 0; binds = 0; image0 = 440; image1 = 22; image2 = 0; image3 = 0 }

@@ -1,5 +1,6 @@
--- The bundle (document 01, "The program's listing"; document 02, note 6) and question 13. Its words are little-endian: S (segments), rebases,
--- binds, and the lengths of four files; then 8 bytes of image info; the segment, section, rebase and bind tables; the four files.
+-- The bundle (document 01, "The program's listing"; document 02, notes 6 and 11) and question 13. Its words are little-endian: S (segments),
+-- rebases, binds, and the lengths of four files; the four ends of note 11's ranges; then 8 bytes of image info; the segment, section, rebase and
+-- bind tables; the four files.
 use Prim.Native.Nat.{ℕ, zero, suc, _+_, _*_, _≤_}
 use mathlib.Core.Path.{_≡_}
 use mathlib.Core.Bool.{Bool, _&&_}
@@ -12,6 +13,7 @@ use Rattle.reads.specs.Segment.{segmentWords}
 use Rattle.reads.specs.Place.{part, leIn}
 use Rattle.pointers.specs.Question.{every}
 use Rattle.pointers.specs.Tables.{Tables, tablesOf, sectionTableWords, rebaseWords, bindWords}
+use Rattle.frames.specs.declared.frames.Ranges.{Ranges}
 use Rattle.listing.specs.declared.bundle.Counts.{Counts}
 use Rattle.listing.specs.declared.bundle.CountsAnswer.{CountsAnswer}
 use Rattle.listing.specs.declared.bundle.CountsAnswer.the-variants as countsAnswer
@@ -43,6 +45,16 @@ countsOf bytes =
       image3 = wordFrom bytes 48;
     }
 
+-- The next four: the first and the last frame, the first and the last slide.
+abbrev pub rangesOf : List ℕ → Ranges
+rangesOf bytes =
+    record {
+      «first_frame» = wordFrom bytes 56;
+      «last_frame» = wordFrom bytes 64;
+      «first_slide» = wordFrom bytes 72;
+      «last_slide» = wordFrom bytes 80;
+    }
+
 -- Count k of the seven is at most 32,768. One that is not makes the bundle longer; of those that are no sum passes 64 bits.
 unfoldable pub countFits : List ℕ → ℕ → Bool
 countFits bytes k = leb (wordFrom bytes (8 * k)) 32768
@@ -60,12 +72,12 @@ rebaseTableWords c = rebaseWords * c .rebases
 abbrev pub bindTableWords : Counts → ℕ
 bindTableWords c = bindWords * c .binds
 
--- Where each part stands: after the seven counts the image info, then each table after the one before, then each file.
+-- Where each part stands: after the seven counts and the four ends the image info, then each table after the one before, then each file.
 abbrev pub infoAt : ℕ
-infoAt = 56
+infoAt = 88
 
 abbrev pub segmentsAt : ℕ
-segmentsAt = 64
+segmentsAt = 96
 
 abbrev pub sectionsAt : Counts → ℕ
 sectionsAt c = segmentsAt + 8 * segmentTableWords c
@@ -88,7 +100,7 @@ image2At c = image1At c + c .image1
 abbrev pub image3At : Counts → ℕ
 image3At c = image2At c + c .image2
 
--- How long the counts say that the bundle is: 64 + 8 x (5 x S + 15 + 2 x rebases + 4 x binds), and the four files.
+-- How long the counts say that the bundle is: 96 + 8 x (5 x S + 15 + 2 x rebases + 4 x binds), and the four files.
 abbrev pub saidLength : Counts → ℕ
 saidLength c = image3At c + c .image3
 

@@ -56,9 +56,9 @@ classLine c name = line.Class (record { class = c; «superclass_name» = name })
 abbrev pub categoryLine : ObjcCategory → Named → Line
 categoryLine c name = line.Category (record { category = c; «class_name» = name })
 
--- m, v or p; q: under the list's number.
+-- m, v or p, before a method gets its mark; q: under the list's number.
 abbrev pub rowLine : ℕ → Row → Line
-rowLine n r = line.Row (record { list = n; row = r })
+rowLine n r = line.Row (record { list = n; row = r; mark = 0 })
 
 abbrev pub nameLine : ℕ → Text → Line
 nameLine n name = line.Name (record { list = n; name = name })

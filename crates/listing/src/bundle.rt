@@ -1,4 +1,5 @@
-// The bundle that the program reads: its counts, where its parts stand, and its little-endian words.
+// The bundle that the program reads: its counts, the ends of its ranges, where its parts stand, and its little-endian words.
+use frames::frames::Ranges;
 use pointers::section::ObjcSection;
 use pointers::table::Bind;
 use pointers::table::Rebase;
@@ -10,13 +11,22 @@ ghost use mathlib.Core.Bool.{true};
 ghost use Prim.Native.Nat.{_*_, _<_};
 ghost use lib.ListN.{length};
 ghost use Rattle.reads.specs.Reference.{before, after};
-ghost use Rattle.listing.specs.Bundle.{countsOutcome, wordFrom, wordsFrom, segmentTableWords, rebaseTableWords, bindTableWords, sectionsAt, rebasesAt, bindsAt, image0At, image1At, image2At, image3At, saidLength, countsOf, countsFit, bundleCounts};
+ghost use Rattle.listing.specs.Bundle.{countsOutcome, wordFrom, wordsFrom, rangesOf, segmentTableWords, rebaseTableWords, bindTableWords, sectionsAt, rebasesAt, bindsAt, image0At, image1At, image2At, image3At, saidLength, countsOf, countsFit, bundleCounts};
 
 // Question 13: the longest bundle. A count above it makes the bundle longer.
 const LONGEST: u64 = 32768;
 
 // The counts in front of a bundle.
 const COUNTS: u64 = 7;
+
+// Where the four ends stand, after the counts.
+const FIRST_FRAME_AT: u64 = 8 * COUNTS;
+
+const LAST_FRAME_AT: u64 = FIRST_FRAME_AT + 8;
+
+const FIRST_SLIDE_AT: u64 = LAST_FRAME_AT + 8;
+
+const LAST_SLIDE_AT: u64 = FIRST_SLIDE_AT + 8;
 
 // How many segments, rebases and binds a bundle has, and how many bytes each of the image's four files. Counts of an
 // accepted bundle fit 32 bits, and no sum below passes 64 bits then.
@@ -36,10 +46,10 @@ pub enum CountsAnswer {
 }
 
 impl Counts {
-    // Where the image info stands, and after it the segment table.
-    pub const INFO_AT: usize = 56;
+    // Where the image info stands, after the counts and the four ends, and after it the segment table.
+    pub const INFO_AT: usize = 88;
 
-    pub const SEGMENTS_AT: usize = 64;
+    pub const SEGMENTS_AT: usize = 96;
 
     // The words of the segment table.
     pub fn segment_words(self) -> usize
@@ -124,6 +134,18 @@ pub fn word_at(bundle: &[u8], offset: u64) -> u64
     ensures { λ r. ⌜ r ≡ wordFrom (before bundle) offset ⌝ }
 {
     u64_from(bundle, offset, 0)
+}
+
+// The four ends after the counts: the first and the last frame, the first and the last slide.
+pub fn ranges_of(bundle: &[u8]) -> Ranges
+    ensures { λ r. ⌜ r ≡ rangesOf (before bundle) ⌝ }
+{
+    Ranges {
+        first_frame: word_at(bundle, FIRST_FRAME_AT),
+        last_frame: word_at(bundle, LAST_FRAME_AT),
+        first_slide: word_at(bundle, FIRST_SLIDE_AT),
+        last_slide: word_at(bundle, LAST_SLIDE_AT),
+    }
 }
 
 // As many words as `to` has, from an offset on.

@@ -32,10 +32,11 @@ pub struct CategoryLine {
     pub class_name: Named,
 }
 
-// m, v or p: a row of the record's list of that number.
+// m, v or p: a row of the record's list of that number; and the mark of a method, which crate `marking` sets: 0 before that, and of v and p.
 pub struct RowLine {
     pub list: u16,
     pub row: Row,
+    pub mark: u8,
 }
 
 // q: a protocol name of the record's list of that number.

@@ -116,6 +116,20 @@ fn carried(high: u64, low: u64) -> u64
 }
 
 impl Listing {
+    // Before the first line, under a setting.
+    fn starting(setting: Setting) -> Listing
+        ensures { λ r. ⌜ stateOf r ≡ start setting ⌝ }
+    {
+        Listing {
+            setting,
+            at: At::Info,
+            section: Section::at_stage(setting, Section::CLASSES),
+            records: 0,
+            settled_high: 0,
+            settled_low: 0,
+        }
+    }
+
     // The listing before its first line, under the new reading.
     pub fn new() -> Listing
         ensures { λ r. ⌜ stateOf r ≡ start readingNew ⌝ }
@@ -127,15 +141,15 @@ impl Listing {
     pub fn under(reading: Reading) -> Listing
         ensures { λ r. ⌜ stateOf r ≡ start (readingUnder reading) ⌝ }
     {
-        let setting = Setting::under(reading);
-        Listing {
-            setting,
-            at: At::Info,
-            section: Section::at_stage(setting, Section::CLASSES),
-            records: 0,
-            settled_high: 0,
-            settled_low: 0,
-        }
+        Listing::starting(Setting::under(reading))
+    }
+
+    // The same listing, before its first line again.
+    pub fn again(self) -> Listing
+        ensures { λ r. ⌜ stateOf r ≡ start (self .setting) ⌝ }
+    {
+        let setting = self.setting;
+        Listing::starting(setting)
     }
 
     // At another place.
@@ -539,7 +553,7 @@ impl Listing {
             ListWalked::Step(step) => match step {
                 ListStep::Row(row) => {
                     let listing = self.with_entry(at);
-                    listing.says(Line::Row(RowLine { list, row }))
+                    listing.says(Line::Row(RowLine { list, row, mark: 0 }))
                 }
                 ListStep::Skipped(index, why) => {
                     let listing = self.with_entry(at);

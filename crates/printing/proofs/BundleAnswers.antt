@@ -14,11 +14,11 @@ use Rattle.reads.specs.Outcome.{Outcome, value}
 use Rattle.reads.specs.declared.answer.Missing.{Missing}
 use Rattle.reads.specs.declared.answer.Missing.the-variants.{Absent, Refused}
 use Rattle.pointers.specs.Tables.{Tables, tablesOf}
-use Rattle.pointers.specs.declared.imageinfo.ImageInfo.{ImageInfo}
 use Rattle.listing.specs.Bundle.{countsOutcome, bundleCounts}
 use Rattle.listing.specs.declared.bundle.Counts.{Counts}
 use Rattle.listing.specs.declared.bundle.CountsAnswer.{CountsAnswer}
 use Rattle.listing.specs.declared.bundle.CountsAnswer.the-variants as counts
+use Rattle.marking.specs.declared.framed.Framed.{Framed}
 use Rattle.printing.specs.BundleLent.{wordsBy, openingBy, indexBy, tablesBy}
 use Rattle.printing.specs.Pieces.{Standing, toCome, Handed, pieceOf}
 
@@ -61,7 +61,7 @@ module _ (bytes : List ℕ) (m : Missing) (o : Outcome Counts) (e : o ≡ missed
   pub not-opened : (words index : List ℕ) → missed m ≡ openingBy bytes o words index
   not-opened words index = rw e (go m)
     where
-      go : (m : Missing) → _≡_ {A = Outcome ImageInfo} (missed m) (openingBy bytes (missed m) words index)
+      go : (m : Missing) → _≡_ {A = Outcome Framed} (missed m) (openingBy bytes (missed m) words index)
       go (Absent r) = refl
       go (Refused k) = refl
 

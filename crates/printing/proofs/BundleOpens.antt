@@ -21,17 +21,26 @@ use Rattle.pointers.specs.Tables.{Tables, withIndex}
 use Rattle.pointers.specs.declared.imageinfo.ImageInfo.{ImageInfo}
 use Rattle.pointers.proofs.IndexWords.{length-indexed}
 use Rattle.pointers.proofs.Questions.{question-yes, rows-whole}
-use Rattle.listing.specs.Bundle.{wordsFrom, rebaseTableWords, bindTableWords, infoAt, rebasesAt, bindsAt, image0At, image1At, image2At, image3At, bundledFiles, countsOf, bundleCounts, bundled, Accepted}
+use Rattle.frames.specs.Marks.{addresses, framesOf}
+use Rattle.frames.specs.declared.frames.Frames.{Frames}
+use Rattle.frames.specs.declared.frames.Ranges.{Ranges}
+use Rattle.listing.specs.Bundle.{wordsFrom, rebaseTableWords, bindTableWords, infoAt, rebasesAt, bindsAt, image0At, image1At, image2At, image3At, bundledFiles, countsOf, rangesOf, bundleCounts, bundled, Accepted}
 use Rattle.listing.specs.declared.bundle.Counts.{Counts}
 use Rattle.listing.proofs.BundleWords.{length-words}
 use Rattle.listing.proofs.Measured.{accepted}
-use Rattle.printing.specs.BundleText.{indexWords, bundleTables, bundleOpening, Met, opens, refused-13, refused-2, refused-18, refused-3, refused-7, refused-14}
+use Rattle.marking.specs.Framed.{withFrames, framedOpening}
+use Rattle.marking.specs.declared.framed.Framed.{Framed}
+use Rattle.printing.specs.BundleText.{indexWords, bundleTables, bundleOpening, Met, opens, refused-13, refused-2, refused-18, refused-3, refused-7, refused-14, refused-23}
 
 -- Of the index opening asks the length alone, and it leaves nothing of what an index of just enough words held.
 module _ (t : Tables) (i j : List ℕ) (same : length i ≡ length j) where
   asked-same : askedOpening (withIndex t i) ≡ askedOpening (withIndex t j)
   unfolding askedOpening askedTables askedIndex
   asked-same = rw same
+
+  pub framed-same : (x : Ranges) → framedOpening x (withIndex t i) ≡ framedOpening x (withIndex t j)
+  unfolding framedOpening
+  framed-same x = ap (λ (o : Outcome (Unit {0})). andThen o (λ u. andThen (framesOf x) (λ w. withFrames w (imageInfo (t .info))))) asked-same
 
   pub opening-same : opening (withIndex t i) ≡ opening (withIndex t j)
   unfolding opening
@@ -53,8 +62,8 @@ module _ (t : Tables) (i : List ℕ) (long : length i ≡ 8192 + records 2 (t .r
   pub index-long : length (openedIndex (withIndex t i)) ≡ length i
   index-long = ap length index-left ∙ length-indexed (t .rebases) (t .binds) i (omega arith)
 
--- The questions 2, 18 of segments, 3, 18 of binds, 7 and 14, and then the image info.
-met-by : (two segments three binds seven fourteen : Bool) (o : Outcome ImageInfo) → Met o
+-- The questions 2, 18 of segments, 3, 18 of binds, 7 and 14, and then what comes after them.
+met-by : (two segments three binds seven fourteen : Bool) (o : Outcome Framed) → Met o
     → Met (andThen (andThen (andThen (question 2 two) (λ x. andThen (question 18 segments) (λ y. andThen (question 3 three) (λ z. value (tt {0})))))
     (λ x. andThen (question 18 binds) (λ y. andThen (question 7 seven) (λ z. andThen (question 14 fourteen) (λ u. value (tt {0})))))) (λ x. o))
 unfolding question choose
@@ -118,16 +127,23 @@ module _ (bytes : List ℕ) (c : Counts) (a : Accepted bytes c) where
     unfolding indexFits
     fits-8 = le-leb (8192 + records 2 (t .rebases) + records 4 (t .binds)) (length i) (omega (arith, index-asks, long))
 
-    info-there : Met (imageInfo (t .info))
+    info-there : (w : Frames) → Met (withFrames w (imageInfo (t .info)))
     unfolding imageInfo
-    info-there = rw (choose-true _ _ (le-leb 8 (length (part bytes infoAt 8)) (omega (arith, info-length)))) (opens _)
+    info-there w = rw (choose-true _ _ (le-leb 8 (length (part bytes infoAt 8)) (omega (arith, info-length)))) (opens _)
 
-    pub opening-met : Met (opening (bundled bytes c i))
-    unfolding opening askedOpening askedTables askedIndex
-    opening-met =
+    -- 23 comes after them.
+    ranges-met : (x : Ranges) → Met (andThen (framesOf x) (λ w. withFrames w (imageInfo (t .info))))
+    unfolding framesOf
+    ranges-met x =
+        by-choose (λ (o : Outcome Frames). Met (andThen o (λ w. withFrames w (imageInfo (t .info))))) (λ e. info-there (addresses x)) (λ e. refused-23)
+
+    pub opening-met : (x : Ranges) → Met (framedOpening x (bundled bytes c i))
+    unfolding framedOpening askedOpening askedTables askedIndex
+    opening-met x =
         simp (question-yes 1 _ fits-1, question-yes 4 _ fits-4, question-yes 5 _ fits-5, question-yes 6 _ fits-6, question-yes 8 _ fits-8)
         (met-by (wholeRows 5 64 (length (t .segments))) (segmentFiles (t .files) (t .segments)) (sectionTable (longest (t .files)) (t .sections))
-        (bindFiles (t .files) (t .binds)) (namesInside (t .files) (t .binds)) (namesUtf8 (t .files) (t .binds)) (imageInfo (t .info)) info-there)
+        (bindFiles (t .files) (t .binds)) (namesInside (t .files) (t .binds)) (namesUtf8 (t .files) (t .binds))
+        (andThen (framesOf x) (λ w. withFrames w (imageInfo (t .info)))) (ranges-met x))
 
 -- Question 13 gives the bundle's first seven words or 13.
 pub counted-by : (bytes : List ℕ) (P : Outcome Counts → Type 0) → (Accepted bytes (countsOf bytes) → P (value (countsOf bytes))) → P (number 13)
@@ -136,10 +152,10 @@ unfolding bundleCounts
 counted-by bytes P counts thirteen =
     by-choose P (λ fits. counts (accepted bytes (countsOf bytes) (choose-true _ _ fits))) (λ fits. thirteen)
 
--- Every bundle is opened, or 13, 2, 18, 3, 7 or 14 refuses it.
+-- Every bundle is opened, or 13, 2, 18, 3, 7, 14 or 23 refuses it.
 pub bundle-met : (bytes : List ℕ) → Met (bundleOpening bytes)
 unfolding bundleOpening
 bundle-met bytes =
-    counted-by bytes (λ (o : Outcome Counts). Met (andThen o (λ c. opening (bundleTables bytes))))
-    (λ a. opening-met bytes (countsOf bytes) a (replicate (indexWords (countsOf bytes)) 0) (length-replicate (indexWords (countsOf bytes)) 0))
+    counted-by bytes (λ (o : Outcome Counts). Met (andThen o (λ c. framedOpening (rangesOf bytes) (bundleTables bytes))))
+    (λ a. opening-met bytes (countsOf bytes) a (replicate (indexWords (countsOf bytes)) 0) (length-replicate (indexWords (countsOf bytes)) 0) (rangesOf bytes))
     refused-13

@@ -1,18 +1,19 @@
 -- The parts of a bundle that the code lends: the words that its tables are decoded into, and the tables in them.
 use Prim.Native.Nat.{ℕ, zero, suc, _+_, _-_, _*_, _≤_}
-use mathlib.Core.Path.{_≡_, refl, ap, _∙_}
+use mathlib.Core.Path.{_≡_, refl, ap}
 use mathlib.Core.List.{List, [], _∷_, _++_}
 use native.Mathlib.Omega.{arith}
 use lib.ListN.{length, take, drop, length-drop}
 use lib.Seq.{length-take-le, take-append-le, drop-append-le}
 use Rattle.reads.specs.Outcome.{Outcome}
 use Rattle.reads.specs.Place.{part}
-use Rattle.pointers.specs.Open.{opening, openedIndex}
 use Rattle.pointers.specs.Tables.{Tables, tablesOf}
-use Rattle.pointers.specs.declared.imageinfo.ImageInfo.{ImageInfo}
+use Rattle.frames.specs.declared.frames.Ranges.{Ranges}
 use Rattle.listing.specs.Bundle.{wordFrom, wordsFrom, segmentTableWords, rebaseTableWords, bindTableWords, segmentsAt, sectionsAt, rebasesAt, bindsAt, image0At, image1At, image2At, image3At, bundledFiles, bundled, Accepted}
 use Rattle.listing.specs.declared.bundle.Counts.{Counts}
 use Rattle.listing.proofs.BundleWords.{length-words}
+use Rattle.marking.specs.Framed.{framedOpening, framedIndex}
+use Rattle.marking.specs.declared.framed.Framed.{Framed}
 use Rattle.printing.specs.BundleText.{indexWords}
 use Rattle.printing.specs.BundleLent.{tableWords, tablesOver, tablesIn}
 
@@ -39,7 +40,7 @@ parts-files bytes c a d e f x p q r s =
 -- The tables over files, each as its part is lent.
 pub parts-tables : (files : List (List ℕ)) (bytes words index : List ℕ) (c : Counts) (f r b n : ℕ) → f ≡ segmentTableWords c
     → r ≡ rebaseTableWords c → b ≡ bindTableWords c → n ≡ indexWords c
-    → tablesOf files (take (f - 0) (drop 0 words)) (take (f + 15 - f) (drop f words)) (take (64 - 56) (drop 56 bytes))
+    → tablesOf files (take (f - 0) (drop 0 words)) (take (f + 15 - f) (drop f words)) (take (96 - 88) (drop 88 bytes))
     (take (f + 15 + r - (f + 15)) (drop (f + 15) words)) (take (f + 15 + r + b - (f + 15 + r)) (drop (f + 15 + r) words)) (take (n - 0) (drop 0 index))
     ≡ tablesOver files bytes c words index
 parts-tables files bytes words index c f r b n q s u v =
@@ -50,12 +51,12 @@ parts-tables files bytes words index c f r b n q s u v =
     let all : n - 0 ≡ n = omega arith in
     rw (first, second, third, last, all, q, s, u, v)
 
--- Opening by its parts.
-pub parts-opened : (t u : Tables) (o : Outcome ImageInfo) (index after : List ℕ) (n m : ℕ) → t ≡ u → n ≡ m
-    → ((o ≡ opening t) × (after ≡ openedIndex t))
-    → ((o ≡ opening u) × (after ++ drop (n - 0) (drop 0 index) ≡ openedIndex u ++ drop m index))
-parts-opened t u o index after n m e f p =
-    let g : n - 0 ≡ m = omega arith in (p .0 ∙ ap opening e, rw (g, p .1, e))
+-- Opening by its parts, for the ranges read.
+pub parts-opened : (t u : Tables) (x y : Ranges) (o : Outcome Framed) (index after : List ℕ) (n m : ℕ) → t ≡ u → x ≡ y → n ≡ m
+    → ((o ≡ framedOpening x t) × (after ≡ framedIndex x t))
+    → ((o ≡ framedOpening y u) × (after ++ drop (n - 0) (drop 0 index) ≡ framedIndex y u ++ drop m index))
+parts-opened t u x y o index after n m e h f p =
+    let g : n - 0 ≡ m = omega arith in (rw (← h, ← e) (p .0), rw (g, ← h, ← e, p .1))
 
 -- k of the decoded words, from word a on.
 first-words : (bytes : List ℕ) (offset k n : ℕ) → k ≤ n → take k (wordsFrom bytes offset n) ≡ wordsFrom bytes offset k

@@ -14,13 +14,12 @@ use Rattle.reads.specs.Outcome.{Outcome, value, absent, number, choose}
 use Rattle.reads.proofs.Tests.{by-choose}
 use Rattle.pointers.specs.Tables.{Tables, under}
 use Rattle.pointers.specs.declared.setting.Setting.{Setting}
-use Rattle.listing.specs.Listing.{Left, Answer, says, lacks, nothing, ended, listingStep}
-use Rattle.listing.proofs.Falls.{falls-to}
-use Rattle.listing.proofs.LoanSettings.{loan-step}
-use Rattle.listing.proofs.Remaining.{remaining, goesOn, InWords}
+use Rattle.listing.specs.Listing.{Answer, says, lacks, nothing, ended}
+use Rattle.listing.proofs.Remaining.{goesOn, InWords}
+use Rattle.marking.specs.MarkedListing.{MarkedLeft}
+use Rattle.marking.proofs.StepsLeft.{stepsLeft, marked-words-kept, marked-falls, marked-loan}
 use Rattle.printing.specs.Pieces.{ifOn, Standing, standing, stepped, moved, waiting, comesBy, pastBy, enough, toCome, past, pieces}
 use Rattle.printing.proofs.Puts.{drop-append}
-use Rattle.listing.proofs.WordsKept.{words-kept}
 
 -- What was said goes on or is over.
 pub on-yes : {A : Type 0} (o : Outcome Answer) (x y : A) → goesOn o ≡ true → ifOn o x y ≡ x
@@ -50,7 +49,7 @@ on-same o {x} {y} z f = go (goesOn o) refl
 -- What is to come does not depend on the setting of what is lent.
 module _ (u : Setting) (t : Tables) where
   stepped-under : (p : Standing) → stepped (under u t) p ≡ stepped t p
-  stepped-under p = ap (λ (x : Left). standing (x .answer) 0 (x .state) (x .ledger)) (loan-step u t (p .state) (p .ledger))
+  stepped-under p = ap (λ (x : MarkedLeft). standing (x .answer) 0 (x .state) (x .ledger)) (marked-loan u t (p .state) (p .ledger))
 
   comes-under : (n : ℕ) (p : Standing) → comesBy (under u t) n p ≡ comesBy t n p
   unfolding comesBy
@@ -65,24 +64,24 @@ module _ (u : Setting) (t : Tables) where
 
 -- Where the listing goes on, the numbers of its state fit their words.
 pub record Sound (p : Standing) : Type 0 where
-  pub words : goesOn (p .said) ≡ true → InWords (p .state)
+  pub words : goesOn (p .said) ≡ true → InWords (p .state .state)
 
 -- What is left.
 abbrev pub leftIn : Standing → ℕ
-leftIn p = ifOn (p .said) (suc (remaining (p .state))) 0
+leftIn p = ifOn (p .said) (suc (stepsLeft (p .state))) 0
 
 module _ (t : Tables) where
   pub sound-step : (p : Standing) → Sound p → goesOn (p .said) ≡ true → Sound (stepped t p)
-  sound-step p h e = record { words = words-kept t (p .state) (p .ledger) (h .words e) }
+  sound-step p h e = record { words = marked-words-kept t (p .state) (p .ledger) (h .words e) }
 
   pub step-less : (p : Standing) → Sound p → goesOn (p .said) ≡ true → leftIn (stepped t p) < leftIn p
-  step-less p h e = rw (on-yes (p .said) (suc (remaining (p .state))) 0 e) (go (goesOn (stepped t p .said)) refl)
+  step-less p h e = rw (on-yes (p .said) (suc (stepsLeft (p .state))) 0 e) (go (goesOn (stepped t p .said)) refl)
     where
-      go : (b : Bool) → goesOn (stepped t p .said) ≡ b → leftIn (stepped t p) < suc (remaining (p .state))
+      go : (b : Bool) → goesOn (stepped t p .said) ≡ b → leftIn (stepped t p) < suc (stepsLeft (p .state))
       go true f =
-          rw (on-yes (stepped t p .said) (suc (remaining (stepped t p .state))) 0 f)
-          (omega (arith, falls-to t (p .state) (p .ledger) (listingStep t (p .state) (p .ledger)) refl f (words-kept t (p .state) (p .ledger) (h .words e) f)))
-      go false f = rw (on-no (stepped t p .said) (suc (remaining (stepped t p .state))) 0 f) (omega arith)
+          rw (on-yes (stepped t p .said) (suc (stepsLeft (stepped t p .state))) 0 f)
+          (omega (arith, marked-falls t (p .state) (p .ledger) (h .words e) f))
+      go false f = rw (on-no (stepped t p .said) (suc (stepsLeft (stepped t p .state))) 0 f) (omega arith)
 
   -- More steps than are left change nothing.
   comes-same : (n m : ℕ) (p : Standing) → Sound p → leftIn p < n → leftIn p < m → comesBy t n p ≡ comesBy t m p

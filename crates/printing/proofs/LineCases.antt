@@ -42,8 +42,8 @@ classLine name =
       «superclass_name» = name;
     })
 
-abbrev methodLine : Method → Line
-methodLine m = line.Row (record { list = 6; row = row.Method m })
+abbrev methodLine : Method → ℕ → Line
+methodLine m mark = line.Row (record { list = 6; row = row.Method m; mark = mark })
 
 abbrev ivarLine : IvarOffset → Alignment → Aligned → Line
 ivarLine o k a =
@@ -51,6 +51,7 @@ ivarLine o k a =
     (record {
       list = 1;
       row = row.Ivar (record { name = textOf 1 0 7; «type_encoding» = textOf 1 0 0; offset = o; size = 16; «log2_alignment» = k; aligned = a });
+      mark = 0;
     })
 
 abbrev endLine : ℕ → ℕ → Line
@@ -73,14 +74,14 @@ pub past-the-file : lineText files (line.Name (record { list = 3; name = textOf 
 unfolding lineText nameText textField partField fileOf noneField numberField hexText places choose
 past-the-file = refl
 
--- An imp that is there can be 0; 2 is a direct selector.
+-- An imp that is there can be 0; 2 is a direct selector. The mark comes last.
 pub imp-zero :
-    lineText files (methodLine (methodOf (textOf 1 0 3) (textOf 1 0 0) (imp.At 0) kind.SmallDirect)) ≡ ended (ascii "m 6 3:fif 0: 0 2")
+    lineText files (methodLine (methodOf (textOf 1 0 3) (textOf 1 0 0) (imp.At 0) kind.SmallDirect) 1) ≡ ended (ascii "m 6 3:fif 0: 0 2 1")
 unfolding lineText methodText textFields textField partField fileOf stringField numberField hexText places choose
 imp-zero = refl
 
 pub imp-none :
-    lineText files (methodLine (methodOf (textOf 1 0 3) (textOf 1 0 0) imp.Nothing kind.SmallIndirect)) ≡ ended (ascii "m 6 3:fif 0: - 1")
+    lineText files (methodLine (methodOf (textOf 1 0 3) (textOf 1 0 0) imp.Nothing kind.SmallIndirect) 0) ≡ ended (ascii "m 6 3:fif 0: - 1 0")
 unfolding lineText methodText textFields textField partField fileOf stringField noneField numberField hexText places choose
 imp-none = refl
 
@@ -142,7 +143,7 @@ hubLines =
       «weak_ivar_layout_address» = 0;
       properties = 0;
     })
-    ∷ line.Row (record { list = 0; row = row.Method (methodOf (textOf 0 148 2) (textOf 0 151 1) (imp.At 0x2000) kind.Legacy) })
+    ∷ line.Row (record { list = 0; row = row.Method (methodOf (textOf 0 148 2) (textOf 0 151 1) (imp.At 0x2000) kind.Legacy); mark = 0 })
     ∷ line.End (record { records = 1; «settled_high» = 0; «settled_low» = 2 })
     ∷ []
 
@@ -152,7 +153,7 @@ pub hub-text :
     ≡ ended (ascii "I 0 0 1")
     ++ ended (ascii "C 1000 0 0 1028 8:NSObject")
     ++ ended (ascii "R 1028 0 8 8 3:Hub")
-    ++ ended (ascii "m 0 2:up 1:v 2000 0")
+    ++ ended (ascii "m 0 2:up 1:v 2000 0 0")
     ++ ended (ascii "E 1 2")
 unfolding counted flatMap lineText infoText classText roText methodText endText textFields textField partField fileOf stringField numberField hexText places choose
 hub-text = refl

@@ -90,12 +90,12 @@ module _ (files : List (List ℕ)) where
   abbrev Short : List ℕ → Type 0
   Short text = length text ≤ 300 + 2 * longest files
 
-  row-short : (n : ℕ) (r : Row) → Short (rowText files n r)
+  row-short : (n : ℕ) (r : Row) (mark : ℕ) → Short (rowText files n r mark)
   unfolding methodText ivarText propertyText
-  row-short n (row.Method m) =
+  row-short n (row.Method m) mark =
       simp length-append
-      (omega (arith, number-short n, texts-short (m .selector) (m .types), imp-short (m .implementation), number-short (kindNumber (m .kind))))
-  row-short n (row.Ivar v) =
+      (omega (arith, number-short n, texts-short (m .selector) (m .types), imp-short (m .implementation), number-short (kindNumber (m .kind)), number-short mark))
+  row-short n (row.Ivar v) mark =
       simp length-append
       (omega (
         arith,
@@ -106,7 +106,7 @@ module _ (files : List (List ℕ)) where
         alignment-short (v .«log2_alignment»),
         aligned-short (v .aligned),
       ))
-  row-short n (row.Property p) = simp length-append (omega (arith, number-short n, texts-short (p .name) (p .attributes)))
+  row-short n (row.Property p) mark = simp length-append (omega (arith, number-short n, texts-short (p .name) (p .attributes)))
 
   fields-short : (x : Line) → Short (fieldsText files x)
   unfolding infoText classText roText protocolText categoryText nameText endText
@@ -143,7 +143,7 @@ module _ (files : List (List ℕ)) where
         text-short (l .category .name),
         named-short (l .«class_name»),
       ))
-  fields-short (line.Row l) = row-short (l .list) (l .row)
+  fields-short (line.Row l) = row-short (l .list) (l .row) (l .mark)
   fields-short (line.Name l) = simp length-append (omega (arith, number-short (l .list), text-short (l .name)))
   fields-short (line.End l) =
       simp length-append (omega (arith, number-short (l .records), number-short (l .«settled_high» * 2 ^ 64 + l .«settled_low»)))

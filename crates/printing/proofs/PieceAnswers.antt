@@ -6,49 +6,57 @@ use mathlib.Core.List.{List, [], _∷_}
 use native.Mathlib.Omega.{arith}
 use borrow.Author.Tests.{le-leb, leb-true}
 use Rattle.reads.specs.Files.{longest}
+use Rattle.reads.specs.Answer.{missed}
 use Rattle.reads.specs.Outcome.{value, number}
 use Rattle.reads.specs.declared.answer.Reason.{Reason}
 use Rattle.reads.specs.declared.answer.Missing.{Missing}
 use Rattle.reads.specs.declared.answer.Missing.the-variants.{Absent, Refused}
-use Rattle.pointers.specs.ImageInfo.{infoOutcome}
 use Rattle.reads.proofs.Tests.{choose-true, choose-false}
 use Rattle.pointers.specs.Question.{imageFits}
 use Rattle.pointers.specs.Tables.{Tables}
-use Rattle.pointers.specs.declared.imageinfo.ImageInfo.{ImageInfo}
-use Rattle.pointers.specs.declared.imageinfo.ImageInfoAnswer.{ImageInfoAnswer}
-use Rattle.pointers.specs.declared.imageinfo.ImageInfoAnswer.the-variants as info
-use Rattle.listing.specs.Listing.{Left, start, nothing, ended, listingStep}
-use Rattle.listing.specs.ListingAnswer.{stateOf, saidOf, leftOf}
+use Rattle.frames.specs.Marks.{noFrames}
+use Rattle.frames.specs.declared.frames.Frames.{Frames}
+use Rattle.listing.specs.Listing.{nothing, ended}
+use Rattle.listing.specs.ListingAnswer.{saidOf}
 use Rattle.listing.specs.declared.line.Line.{Line}
-use Rattle.listing.specs.declared.listing.Listed.{Listed}
-use Rattle.listing.specs.declared.listing.Listing.{Listing}
 use Rattle.listing.specs.declared.absence.Absence.{Absence}
 use Rattle.listing.specs.declared.listing.Said.{Said}
 use Rattle.listing.specs.declared.listing.Said.the-variants as said
 use Rattle.pointers.specs.declared.setting.Setting.{Setting}
+use Rattle.marking.specs.Framed.{framedOutcome}
+use Rattle.marking.specs.MarkedListing.{markedStart, MarkedLeft, markedStep, markingOf, markedLeftOf}
+use Rattle.marking.specs.declared.framed.Framed.{Framed}
+use Rattle.marking.specs.declared.framed.FramedAnswer.{FramedAnswer}
+use Rattle.marking.specs.declared.framed.FramedAnswer.the-variants as framed
+use Rattle.marking.specs.declared.marked_listing.MarkedListed.{MarkedListed}
+use Rattle.marking.specs.declared.marked_listing.MarkedListing.{MarkedListing}
 use Rattle.printing.specs.Buffer.{Buffer, putAll}
 use Rattle.printing.specs.LineText.{lineText, refusedText}
-use Rattle.printing.specs.Pieces.{saidText, standing, stepped, begun, further, withFiles, listable}
+use Rattle.printing.specs.Pieces.{saidText, Standing, standing, stepped, begun, further, withFiles, listable}
 use Rattle.printing.specs.declared.pieces.Piece.{Piece}
 use Rattle.printing.specs.declared.pieces.Progress.{Progress}
 use Rattle.printing.proofs.Puts.{put-empty}
 
 -- The start, by opening's answer.
-module _ {u : Setting} (s : Listing) (e : stateOf s ≡ start u) (a : ImageInfoAnswer) where
-  pub begun-listing : (i : ImageInfo) → a ≡ info.Info i → (λ (l : List ℕ). standing (value nothing) 0 (stateOf s) l) ≡ begun u (infoOutcome a)
-  begun-listing i g = rw (g, e)
+pub begun-framed : {u : Setting} (a : FramedAnswer) (f : Framed) → a ≡ framed.Framed f → (s : MarkedListing) → markingOf s ≡ markedStart u (f .frames)
+    → (λ (l : List ℕ). standing (value nothing) 0 (markingOf s) l) ≡ begun u (framedOutcome a)
+begun-framed a f g s e = rw (g, e)
 
-  module _ (m : Missing) (g : a ≡ info.Missing m) where
-    pub begun-absent : (r : Reason) → m ≡ Absent r → (λ (l : List ℕ). standing (value ended) 0 (stateOf s) l) ≡ begun u (infoOutcome a)
-    begun-absent r h = rw (g, h, e)
+pub begun-missing : {u : Setting} (a : FramedAnswer) (m : Missing) → a ≡ framed.Missing m → (q : List ℕ → Standing) → q ≡ begun u (missed m)
+    → q ≡ begun u (framedOutcome a)
+begun-missing a m g q e = rw g e
 
-    pub begun-refused : (k : ℕ) → m ≡ Refused k → (λ (l : List ℕ). standing (number k) 0 (stateOf s) l) ≡ begun u (infoOutcome a)
-    begun-refused k h = rw (g, h, e)
+module _ {u : Setting} (s : MarkedListing) (w : Frames) (e : markingOf s ≡ markedStart u w) (none : w ≡ noFrames) (m : Missing) where
+  pub begun-absent : (r : Reason) → m ≡ Absent r → (λ (l : List ℕ). standing (value ended) 0 (markingOf s) l) ≡ begun u (missed m)
+  begun-absent r h = rw (h, e, none)
+
+  pub begun-refused : (k : ℕ) → m ≡ Refused k → (λ (l : List ℕ). standing (number k) 0 (markingOf s) l) ≡ begun u (missed m)
+  begun-refused k h = rw (h, e, none)
 
 -- A step of the code's listing.
-pub stepped-by : (t : Tables) (s : Listing) (l m : List ℕ) (r : Listed) (o : Said) (n : ℕ) → leftOf r m ≡ listingStep t (stateOf s) l
-    → standing (saidOf (r .said)) 0 (stateOf (r .listing)) m ≡ stepped t (standing (saidOf o) n (stateOf s) l)
-stepped-by t s l m r o n e = ap (λ (x : Left). standing (x .answer) 0 (x .state) (x .ledger)) e
+pub stepped-by : (t : Tables) (s : MarkedListing) (l m : List ℕ) (r : MarkedListed) (o : Said) (n : ℕ) → markedLeftOf r m ≡ markedStep t (markingOf s) l
+    → standing (saidOf (r .said)) 0 (markingOf (r .listing)) m ≡ stepped t (standing (saidOf o) n (markingOf s) l)
+stepped-by t s l m r o n e = ap (λ (x : MarkedLeft). standing (x .answer) 0 (x .state) (x .ledger)) e
 
 -- The text of what was said.
 module _ (files : List (List ℕ)) (x : Said) (s u : Buffer) where

@@ -39,10 +39,10 @@ at-in-words (at.Ro c) vs p = omega arith
 at-in-words (at.List n x) vs p = field-in-words (x .walk) _ (p .1 .1 .1 .1 .1 .0 .1 .1 .0)
 at-in-words at.End vs p = omega arith
 
-pub in-words : (p : Progress) (vs : List Val) → Is progress-type.the-row p vs → InWords (stateOf (p .listing))
+pub in-words : (p : Progress) (vs : List Val) → Is progress-type.the-row p vs → InWords (stateOf (p .listing .listing))
 in-words p vs h =
-    let l = h .1 .1 .1 .1 .0 in
-    record { slot = section-in-words (p .listing .section) _ (l .1 .1 .1 .1 .0); cursor = at-in-words (p .listing .at) _ (l .1 .1 .1 .0) }
+    let l = h .1 .1 .1 .1 .0 .1 .1 .1 .1 .0 in
+    record { slot = section-in-words (p .listing .listing .section) _ (l .1 .1 .1 .1 .0); cursor = at-in-words (p .listing .listing .at) _ (l .1 .1 .1 .0) }
 
 pub progress-sound : (p : Progress) (l : List ℕ) (vs : List Val) → Is progress-type.the-row p vs → Sound (standingOf p l)
 progress-sound p l vs h = record { words = λ e. in-words p vs h }

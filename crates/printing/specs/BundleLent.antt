@@ -4,12 +4,12 @@ use mathlib.Core.List.{List, [], _∷_, _++_}
 use lib.ListN.{take, drop}
 use Rattle.reads.specs.Outcome.{Outcome, value, absent, number, andThen}
 use Rattle.reads.specs.Place.{part}
-use Rattle.pointers.specs.Open.{opening, openedIndex}
 use Rattle.pointers.specs.Tables.{Tables, tablesOf}
-use Rattle.pointers.specs.declared.imageinfo.ImageInfo.{ImageInfo}
-use Rattle.listing.specs.Bundle.{wordsFrom, segmentTableWords, rebaseTableWords, bindTableWords, infoAt, segmentsAt, bundledFiles, bundleCounts}
+use Rattle.listing.specs.Bundle.{wordsFrom, segmentTableWords, rebaseTableWords, bindTableWords, infoAt, segmentsAt, bundledFiles, rangesOf, bundleCounts}
 use Rattle.pointers.specs.Tables.{sectionTableWords}
 use Rattle.listing.specs.declared.bundle.Counts.{Counts}
+use Rattle.marking.specs.Framed.{framedOpening, framedIndex}
+use Rattle.marking.specs.declared.framed.Framed.{Framed}
 use Rattle.printing.specs.BundleText.{indexWords}
 
 -- The words of a bundle's four tables.
@@ -41,16 +41,16 @@ tablesOver files bytes c words index =
 abbrev pub tablesIn : List ℕ → Counts → List ℕ → List ℕ → Tables
 tablesIn bytes c words index = tablesOver (bundledFiles bytes c) bytes c words index
 
--- Question 13, then opening.
-abbrev pub openingBy : List ℕ → Outcome Counts → List ℕ → List ℕ → Outcome ImageInfo
-openingBy bytes o words index = andThen o (λ c. opening (tablesIn bytes c words index))
+-- Question 13, then opening, then 23.
+abbrev pub openingBy : List ℕ → Outcome Counts → List ℕ → List ℕ → Outcome Framed
+openingBy bytes o words index = andThen o (λ c. framedOpening (rangesOf bytes) (tablesIn bytes c words index))
 
-abbrev pub openingIn : List ℕ → List ℕ → List ℕ → Outcome ImageInfo
+abbrev pub openingIn : List ℕ → List ℕ → List ℕ → Outcome Framed
 openingIn bytes words index = openingBy bytes (bundleCounts bytes) words index
 
 -- The index lent, after opening; with a number it is as it was (proofs/Unwritten.antt).
 abbrev pub indexBy : List ℕ → Outcome Counts → List ℕ → List ℕ → List ℕ
-indexBy bytes (value c) words index = openedIndex (tablesIn bytes c words index) ++ drop (indexWords c) index
+indexBy bytes (value c) words index = framedIndex (rangesOf bytes) (tablesIn bytes c words index) ++ drop (indexWords c) index
 indexBy bytes (absent r) words index = index
 indexBy bytes (number k) words index = index
 

@@ -1,5 +1,5 @@
 -- The text of a listing's lines (document 01, "The program's listing"): fields split by one space, numbers lower-case hex, strings length,
--- colon, bytes; `-` is none. An ivar's last field: note 8.
+-- colon, bytes; `-` is none. An ivar's last field: note 8. A method's: note 11.
 use Prim.Native.Nat.{ℕ, _+_, _*_, _^_}
 use mathlib.Core.Bool.{Bool, true, false}
 use mathlib.Core.List.{List, [], _∷_, _++_}
@@ -131,12 +131,12 @@ categoryText files l =
     ++ (numberField (l .category .address)
     ++ (numberField (l .category .«class_address») ++ (textField files (l .category .name) ++ namedField files (l .«class_name»))))
 
--- Rows carry a list number: m selector types imp kind.
-unfoldable pub methodText : List (List ℕ) → ℕ → Method → List ℕ
-methodText files n m =
+-- Rows carry a list number: m selector types imp kind mark.
+unfoldable pub methodText : List (List ℕ) → ℕ → Method → ℕ → List ℕ
+methodText files n m mark =
     ascii "m"
     ++ (numberField n
-    ++ (textFields files (m .selector) (m .types) ++ (impField (m .implementation) ++ numberField (kindNumber (m .kind)))))
+    ++ (textFields files (m .selector) (m .types) ++ (impField (m .implementation) ++ (numberField (kindNumber (m .kind)) ++ numberField mark))))
 
 -- v name type offset size alignment aligned.
 unfoldable pub ivarText : List (List ℕ) → ℕ → Ivar → List ℕ
@@ -151,10 +151,11 @@ ivarText files n v =
 unfoldable pub propertyText : List (List ℕ) → ℕ → Property → List ℕ
 propertyText files n p = ascii "p" ++ (numberField n ++ textFields files (p .name) (p .attributes))
 
-abbrev pub rowText : List (List ℕ) → ℕ → Row → List ℕ
-rowText files n (row.Method m) = methodText files n m
-rowText files n (row.Ivar v) = ivarText files n v
-rowText files n (row.Property p) = propertyText files n p
+-- Only a method shows its mark.
+abbrev pub rowText : List (List ℕ) → ℕ → Row → ℕ → List ℕ
+rowText files n (row.Method m) mark = methodText files n m mark
+rowText files n (row.Ivar v) mark = ivarText files n v
+rowText files n (row.Property p) mark = propertyText files n p
 
 -- q protocol name.
 unfoldable pub nameText : List (List ℕ) → NameLine → List ℕ
@@ -170,7 +171,7 @@ fieldsText files (line.Class l) = classText files l
 fieldsText files (line.Ro r) = roText files r
 fieldsText files (line.Protocol p) = protocolText files p
 fieldsText files (line.Category l) = categoryText files l
-fieldsText files (line.Row l) = rowText files (l .list) (l .row)
+fieldsText files (line.Row l) = rowText files (l .list) (l .row) (l .mark)
 fieldsText files (line.Name l) = nameText files l
 fieldsText files (line.End l) = endText l
 

@@ -9,11 +9,14 @@ use Rattle.reads.specs.Outcome.{Outcome, value, absent, number, choose}
 use Rattle.reads.specs.Files.{longest}
 use Rattle.pointers.specs.Question.{imageFits}
 use Rattle.pointers.specs.Tables.{Tables, tablesOf, under}
-use Rattle.pointers.specs.declared.imageinfo.ImageInfo.{ImageInfo}
 use Rattle.pointers.specs.declared.setting.Setting.{Setting}
-use Rattle.listing.specs.Listing.{State, start, Answer, says, lacks, nothing, ended, listingStep}
-use Rattle.listing.specs.ListingAnswer.{stateOf, saidOf}
-use Rattle.listing.proofs.Remaining.{remaining}
+use Rattle.frames.specs.Marks.{noFrames}
+use Rattle.frames.specs.declared.frames.Frames.{Frames}
+use Rattle.listing.specs.Listing.{Answer, says, lacks, nothing, ended}
+use Rattle.listing.specs.ListingAnswer.{saidOf}
+use Rattle.marking.specs.MarkedListing.{Marking, markedStart, markedStep, markingOf}
+use Rattle.marking.specs.declared.framed.Framed.{Framed}
+use Rattle.marking.proofs.StepsLeft.{stepsLeft}
 use Rattle.printing.specs.Buffer.{held, fitting}
 use Rattle.printing.specs.LineText.{lineText, refusedText}
 use Rattle.printing.specs.declared.pieces.Piece.{Piece}
@@ -47,17 +50,17 @@ refusing (number k) = true
 pub record Standing : Type 0 where
   pub said : Outcome Answer
   pub out : ℕ
-  pub state : State
+  pub state : Marking
   pub ledger : List ℕ
 
-abbrev pub standing : Outcome Answer → ℕ → State → List ℕ → Standing
-standing said out s l = record { said = said; out = out; state = s; ledger = l }
+abbrev pub standing : Outcome Answer → ℕ → Marking → List ℕ → Standing
+standing said out m l = record { said = said; out = out; state = m; ledger = l }
 
 -- The next step made.
 abbrev pub stepped : Tables → Standing → Standing
 stepped t p =
-    standing (listingStep t (p .state) (p .ledger) .answer) 0 (listingStep t (p .state) (p .ledger) .state)
-    (listingStep t (p .state) (p .ledger) .ledger)
+    standing (markedStep t (p .state) (p .ledger) .answer) 0 (markedStep t (p .state) (p .ledger) .state)
+    (markedStep t (p .state) (p .ledger) .ledger)
 
 -- k bytes more of what was said are out.
 abbrev pub moved : Standing → ℕ → Standing
@@ -79,9 +82,9 @@ pastBy t (suc n) p k =
     choose (leb k (length (waiting t p))) (moved p k)
     (ifOn (p .said) (pastBy t n (stepped t p) (k - length (waiting t p))) (moved p (length (waiting t p))))
 
--- More steps than are left (listing/proofs/Falls.antt: each leaves less).
+-- More steps than are left (marking/proofs/StepsLeft.antt: each leaves less).
 abbrev pub enough : Standing → ℕ
-enough p = suc (ifOn (p .said) (suc (remaining (p .state))) 0)
+enough p = suc (ifOn (p .said) (suc (stepsLeft (p .state))) 0)
 
 -- The text still to come, and where the printing stands k bytes on.
 unfoldable pub toCome : Tables → Standing → List ℕ
@@ -90,14 +93,19 @@ toCome t p = comesBy t (enough p) p
 unfoldable pub past : Tables → Standing → ℕ → Standing
 past t p k = pastBy t (enough p) p k
 
--- The start under a setting, by what opening gave: the listing's first step is to come, or the number that refused.
-abbrev pub begunBy : Outcome ImageInfo → Outcome Answer
-begunBy (value info) = value nothing
+-- The start under a setting, by what opening gave: the listing's first step is to come, for the frames given, or the number that refused.
+abbrev pub begunBy : Outcome Framed → Outcome Answer
+begunBy (value f) = value nothing
 begunBy (absent r) = value ended
 begunBy (number k) = number k
 
-abbrev pub begun : Setting → Outcome ImageInfo → List ℕ → Standing
-begun u o l = standing (begunBy o) 0 (start u) l
+abbrev pub framesGiven : Outcome Framed → Frames
+framesGiven (value f) = f .frames
+framesGiven (absent r) = noFrames
+framesGiven (number k) = noFrames
+
+abbrev pub begun : Setting → Outcome Framed → List ℕ → Standing
+begun u o l = standing (begunBy o) 0 (markedStart u (framesGiven o)) l
 
 -- What a call hands out: a piece of at most n bytes to the front of a buffer, and how long it is.
 pub record Handed : Type 0 where
@@ -123,7 +131,7 @@ pieces t n (suc k) p = take n (toCome t p) ++ pieces t n k (past t p n)
 
 -- What the code's progress means, with a ledger; and its answer, with a ledger and a buffer.
 abbrev pub standingOf : Progress → List ℕ → Standing
-standingOf p l = standing (saidOf (p .said)) (p .out) (stateOf (p .listing)) l
+standingOf p l = standing (saidOf (p .said)) (p .out) (markingOf (p .listing)) l
 
 abbrev pub handedOf : Piece → List ℕ → List ℕ → Handed
 handedOf r l bytes = handing (standingOf (r .progress) l) (r .len) bytes

@@ -1,14 +1,17 @@
 // The listing of a bundle: its tables are decoded, opened, and its text handed out piece by piece. Each call writes nothing with its own
-// number. The buffers' sizes are those of the longest bundle, 32,768 bytes: its tables have at most 4,088 words, its index at most 8,192 +
-// 2,036, and the two lists of a section walk at most 8,146 slots. One byte more of input tells a longer bundle.
+// number. The buffers' sizes are those of the longest bundle, 32,768 bytes: its tables have at most 4,084 words, its index at most 8,192 +
+// 2,034, and the two lists of a section walk at most 8,138 slots. One byte more of input tells a longer bundle.
 use crate::buffer::least;
 use crate::pieces::Piece;
 use crate::pieces::Progress;
 use listing::bundle::Counts;
 use listing::bundle::CountsAnswer;
 use listing::bundle::measure;
+use listing::bundle::ranges_of;
 use listing::bundle::words_at;
-use pointers::imageinfo::ImageInfoAnswer;
+use marking::framed::FramedAnswer;
+use marking::framed::open_framed;
+use pointers::index::HEADS;
 use pointers::section::ObjcSection;
 ghost use Prim.Native.Nat.{_≤_, _<_, _^_};
 ghost use mathlib.Core.Path.{_≡_};
@@ -16,9 +19,8 @@ ghost use mathlib.Core.List.{_++_};
 ghost use lib.ListN.{length, take, drop};
 ghost use Rattle.reads.specs.Reference.{before, after};
 ghost use Rattle.reads.specs.Files.{filesLent, filesOf, longest};
-ghost use Rattle.pointers.specs.ImageInfo.{infoOutcome};
-ghost use Rattle.pointers.specs.Open.{opening, openedIndex};
-ghost use Rattle.listing.specs.Bundle.{Accepted, countsOutcome, bundleCounts, wordsFrom, segmentsAt};
+ghost use Rattle.listing.specs.Bundle.{Accepted, countsOutcome, bundleCounts, wordsFrom, rangesOf, segmentsAt};
+ghost use Rattle.marking.specs.Framed.{framedOutcome, framedOpening, framedIndex};
 ghost use Rattle.printing.specs.BundleText.{indexWords};
 ghost use Rattle.printing.specs.BundleLent.{tableWords, wordsAfter, tablesOver, tablesIn, openingIn, indexAfter, tablesLent};
 ghost use Rattle.printing.specs.Pieces.{standingOf, toCome, handedOf, pieceOf};
@@ -64,33 +66,35 @@ pub fn decode(input: &[u8; 32769], n: usize, words: &mut [u64; 4096]) -> CountsA
 fn index_words(counts: Counts) -> usize
     ensures { λ r. ⌜ r ≡ indexWords counts ⌝ }
 {
-    8192 + counts.rebases as usize + counts.binds as usize
+    HEADS + counts.rebases as usize + counts.binds as usize
 }
 
-// Opens the tables of a bundle of these counts over files, each its part of the words.
+// Opens the tables of a bundle of these counts over files, each its part of the words; then asks 23 of its ranges.
 fn open_files(
     files: &[&[u8]],
     bytes: &[u8],
     counts: Counts,
     words: &[u64],
     index: &mut [u32],
-) -> ImageInfoAnswer
+) -> FramedAnswer
     requires { ⌜ Accepted (now bytes) counts ⌝ }
     requires { ⌜ 4096 ≤ length (now words) ⌝ }
     requires { ⌜ 10240 ≤ length (now index) ⌝ }
-    ensures outcome { λ r. ⌜ infoOutcome r ≡ opening (tablesOver (filesOf files) (before bytes) counts (before words) (before index)) ⌝ }
-    ensures contents { λ _. ⌜ after index ≡ openedIndex (tablesOver (filesOf files) (before bytes) counts (before words) (before index)) ++ drop (indexWords counts) (before index) ⌝ }
+    ensures outcome { λ r. ⌜ framedOutcome r ≡ framedOpening (rangesOf (before bytes)) (tablesOver (filesOf files) (before bytes) counts (before words) (before index)) ⌝ }
+    ensures contents { λ _. ⌜ after index ≡ framedIndex (rangesOf (before bytes)) (tablesOver (filesOf files) (before bytes) counts (before words) (before index)) ++ drop (indexWords counts) (before index) ⌝ }
 {
     let first = counts.segment_words();
     let second = first + ObjcSection::TABLE_WORDS;
     let third = second + counts.rebase_words();
     let end = third + counts.bind_words();
     let entries = index_words(counts);
-    pointers::open::open(
+    let ranges = ranges_of(bytes);
+    open_framed(
+        ranges,
         files,
         &words[0..first],
         &words[first..second],
-        &bytes[56..64],
+        &bytes[Counts::INFO_AT..Counts::SEGMENTS_AT],
         &words[second..third],
         &words[third..end],
         &mut index[0..entries],
@@ -98,12 +102,12 @@ fn open_files(
 }
 
 // The same over the bundle's own files.
-fn open_counted(bytes: &[u8], counts: Counts, words: &[u64], index: &mut [u32]) -> ImageInfoAnswer
+fn open_counted(bytes: &[u8], counts: Counts, words: &[u64], index: &mut [u32]) -> FramedAnswer
     requires { ⌜ Accepted (now bytes) counts ⌝ }
     requires { ⌜ 4096 ≤ length (now words) ⌝ }
     requires { ⌜ 10240 ≤ length (now index) ⌝ }
-    ensures outcome { λ r. ⌜ infoOutcome r ≡ opening (tablesIn (before bytes) counts (before words) (before index)) ⌝ }
-    ensures contents { λ _. ⌜ after index ≡ openedIndex (tablesIn (before bytes) counts (before words) (before index)) ++ drop (indexWords counts) (before index) ⌝ }
+    ensures outcome { λ r. ⌜ framedOutcome r ≡ framedOpening (rangesOf (before bytes)) (tablesIn (before bytes) counts (before words) (before index)) ⌝ }
+    ensures contents { λ _. ⌜ after index ≡ framedIndex (rangesOf (before bytes)) (tablesIn (before bytes) counts (before words) (before index)) ++ drop (indexWords counts) (before index) ⌝ }
 {
     let at1 = counts.image1_at();
     let at2 = counts.image2_at();
@@ -116,26 +120,26 @@ fn open_counted(bytes: &[u8], counts: Counts, words: &[u64], index: &mut [u32]) 
     open_files(&files, bytes, counts, words, index)
 }
 
-fn open_bytes(bytes: &[u8], words: &[u64], index: &mut [u32]) -> ImageInfoAnswer
+fn open_bytes(bytes: &[u8], words: &[u64], index: &mut [u32]) -> FramedAnswer
     requires { ⌜ 4096 ≤ length (now words) ⌝ }
     requires { ⌜ 10240 ≤ length (now index) ⌝ }
-    ensures outcome { λ r. ⌜ infoOutcome r ≡ openingIn (before bytes) (before words) (before index) ⌝ }
+    ensures outcome { λ r. ⌜ framedOutcome r ≡ openingIn (before bytes) (before words) (before index) ⌝ }
     ensures contents { λ _. ⌜ after index ≡ indexAfter (before bytes) (before words) (before index) ⌝ }
 {
     match measure(bytes) {
         CountsAnswer::Counts(counts) => open_counted(bytes, counts, words, index),
-        CountsAnswer::Missing(m) => ImageInfoAnswer::Missing(m),
+        CountsAnswer::Missing(m) => FramedAnswer::Missing(m),
     }
 }
 
-// Question 13; then opening, of the tables that the words hold.
+// Question 13; then opening, of the tables that the words hold; then 23.
 pub fn open(
     input: &[u8; 32769],
     n: usize,
     words: &[u64; 4096],
     index: &mut [u32; 10240],
-) -> ImageInfoAnswer
-    ensures outcome { λ r. ⌜ infoOutcome r ≡ openingIn (take n (before input)) (before words) (before index) ⌝ }
+) -> FramedAnswer
+    ensures outcome { λ r. ⌜ framedOutcome r ≡ openingIn (take n (before input)) (before words) (before index) ⌝ }
     ensures contents { λ _. ⌜ after index ≡ indexAfter (take n (before input)) (before words) (before index) ⌝ }
 {
     let all: &[u8] = input;
@@ -172,7 +176,7 @@ fn piece_files(
         files,
         &words[0..first],
         &words[first..second],
-        &bytes[56..64],
+        &bytes[Counts::INFO_AT..Counts::SEGMENTS_AT],
         &words[second..third],
         &words[third..end],
         &index[0..entries],

@@ -1,9 +1,10 @@
 // The text of a listing, handed out piece by piece into a buffer that the caller lends; a line may be cut between pieces.
 use crate::buffer::Window;
 use crate::print;
-use listing::listing::Listing;
+use frames::frames::Frames;
 use listing::listing::Said;
-use pointers::imageinfo::ImageInfoAnswer;
+use marking::framed::FramedAnswer;
+use marking::marked_listing::MarkedListing;
 use pointers::question::image_fits;
 use reads::answer::Missing;
 use reads::files::longest;
@@ -13,11 +14,12 @@ ghost use mathlib.Core.Path.{_≡_};
 ghost use lib.ListN.{length, drop};
 ghost use lib.Seq.{paste};
 ghost use Rattle.reads.specs.Reference.{before, after};
+ghost use Rattle.reads.specs.Answer.{missed};
 ghost use Rattle.reads.specs.Files.{filesLent, filesOf, longest};
-ghost use Rattle.pointers.specs.ImageInfo.{infoOutcome};
 ghost use Rattle.pointers.specs.Tables.{lent, readingNew, readingUnder};
 ghost use Rattle.listing.specs.ListingAnswer.{saidOf};
 ghost use Rattle.listing.proofs.Remaining.{goesOn};
+ghost use Rattle.marking.specs.Framed.{framedOutcome};
 ghost use Rattle.printing.specs.Buffer.{buffer, putAll};
 ghost use Rattle.printing.specs.Pieces.{saidText, standingOf, stepped, begun, refusing, toCome, handedOf, pieceOf, fits, further, listable};
 
@@ -25,7 +27,7 @@ ghost use Rattle.printing.specs.Pieces.{saidText, standingOf, stepped, b
 pub struct Progress {
     pub said: Said,
     pub out: usize,
-    pub listing: Listing,
+    pub listing: MarkedListing,
 }
 
 // The length of a piece, and where the printing stands after it.
@@ -62,34 +64,44 @@ fn goes_on(said: Said) -> bool
 
 impl Progress {
     // The start under the new reading, by what opening answered.
-    pub fn new(answer: ImageInfoAnswer) -> Progress
-        ensures { λ r. ⌜ standingOf r ≡ begun readingNew (infoOutcome answer) ⌝ }
+    pub fn new(answer: FramedAnswer) -> Progress
+        ensures { λ r. ⌜ standingOf r ≡ begun readingNew (framedOutcome answer) ⌝ }
     {
         Progress::under(Reading::New, answer)
     }
 
     // The same under either reading.
-    pub fn under(reading: Reading, answer: ImageInfoAnswer) -> Progress
-        ensures { λ r. ⌜ standingOf r ≡ begun (readingUnder reading) (infoOutcome answer) ⌝ }
+    pub fn under(reading: Reading, answer: FramedAnswer) -> Progress
+        ensures { λ r. ⌜ standingOf r ≡ begun (readingUnder reading) (framedOutcome answer) ⌝ }
     {
-        let listing = Listing::under(reading);
         match answer {
-            ImageInfoAnswer::Info(_) => Progress {
-                said: Said::Nothing,
+            FramedAnswer::Framed(framed) => {
+                let frames = framed.frames;
+                Progress {
+                    said: Said::Nothing,
+                    out: 0,
+                    listing: MarkedListing::under(reading, frames),
+                }
+            }
+            FramedAnswer::Missing(m) => Progress::over(reading, m),
+        }
+    }
+
+    // With nothing to come but the number that refused, if one did.
+    fn over(reading: Reading, m: Missing) -> Progress
+        ensures { λ r. ⌜ standingOf r ≡ begun (readingUnder reading) (missed m) ⌝ }
+    {
+        let listing = MarkedListing::under(reading, Frames::none());
+        match m {
+            Missing::Absent(_) => Progress {
+                said: Said::Ended,
                 out: 0,
                 listing,
             },
-            ImageInfoAnswer::Missing(m) => match m {
-                Missing::Absent(_) => Progress {
-                    said: Said::Ended,
-                    out: 0,
-                    listing,
-                },
-                Missing::Refused(k) => Progress {
-                    said: Said::Refused(k),
-                    out: 0,
-                    listing,
-                },
+            Missing::Refused(k) => Progress {
+                said: Said::Refused(k),
+                out: 0,
+                listing,
             },
         }
     }

@@ -246,9 +246,9 @@ fn category(files: &[&[u8]], line: CategoryLine, out: &mut [u8], w: Window) -> W
     named(files, class_name, out, c)
 }
 
-// m: list number, selector, types, imp, kind.
-fn method(files: &[&[u8]], list: u16, m: Method, out: &mut [u8], w: Window) -> Window
-    ensures { λ r. ⌜ buffer (after out) r ≡ putAll (buffer (before out) w) (methodText (filesOf files) list m) ⌝ }
+// m: list number, selector, types, imp, kind, mark.
+fn method(files: &[&[u8]], list: u16, m: Method, mark: u8, out: &mut [u8], w: Window) -> Window
+    ensures { λ r. ⌜ buffer (after out) r ≡ putAll (buffer (before out) w) (methodText (filesOf files) list m mark) ⌝ }
 {
     let selector = m.selector;
     let types = m.types;
@@ -257,7 +257,8 @@ fn method(files: &[&[u8]], list: u16, m: Method, out: &mut [u8], w: Window) -> W
     let a = start(b'm', list as u64, out, w);
     let b = texts(files, selector, types, out, a);
     let c = imp(implementation, out, b);
-    number(kind_number(kind), out, c)
+    let d = number(kind_number(kind), out, c);
+    number(mark as u64, out, d)
 }
 
 // v: list number, name, type, offset, size, alignment, aligned.
@@ -289,11 +290,11 @@ fn property(files: &[&[u8]], list: u16, p: Property, out: &mut [u8], w: Window) 
 
 // m, v or p.
 fn row(files: &[&[u8]], line: RowLine, out: &mut [u8], w: Window) -> Window
-    ensures { λ r. ⌜ buffer (after out) r ≡ putAll (buffer (before out) w) (rowText (filesOf files) (line .list) (line .row)) ⌝ }
+    ensures { λ r. ⌜ buffer (after out) r ≡ putAll (buffer (before out) w) (rowText (filesOf files) (line .list) (line .row) (line .mark)) ⌝ }
 {
     let row = line.row;
     match row {
-        Row::Method(m) => method(files, line.list, m, out, w),
+        Row::Method(m) => method(files, line.list, m, line.mark, out, w),
         Row::Ivar(v) => ivar(files, line.list, v, out, w),
         Row::Property(p) => property(files, line.list, p, out, w),
     }

@@ -1,5 +1,5 @@
-//! A bundle's tables, and the questions 13, 1 to 8, 14 and 18, computed apart: the Rust has none of them. Source: document
-//! 01, "The questions, in order" and "The program's listing"; document 02, notes 2 and 6. The Rust has one image: only
+//! A bundle's tables, and the questions 13, 1 to 8, 14, 18 and 23, computed apart: the Rust has none of them. Source: document
+//! 01, "The questions, in order" and "The program's listing"; document 02, notes 2, 6 and 11. The Rust has one image: only
 //! bundles whose file numbers are all 0 are listed.
 
 use crate::binary::{Import, MachoBinary, Rebase, Section, Segment};
@@ -23,19 +23,21 @@ pub enum Unlisted {
     Spans,
 }
 
-/// The tables of a bundle, unless a question says no.
-pub fn open(bundle: &[u8]) -> Result<MachoBinary<'_>, Unlisted> {
+/// The tables of a bundle and the ends of its ranges, frames first, unless a question says no.
+pub fn open(bundle: &[u8]) -> Result<(MachoBinary<'_>, [u64; 4]), Unlisted> {
     let refused = |k| Err(Unlisted::Refused(k));
     // 13: at most 32,768 bytes, and exactly as long as the counts say. The sum of seven such products fits 128 bits.
-    if bundle.len() > 32_768 || bundle.len() < 56 {
+    if bundle.len() > 32_768 || bundle.len() < 88 {
         return refused(13);
     }
     let (head, rest) = bundle.split_at(56);
     let counts: [u64; 7] = words(head).try_into().unwrap();
     let [segments, rebases, binds, n0, n1, n2, n3] = counts.map(u128::from);
-    if 56 + 8 + 40 * segments + 120 + 16 * rebases + 32 * binds + n0 + n1 + n2 + n3 != bundle.len() as u128 {
+    if 88 + 8 + 40 * segments + 120 + 16 * rebases + 32 * binds + n0 + n1 + n2 + n3 != bundle.len() as u128 {
         return refused(13);
     }
+    let (ends, rest) = rest.split_at(32);
+    let ends: [u64; 4] = words(ends).try_into().unwrap();
     let (info, rest) = rest.split_at(8);
     let (seg, rest) = rest.split_at(40 * segments as usize);
     let (sec, rest) = rest.split_at(120);
@@ -84,6 +86,10 @@ pub fn open(bundle: &[u8]) -> Result<MachoBinary<'_>, Unlisted> {
         let name = core::str::from_utf8(name).map_err(|_| Unlisted::Refused(14))?;
         imports.push(Import { address: b[0], name, dylib: "" });
     }
+    // 23 comes last.
+    if ends[0] > ends[1] || ends[2] > ends[3] {
+        return refused(23);
+    }
     if seg.chunks(5).any(|s| s[4] != 0) || bnd.chunks(4).any(|b| b[3] != 0) {
         return Err(Unlisted::Spans);
     }
@@ -95,11 +101,12 @@ pub fn open(bundle: &[u8]) -> Result<MachoBinary<'_>, Unlisted> {
             sections.push(Section { name, body: &ZEROS[..s[2] as usize], addr: s[1] });
         }
     }
-    Ok(MachoBinary {
+    let bin = MachoBinary {
         image,
         segments: seg.chunks(5).map(|s| Segment(s[..4].try_into().unwrap())).collect(),
         sections,
         rebases: reb.chunks(2).map(|r| Rebase(r.try_into().unwrap())).collect(),
         imports,
-    })
+    };
+    Ok((bin, ends))
 }

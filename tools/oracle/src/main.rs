@@ -5,7 +5,7 @@
 //!
 //! --whole walks every list to its end by the Rust, which takes seconds or minutes for a long list; --apart says on
 //! standard error how many rows were computed apart. Status 70: something computed apart is not what the Rust gives.
-//! --bare, for timing, does as --whole and computes nothing apart but whether an offset is aligned: line E then counts
+//! --bare, for timing, does as --whole and computes nothing apart but whether an offset is aligned and the marks: line E then counts
 //! rows, and no skipped entry; an alignment is the low byte of its word, as the Rust gives it.
 
 // The Rust offers more than the listing uses.
@@ -22,6 +22,7 @@ mod bundle;
 #[cfg(ended)]
 mod ended;
 mod line;
+mod marks;
 mod objc;
 mod ptrauth;
 mod util;
@@ -31,12 +32,14 @@ use std::process::ExitCode;
 
 use apart::{Apart, Kind, aligned};
 use line::Line;
+use marks::Marks;
 use objc::{ClassRo, Ivar, Method, MethodKind, ObjcCategory, ObjcClass, ObjcProtocol, ObjcRuntime, Property};
 
 /// Rows below this index are the Rust's; it tries each index in turn, some nanoseconds each. Rows from here on come
 /// from `Apart`, which jumps; so does the end of a longer list.
 const REACH: u64 = 1 << 20;
 
+/// Without its mark, which comes last (`marked`).
 fn method_line(number: u64, m: Method<'_>) -> Vec<u8> {
     let kind = match m.kind() {
         MethodKind::Legacy => 0u64,
@@ -67,6 +70,8 @@ struct Listing<'a> {
     records: u64,
     settled: u64,
     rows_apart: u64,
+    /// Where each m row ends in `out`, and its imp.
+    methods: Vec<(usize, Option<u64>)>,
     faults: Vec<&'static str>,
 }
 
@@ -81,20 +86,48 @@ impl<'a> Listing<'a> {
         }
     }
 
+    /// Adds a row. Of an m row imp and kind are the last fields.
+    fn row(&mut self, row: Vec<u8>) {
+        let method = row[0] == b'm';
+        self.out.extend(&row);
+        if method {
+            let imp = row.trim_ascii_end().rsplit(|&b| b == b' ').nth(1).unwrap();
+            let imp = (imp != b"-").then(|| u64::from_str_radix(std::str::from_utf8(imp).unwrap(), 16).unwrap());
+            self.methods.push((self.out.len(), imp));
+        }
+    }
+
+    /// The listing with a mark at the end of each m row, computed apart over the starts of all of them.
+    fn marked(&mut self, ends: [u64; 4]) -> Vec<u8> {
+        let starts: Vec<u64> = self.methods.iter().filter_map(|m| m.1).collect();
+        let marks = Marks::new(ends, &starts);
+        let (mut out, mut from) = (Vec::new(), 0);
+        for (end, imp) in std::mem::take(&mut self.methods) {
+            let mark = imp.map_or(0, |start| marks.mark(start));
+            let pairs = imp.and_then(|start| marks.by_pairs(start));
+            self.check(pairs.is_none_or(|by| by == mark), "a mark");
+            out.extend(&self.out[from..end - 1]);
+            out.extend(format!(" {mark:x}\n").bytes());
+            from = end;
+        }
+        out.extend(&self.out[from..]);
+        out
+    }
+
     /// The rows of the list at `va`, `rust` being the Rust's iterator over it. Its readable entries, skipped ones too,
     /// are counted apart for line E.
     fn rows(&mut self, number: u64, va: u64, kind: Kind, mut rust: impl Iterator<Item = Vec<u8>>) {
         if self.bare {
             for row in rust {
                 self.settled += 1;
-                self.out.extend(row);
+                self.row(row);
             }
             return;
         }
         let Some(list) = self.apart.list(va, kind) else {
             let given: Vec<Vec<u8>> = rust.collect();
             self.check(given.is_empty(), "an absent list");
-            self.out.extend(given.concat());
+            given.into_iter().for_each(|row| self.row(row));
             return;
         };
         let readables = self.apart.readables(&list);
@@ -108,18 +141,18 @@ impl<'a> Listing<'a> {
         if self.whole || list.count <= REACH {
             let given: Vec<Vec<u8>> = rust.collect();
             self.check(given.iter().eq(rows.iter().map(|(_, row)| row)), "the rows of a list");
-            self.out.extend(given.concat());
+            given.into_iter().for_each(|row| self.row(row));
             return;
         }
         for (index, row) in rows {
             if index < REACH {
                 let given = rust.next();
                 self.check(given.as_ref() == Some(&row), "a row of a list");
-                self.out.extend(given.unwrap_or_default());
+                given.into_iter().for_each(|row| self.row(row));
             } else {
                 // Computed apart: the Rust would come to this index too late.
                 self.rows_apart += 1;
-                self.out.extend(row);
+                self.row(row);
             }
         }
     }
@@ -198,8 +231,8 @@ fn main() -> ExitCode {
     }
     let mut input = Vec::new();
     std::io::stdin().read_to_end(&mut input).expect("standard input");
-    let bin = match bundle::open(&input) {
-        Ok(bin) => bin,
+    let (bin, ends) = match bundle::open(&input) {
+        Ok(opened) => opened,
         Err(bundle::Unlisted::Refused(number)) => {
             println!("refused {number}");
             return ExitCode::SUCCESS;
@@ -219,6 +252,7 @@ fn main() -> ExitCode {
         records: 0,
         settled: 0,
         rows_apart: 0,
+        methods: Vec::new(),
         faults: Vec::new(),
     };
     let info = rt.image_info();
@@ -234,7 +268,8 @@ fn main() -> ExitCode {
         listing.category(&category, info.has_category_class_properties());
     }
     listing.print(Line::new('E').hex(listing.records).hex(listing.settled));
-    std::io::stdout().write_all(&listing.out).expect("standard output");
+    let out = listing.marked(ends);
+    std::io::stdout().write_all(&out).expect("standard output");
     if options.iter().any(|o| o == "--apart") {
         eprintln!("{} rows apart", listing.rows_apart);
     }

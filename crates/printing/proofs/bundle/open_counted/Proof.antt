@@ -3,8 +3,9 @@ use mathlib.Core.List.{List, _++_}
 use Prim.Native.Nat.{ℕ}
 use lib.ListN.{drop}
 use Rattle.reads.specs.Files.{filesLent}
-use Rattle.pointers.specs.Open.{opening, openedIndex}
 use Rattle.pointers.specs.Tables.{Tables}
+use Rattle.listing.specs.Bundle.{rangesOf}
+use Rattle.marking.specs.Framed.{framedOpening, framedIndex}
 use Rattle.printing.specs.BundleText.{indexWords}
 use Rattle.printing.specs.BundleLent.{tablesOver}
 use Rattle.printing.proofs.BundleParts.{parts-files}
@@ -24,9 +25,9 @@ returns c =
     let same = parts-files (entry .args .bytes .now) (entry .args .counts) _ _ _ _ (entry .pre .0) (at-image0 .image0-at .ensures)
     (at-image1 .image1-at .ensures) (at-image2 .image2-at .ensures) (at-image3 .image3-at .ensures) in
     let tables = ap (λ (files : List (List ℕ)). tablesOver files (entry .args .bytes .now) (entry .args .counts) (entry .args .words .now) (entry .args .index .now)) same in (
-      at-open .open-files .ensures .0 ∙ ap opening tables,
+      at-open .open-files .ensures .0 ∙ ap (framedOpening (rangesOf (entry .args .bytes .now))) tables,
       at-open .open-files .ensures .1
-          ∙ ap (λ (t : Tables). openedIndex t ++ drop (indexWords (entry .args .counts)) (entry .args .index .now)) tables,
+          ∙ ap (λ (t : Tables). framedIndex (rangesOf (entry .args .bytes .now)) t ++ drop (indexWords (entry .args .counts)) (entry .args .index .now)) tables,
     )
 
 pub open-counted-spec : {M : Type 1} → statement M

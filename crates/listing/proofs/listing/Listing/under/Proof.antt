@@ -3,7 +3,7 @@ use Rattle.listing.proofs.listing.Listing.under.Statement.{statement}
 use Rattle.listing.proofs.listing.Listing.under.Tie as tie
 
 returns : tie.Need-returns
-returns c = rw (c .at-stage .ensures, c .before .under .ensures)
+returns c = rw (← c .before .under .ensures) (c .starting .ensures)
 
 pub under-spec : {M : Type 1} → statement M
 under-spec = tie.close (tie.spec (λ c κs. search needs) (λ c κs. search needs) returns)
