@@ -26,10 +26,10 @@ ghost use Rattle.records.specs.Row.{rowAt};
 
 // A walk: list address, kind and cursor, and the setting that it began with.
 pub struct ListWalk {
-    list: u64,
-    kind: ListKind,
-    setting: Setting,
-    cursor: u32,
+    pub list: u64,
+    pub kind: ListKind,
+    pub setting: Setting,
+    pub cursor: u32,
 }
 
 // A step's answer: the row reached, or the index of an entry whose row is skipped and why, or finished, or the number of the
@@ -193,8 +193,8 @@ impl ListWalk {
         }
     }
 
-    // A step over tables that no question refuses: 10 past the first entry of a list that is missing.
-    fn walked_list(
+    // A step over tables that no question refuses, for a caller that has asked: 10 past the first entry of a list that is missing.
+    pub fn walked_list(
         self,
         files: &[&[u8]],
         segments: &[u64],

@@ -46,9 +46,9 @@ pub enum ProtocolListAnswer {
 
 // A walk over the names of a list: its address, the number of slots taken, and the setting that it began with.
 pub struct ProtocolNameWalk {
-    list: u64,
-    cursor: u64,
-    setting: Setting,
+    pub list: u64,
+    pub cursor: u64,
+    pub setting: Setting,
 }
 
 // What a step reached: a name, a slot that gives none and why, the end, or the number of the question that refuses.
@@ -354,8 +354,8 @@ impl ProtocolNameWalk {
         self.at(NameStep::Finished, list.count)
     }
 
-    // A step over tables that no question refuses: 10, by the count of the list, 0 for one that is missing.
-    fn walked_list(
+    // A step over tables that no question refuses, for a caller that has asked: 10, by the count of the list, 0 for one that is missing.
+    pub fn walked_list(
         self,
         files: &[&[u8]],
         segments: &[u64],

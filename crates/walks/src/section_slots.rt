@@ -30,8 +30,8 @@ ghost use Rattle.walks.specs.Sections.{walk, atStart, passed, dropped, l
 
 // Where a walk over classes stands: the slots, and the address of the metaclass that waits (0: none).
 pub struct ClassSlots {
-    pub(crate) slots: SlotWalk,
-    meta: u64,
+    pub slots: SlotWalk,
+    pub meta: u64,
 }
 
 // The step, and where the walk stands then; with a number where it stood.
@@ -42,7 +42,7 @@ pub(crate) struct ClassTaken {
 
 // Where a walk over categories stands: the slots.
 pub struct CategorySlots {
-    slots: SlotWalk,
+    pub slots: SlotWalk,
 }
 
 // The step, and where the walk stands then; with a number where it stood.
@@ -53,7 +53,7 @@ pub(crate) struct CategoryTaken {
 
 // Where a walk over protocols stands: the next slot.
 pub struct ProtocolSlots {
-    slot: u64,
+    pub slot: u64,
 }
 
 // The step, and where the walk stands then; with a number where it stood.

@@ -16,8 +16,8 @@ ghost use Rattle.walks.specs.Sections.{atStart, classes, categories, ste
 
 // A walk over classes: where it stands, and the setting that it began with.
 pub struct ClassWalk {
-    slots: ClassSlots,
-    setting: Setting,
+    pub slots: ClassSlots,
+    pub setting: Setting,
 }
 
 // A step gives a class, or the reason for which it is absent; a slot of 0 or an address met before is dropped, which is no absence; or there was
@@ -38,8 +38,8 @@ pub struct ClassStepped {
 
 // A walk over categories: where it stands, and the setting that it began with.
 pub struct CategoryWalk {
-    slots: CategorySlots,
-    setting: Setting,
+    pub slots: CategorySlots,
+    pub setting: Setting,
 }
 
 // A step gives a category, or the reason for which it is absent; a slot of 0 or an address met before is dropped, which is no absence; or there was
@@ -60,8 +60,8 @@ pub struct CategoryStepped {
 
 // A walk over protocols: where it stands, and the setting that it began with.
 pub struct ProtocolWalk {
-    slots: ProtocolSlots,
-    setting: Setting,
+    pub slots: ProtocolSlots,
+    pub setting: Setting,
 }
 
 // A step gives a protocol, or the reason for which it is absent; a slot of 0 is dropped, which is no absence; or there was

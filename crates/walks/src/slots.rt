@@ -37,9 +37,9 @@ pub(crate) enum SlotStep {
 
 // Where a walk that meets each address once stands: the next slot, the words of the ledger in use, and the highest of them.
 pub struct SlotWalk {
-    slot: u64,
-    pub(crate) used: u64,
-    highest: u64,
+    pub slot: u64,
+    pub used: u64,
+    pub highest: u64,
 }
 
 // The slots of two sections: each has fewer than 2^61.
