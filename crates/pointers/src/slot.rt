@@ -187,7 +187,14 @@ pub fn pointer_or_0(
     ensures { λ r. ⌜ wordOutcome r ≡ pointerOr0At (lentImage files segments) (before rebases) (before index) setting va k ⌝ }
 {
     match checked_add(va, k) {
-        Word::Value(slot) => or_zero(resolve_pointer(files, segments, rebases, index, setting, slot)),
+        Word::Value(slot) => or_zero(resolve_pointer(
+            files,
+            segments,
+            rebases,
+            index,
+            setting,
+            slot,
+        )),
         Word::Missing(m) => Word::Missing(m),
     }
 }

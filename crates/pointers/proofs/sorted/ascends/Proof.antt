@@ -30,8 +30,7 @@ returns c =
 
 loop-again : tie.Need-loop-again Inv-loop μ-loop
 loop-again c =
-    let inv = c .before .before .before .before .loop .inv in
-    (
+    let inv = c .before .before .before .before .loop .inv in (
       omega arith,
       omega (arith, inv .0, c .before .before .before .loop-test .taken),
       ascends-on (c .before .before .before .before .before .args .rebases .now) (c .before .before .before .before .loop .i) (inv .0) (inv .2) (omega (arith, c .if1 .left)),

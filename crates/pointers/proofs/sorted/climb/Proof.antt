@@ -35,8 +35,7 @@ loop-again c =
     let at = c .before .before .before .loop in
     let some = c .before .before .loop-test .taken in
     let there = sym (c .before .at-most .ensures) ∙ c .if1 .taken in
-    let below = at-most-below (a .rebases .now) (a .slot) _ there in
-    (
+    let below = at-most-below (a .rebases .now) (a .slot) _ there in (
       omega (arith, at .inv .0),
       half-power (at .k) (at .step) some (at .inv .1),
       omega (arith, below),
@@ -48,8 +47,7 @@ loop-again-2 c =
     let a = c .before .before .before .before .before .args in
     let at = c .before .before .before .loop in
     let some = c .before .before .loop-test .taken in
-    let not-there = sym (c .before .at-most .ensures) ∙ c .if1 .left in
-    (
+    let not-there = sym (c .before .at-most .ensures) ∙ c .if1 .left in (
       omega (arith, at .inv .0),
       half-power (at .k) (at .step) some (at .inv .1),
       at .inv .2,
