@@ -211,7 +211,7 @@ six-events =
     ∷ []
 
 module _ (before : List ℕ) where
-  pub no-rebase : (a : ℕ) → rebaseAt [] (indexed [] [] before) a ≡ absent NoRecord
+  pub no-rebase : (a : ℕ) → rebaseAt [] (indexed [] [] before) readingNew a ≡ absent NoRecord
   unfolding rebaseAt lastAmong
   no-rebase a = rw (rebase-last-wins [] [] before a)
 
