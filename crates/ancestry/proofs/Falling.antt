@@ -16,7 +16,10 @@ use Rattle.pointers.specs.Tables.{Tables, imageIn, rebaseWords, rebaseRecord, c
 use Rattle.pointers.proofs.Questions.{every-at}
 use Rattle.pointers.specs.Index.{chainOf}
 use Rattle.pointers.specs.Chain.{followFrom, follow}
-use Rattle.pointers.specs.Slot.{rebaseAt, rebase, stored, resolve, slot}
+use Rattle.pointers.specs.declared.setting.Lookup.{Lookup}
+use Rattle.pointers.specs.declared.setting.Lookup.the-variants.{Chained, Sorted}
+use Rattle.pointers.proofs.SortedLookups.{sorted-unrefused}
+use Rattle.pointers.specs.Slot.{rebaseNumber, rebaseAt, rebase, stored, resolve, slot}
 use Rattle.records.specs.Class.{decodeData, decodeClass, dataAt, classAt}
 use Rattle.records.specs.declared.class.ObjcClass.{ObjcClass}
 use Rattle.ancestry.specs.Ancestry.{superAt, upIn}
@@ -48,12 +51,17 @@ module _ (t : Tables) (fall : chainsFall (t .rebases) (t .index) ≡ true) where
       (λ e. by-choose Unrefused (λ f. is-value n) (λ f. from-unrefused a limit _ (omega arith) (next limit h)))
       (λ e. let ne = eqb-false n (suc limit) e in from-unrefused a limit n (omega arith) (omega arith))
 
-  pub rebase-falls : (a : ℕ) → Unrefused (rebase t a)
-  unfolding rebaseAt follow
-  rebase-falls a =
+  number-falls : (a : ℕ) (l : Lookup) → Unrefused (rebaseNumber l (t .rebases) (t .index) a)
+  unfolding follow
+  number-falls a Chained =
       let low : 0 + chainOf a ≡ chainOf a = omega arith in
-      unrefused-then (λ n. value (rebaseRecord (t .rebases) (n - 1) .target))
-      (from-unrefused a rebaseCount _ (omega arith) (rw low (head (chainOf a) (omega arith))))
+      from-unrefused a rebaseCount _ (omega arith) (rw low (head (chainOf a) (omega arith)))
+  number-falls a Sorted = sorted-unrefused (t .rebases) a
+
+  pub rebase-falls : (a : ℕ) → Unrefused (rebase t a)
+  unfolding rebaseAt
+  rebase-falls a =
+      unrefused-then (λ n. value (rebaseRecord (t .rebases) (n - 1) .target)) (number-falls a (t .setting .lookup))
       (λ n. is-value (rebaseRecord (t .rebases) (n - 1) .target))
 
   stored-unrefused : (a : ℕ) → Unrefused (stored (imageIn t) a)

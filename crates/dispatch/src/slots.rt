@@ -55,7 +55,7 @@ pub(crate) fn listed_at(
         ⌜ wordOutcome r ≡ listedAt t k ⌝ }
 {
     let slot = slot_at(sections, k);
-    match slot_or_0(files, segments, rebases, index, slot) {
+    match slot_or_0(files, segments, rebases, index, setting, slot) {
         Word::Value(va) => nonzero(va),
         Word::Missing(m) => Word::Missing(m),
     }

@@ -2,14 +2,18 @@
 -- number nothing lent is written.
 use Prim.Native.Nat.{ℕ, _*_, _≤_}
 use mathlib.Core.Path.{_≡_, refl, sym, ap, _∙_}
-use mathlib.Core.List.{List, _++_}
+use mathlib.Core.Bool.{Bool, true, false}
+use mathlib.Core.List.{List, [], _∷_, _++_}
 use lib.ListN.{length, take, drop, length-replicate, replicate, take-append-drop}
 use lib.Seq.{length-take-le, take-at}
 use Rattle.reads.specs.Outcome.{Outcome, value, absent, number, andThen}
+use Rattle.reads.specs.declared.text.Reading.{Reading}
 use Rattle.reads.proofs.Outcomes.{then-came}
 use Rattle.pointers.specs.Index.{indexLength}
 use Rattle.pointers.specs.Open.{Opened, opening, leftBy, openedIndex}
-use Rattle.pointers.specs.Tables.{Tables, under, withIndex, sectionTableWords}
+use Rattle.pointers.specs.Sorted.{ascending}
+use Rattle.pointers.specs.Tables.{Tables, under, readingUnder, withIndex, sectionTableWords}
+use Rattle.pointers.specs.declared.setting.Lookup.the-variants.{Sorted}
 use Rattle.pointers.specs.declared.imageinfo.ImageInfo.{ImageInfo}
 use Rattle.pointers.specs.declared.setting.Setting.{Setting}
 use Rattle.pointers.proofs.OpenedTables.{opened-room, opened-under}
@@ -23,14 +27,18 @@ use Rattle.marking.specs.declared.framed.Framed.{Framed}
 use Rattle.marking.proofs.Framing.{framed-given}
 use Rattle.macho.specs.declared.open.OpenedFile.{OpenedFile}
 use Rattle.macho.proofs.FileOpened.{index-written, left-are-tables, opening-gives, number-keeps}
-use Rattle.printing.specs.BundleText.{openedText}
+use Rattle.listing.specs.PlainListing.{plainListing}
+use Rattle.listing.specs.declared.line.Line.{Line}
+use Rattle.listing.proofs.ListedAlike.{listed-alike}
+use Rattle.marking.specs.Marked.{markedLines}
+use Rattle.printing.specs.BundleText.{listingText, openedText}
 use Rattle.printing.specs.LineText.{refusedText}
 use Rattle.printing.specs.Pieces.{toCome, begun, pieces, listable}
 use Rattle.printing.proofs.BundleOpens.{framed-same, opening-same, index-whole, index-long}
 use Rattle.printing.proofs.Comes.{come-under, pieces-text}
 use Rattle.printing.proofs.PieceAnswers.{listable-short}
 use Rattle.printing.proofs.Printed.{begun-sound, listing-comes, over-comes}
-use Rattle.filelist.specs.FileText.{zeroIndex, tablesFor, framedFile, openedBy, fileOpening, fileText}
+use Rattle.filelist.specs.FileText.{lookupBy, fileSetting, zeroIndex, tablesFor, framedFile, openedBy, fileOpening, fileText}
 use Rattle.filelist.specs.FileLent.{indexUsed, segmentsAfter, sectionsAfter, indexAfter, tablesBy, tablesLent}
 use Rattle.filelist.proofs.FileAnswers.{frames-taken}
 
@@ -184,10 +192,44 @@ module _ (u : Setting) (x : Ranges) (file segments sections rebases binds index 
             (words ∙ sym (length-replicate {A = ℕ} sectionTableWords 0))
             (used-long file segments sections rebases binds index long ∙ sym (length-replicate {A = ℕ} (indexLength rebases binds) 0))
 
-        pub file-printed : toCome tablesAfter (begun u gave l) ≡ fileText u x file rebases binds
-        unfolding fileText fileOpening
-        file-printed = comes ∙ ap (openedText (under u (tablesSaid file rebases binds))) asked-same
+-- However rebases are found, the text is the same.
+by-either : (r : Reading) (t : Tables) → Opened t → plainListing (under (fileSetting r (t .rebases)) t) ≡ plainListing (under (readingUnder r) t)
+by-either r t o = go (ascending (t .rebases)) refl
+  where
+    go : (b : Bool) → ascending (t .rebases) ≡ b
+        → plainListing (under (record { reading = r; lookup = lookupBy b }) t) ≡ plainListing (under (readingUnder r) t)
+    go true e = listed-alike t o e (record { reading = r; lookup = Sorted }) (readingUnder r) refl
+    go false e = refl
 
-        -- The pieces that are handed out, of n bytes each, one after the other, are the file's text.
-        pub file-printed-pieces : (n k : ℕ) → pieces tablesAfter n k (begun u gave l) ≡ take (k * n) (fileText u x file rebases binds)
-        file-printed-pieces n k = pieces-text tablesAfter n k (begun u gave l) (begun-sound u gave l) ∙ ap (take (k * n)) file-printed
+module _ (r : Reading) (x : Ranges) (file segments sections rebases binds index l : List ℕ) (long : indexLength rebases binds ≤ length index)
+    (classes : slotCount (sectionTable file) 0 1 ≤ length l) (categories : slotCount (sectionTable file) 2 3 ≤ length l)
+    (rows : length segments ≡ segmentTableWords) (words : length sections ≡ sectionTableWords) where
+  abbrev u : Setting
+  u = fileSetting r rebases
+
+  abbrev answered : Outcome Framed
+  answered = gave u x file segments sections rebases binds index l
+
+  abbrev read : Tables
+  read = tablesAfter u x file segments sections rebases binds index l
+
+  text-alike : (o : Outcome Framed) → answered ≡ o
+      → openedText (under u (tablesSaid file rebases binds)) o ≡ openedText (under (readingUnder r) (tablesSaid file rebases binds)) o
+  unfolding fileTables
+  text-alike (value f) e =
+      let said = opened file segments sections rebases binds index long (openedFile file (f .info)) (opens-file u x file segments sections rebases binds index l long classes categories f e) in
+      ap (λ (p : Outcome (List Line)). listingText (file ∷ []) (andThen p (λ lines. value (markedLines (f .frames) lines)))) (by-either r (tablesSaid file rebases binds) said)
+  text-alike (absent why) e = refl
+  text-alike (number k) e = refl
+
+  pub file-printed : toCome read (begun u answered l) ≡ fileText (readingUnder r) x file rebases binds
+  unfolding fileText fileOpening
+  file-printed =
+      comes u x file segments sections rebases binds index l long classes categories
+      ∙ text-alike answered refl
+      ∙ ap (openedText (under (readingUnder r) (tablesSaid file rebases binds)))
+      (asked-same u x file segments sections rebases binds index l long classes categories rows words)
+
+  -- The pieces that are handed out, of n bytes each, one after the other, are the file's text.
+  pub file-printed-pieces : (n k : ℕ) → pieces read n k (begun u answered l) ≡ take (k * n) (fileText (readingUnder r) x file rebases binds)
+  file-printed-pieces n k = pieces-text read n k (begun u answered l) (begun-sound u answered l) ∙ ap (take (k * n)) file-printed

@@ -2,13 +2,18 @@
 -- the plain listing over the tables that loader.h defines for the file, under a setting, which holds the reading, each m row with its mark for
 -- the ranges given (note 11).
 use Prim.Native.Nat.{ℕ}
+use mathlib.Core.Bool.{Bool, true, false}
 use mathlib.Core.List.{List}
 use lib.ListN.{length, replicate}
 use Rattle.reads.specs.Outcome.{Outcome, value, number, andThen}
+use Rattle.reads.specs.declared.text.Reading.{Reading}
 use Rattle.pointers.specs.Index.{indexLength}
 use Rattle.pointers.specs.Open.{askedOpening, openedIndex}
+use Rattle.pointers.specs.Sorted.{ascending}
 use Rattle.pointers.specs.Tables.{Tables, under, withIndex, sectionTableWords}
 use Rattle.pointers.specs.declared.imageinfo.ImageInfo.{ImageInfo}
+use Rattle.pointers.specs.declared.setting.Lookup.{Lookup}
+use Rattle.pointers.specs.declared.setting.Lookup.the-variants.{Chained, Sorted}
 use Rattle.pointers.specs.declared.setting.Setting.{Setting}
 use Rattle.macho.specs.FileTables.{fileTables}
 use Rattle.macho.specs.OpenFile.{segmentTableWords, askedFile, openedFile}
@@ -17,6 +22,14 @@ use Rattle.frames.specs.declared.frames.Ranges.{Ranges}
 use Rattle.marking.specs.Framed.{framedOpening}
 use Rattle.marking.specs.declared.framed.Framed.{Framed}
 use Rattle.printing.specs.BundleText.{openedText}
+
+-- The setting of a file's listing: rebases by halves where their slots ascend, which lists the same (`file-printed`, proofs/FilePrinted.antt).
+abbrev pub lookupBy : Bool → Lookup
+lookupBy true = Sorted
+lookupBy false = Chained
+
+abbrev pub fileSetting : Reading → List ℕ → Setting
+fileSetting r rebases = record { reading = r; lookup = lookupBy (ascending rebases) }
 
 -- The image info of what opening gave.
 abbrev pub infoIn : Outcome OpenedFile → Outcome ImageInfo

@@ -13,6 +13,9 @@ use marking::framed::with_frames;
 use pointers::imageinfo::ImageInfoAnswer;
 use pointers::index::HEADS;
 use pointers::question::index_fits;
+use pointers::setting::Lookup;
+use pointers::setting::Setting;
+use pointers::sorted::ascends;
 use pointers::table::Bind;
 use pointers::table::Rebase;
 use printing::pieces::Piece;
@@ -26,15 +29,15 @@ ghost use lib.ListN.{length, take, drop};
 ghost use Rattle.reads.specs.Answer.{missed};
 ghost use Rattle.reads.specs.Reference.{before, after};
 ghost use Rattle.reads.specs.Segment.{segmentWords};
+ghost use Rattle.reads.specs.declared.text.Reading.the-variants.{New};
 ghost use Rattle.pointers.specs.ImageInfo.{infoOutcome};
 ghost use Rattle.pointers.specs.Index.{indexLength};
-ghost use Rattle.pointers.specs.Tables.{readingNew, readingUnder};
 ghost use Rattle.macho.specs.FileTables.{overFile};
 ghost use Rattle.macho.specs.OpenFile.{fileOutcome, openingFile, segmentsLeft, sectionsLeft, indexLeft};
 ghost use Rattle.frames.specs.Frames.{noRanges};
 ghost use Rattle.marking.specs.Framed.{withFrames};
 ghost use Rattle.printing.specs.Pieces.{standingOf, begun, listable, toCome, handedOf, pieceOf};
-ghost use Rattle.filelist.specs.FileText.{infoIn, framedFile, openedBy, refusedFile};
+ghost use Rattle.filelist.specs.FileText.{fileSetting, infoIn, framedFile, openedBy, refusedFile};
 ghost use Rattle.filelist.specs.FileLent.{indexUsed, segmentsAfter, sectionsAfter, indexAfter, tablesLent};
 
 // A listing that is begun: what opening the file answered, and where the printing stands.
@@ -79,7 +82,7 @@ fn info_of(answer: FileAnswer) -> ImageInfoAnswer
 
 // Opens the file, and begins its listing for these frames.
 fn begin(
-    reading: Reading,
+    setting: Setting,
     frames: Frames,
     file: &[u8],
     segments: &mut [u64],
@@ -89,7 +92,7 @@ fn begin(
     index: &mut [u32],
 ) -> FileListing
     ensures answer { λ r. ⌜ fileOutcome (r .answer) ≡ openingFile (before file) (before segments) (before sections) (before rebases) (before binds) (before index) ⌝ }
-    ensures progress { λ r. ⌜ standingOf (r .progress) ≡ begun (readingUnder reading) (withFrames frames (infoIn (fileOutcome (r .answer)))) ⌝ }
+    ensures progress { λ r. ⌜ standingOf (r .progress) ≡ begun setting (withFrames frames (infoIn (fileOutcome (r .answer)))) ⌝ }
     ensures segments { λ _. ⌜ after segments ≡ segmentsLeft (before file) (before segments) (before sections) (before rebases) (before binds) (before index) ⌝ }
     ensures sections { λ _. ⌜ after sections ≡ sectionsLeft (before file) (before segments) (before sections) (before rebases) (before binds) (before index) ⌝ }
     ensures index { λ _. ⌜ after index ≡ indexLeft (before file) (before segments) (before sections) (before rebases) (before binds) (before index) ⌝ }
@@ -97,7 +100,7 @@ fn begin(
     let answer = open_file(file, segments, sections, rebases, binds, index);
     FileListing {
         answer,
-        progress: Progress::under(reading, with_frames(info_of(answer), frames)),
+        progress: Progress::starting(setting, with_frames(info_of(answer), frames)),
     }
 }
 
@@ -127,6 +130,66 @@ fn ranges_refused(
     }
 }
 
+// The setting of a file's listing: rebases by halves where their slots ascend, else by their chains. The text is the same.
+fn file_setting(reading: Reading, rebases: &[u64]) -> Setting
+    ensures { λ r. ⌜ r ≡ fileSetting reading (before rebases) ⌝ }
+{
+    if ascends(rebases) {
+        return Setting {
+            reading,
+            lookup: Lookup::Sorted,
+        };
+    }
+    Setting::under(reading)
+}
+
+// The listing of a file under a setting, its methods marked for frames and slides in these ranges; begun.
+fn list_by(
+    setting: Setting,
+    ranges: Ranges,
+    file: &[u8],
+    segments: &mut [u64],
+    sections: &mut [u64],
+    rebases: &[u64],
+    binds: &[u64],
+    index: &mut [u32],
+) -> FileListing
+    ensures answer { λ r. ⌜ fileOutcome (r .answer) ≡ openedBy (before file) (framedFile ranges (before file) (before segments) (before sections) (before rebases) (before binds) (indexUsed (before rebases) (before binds) (before index))) ⌝ }
+    ensures progress { λ r. ⌜ standingOf (r .progress) ≡ begun setting (framedFile ranges (before file) (before segments) (before sections) (before rebases) (before binds) (indexUsed (before rebases) (before binds) (before index))) ⌝ }
+    ensures segments { λ _. ⌜ after segments ≡ segmentsAfter ranges (before file) (before segments) (before sections) (before rebases) (before binds) (before index) ⌝ }
+    ensures sections { λ _. ⌜ after sections ≡ sectionsAfter ranges (before file) (before segments) (before sections) (before rebases) (before binds) (before index) ⌝ }
+    ensures index { λ _. ⌜ after index ≡ indexAfter ranges (before file) (before segments) (before sections) (before rebases) (before binds) (before index) ⌝ }
+{
+    let entries = index_words(rebases, binds, index.len());
+    match Frames::new(ranges) {
+        FramesAnswer::Frames(frames) => begin(
+            setting,
+            frames,
+            file,
+            segments,
+            sections,
+            rebases,
+            binds,
+            &mut index[0..entries],
+        ),
+        FramesAnswer::Refused(k) => {
+            let m = ranges_refused(
+                file,
+                segments,
+                sections,
+                rebases,
+                binds,
+                &mut index[0..entries],
+                k,
+            );
+            FileListing {
+                answer: FileAnswer::Missing(m),
+                progress: Progress::starting(setting, FramedAnswer::Missing(m)),
+            }
+        }
+    }
+}
+
 // The listing of a file under the new reading and without ranges, so that nothing is marked; begun.
 pub fn list_file(
     file: &[u8],
@@ -137,7 +200,7 @@ pub fn list_file(
     index: &mut [u32],
 ) -> FileListing
     ensures answer { λ r. ⌜ fileOutcome (r .answer) ≡ openedBy (before file) (framedFile noRanges (before file) (before segments) (before sections) (before rebases) (before binds) (indexUsed (before rebases) (before binds) (before index))) ⌝ }
-    ensures progress { λ r. ⌜ standingOf (r .progress) ≡ begun readingNew (framedFile noRanges (before file) (before segments) (before sections) (before rebases) (before binds) (indexUsed (before rebases) (before binds) (before index))) ⌝ }
+    ensures progress { λ r. ⌜ standingOf (r .progress) ≡ begun (fileSetting New (before rebases)) (framedFile noRanges (before file) (before segments) (before sections) (before rebases) (before binds) (indexUsed (before rebases) (before binds) (before index))) ⌝ }
     ensures segments { λ _. ⌜ after segments ≡ segmentsAfter noRanges (before file) (before segments) (before sections) (before rebases) (before binds) (before index) ⌝ }
     ensures sections { λ _. ⌜ after sections ≡ sectionsAfter noRanges (before file) (before segments) (before sections) (before rebases) (before binds) (before index) ⌝ }
     ensures index { λ _. ⌜ after index ≡ indexAfter noRanges (before file) (before segments) (before sections) (before rebases) (before binds) (before index) ⌝ }
@@ -166,39 +229,21 @@ pub fn list_file_under(
     index: &mut [u32],
 ) -> FileListing
     ensures answer { λ r. ⌜ fileOutcome (r .answer) ≡ openedBy (before file) (framedFile ranges (before file) (before segments) (before sections) (before rebases) (before binds) (indexUsed (before rebases) (before binds) (before index))) ⌝ }
-    ensures progress { λ r. ⌜ standingOf (r .progress) ≡ begun (readingUnder reading) (framedFile ranges (before file) (before segments) (before sections) (before rebases) (before binds) (indexUsed (before rebases) (before binds) (before index))) ⌝ }
+    ensures progress { λ r. ⌜ standingOf (r .progress) ≡ begun (fileSetting reading (before rebases)) (framedFile ranges (before file) (before segments) (before sections) (before rebases) (before binds) (indexUsed (before rebases) (before binds) (before index))) ⌝ }
     ensures segments { λ _. ⌜ after segments ≡ segmentsAfter ranges (before file) (before segments) (before sections) (before rebases) (before binds) (before index) ⌝ }
     ensures sections { λ _. ⌜ after sections ≡ sectionsAfter ranges (before file) (before segments) (before sections) (before rebases) (before binds) (before index) ⌝ }
     ensures index { λ _. ⌜ after index ≡ indexAfter ranges (before file) (before segments) (before sections) (before rebases) (before binds) (before index) ⌝ }
 {
-    let entries = index_words(rebases, binds, index.len());
-    match Frames::new(ranges) {
-        FramesAnswer::Frames(frames) => begin(
-            reading,
-            frames,
-            file,
-            segments,
-            sections,
-            rebases,
-            binds,
-            &mut index[0..entries],
-        ),
-        FramesAnswer::Refused(k) => {
-            let m = ranges_refused(
-                file,
-                segments,
-                sections,
-                rebases,
-                binds,
-                &mut index[0..entries],
-                k,
-            );
-            FileListing {
-                answer: FileAnswer::Missing(m),
-                progress: Progress::under(reading, FramedAnswer::Missing(m)),
-            }
-        }
-    }
+    list_by(
+        file_setting(reading, rebases),
+        ranges,
+        file,
+        segments,
+        sections,
+        rebases,
+        binds,
+        index,
+    )
 }
 
 // The next piece over the rows of so many segments and the bytes of an image info.

@@ -21,6 +21,7 @@ pub mod DecodedListing
 pub mod LoanSettings
 pub mod Demand3
 pub mod ListedAsBefore
+pub mod ListedAlike
 pub mod RecordsAsBefore
 pub mod OneFile
 pub mod EmptyLists

@@ -56,11 +56,10 @@ impl Owner {
     fn row_list(self, setting: Setting, n: u16, kind: ListKind, list: u64) -> At
         ensures { λ r. ⌜ r ≡ atField setting self n (rowList kind list) ⌝ }
     {
-        let reading = setting.reading;
         At::List(
             n,
             ListAt {
-                walk: FieldWalk::Rows(ListWalk::under(reading, list, kind)),
+                walk: FieldWalk::Rows(ListWalk::starting(setting, list, kind)),
                 owner: self,
             },
         )
@@ -70,11 +69,10 @@ impl Owner {
     fn name_list(self, setting: Setting, n: u16, list: u64) -> At
         ensures { λ r. ⌜ r ≡ atField setting self n (nameList list) ⌝ }
     {
-        let reading = setting.reading;
         At::List(
             n,
             ListAt {
-                walk: FieldWalk::Names(ProtocolNameWalk::under(reading, list)),
+                walk: FieldWalk::Names(ProtocolNameWalk::starting(setting, list)),
                 owner: self,
             },
         )

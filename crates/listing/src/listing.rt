@@ -117,7 +117,7 @@ fn carried(high: u64, low: u64) -> u64
 
 impl Listing {
     // Before the first line, under a setting.
-    fn starting(setting: Setting) -> Listing
+    pub fn starting(setting: Setting) -> Listing
         ensures { λ r. ⌜ stateOf r ≡ start setting ⌝ }
     {
         Listing {

@@ -94,12 +94,11 @@ impl Section {
     pub(crate) fn at_stage(setting: Setting, stage: u64) -> Section
         ensures { λ r. ⌜ sectionWalkOf r ≡ stageStart setting stage ⌝ }
     {
-        let reading = setting.reading;
         Section {
             stage,
-            classes: ClassWalk::under(reading),
-            protocols: ProtocolWalk::under(reading),
-            categories: CategoryWalk::under(reading),
+            classes: ClassWalk::starting(setting),
+            protocols: ProtocolWalk::starting(setting),
+            categories: CategoryWalk::starting(setting),
         }
     }
 

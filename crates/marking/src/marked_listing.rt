@@ -6,6 +6,7 @@ use frames::frames::Frames;
 use listing::listing::Listed;
 use listing::listing::Listing;
 use listing::listing::Said;
+use pointers::setting::Setting;
 use reads::text::Reading;
 ghost use Prim.Native.Nat.{ℕ};
 ghost use mathlib.Core.Path.{_≡_};
@@ -96,10 +97,17 @@ impl MarkedListing {
     pub fn under(reading: Reading, frames: Frames) -> MarkedListing
         ensures { λ r. ⌜ markingOf r ≡ markedStart (readingUnder reading) frames ⌝ }
     {
+        MarkedListing::starting(Setting::under(reading), frames)
+    }
+
+    // The same under any setting.
+    pub fn starting(setting: Setting, frames: Frames) -> MarkedListing
+        ensures { λ r. ⌜ markingOf r ≡ markedStart setting frames ⌝ }
+    {
         MarkedListing {
             finding: frames.any,
             frames,
-            listing: Listing::under(reading),
+            listing: Listing::starting(setting),
         }
     }
 

@@ -5,6 +5,7 @@ pub mod ReasonCases
 pub mod Rooms
 pub mod RecordWords
 pub mod Chains
+pub mod SortedLookups
 pub mod NearSlots
 pub mod ChainAsked
 pub mod IndexWords

@@ -15,8 +15,11 @@ use Rattle.pointers.specs.ImageInfo.{imageInfo}
 use Rattle.pointers.specs.Index.{bindNexts}
 use Rattle.pointers.specs.Chain.{descends, slotsRecord, slotsChain, follow}
 use Rattle.pointers.specs.Symbol.{strippedName}
-use Rattle.pointers.specs.Slot.{rebaseAt, bindName, bindAt, symbolOf, symbolAt, resolve, pointerAt, pointerOr0At, rebase, slot, pointer, pointerOr0, LookupOutcome, unrefused, is-9, is-18, is-7, is-14}
+use Rattle.pointers.specs.Slot.{rebaseNumber, rebaseAt, bindName, bindAt, symbolOf, symbolAt, resolve, pointerAt, pointerOr0At, rebase, slot, pointer, pointerOr0, LookupOutcome, unrefused, is-9, is-18, is-7, is-14}
+use Rattle.pointers.specs.declared.setting.Lookup.{Lookup}
+use Rattle.pointers.specs.declared.setting.Lookup.the-variants.{Chained, Sorted}
 use Rattle.pointers.proofs.ChainAsked.{follow-asked}
+use Rattle.pointers.proofs.SortedLookups.{sorted-unrefused}
 use Rattle.pointers.proofs.OpenedTables.{stored-unrefused}
 
 pub numbers-then : {A B : Type 0} {o : Outcome A} (f : A → Outcome B) → LookupOutcome o → ((a : A) → LookupOutcome (f a)) → LookupOutcome (andThen o f)
@@ -67,6 +70,10 @@ follow-numbers width table heads nexts a index =
     (numbers-choose (descends (records width table) (slotsChain width table heads nexts a index)) (unrefused (is-value tt)) is-9)
     (λ _. unrefused (record-unrefused width table a (slotsChain width table heads nexts a index))))
 
+number-numbers : (rebases index : List ℕ) (a : ℕ) (l : Lookup) → LookupOutcome (rebaseNumber l rebases index a)
+number-numbers rebases index a Chained = follow-numbers rebaseWords rebases 0 (2 * chains) a index
+number-numbers rebases index a Sorted = unrefused (sorted-unrefused rebases a)
+
 bind-name-numbers : (files : List (List ℕ)) (binds : List ℕ) (i : ℕ) → LookupOutcome (bindName files binds i)
 unfolding bindName question
 bind-name-numbers files binds i =
@@ -83,7 +90,7 @@ module _ (t : Tables) where
   pub rebase-numbers : (a : ℕ) → LookupOutcome (rebase t a)
   unfolding rebaseAt
   rebase-numbers a =
-      numbers-then (λ n. value (rebaseRecord (t .rebases) (n - 1) .target)) (follow-numbers rebaseWords (t .rebases) 0 (2 * chains) a (t .index))
+      numbers-then (λ n. value (rebaseRecord (t .rebases) (n - 1) .target)) (number-numbers (t .rebases) (t .index) a (t .setting .lookup))
       (λ n. unrefused (is-value (rebaseRecord (t .rebases) (n - 1) .target)))
 
   pub symbol-numbers : (a : ℕ) → LookupOutcome (symbolAt t a)
@@ -100,10 +107,10 @@ module _ (t : Tables) where
 
   pub pointer-numbers : (va k : ℕ) → LookupOutcome (pointer t va k)
   unfolding pointerAt
-  pointer-numbers va k = numbers-then (resolve (imageIn t) (t .rebases) (t .index)) (unrefused (sum-unrefused va k)) slot-numbers
+  pointer-numbers va k = numbers-then (resolve (imageIn t) (t .rebases) (t .index) (t .setting)) (unrefused (sum-unrefused va k)) slot-numbers
 
   pub pointer-or-0-numbers : (va k : ℕ) → LookupOutcome (pointerOr0 t va k)
   unfolding pointerOr0At
   pointer-or-0-numbers va k =
-      numbers-then (λ a. orZero (resolve (imageIn t) (t .rebases) (t .index) a)) (unrefused (sum-unrefused va k))
+      numbers-then (λ a. orZero (resolve (imageIn t) (t .rebases) (t .index) (t .setting) a)) (unrefused (sum-unrefused va k))
       (λ a. numbers-else (slot-numbers a) (unrefused (is-value 0)))

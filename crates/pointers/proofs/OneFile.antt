@@ -21,13 +21,14 @@ use Rattle.pointers.specs.Question.{question, nameLent, nameInside, name
 use Rattle.pointers.specs.Index.{chainOf, latest, bindNexts, indexed}
 use Rattle.pointers.specs.Chain.{followFrom, follow}
 use Rattle.pointers.specs.Symbol.{strippedIn, strippedName}
+use Rattle.pointers.specs.declared.setting.Setting.{Setting}
 use Rattle.pointers.specs.Slot.{bindName, bindAt, symbolOf, stored, resolve, pointerAt, pointerOr0At}
 use Rattle.pointers.proofs.Chains.{follow-value}
 use Rattle.pointers.proofs.OneImage as one
 use Rattle.pointers.proofs.Questions.{question-yes}
 
 -- Pointer slots.
-module _ {old new : List ℕ} (w : Widened 4 old new) (file : List ℕ) (others : List (List ℕ)) (rebases index : List ℕ) where
+module _ {old new : List ℕ} (w : Widened 4 old new) (file : List ℕ) (others : List (List ℕ)) (rebases index : List ℕ) (setting : Setting) where
   abbrev then-image : image.Image
   then-image = record { bytes = file; words = old }
 
@@ -35,25 +36,25 @@ module _ {old new : List ℕ} (w : Widened 4 old new) (file : List ℕ) (others 
   unfolding stored one.stored
   stored-one a = rw (word-one w file others 8 a)
 
-  pub resolve-one : (a : ℕ) → resolve (imageOf (file ∷ others) new) rebases index a ≡ one.resolve then-image rebases index a
+  pub resolve-one : (a : ℕ) → resolve (imageOf (file ∷ others) new) rebases index setting a ≡ one.resolve then-image rebases index setting a
   unfolding resolve one.resolve
   resolve-one a = rw (stored-one a)
 
-  pub pointer-one : (va k : ℕ) → pointerAt (imageOf (file ∷ others) new) rebases index va k ≡ one.pointerAt then-image rebases index va k
+  pub pointer-one : (va k : ℕ) → pointerAt (imageOf (file ∷ others) new) rebases index setting va k ≡ one.pointerAt then-image rebases index setting va k
   unfolding pointerAt one.pointerAt
   pointer-one va k = go (sum64 va k)
     where
-      go : (o : Outcome ℕ) → andThen o (resolve (imageOf (file ∷ others) new) rebases index) ≡ andThen o (one.resolve then-image rebases index)
+      go : (o : Outcome ℕ) → andThen o (resolve (imageOf (file ∷ others) new) rebases index setting) ≡ andThen o (one.resolve then-image rebases index setting)
       go (value a) = resolve-one a
       go (absent r) = refl
       go (number n) = refl
 
-  pub pointer-or-0-one : (va k : ℕ) → pointerOr0At (imageOf (file ∷ others) new) rebases index va k ≡ one.pointerOr0At then-image rebases index va k
+  pub pointer-or-0-one : (va k : ℕ) → pointerOr0At (imageOf (file ∷ others) new) rebases index setting va k ≡ one.pointerOr0At then-image rebases index setting va k
   unfolding pointerOr0At one.pointerOr0At
   pointer-or-0-one va k = go (sum64 va k)
     where
       go : (o : Outcome ℕ)
-          → andThen o (λ slot. orZero (resolve (imageOf (file ∷ others) new) rebases index slot)) ≡ andThen o (λ slot. orZero (one.resolve then-image rebases index slot))
+          → andThen o (λ slot. orZero (resolve (imageOf (file ∷ others) new) rebases index setting slot)) ≡ andThen o (λ slot. orZero (one.resolve then-image rebases index setting slot))
       go (value a) = ap orZero (resolve-one a)
       go (absent r) = refl
       go (number n) = refl

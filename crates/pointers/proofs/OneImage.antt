@@ -1,5 +1,5 @@
 -- The definitions of pointer slots, bind names and the index as they were before images could span files (document 02, note 6): one image,
--- three words a bind. OneFile.antt says that one file with number 0 gives what they gave.
+-- three words a bind; rebases are found as the setting says. OneFile.antt says that one file with number 0 gives what they gave.
 use Prim.Native.Nat.{ℕ, _+_, _-_}
 use mathlib.Core.List.{List, _++_}
 use lib.Dec.{leb}
@@ -17,18 +17,19 @@ use Rattle.pointers.specs.Index.{headsOf, nextsOf, bindNexts}
 use Rattle.pointers.specs.Chain.{follow}
 use Rattle.pointers.specs.Symbol.{fitting, prefixes}
 use Rattle.pointers.specs.Slot.{rebaseAt}
+use Rattle.pointers.specs.declared.setting.Setting.{Setting}
 
 unfoldable pub stored : Image → ℕ → Outcome ℕ
 stored m slot = andThen (word m 8 slot) (λ w. value (stripped w))
 
-unfoldable pub resolve : Image → List ℕ → List ℕ → ℕ → Outcome ℕ
-resolve m rebases index slot = because Unresolved (orElse (rebaseAt rebases index slot) (stored m slot))
+unfoldable pub resolve : Image → List ℕ → List ℕ → Setting → ℕ → Outcome ℕ
+resolve m rebases index setting slot = because Unresolved (orElse (rebaseAt rebases index setting slot) (stored m slot))
 
-unfoldable pub pointerAt : Image → List ℕ → List ℕ → ℕ → ℕ → Outcome ℕ
-pointerAt m rebases index va k = andThen (sum64 va k) (resolve m rebases index)
+unfoldable pub pointerAt : Image → List ℕ → List ℕ → Setting → ℕ → ℕ → Outcome ℕ
+pointerAt m rebases index setting va k = andThen (sum64 va k) (resolve m rebases index setting)
 
-unfoldable pub pointerOr0At : Image → List ℕ → List ℕ → ℕ → ℕ → Outcome ℕ
-pointerOr0At m rebases index va k = andThen (sum64 va k) (λ slot. orZero (resolve m rebases index slot))
+unfoldable pub pointerOr0At : Image → List ℕ → List ℕ → Setting → ℕ → ℕ → Outcome ℕ
+pointerOr0At m rebases index setting va k = andThen (sum64 va k) (λ slot. orZero (resolve m rebases index setting slot))
 
 abbrev pub bindText : List ℕ → ℕ → Text
 bindText binds i = record { offset = wordOf 3 binds i 1; len = wordOf 3 binds i 2 }

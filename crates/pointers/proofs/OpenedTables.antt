@@ -19,13 +19,17 @@ use Rattle.pointers.specs.Question.{bindLent, bindInside, bindUtf8, bind
 use Rattle.pointers.specs.ImageInfo.{imageInfo}
 use Rattle.pointers.specs.Index.{indexed, bindNexts, indexLength}
 use Rattle.pointers.specs.Chain.{follow, lastAmong, lastRecord}
+use Rattle.pointers.specs.Sorted.{ascending}
 use Rattle.pointers.specs.Symbol.{strippedName}
-use Rattle.pointers.specs.Slot.{rebaseAt, bindName, bindAt, symbolOf, symbolAt, stored, resolve, pointerAt, pointerOr0At, rebase, slot, pointer, pointerOr0}
+use Rattle.pointers.specs.Slot.{rebaseNumber, rebaseAt, bindName, bindAt, symbolOf, symbolAt, stored, resolve, pointerAt, pointerOr0At, rebase, slot, pointer, pointerOr0}
 use Rattle.pointers.specs.Open.{askedOpening, opening, openedIndex, Opened}
+use Rattle.pointers.specs.declared.setting.Lookup.{Lookup}
+use Rattle.pointers.specs.declared.setting.Lookup.the-variants.{Chained, Sorted}
 use Rattle.pointers.specs.declared.setting.Setting.{Setting}
 use Rattle.pointers.proofs.Questions.{question-yes, asked-any-index, every-at}
 use Rattle.pointers.proofs.Rooms.{Room, tables-room, asked-index, Accepted, accepted-parts}
 use Rattle.pointers.proofs.IndexWords.{length-indexed}
+use Rattle.pointers.proofs.SortedLookups.{sorted-unrefused, sorted-last}
 use Rattle.pointers.proofs.Chains.{rebase-last-wins, bind-last-wins, last-value, last-no-number}
 
 -- Every bind name is in a file that is lent, inside it, and UTF-8.
@@ -105,11 +109,24 @@ module _ (t : Tables) (o : Opened t) where
   pub opened-follow-bind : (a : ℕ) → follow bindWords (t .binds) chains (bindNexts (t .rebases)) a (t .index) ≡ lastRecord bindWords (t .binds) a
   opened-follow-bind a = rw opened-index (bind-last-wins (t .rebases) (t .binds) (o .indexBefore) a)
 
+  number-unrefused : (a : ℕ) (l : Lookup) → Unrefused (rebaseNumber l (t .rebases) (t .index) a)
+  number-unrefused a Chained = rw (opened-follow-rebase a) (last-unrefused rebaseWords (t .rebases) a (records rebaseWords (t .rebases)))
+  number-unrefused a Sorted = sorted-unrefused (t .rebases) a
+
   pub rebase-unrefused : (a : ℕ) → Unrefused (rebase t a)
   unfolding rebaseAt
   rebase-unrefused a =
-      rw (opened-follow-rebase a)
-      (unrefused-then (λ n. value (rebaseRecord (t .rebases) (n - 1) .target)) (last-unrefused rebaseWords (t .rebases) a (records rebaseWords (t .rebases))) (λ n. is-value (rebaseRecord (t .rebases) (n - 1) .target)))
+      unrefused-then (λ n. value (rebaseRecord (t .rebases) (n - 1) .target)) (number-unrefused a (t .setting .lookup))
+      (λ n. is-value (rebaseRecord (t .rebases) (n - 1) .target))
+
+  -- Where slots ascend, halves find what the chain finds.
+  number-either : ascending (t .rebases) ≡ true → (a : ℕ) (l : Lookup) → rebaseNumber l (t .rebases) (t .index) a ≡ lastRecord rebaseWords (t .rebases) a
+  number-either e a Chained = opened-follow-rebase a
+  number-either e a Sorted = sorted-last (t .rebases) e a (opened-room .rebaseCount)
+
+  pub rebase-by-either : ascending (t .rebases) ≡ true → (s : Setting) (a : ℕ) → rebaseAt (t .rebases) (t .index) s a ≡ rebase t a
+  unfolding rebaseAt
+  rebase-by-either e s a = rw (number-either e a (s .lookup), number-either e a (t .setting .lookup))
 
   pub bind-unrefused : (a : ℕ) → Unrefused (bindAt (t .files) (t .rebases) (t .binds) (t .index) a)
   unfolding bindAt
@@ -130,12 +147,12 @@ module _ (t : Tables) (o : Opened t) where
 
   pub pointer-unrefused : (va k : ℕ) → Unrefused (pointer t va k)
   unfolding pointerAt
-  pointer-unrefused va k = unrefused-then (resolve (imageIn t) (t .rebases) (t .index)) (sum-unrefused va k) slot-unrefused
+  pointer-unrefused va k = unrefused-then (resolve (imageIn t) (t .rebases) (t .index) (t .setting)) (sum-unrefused va k) slot-unrefused
 
   pub pointer-or-0-unrefused : (va k : ℕ) → Unrefused (pointerOr0 t va k)
   unfolding pointerOr0At
   pointer-or-0-unrefused va k =
-      unrefused-then (λ a. orZero (resolve (imageIn t) (t .rebases) (t .index) a)) (sum-unrefused va k) (λ a. unrefused-zero (slot-unrefused a))
+      unrefused-then (λ a. orZero (resolve (imageIn t) (t .rebases) (t .index) (t .setting) a)) (sum-unrefused va k) (λ a. unrefused-zero (slot-unrefused a))
 
 -- Opening asks nothing of the setting: what is opened is opened under every one.
 pub opened-under : {t : Tables} (s : Setting) → Opened t → Opened (under s t)

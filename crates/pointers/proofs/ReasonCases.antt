@@ -6,11 +6,12 @@ use Rattle.reads.specs.Outcome.{absent, choose, sum64}
 use Rattle.reads.specs.Segment.{rows, lookup}
 use Rattle.reads.specs.Place.{imageOf, readable, word}
 use Rattle.reads.specs.declared.answer.Reason.the-variants.{Unresolved, Unreadable, FieldOverflow, NoRecord}
+use Rattle.pointers.specs.Tables.{readingNew}
 use Rattle.pointers.specs.Chain.{followFrom, follow}
 use Rattle.pointers.specs.Slot.{rebaseAt, bindAt, symbolOf, stored, resolve, pointerAt}
 use Rattle.pointers.specs.ImageInfo.{imageInfo}
 
-no-rebase : rebaseAt [] [] 0x1000 ≡ absent NoRecord
+no-rebase : rebaseAt [] [] readingNew 0x1000 ≡ absent NoRecord
 unfolding rebaseAt follow followFrom choose
 no-rebase = refl
 
@@ -23,12 +24,12 @@ no-word : stored (imageOf [] []) 0x1000 ≡ absent Unreadable
 unfolding stored word readable lookup rows choose
 no-word = refl
 
-not-resolved : resolve (imageOf [] []) [] [] 0x1000 ≡ absent Unresolved
+not-resolved : resolve (imageOf [] []) [] [] readingNew 0x1000 ≡ absent Unresolved
 unfolding resolve rebaseAt follow followFrom stored word readable lookup rows choose
 not-resolved = refl
 
 -- A field's address goes before its slot.
-field-over-64 : pointerAt (imageOf [] []) [] [] 0xFFFFFFFFFFFFFFF8 8 ≡ absent FieldOverflow
+field-over-64 : pointerAt (imageOf [] []) [] [] readingNew 0xFFFFFFFFFFFFFFF8 8 ≡ absent FieldOverflow
 unfolding pointerAt sum64 choose
 field-over-64 = refl
 

@@ -17,6 +17,7 @@ use Rattle.reads.specs.declared.answer.Reason.the-variants.{Unresolved, Unreada
 use Rattle.reads.specs.declared.place.Place.{Place}
 use Rattle.reads.proofs.Numbers.{readable-in}
 use Rattle.reads.proofs.Outcomes.{then-came}
+use Rattle.pointers.specs.declared.setting.Setting.{Setting}
 use Rattle.pointers.specs.Slot.{rebaseAt, stored, resolve}
 
 -- Fewer bytes can be read where more can.
@@ -43,10 +44,10 @@ stored-there m va k p l e =
     let q = then-came (because Unreadable (lookup (rows (m .words)) va)) _ p e in
     (stripped (le (part (bytesAt m (q .0)) (q .0 .offset) 8)), stored-by m va (q .0) (q .1) (fewer-at (length (bytesAt m (q .0))) (q .0) 8 k p l (q .2)))
 
-pub slot-read-resolves : (m : Image) (rebases index : List ℕ) (va k : ℕ) (p : Place) → 8 ≤ k → readable m va k ≡ value p
-    → (r : Reason) → resolve m rebases index va ≡ absent r → ⊥
+pub slot-read-resolves : (m : Image) (rebases index : List ℕ) (setting : Setting) (va k : ℕ) (p : Place) → 8 ≤ k → readable m va k ≡ value p
+    → (r : Reason) → resolve m rebases index setting va ≡ absent r → ⊥
 unfolding resolve
-slot-read-resolves m rebases index va k p l e r = go (rebaseAt rebases index va) (stored m va) (stored-there m va k p l e)
+slot-read-resolves m rebases index setting va k p l e r = go (rebaseAt rebases index setting va) (stored m va) (stored-there m va k p l e)
   where
     go : (o s : Outcome ℕ) → (w : ℕ) × (s ≡ value w) → because Unresolved (orElse o s) ≡ absent r → ⊥
     go (value a) s w q = let z : _≡_ {A = ℕ} 0 1 = cc in omega arith

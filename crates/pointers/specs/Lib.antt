@@ -7,6 +7,7 @@ pub mod Section
 pub mod Index
 pub mod IndexFold
 pub mod Chain
+pub mod Sorted
 pub mod Symbol
 pub mod Slot
 pub mod Open

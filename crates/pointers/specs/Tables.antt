@@ -9,6 +9,7 @@ use Rattle.reads.specs.Files.{filesOf}
 use Rattle.reads.specs.Place.{Image, imageOf}
 use Rattle.reads.specs.declared.text.Reading.{Reading}
 use Rattle.reads.specs.declared.text.Reading.the-variants.{New}
+use Rattle.pointers.specs.declared.setting.Lookup.the-variants.{Chained}
 use Rattle.pointers.specs.declared.setting.Setting.{Setting}
 use Rattle.pointers.specs.declared.table.Bind.{Bind}
 use Rattle.pointers.specs.declared.table.Rebase.{Rebase}
@@ -23,9 +24,9 @@ pub record Tables : Type 0 where
   pub index : List ℕ
   pub setting : Setting
 
--- Texts are read under either reading; what begins, begins under the new one.
+-- Texts are read under either reading; what begins, begins under the new one. Rebases are found by their chains (document 01).
 abbrev pub readingUnder : Reading → Setting
-readingUnder r = record { reading = r }
+readingUnder r = record { reading = r; lookup = Chained }
 
 abbrev pub readingNew : Setting
 readingNew = readingUnder New

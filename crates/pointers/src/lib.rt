@@ -6,5 +6,6 @@ pub mod question;
 pub mod section;
 pub mod setting;
 pub mod slot;
+pub mod sorted;
 pub mod symbol;
 pub mod table;

@@ -5,6 +5,9 @@ use crate::index::find;
 use crate::index::no_rebase;
 use crate::question::name_inside;
 use crate::question::name_utf8;
+use crate::setting::Lookup;
+use crate::setting::Setting;
+use crate::sorted::find_sorted;
 use crate::symbol::strip_objc_symbol_prefix;
 use crate::table::Bind;
 use crate::table::Rebase;
@@ -32,13 +35,24 @@ ghost use Rattle.reads.specs.Table.{records};
 ghost use Rattle.reads.specs.Files.{filesOf};
 ghost use Rattle.reads.specs.Place.{imageOf, lentImage};
 ghost use Rattle.pointers.specs.Tables.{bindWords};
-ghost use Rattle.pointers.specs.Slot.{rebaseAt, bindName, bindAt, stored, rebasedOr, resolve, symbolOf, pointerAt, pointerOr0At, isNear, wordThere, resolveNear};
+ghost use Rattle.pointers.specs.Slot.{rebaseNumber, rebaseAt, bindName, bindAt, stored, rebasedOr, resolve, symbolOf, pointerAt, pointerOr0At, unrebased, isNear, wordThere, resolveNear};
+
+// The number of a slot's rebase record, counted from 1.
+fn rebase_number(rebases: &[u64], index: &[u32], setting: Setting, slot: u64) -> Word
+    ensures { λ r. ⌜ wordOutcome r ≡ rebaseNumber (setting .lookup) (before rebases) (before index) slot ⌝ }
+{
+    let lookup = setting.lookup;
+    match lookup {
+        Lookup::Chained => find(rebases, Rebase::WORDS, index, 0, HEADS, slot),
+        Lookup::Sorted => find_sorted(rebases, slot),
+    }
+}
 
 // The target of a slot's rebase.
-pub fn rebase_at(rebases: &[u64], index: &[u32], slot: u64) -> Word
-    ensures { λ r. ⌜ wordOutcome r ≡ rebaseAt (before rebases) (before index) slot ⌝ }
+pub fn rebase_at(rebases: &[u64], index: &[u32], setting: Setting, slot: u64) -> Word
+    ensures { λ r. ⌜ wordOutcome r ≡ rebaseAt (before rebases) (before index) setting slot ⌝ }
 {
-    match find(rebases, Rebase::WORDS, index, 0, HEADS, slot) {
+    match rebase_number(rebases, index, setting, slot) {
         Word::Value(number) => {
             let rebase = Rebase::at(rebases, number as usize - 1);
             Word::Value(rebase.target)
@@ -99,11 +113,12 @@ fn rebased_or_stored(
     segments: &[u64],
     rebases: &[u64],
     index: &[u32],
+    setting: Setting,
     slot: u64,
 ) -> Word
-    ensures { λ r. ⌜ wordOutcome r ≡ rebasedOr (lentImage files segments) (before rebases) (before index) slot ⌝ }
+    ensures { λ r. ⌜ wordOutcome r ≡ rebasedOr (lentImage files segments) (before rebases) (before index) setting slot ⌝ }
 {
-    let target = rebase_at(rebases, index, slot);
+    let target = rebase_at(rebases, index, setting, slot);
     if is_absent(target) {
         return stored(files, segments, slot);
     }
@@ -116,12 +131,13 @@ pub fn resolve_pointer(
     segments: &[u64],
     rebases: &[u64],
     index: &[u32],
+    setting: Setting,
     slot: u64,
 ) -> Word
-    ensures { λ r. ⌜ wordOutcome r ≡ resolve (lentImage files segments) (before rebases) (before index) slot ⌝ }
+    ensures { λ r. ⌜ wordOutcome r ≡ resolve (lentImage files segments) (before rebases) (before index) setting slot ⌝ }
 {
     because(
-        rebased_or_stored(files, segments, rebases, index, slot),
+        rebased_or_stored(files, segments, rebases, index, setting, slot),
         Reason::Unresolved,
     )
 }
@@ -132,11 +148,12 @@ pub fn slot_or_0(
     segments: &[u64],
     rebases: &[u64],
     index: &[u32],
+    setting: Setting,
     slot: u64,
 ) -> Word
-    ensures { λ r. ⌜ wordOutcome r ≡ orZero (resolve (lentImage files segments) (before rebases) (before index) slot) ⌝ }
+    ensures { λ r. ⌜ wordOutcome r ≡ orZero (resolve (lentImage files segments) (before rebases) (before index) setting slot) ⌝ }
 {
-    or_zero(resolve_pointer(files, segments, rebases, index, slot))
+    or_zero(resolve_pointer(files, segments, rebases, index, setting, slot))
 }
 
 // The pointer in the field at va + k.
@@ -145,13 +162,14 @@ pub fn pointer(
     segments: &[u64],
     rebases: &[u64],
     index: &[u32],
+    setting: Setting,
     va: u64,
     k: u64,
 ) -> Word
-    ensures { λ r. ⌜ wordOutcome r ≡ pointerAt (lentImage files segments) (before rebases) (before index) va k ⌝ }
+    ensures { λ r. ⌜ wordOutcome r ≡ pointerAt (lentImage files segments) (before rebases) (before index) setting va k ⌝ }
 {
     match checked_add(va, k) {
-        Word::Value(slot) => resolve_pointer(files, segments, rebases, index, slot),
+        Word::Value(slot) => resolve_pointer(files, segments, rebases, index, setting, slot),
         Word::Missing(m) => Word::Missing(m),
     }
 }
@@ -162,25 +180,44 @@ pub fn pointer_or_0(
     segments: &[u64],
     rebases: &[u64],
     index: &[u32],
+    setting: Setting,
     va: u64,
     k: u64,
 ) -> Word
-    ensures { λ r. ⌜ wordOutcome r ≡ pointerOr0At (lentImage files segments) (before rebases) (before index) va k ⌝ }
+    ensures { λ r. ⌜ wordOutcome r ≡ pointerOr0At (lentImage files segments) (before rebases) (before index) setting va k ⌝ }
 {
     match checked_add(va, k) {
-        Word::Value(slot) => or_zero(resolve_pointer(files, segments, rebases, index, slot)),
+        Word::Value(slot) => or_zero(resolve_pointer(
+            files,
+            segments,
+            rebases,
+            index,
+            setting,
+            slot,
+        )),
         Word::Missing(m) => Word::Missing(m),
     }
 }
 
+// No rebase stands in the slot's chain; looked up by halves, nothing is known before the lookup.
+fn is_unrebased(index: &[u32], setting: Setting, slot: u64) -> bool
+    ensures { λ r. ⌜ r ≡ unrebased (setting .lookup) (before index) slot ⌝ }
+{
+    let lookup = setting.lookup;
+    match lookup {
+        Lookup::Chained => no_rebase(index, slot),
+        Lookup::Sorted => false,
+    }
+}
+
 // The slot lies in the spot's room, i bytes past its address, and no rebase stands in the slot's chain.
-fn is_near(index: &[u32], s: Spot, i: u64, slot: u64) -> bool
-    ensures { λ r. ⌜ r ≡ isNear (before index) s i slot ⌝ }
+fn is_near(index: &[u32], setting: Setting, s: Spot, i: u64, slot: u64) -> bool
+    ensures { λ r. ⌜ r ≡ isNear (before index) setting s i slot ⌝ }
 {
     if s.room <= i {
         return false;
     }
-    no_rebase(index, slot)
+    is_unrebased(index, setting, slot)
 }
 
 // The word at i bytes from a spot, its low 48 bits.
@@ -200,16 +237,17 @@ pub fn resolve_near(
     segments: &[u64],
     rebases: &[u64],
     index: &[u32],
+    setting: Setting,
     s: Spot,
     i: u64,
     slot: u64,
 ) -> Word
-    ensures { λ r. ⌜ wordOutcome r ≡ resolveNear (lentImage files segments) (before rebases) (before index) s i slot ⌝ }
+    ensures { λ r. ⌜ wordOutcome r ≡ resolveNear (lentImage files segments) (before rebases) (before index) setting s i slot ⌝ }
 {
-    if is_near(index, s, i, slot) {
+    if is_near(index, setting, s, i, slot) {
         return Word::Value(word_there(files, s, i));
     }
-    resolve_pointer(files, segments, rebases, index, slot)
+    resolve_pointer(files, segments, rebases, index, setting, slot)
 }
 
 // The name of a slot's bind less its prefix.

@@ -6,6 +6,7 @@ use listing::listing::Said;
 use marking::framed::FramedAnswer;
 use marking::marked_listing::MarkedListing;
 use pointers::question::image_fits;
+use pointers::setting::Setting;
 use reads::answer::Missing;
 use reads::files::longest;
 use reads::text::Reading;
@@ -74,24 +75,31 @@ impl Progress {
     pub fn under(reading: Reading, answer: FramedAnswer) -> Progress
         ensures { λ r. ⌜ standingOf r ≡ begun (readingUnder reading) (framedOutcome answer) ⌝ }
     {
+        Progress::starting(Setting::under(reading), answer)
+    }
+
+    // The same under any setting.
+    pub fn starting(setting: Setting, answer: FramedAnswer) -> Progress
+        ensures { λ r. ⌜ standingOf r ≡ begun setting (framedOutcome answer) ⌝ }
+    {
         match answer {
             FramedAnswer::Framed(framed) => {
                 let frames = framed.frames;
                 Progress {
                     said: Said::Nothing,
                     out: 0,
-                    listing: MarkedListing::under(reading, frames),
+                    listing: MarkedListing::starting(setting, frames),
                 }
             }
-            FramedAnswer::Missing(m) => Progress::over(reading, m),
+            FramedAnswer::Missing(m) => Progress::over(setting, m),
         }
     }
 
     // With nothing to come but the number that refused, if one did.
-    fn over(reading: Reading, m: Missing) -> Progress
-        ensures { λ r. ⌜ standingOf r ≡ begun (readingUnder reading) (missed m) ⌝ }
+    fn over(setting: Setting, m: Missing) -> Progress
+        ensures { λ r. ⌜ standingOf r ≡ begun setting (missed m) ⌝ }
     {
-        let listing = MarkedListing::under(reading, Frames::none());
+        let listing = MarkedListing::starting(setting, Frames::none());
         match m {
             Missing::Absent(_) => Progress {
                 said: Said::Ended,

@@ -9,6 +9,7 @@ pub mod NearFields
 pub mod Decodes
 pub mod Asks
 pub mod Readings
+pub mod Lookups
 pub mod OneFile
 pub mod HubImage
 pub mod ListCases

@@ -10,6 +10,7 @@ use Rattle.reads.specs.declared.place.Place.{Place}
 use Rattle.reads.specs.declared.spot.Spot.{Spot}
 use Rattle.reads.proofs.Tests.{by-choose}
 use Rattle.reads.proofs.Spots.{placed-has-room}
+use Rattle.pointers.specs.declared.setting.Setting.{Setting}
 use Rattle.pointers.specs.Slot.{resolve, resolveNear}
 use Rattle.pointers.proofs.NearSlots.{near-resolved}
 use Rattle.records.specs.Near.{Near}
@@ -25,13 +26,13 @@ near-placed m va size reach s is e h = record { size = size; is = is; some = pla
 pub near-less : {m : Image} {va reach less : ℕ} {s : Spot} → Near m va s reach → less ≤ reach → Near m va s less
 near-less n h = record { size = n .size; is = n .is; some = n .some; within = omega (arith, n .within) }
 
-module _ (m : Image) (rebases index : List ℕ) (va : ℕ) (w : va < 2 ^ 64) (s : Spot) where
-  pub near-field : (k slot : ℕ) → Near m va s (k + 8) → value slot ≡ sum64 va k → resolveNear m rebases index s k slot ≡ resolve m rebases index slot
+module _ (m : Image) (rebases index : List ℕ) (setting : Setting) (va : ℕ) (w : va < 2 ^ 64) (s : Spot) where
+  pub near-field : (k slot : ℕ) → Near m va s (k + 8) → value slot ≡ sum64 va k → resolveNear m rebases index setting s k slot ≡ resolve m rebases index setting slot
   near-field k slot n e =
       let q : slot ≡ va + k = sum-is va k slot e in
-      ap (resolveNear m rebases index s k) q ∙ near-resolved m rebases index va (n .size) w s (n .is) (n .some) k (n .within) ∙ ap (resolve m rebases index) (sym q)
+      ap (resolveNear m rebases index setting s k) q ∙ near-resolved m rebases index setting va (n .size) w s (n .is) (n .some) k (n .within) ∙ ap (resolve m rebases index setting) (sym q)
 
-  pub near-first : Near m va s 8 → resolveNear m rebases index s 0 va ≡ resolve m rebases index va
+  pub near-first : Near m va s 8 → resolveNear m rebases index setting s 0 va ≡ resolve m rebases index setting va
   near-first n =
       let q : va ≡ va + 0 = omega arith in
-      ap (resolveNear m rebases index s 0) q ∙ near-resolved m rebases index va (n .size) w s (n .is) (n .some) 0 (n .within) ∙ ap (resolve m rebases index) (sym q)
+      ap (resolveNear m rebases index setting s 0) q ∙ near-resolved m rebases index setting va (n .size) w s (n .is) (n .some) 0 (n .within) ∙ ap (resolve m rebases index setting) (sym q)

@@ -4,6 +4,7 @@ use mathlib.Core.Path.{_≡_, refl, sym}
 use mathlib.Core.List.{List, [], _∷_, _++_, append-assoc}
 use Rattle.reads.specs.Endings.{StringEnds}
 use Rattle.reads.proofs.Endings.{string-same}
+use Rattle.pointers.specs.Slot as slots
 use Rattle.pointers.specs.Tables.{Tables, imageIn}
 use Rattle.records.specs.Ask.{Ask, sum64, nonzero, even, atLeast, readable, u32In, u64In, i32In, u64At, picked, pickedAt, slot, rebase, pointer, pointerOr0, string, symbol, info}
 use Rattle.records.specs.Asks.{asks, Within, Each}
@@ -20,6 +21,7 @@ strings-append (q ∷ xs) ys = rw (strings-append xs ys) (sym (append-assoc (str
 module _ (t : Tables) where
   -- The readings differ in the answers to questions for strings alone.
   same-answer : (q : Ask) → Each (StringEnds (imageIn t)) (stringOf q) → AnswerAlike (underOld t) (underNew t) q
+  unfolding slots.resolve slots.rebaseAt slots.pointerAt slots.pointerOr0At
   same-answer (sum64 va k) h = refl
   same-answer (nonzero x) h = refl
   same-answer (even va) h = refl

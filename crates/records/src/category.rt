@@ -96,7 +96,15 @@ fn category_properties_at(
         ⌜ wordOutcome r ≡ categoryPropertiesAt t va wide ⌝ }
 {
     if wide {
-        return pointer_or_0(files, segments, rebases, index, va, CLASS_PROPERTIES);
+        return pointer_or_0(
+            files,
+            segments,
+            rebases,
+            index,
+            setting,
+            va,
+            CLASS_PROPERTIES,
+        );
     }
     Word::Value(0)
 }
@@ -121,17 +129,26 @@ fn category_lists_at(
         segments,
         rebases,
         index,
+        setting,
         va,
         INSTANCE_METHODS,
     ) {
         Word::Value(instance_methods) => instance_methods,
         Word::Missing(m) => return CategoryListsAnswer::Missing(m),
     };
-    let class_methods = match pointer_or_0(files, segments, rebases, index, va, CLASS_METHODS) {
+    let class_methods = match pointer_or_0(
+        files,
+        segments,
+        rebases,
+        index,
+        setting,
+        va,
+        CLASS_METHODS,
+    ) {
         Word::Value(class_methods) => class_methods,
         Word::Missing(m) => return CategoryListsAnswer::Missing(m),
     };
-    let protocols = match pointer_or_0(files, segments, rebases, index, va, PROTOCOLS) {
+    let protocols = match pointer_or_0(files, segments, rebases, index, setting, va, PROTOCOLS) {
         Word::Value(protocols) => protocols,
         Word::Missing(m) => return CategoryListsAnswer::Missing(m),
     };
@@ -140,6 +157,7 @@ fn category_lists_at(
         segments,
         rebases,
         index,
+        setting,
         va,
         INSTANCE_PROPERTIES,
     ) {
@@ -174,11 +192,11 @@ fn category_of(
         Placed::At(p) => p,
         Placed::Missing(m) => return CategoryAnswer::Missing(m),
     };
-    let name_va = match resolve_pointer(files, segments, rebases, index, va) {
+    let name_va = match resolve_pointer(files, segments, rebases, index, setting, va) {
         Word::Value(name_va) => name_va,
         Word::Missing(m) => return CategoryAnswer::Missing(m),
     };
-    let class_address = match pointer_or_0(files, segments, rebases, index, va, CLS) {
+    let class_address = match pointer_or_0(files, segments, rebases, index, setting, va, CLS) {
         Word::Value(class_address) => class_address,
         Word::Missing(m) => return CategoryAnswer::Missing(m),
     };

@@ -127,7 +127,7 @@ fn data_at(
     ensures { λ r. let t = under setting (lent files segments sections info rebases binds index) in
         ⌜ wordOutcome r ≡ dataAt t slot raw ⌝ }
 {
-    let target = rebase_at(rebases, index, slot);
+    let target = rebase_at(rebases, index, setting, slot);
     if is_absent(target) {
         return Address::pick(segments, raw);
     }
@@ -192,11 +192,11 @@ pub fn class_at(
         Word::Value(bits_slot) => bits_slot,
         Word::Missing(m) => return ClassAnswer::Missing(m),
     };
-    let isa = match slot_or_0(files, segments, rebases, index, va) {
+    let isa = match slot_or_0(files, segments, rebases, index, setting, va) {
         Word::Value(isa) => isa,
         Word::Missing(m) => return ClassAnswer::Missing(m),
     };
-    let superclass = match slot_or_0(files, segments, rebases, index, super_slot) {
+    let superclass = match slot_or_0(files, segments, rebases, index, setting, super_slot) {
         Word::Value(superclass) => superclass,
         Word::Missing(m) => return ClassAnswer::Missing(m),
     };
@@ -245,15 +245,33 @@ fn ro_lists_at(
     ensures { λ r. let t = under setting (lent files segments sections info rebases binds index) in
         ⌜ roListsOutcome r ≡ roListsAt t va ⌝ }
 {
-    let methods = match field_or_0(files, segments, rebases, index, s, va, BASE_METHODS) {
+    let methods = match field_or_0(
+        files,
+        segments,
+        rebases,
+        index,
+        setting,
+        s,
+        va,
+        BASE_METHODS,
+    ) {
         Word::Value(methods) => methods,
         Word::Missing(m) => return RoListsAnswer::Missing(m),
     };
-    let protocols = match field_or_0(files, segments, rebases, index, s, va, BASE_PROTOCOLS) {
+    let protocols = match field_or_0(
+        files,
+        segments,
+        rebases,
+        index,
+        setting,
+        s,
+        va,
+        BASE_PROTOCOLS,
+    ) {
         Word::Value(protocols) => protocols,
         Word::Missing(m) => return RoListsAnswer::Missing(m),
     };
-    let ivars = match field_or_0(files, segments, rebases, index, s, va, IVARS) {
+    let ivars = match field_or_0(files, segments, rebases, index, setting, s, va, IVARS) {
         Word::Value(ivars) => ivars,
         Word::Missing(m) => return RoListsAnswer::Missing(m),
     };
@@ -262,6 +280,7 @@ fn ro_lists_at(
         segments,
         rebases,
         index,
+        setting,
         s,
         va,
         WEAK_IVAR_LAYOUT,
@@ -269,7 +288,16 @@ fn ro_lists_at(
         Word::Value(weak_ivar_layout) => weak_ivar_layout,
         Word::Missing(m) => return RoListsAnswer::Missing(m),
     };
-    let properties = match field_or_0(files, segments, rebases, index, s, va, BASE_PROPERTIES) {
+    let properties = match field_or_0(
+        files,
+        segments,
+        rebases,
+        index,
+        setting,
+        s,
+        va,
+        BASE_PROPERTIES,
+    ) {
         Word::Value(properties) => properties,
         Word::Missing(m) => return RoListsAnswer::Missing(m),
     };
@@ -302,11 +330,20 @@ pub fn class_ro_at(
         Placed::At(p) => p,
         Placed::Missing(m) => return ClassRoAnswer::Missing(m),
     };
-    let ivar_layout = match field_or_0(files, segments, rebases, index, s, va, IVAR_LAYOUT) {
+    let ivar_layout = match field_or_0(
+        files,
+        segments,
+        rebases,
+        index,
+        setting,
+        s,
+        va,
+        IVAR_LAYOUT,
+    ) {
         Word::Value(ivar_layout) => ivar_layout,
         Word::Missing(m) => return ClassRoAnswer::Missing(m),
     };
-    let name_va = match field(files, segments, rebases, index, s, va, NAME) {
+    let name_va = match field(files, segments, rebases, index, setting, s, va, NAME) {
         Word::Value(name_va) => name_va,
         Word::Missing(m) => return ClassRoAnswer::Missing(m),
     };
@@ -391,7 +428,7 @@ fn ro_data_at(
     ensures { λ r. let t = under setting (lent files segments sections info rebases binds index) in
         ⌜ wordOutcome r ≡ roDataAt t slot ⌝ }
 {
-    let target = rebase_at(rebases, index, slot);
+    let target = rebase_at(rebases, index, setting, slot);
     if is_absent(target) {
         return picked_at(files, segments, slot);
     }
@@ -445,7 +482,7 @@ pub fn class_name_at(
         Word::Value(ro_va) => ro_va,
         Word::Missing(m) => return TextAnswer::Missing(m),
     };
-    let name_va = match pointer(files, segments, rebases, index, ro_va, NAME) {
+    let name_va = match pointer(files, segments, rebases, index, setting, ro_va, NAME) {
         Word::Value(name_va) => name_va,
         Word::Missing(m) => return TextAnswer::Missing(m),
     };

@@ -161,15 +161,15 @@ pub(crate) fn ivar_at(
         Placed::At(p) => p,
         Placed::Missing(m) => return IvarAnswer::Missing(m),
     };
-    let place = match first_slot_or_0(files, segments, rebases, index, s, va) {
+    let place = match first_slot_or_0(files, segments, rebases, index, setting, s, va) {
         Word::Value(place) => place,
         Word::Missing(m) => return IvarAnswer::Missing(m),
     };
-    let name_va = match field(files, segments, rebases, index, s, va, Ivar::NAME) {
+    let name_va = match field(files, segments, rebases, index, setting, s, va, Ivar::NAME) {
         Word::Value(name_va) => name_va,
         Word::Missing(m) => return IvarAnswer::Missing(m),
     };
-    let type_va = match field_or_0(files, segments, rebases, index, s, va, Ivar::TYPE) {
+    let type_va = match field_or_0(files, segments, rebases, index, setting, s, va, Ivar::TYPE) {
         Word::Value(type_va) => type_va,
         Word::Missing(m) => return IvarAnswer::Missing(m),
     };

@@ -114,15 +114,24 @@ pub(crate) fn legacy_method_at(
         Placed::At(p) => p,
         Placed::Missing(m) => return MethodAnswer::Missing(m),
     };
-    let name_va = match first_slot(files, segments, rebases, index, s, va) {
+    let name_va = match first_slot(files, segments, rebases, index, setting, s, va) {
         Word::Value(name_va) => name_va,
         Word::Missing(m) => return MethodAnswer::Missing(m),
     };
-    let types_va = match field(files, segments, rebases, index, s, va, Method::TYPES) {
+    let types_va = match field(
+        files,
+        segments,
+        rebases,
+        index,
+        setting,
+        s,
+        va,
+        Method::TYPES,
+    ) {
         Word::Value(types_va) => types_va,
         Word::Missing(m) => return MethodAnswer::Missing(m),
     };
-    let imp_va = match field_or_0(files, segments, rebases, index, s, va, Method::IMP) {
+    let imp_va = match field_or_0(files, segments, rebases, index, setting, s, va, Method::IMP) {
         Word::Value(imp_va) => imp_va,
         Word::Missing(m) => return MethodAnswer::Missing(m),
     };
@@ -190,7 +199,7 @@ fn selector_at(
     if direct {
         return Word::Value(target);
     }
-    resolve_pointer(files, segments, rebases, index, target)
+    resolve_pointer(files, segments, rebases, index, setting, target)
 }
 
 // A small method's types: the text at its offset's target.

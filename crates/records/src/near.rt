@@ -1,4 +1,5 @@
 // Pointer fields of a record or row whose bytes can be read, from the spot of its address.
+use pointers::setting::Setting;
 use pointers::slot::resolve_near;
 use reads::answer::Word;
 use reads::answer::checked_add;
@@ -20,13 +21,14 @@ pub(crate) fn first_slot(
     segments: &[u64],
     rebases: &[u64],
     index: &[u32],
+    setting: Setting,
     s: Spot,
     va: u64,
 ) -> Word
     requires { ⌜ Near (imageOf (filesLent (now files)) (now segments)) va s 8 ⌝ }
-    ensures { λ r. ⌜ wordOutcome r ≡ resolve (lentImage files segments) (before rebases) (before index) va ⌝ }
+    ensures { λ r. ⌜ wordOutcome r ≡ resolve (lentImage files segments) (before rebases) (before index) setting va ⌝ }
 {
-    resolve_near(files, segments, rebases, index, s, 0, va)
+    resolve_near(files, segments, rebases, index, setting, s, 0, va)
 }
 
 // The same, an absent slot counting as 0.
@@ -35,13 +37,14 @@ pub(crate) fn first_slot_or_0(
     segments: &[u64],
     rebases: &[u64],
     index: &[u32],
+    setting: Setting,
     s: Spot,
     va: u64,
 ) -> Word
     requires { ⌜ Near (imageOf (filesLent (now files)) (now segments)) va s 8 ⌝ }
-    ensures { λ r. ⌜ wordOutcome r ≡ orZero (resolve (lentImage files segments) (before rebases) (before index) va) ⌝ }
+    ensures { λ r. ⌜ wordOutcome r ≡ orZero (resolve (lentImage files segments) (before rebases) (before index) setting va) ⌝ }
 {
-    or_zero(first_slot(files, segments, rebases, index, s, va))
+    or_zero(first_slot(files, segments, rebases, index, setting, s, va))
 }
 
 // The pointer in the field at va + k.
@@ -50,15 +53,16 @@ pub(crate) fn field(
     segments: &[u64],
     rebases: &[u64],
     index: &[u32],
+    setting: Setting,
     s: Spot,
     va: u64,
     k: u64,
 ) -> Word
     requires { ⌜ Near (imageOf (filesLent (now files)) (now segments)) va s (k + 8) ⌝ }
-    ensures { λ r. ⌜ wordOutcome r ≡ pointerAt (lentImage files segments) (before rebases) (before index) va k ⌝ }
+    ensures { λ r. ⌜ wordOutcome r ≡ pointerAt (lentImage files segments) (before rebases) (before index) setting va k ⌝ }
 {
     match checked_add(va, k) {
-        Word::Value(slot) => resolve_near(files, segments, rebases, index, s, k, slot),
+        Word::Value(slot) => resolve_near(files, segments, rebases, index, setting, s, k, slot),
         Word::Missing(m) => Word::Missing(m),
     }
 }
@@ -69,15 +73,25 @@ pub(crate) fn field_or_0(
     segments: &[u64],
     rebases: &[u64],
     index: &[u32],
+    setting: Setting,
     s: Spot,
     va: u64,
     k: u64,
 ) -> Word
     requires { ⌜ Near (imageOf (filesLent (now files)) (now segments)) va s (k + 8) ⌝ }
-    ensures { λ r. ⌜ wordOutcome r ≡ pointerOr0At (lentImage files segments) (before rebases) (before index) va k ⌝ }
+    ensures { λ r. ⌜ wordOutcome r ≡ pointerOr0At (lentImage files segments) (before rebases) (before index) setting va k ⌝ }
 {
     match checked_add(va, k) {
-        Word::Value(slot) => or_zero(resolve_near(files, segments, rebases, index, s, k, slot)),
+        Word::Value(slot) => or_zero(resolve_near(
+            files,
+            segments,
+            rebases,
+            index,
+            setting,
+            s,
+            k,
+            slot,
+        )),
         Word::Missing(m) => Word::Missing(m),
     }
 }

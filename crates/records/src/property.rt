@@ -53,7 +53,7 @@ pub(crate) fn property_at(
         Placed::At(p) => p,
         Placed::Missing(m) => return PropertyAnswer::Missing(m),
     };
-    let name_va = match first_slot(files, segments, rebases, index, s, va) {
+    let name_va = match first_slot(files, segments, rebases, index, setting, s, va) {
         Word::Value(name_va) => name_va,
         Word::Missing(m) => return PropertyAnswer::Missing(m),
     };
@@ -62,6 +62,7 @@ pub(crate) fn property_at(
         segments,
         rebases,
         index,
+        setting,
         s,
         va,
         Property::ATTRIBUTES,

@@ -104,7 +104,7 @@ fn trailing_at(
         Placed::At(p) => p,
         Placed::Missing(m) => return Word::Missing(m),
     };
-    slot_or_0(files, segments, rebases, index, slot)
+    slot_or_0(files, segments, rebases, index, setting, slot)
 }
 
 // The class properties, 0 where the protocol is too short to have them.
@@ -154,7 +154,7 @@ fn protocol_lists_at(
     ensures { λ r. let t = under setting (lent files segments sections info rebases binds index) in
         ⌜ protocolListsOutcome r ≡ protocolListsAt t va ⌝ }
 {
-    let protocols = match pointer_or_0(files, segments, rebases, index, va, PROTOCOLS) {
+    let protocols = match pointer_or_0(files, segments, rebases, index, setting, va, PROTOCOLS) {
         Word::Value(protocols) => protocols,
         Word::Missing(m) => return ProtocolListsAnswer::Missing(m),
     };
@@ -163,13 +163,22 @@ fn protocol_lists_at(
         segments,
         rebases,
         index,
+        setting,
         va,
         INSTANCE_METHODS,
     ) {
         Word::Value(instance_methods) => instance_methods,
         Word::Missing(m) => return ProtocolListsAnswer::Missing(m),
     };
-    let class_methods = match pointer_or_0(files, segments, rebases, index, va, CLASS_METHODS) {
+    let class_methods = match pointer_or_0(
+        files,
+        segments,
+        rebases,
+        index,
+        setting,
+        va,
+        CLASS_METHODS,
+    ) {
         Word::Value(class_methods) => class_methods,
         Word::Missing(m) => return ProtocolListsAnswer::Missing(m),
     };
@@ -178,6 +187,7 @@ fn protocol_lists_at(
         segments,
         rebases,
         index,
+        setting,
         va,
         OPTIONAL_INSTANCE_METHODS,
     ) {
@@ -189,6 +199,7 @@ fn protocol_lists_at(
         segments,
         rebases,
         index,
+        setting,
         va,
         OPTIONAL_CLASS_METHODS,
     ) {
@@ -200,6 +211,7 @@ fn protocol_lists_at(
         segments,
         rebases,
         index,
+        setting,
         va,
         INSTANCE_PROPERTIES,
     ) {
@@ -235,7 +247,7 @@ pub fn protocol_at(
         Placed::At(p) => p,
         Placed::Missing(m) => return ProtocolAnswer::Missing(m),
     };
-    let name_va = match pointer(files, segments, rebases, index, va, MANGLED_NAME) {
+    let name_va = match pointer(files, segments, rebases, index, setting, va, MANGLED_NAME) {
         Word::Value(name_va) => name_va,
         Word::Missing(m) => return ProtocolAnswer::Missing(m),
     };

@@ -50,7 +50,7 @@ abbrev namesTables : List ℕ → Tables
 namesTables before = tablesOf (namesImage ∷ []) (0x1000 ∷ 132 ∷ 0 ∷ 132 ∷ 0 ∷ []) (replicate 15 0) (replicate 8 0) [] namesBinds (indexed [] namesBinds before)
 
 module _ (before : List ℕ) where
-  names-unrebased : (a : ℕ) → rebaseAt [] (indexed [] namesBinds before) a ≡ absent NoRecord
+  names-unrebased : (a : ℕ) → rebaseAt [] (indexed [] namesBinds before) readingNew a ≡ absent NoRecord
   unfolding rebaseAt lastAmong
   names-unrebased a = rw (rebase-last-wins [] namesBinds before a)
 

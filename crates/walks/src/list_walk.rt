@@ -58,22 +58,24 @@ impl ListWalk {
     pub fn new(list: u64, kind: ListKind) -> ListWalk
         ensures { λ r. ⌜ r ≡ walkOf readingNew list kind 0 ⌝ }
     {
-        ListWalk {
-            list,
-            kind,
-            setting: Setting::new(),
-            cursor: 0,
-        }
+        ListWalk::starting(Setting::new(), list, kind)
     }
 
     // The same under either reading.
     pub fn under(reading: Reading, list: u64, kind: ListKind) -> ListWalk
         ensures { λ r. ⌜ r ≡ walkOf (readingUnder reading) list kind 0 ⌝ }
     {
+        ListWalk::starting(Setting::under(reading), list, kind)
+    }
+
+    // The same under any setting.
+    pub fn starting(setting: Setting, list: u64, kind: ListKind) -> ListWalk
+        ensures { λ r. ⌜ r ≡ walkOf setting list kind 0 ⌝ }
+    {
         ListWalk {
             list,
             kind,
-            setting: Setting::under(reading),
+            setting,
             cursor: 0,
         }
     }

@@ -184,7 +184,7 @@ fn protocol_name_in(
     ensures { λ r. let t = under setting (lent files segments sections info rebases binds index) in
         ⌜ textOutcome r ≡ protocolNameIn t slot ⌝ }
 {
-    match resolve_pointer(files, segments, rebases, index, slot) {
+    match resolve_pointer(files, segments, rebases, index, setting, slot) {
         Word::Value(va) => protocol_name_at(
             files,
             segments,
@@ -243,21 +243,24 @@ impl ProtocolNameWalk {
     pub fn new(list: u64) -> ProtocolNameWalk
         ensures { λ r. ⌜ r ≡ walkAt readingNew list 0 ⌝ }
     {
-        ProtocolNameWalk {
-            list,
-            cursor: 0,
-            setting: Setting::new(),
-        }
+        ProtocolNameWalk::starting(Setting::new(), list)
     }
 
     // The same under either reading.
     pub fn under(reading: Reading, list: u64) -> ProtocolNameWalk
         ensures { λ r. ⌜ r ≡ walkAt (readingUnder reading) list 0 ⌝ }
     {
+        ProtocolNameWalk::starting(Setting::under(reading), list)
+    }
+
+    // The same under any setting.
+    pub fn starting(setting: Setting, list: u64) -> ProtocolNameWalk
+        ensures { λ r. ⌜ r ≡ walkAt setting list 0 ⌝ }
+    {
         ProtocolNameWalk {
             list,
             cursor: 0,
-            setting: Setting::under(reading),
+            setting,
         }
     }
 

@@ -85,19 +85,23 @@ impl ClassWalk {
     pub fn new() -> ClassWalk
         ensures { λ r. ⌜ (classWalk r ≡ atStart) × (r .setting ≡ readingNew) ⌝ }
     {
-        ClassWalk {
-            slots: ClassSlots::new(),
-            setting: Setting::new(),
-        }
+        ClassWalk::starting(Setting::new())
     }
 
     // The same under either reading.
     pub fn under(reading: Reading) -> ClassWalk
         ensures { λ r. ⌜ (classWalk r ≡ atStart) × (r .setting ≡ readingUnder reading) ⌝ }
     {
+        ClassWalk::starting(Setting::under(reading))
+    }
+
+    // The same under any setting.
+    pub fn starting(setting: Setting) -> ClassWalk
+        ensures { λ r. ⌜ (classWalk r ≡ atStart) × (r .setting ≡ setting) ⌝ }
+    {
         ClassWalk {
             slots: ClassSlots::new(),
-            setting: Setting::under(reading),
+            setting,
         }
     }
 
@@ -150,19 +154,23 @@ impl CategoryWalk {
     pub fn new() -> CategoryWalk
         ensures { λ r. ⌜ (categoryWalk r ≡ atStart) × (r .setting ≡ readingNew) ⌝ }
     {
-        CategoryWalk {
-            slots: CategorySlots::new(),
-            setting: Setting::new(),
-        }
+        CategoryWalk::starting(Setting::new())
     }
 
     // The same under either reading.
     pub fn under(reading: Reading) -> CategoryWalk
         ensures { λ r. ⌜ (categoryWalk r ≡ atStart) × (r .setting ≡ readingUnder reading) ⌝ }
     {
+        CategoryWalk::starting(Setting::under(reading))
+    }
+
+    // The same under any setting.
+    pub fn starting(setting: Setting) -> CategoryWalk
+        ensures { λ r. ⌜ (categoryWalk r ≡ atStart) × (r .setting ≡ setting) ⌝ }
+    {
         CategoryWalk {
             slots: CategorySlots::new(),
-            setting: Setting::under(reading),
+            setting,
         }
     }
 
@@ -208,19 +216,23 @@ impl ProtocolWalk {
     pub fn new() -> ProtocolWalk
         ensures { λ r. ⌜ (protocolWalk r ≡ atStart) × (r .setting ≡ readingNew) ⌝ }
     {
-        ProtocolWalk {
-            slots: ProtocolSlots::new(),
-            setting: Setting::new(),
-        }
+        ProtocolWalk::starting(Setting::new())
     }
 
     // The same under either reading.
     pub fn under(reading: Reading) -> ProtocolWalk
         ensures { λ r. ⌜ (protocolWalk r ≡ atStart) × (r .setting ≡ readingUnder reading) ⌝ }
     {
+        ProtocolWalk::starting(Setting::under(reading))
+    }
+
+    // The same under any setting.
+    pub fn starting(setting: Setting) -> ProtocolWalk
+        ensures { λ r. ⌜ (protocolWalk r ≡ atStart) × (r .setting ≡ setting) ⌝ }
+    {
         ProtocolWalk {
             slots: ProtocolSlots::new(),
-            setting: Setting::under(reading),
+            setting,
         }
     }
 

@@ -108,7 +108,7 @@ fn address_in(
     ensures { λ r. let t = under setting (lent files segments sections info rebases binds index) in
         ⌜ wordOutcome r ≡ addressIn t slot ⌝ }
 {
-    match slot_or_0(files, segments, rebases, index, slot) {
+    match slot_or_0(files, segments, rebases, index, setting, slot) {
         Word::Value(va) => nonzero(va),
         Word::Missing(m) => Word::Missing(m),
     }

@@ -12,7 +12,7 @@ if [ ! -f "$rust/util.rs" ]; then
     echo "build.sh: no util.rs in $rust: RUST says where the Rust's sources are" >&2
     exit 2
 fi
-"$root/tools/face/build.sh" "$here/face.txt" "$out" "$tree" reads pointers records walks listing
+"$root/tools/face/build.sh" "$here/face.txt" "$out" "$tree" reads pointers records walks frames listing
 echo "built ${out#"$root"/}/libface.so, without proofs"
 # the host: the Rust unchanged, the stand-ins of tools/oracle, and the Rust again over a map that notes its lookups
 src=$root/target/large/src

@@ -1,5 +1,4 @@
 use mathlib.Core.Path.{ap, _∙_}
-use Rattle.pointers.specs.Tables.{readingUnder}
 use Rattle.marking.specs.Framed.{withFrames}
 use Rattle.printing.specs.Pieces.{begun}
 use borrow.Author.Needs.{needs}
@@ -15,8 +14,8 @@ returns c =
     let a = entry .args in (
       at-open-file .open-file .ensures .0,
       (
-        c .under .ensures
-            ∙ ap (begun (readingUnder (a .reading))) (at-with-frames .with-frames .ensures ∙ ap (withFrames (a .frames)) (at-info-of .info-of .ensures)),
+        c .starting .ensures
+            ∙ ap (begun (a .setting)) (at-with-frames .with-frames .ensures ∙ ap (withFrames (a .frames)) (at-info-of .info-of .ensures)),
         at-open-file .open-file .ensures .1,
       ),
     )

@@ -14,7 +14,7 @@ returns c =
     let add = c .before .before .before .before .checked-add .ensures in
     let told = c .before .before .slot .given .1 in
     word-value _ _ _ _ _ add told
-    (c .resolve-near .ensures ∙ near-field _ _ _ _ (omega arith) _ _ _ (search needs) (sym (ap wordOutcome told) ∙ add))
+    (c .resolve-near .ensures ∙ near-field _ _ _ _ _ (omega arith) _ _ _ (search needs) (sym (ap wordOutcome told) ∙ add))
 
 returns-2 : tie.Need-returns-2
 unfolding pointerAt

@@ -16,7 +16,7 @@ returns c =
     let told = c .before .before .before .slot .given .1 in
     word-value _ _ _ _ _ add told
     (c .or-zero .ensures
-    ∙ ap orZero (c .before .resolve-near .ensures ∙ near-field _ _ _ _ (omega arith) _ _ _ (search needs) (sym (ap wordOutcome told) ∙ add)))
+    ∙ ap orZero (c .before .resolve-near .ensures ∙ near-field _ _ _ _ _ (omega arith) _ _ _ (search needs) (sym (ap wordOutcome told) ∙ add)))
 
 returns-2 : tie.Need-returns-2
 unfolding pointerOr0At

@@ -6,7 +6,7 @@ use Rattle.records.proofs.near.first_slot.Statement.{statement}
 use Rattle.records.proofs.near.first_slot.Tie as tie
 
 returns : tie.Need-returns
-returns c = c .resolve-near .ensures ∙ near-first _ _ _ _ (omega arith) _ (search needs)
+returns c = c .resolve-near .ensures ∙ near-first _ _ _ _ _ (omega arith) _ (search needs)
 
 pub first-slot-spec : {M : Type 1} → statement M
 first-slot-spec = tie.close (tie.spec (λ c κs. search needs) returns)

@@ -3,7 +3,7 @@ use Rattle.listing.proofs.at.Owner.row_list.Statement.{statement}
 use Rattle.listing.proofs.at.Owner.row_list.Tie as tie
 
 returns : tie.Need-returns
-returns c = rw (c .under .ensures)
+returns c = rw (c .starting .ensures)
 
 pub row-list-spec : {M : Type 1} → statement M
 row-list-spec = tie.close (tie.spec (λ c κs. search needs) returns)

@@ -1,14 +1,9 @@
-use Rattle.marking.proofs.Passes.{started}
 use borrow.Author.Needs.{needs}
 use Rattle.marking.proofs.marked_listing.MarkedListing.under.Statement.{statement}
 use Rattle.marking.proofs.marked_listing.MarkedListing.under.Tie as tie
 
 returns : tie.Need-returns
-returns c = started _ _ _ ((c .under) .ensures)
+returns c = rw (← c .before .under .ensures) (c .starting .ensures)
 
 pub under-spec : {M : Type 1} → statement M
-under-spec =
-    tie.close
-    (tie.spec
-    (λ c κs. search needs)
-    returns)
+under-spec = tie.close (tie.spec (λ c κs. search needs) (λ c κs. search needs) returns)

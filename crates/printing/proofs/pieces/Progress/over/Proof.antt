@@ -5,16 +5,16 @@ use Rattle.printing.proofs.pieces.Progress.over.Tie as tie
 
 returns : tie.Need-returns
 returns c =
-    let at-under = c .before .before in
-    let at-none = at-under .before in
-    begun-absent (at-under .under .result) (at-none .none .result) (at-under .under .ensures) (at-none .none .ensures) _ _ (c .enum-told .given .1)
+    let at-starting = c .before .before in
+    let at-none = at-starting .before in
+    begun-absent (at-starting .starting .result) (at-none .none .result) (at-starting .starting .ensures) (at-none .none .ensures) _ _ (c .enum-told .given .1)
 
 returns-2 : tie.Need-returns-2
 returns-2 c =
     let at-m = c .before in
-    let at-under = at-m .before .before in
-    let at-none = at-under .before in
-    begun-refused (at-under .under .result) (at-none .none .result) (at-under .under .ensures) (at-none .none .ensures) _ _ (at-m .m .given .1)
+    let at-starting = at-m .before .before in
+    let at-none = at-starting .before in
+    begun-refused (at-starting .starting .result) (at-none .none .result) (at-starting .starting .ensures) (at-none .none .ensures) _ _ (at-m .m .given .1)
 
 pub over-spec : {M : Type 1} → statement M
 over-spec =

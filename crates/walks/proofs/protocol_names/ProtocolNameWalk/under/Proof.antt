@@ -3,7 +3,7 @@ use Rattle.walks.proofs.protocol_names.ProtocolNameWalk.under.Statement
 use Rattle.walks.proofs.protocol_names.ProtocolNameWalk.under.Tie as tie
 
 returns : tie.Need-returns
-returns c = rw (c .under .ensures)
+returns c = rw (← c .before .under .ensures) (c .starting .ensures)
 
 pub under-spec : {M : Type 1} → statement M
-under-spec = tie.close (tie.spec (λ c κs. search needs) returns)
+under-spec = tie.close (tie.spec (λ c κs. search needs) (λ c κs. search needs) returns)
