@@ -209,6 +209,15 @@ pub extern "C" fn objclist_write(
         last_slide,
     };
     write_file(
-        fd, ranges, file, segments, sections, rebases, binds, index, ledger, out,
+        fd,
+        ranges,
+        file,
+        segments,
+        sections,
+        rebases,
+        binds,
+        index,
+        ledger,
+        out,
     )
 }

@@ -3,12 +3,11 @@ use Prim.Native.Nat.{ℕ}
 use mathlib.Core.Path.{_≡_, refl}
 use mathlib.Core.List.{List, [], _∷_, _++_}
 use lib.ListN.{replicate}
-use Rattle.reads.specs.Outcome.{Outcome, value, number, choose}
+use Rattle.reads.specs.Outcome.{value, number, choose}
 use Rattle.reads.specs.Place.{le, leIn}
 use Rattle.pointers.specs.Question.{question}
 use Rattle.macho.specs.Commands.{headed, sectioned, fits, allFit, askedCommands, ofKind, firstOf}
 use Rattle.fixups.specs.Fixups.{fixupsIn, fixupsFrom, fixupsFound}
-use Rattle.fixups.specs.declared.chain.Fixup.{Fixup}
 use Rattle.opcodes.specs.DyldInfo.{earlier}
 use Rattle.opcodes.specs.Streams.{walk, streamAt, joined, streamsAt}
 use Rattle.opcodes.specs.Binds.{bindsFrom, bindsIn, bindsFound}
@@ -23,7 +22,7 @@ abbrev file : ℕ → ℕ → ℕ → ℕ → List ℕ → List ℕ
 file filetype flags count size cmds =
     207 ∷ 250 ∷ 237 ∷ 254 ∷ 12 ∷ 0 ∷ 0 ∷ 1 ∷ 0 ∷ 0 ∷ 0 ∷ 0 ∷ filetype ∷ 0 ∷ 0 ∷ 0 ∷ count ∷ 0 ∷ 0 ∷ 0 ∷ size ∷ 0 ∷ 0 ∷ 0 ∷ 0 ∷ 0 ∷ 0 ∷ flags ∷ 0 ∷ 0 ∷ 0 ∷ 0 ∷ cmds
 
--- LC_DYLD_INFO and LC_DYLD_INFO_ONLY without opcodes, LC_DYLD_CHAINED_FIXUPS without data.
+-- LC_DYLD_INFO and LC_DYLD_INFO_ONLY without opcodes, LC_DYLD_CHAINED_FIXUPS of 8 bytes, which is 19.
 abbrev info : List ℕ
 info = 34 ∷ 0 ∷ 0 ∷ 0 ∷ 48 ∷ 0 ∷ 0 ∷ 0 ∷ zeros 40
 
@@ -31,7 +30,7 @@ abbrev infoOnly : List ℕ
 infoOnly = 34 ∷ 0 ∷ 0 ∷ 128 ∷ 48 ∷ 0 ∷ 0 ∷ 0 ∷ zeros 40
 
 abbrev chained : List ℕ
-chained = 52 ∷ 0 ∷ 0 ∷ 128 ∷ 16 ∷ 0 ∷ 0 ∷ 0 ∷ zeros 8
+chained = 52 ∷ 0 ∷ 0 ∷ 128 ∷ 8 ∷ 0 ∷ 0 ∷ 0 ∷ []
 
 -- LC_ENCRYPTION_INFO_64 with a cryptid, LC_DYSYMTAB with a nextrel, LC_SEGMENT_64 with flags.
 abbrev encryption : ℕ → List ℕ
@@ -58,9 +57,10 @@ pub record Kinds : Type 0 where
   pub noreloc : fileRecords (file 6 0 1 72 (segment 20)) ≡ value []
   pub protected : fileRecords (file 6 0 1 72 (segment 8)) ≡ number 25
   pub by-opcodes : fileRecords (file 6 0 1 48 infoOnly) ≡ value []
-  pub by-chains : fileRecords (file 6 0 1 16 chained) ≡ number 19
-  pub both : fileRecords (file 6 0 2 64 (chained ++ infoOnly)) ≡ number 25
+  pub by-chains : fileRecords (file 6 0 1 8 chained) ≡ number 19
+  pub both : fileRecords (file 6 0 2 56 (chained ++ infoOnly)) ≡ number 25
   pub twice : fileRecords (file 6 0 2 96 (info ++ infoOnly)) ≡ number 25
 
 pub kinds : Kinds
-kinds = ?
+unfolding le leIn choose question headed sectioned fits allFit askedCommands ofKind firstOf fixupsIn fixupsFrom fixupsFound earlier walk streamAt joined streamsAt bindsFrom bindsIn bindsFound typeRead allClear carriers commandsRead isRead askedKind asRecords recordsIn fileRecords
+kinds = record { dylib = refl; executable = refl; object = refl; stub = refl; symbols = refl; cached = refl; plain = refl; encrypted = refl; symtab = refl; relocated = refl; noreloc = refl; protected = refl; by-opcodes = refl; by-chains = refl; both = refl; twice = refl }

@@ -36,7 +36,12 @@ fn from_opcodes(file: &[u8], rebases: &mut [u64], binds: &mut [u64]) -> FileTabl
 fn from_either(file: &[u8], rebases: &mut [u64], binds: &mut [u64]) -> FileTables
     ensures { λ r. ⌜ result (tablesOutcome r) (after rebases) (after binds) ≡ settled (recordsIn (before file)) (before rebases) (before binds) ⌝ }
 {
-    let found = find(command_bytes(file), LC_DYLD_CHAINED_FIXUPS, command_count(file), 0);
+    let found = find(
+        command_bytes(file),
+        LC_DYLD_CHAINED_FIXUPS,
+        command_count(file),
+        0,
+    );
     if !found.here {
         return from_opcodes(file, rebases, binds);
     }

@@ -103,7 +103,14 @@ fn commands_read(cmds: &[u8], count: u64) -> bool
     requires { ⌜ count < 2 ^ 32 ⌝ }
     ensures { λ r. ⌜ r ≡ commandsRead (before cmds) count ⌝ }
 {
-    if !clear(cmds, count, LC_SEGMENT_64, SEGMENT_FLAGS, SG_PROTECTED_VERSION_1, 2 * SG_PROTECTED_VERSION_1) {
+    if !clear(
+        cmds,
+        count,
+        LC_SEGMENT_64,
+        SEGMENT_FLAGS,
+        SG_PROTECTED_VERSION_1,
+        2 * SG_PROTECTED_VERSION_1,
+    ) {
         return false;
     }
     if !clear(cmds, count, LC_ENCRYPTION_INFO, CRYPTID, 1, WORD) {

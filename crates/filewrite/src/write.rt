@@ -62,7 +62,16 @@ fn write_pieces(
     let mut progress = start;
     loop {
         let piece = next_piece(
-            progress, answer, file, segments, sections, rebases, binds, index, ledger, out,
+            progress,
+            answer,
+            file,
+            segments,
+            sections,
+            rebases,
+            binds,
+            index,
+            ledger,
+            out,
         );
         let len = piece.len;
         progress = piece.progress;

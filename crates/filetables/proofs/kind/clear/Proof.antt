@@ -21,7 +21,7 @@ loop-holds : tie.Need-loop-holds Inv-loop μ-loop
 loop-holds c = refl
 
 returns : tie.Need-returns Inv-loop μ-loop
-returns c = 
+returns c =
     let a = c .before .before .before .before .before .args in let l = c .before .before .before .loop in
     let f = finds-by (a .kind) (a .cmds .now) (l .left) (l .at) _ (c .before .before .find .ensures) in
     laws.clear-none (a .cmds .now) (a .field) (a .unit) (a .span) (a .kind) _ _ _ f (not-true _ (c .if1 .taken)) ∙ sym (l .inv)
@@ -30,18 +30,18 @@ rem-if2 : tie.Need-rem-if2 Inv-loop μ-loop
 rem-if2 c = omega arith
 
 returns-2 : tie.Need-returns-2 Inv-loop μ-loop
-returns-2 c = 
+returns-2 c =
     let a = c .before .before .before .before .before .before .before .args in let l = c .before .before .before .before .before .loop in
     let f = finds-by (a .kind) (a .cmds .now) (l .left) (l .at) _ (c .before .before .before .before .find .ensures) in
     laws.clear-not (a .cmds .now) (a .field) (a .unit) (a .span) (a .kind) _ _ _ f (not-false _ (c .before .before .if1 .left)) _ (c .before .field32 .ensures .0) (c .if2 .taken) ∙ sym (l .inv)
 
 loop-less : tie.Need-loop-less Inv-loop μ-loop
-loop-less c = 
+loop-less c =
     let a = c .before .before .before .before .before .before .before .args in let l = c .before .before .before .before .before .loop in
     finds-by (a .kind) (a .cmds .now) (l .left) (l .at) _ (c .before .before .before .before .find .ensures) .fewer (not-false _ (c .before .before .if1 .left))
 
 loop-again : tie.Need-loop-again Inv-loop μ-loop
-loop-again c = 
+loop-again c =
     let a = c .before .before .before .before .before .before .before .args in let l = c .before .before .before .before .before .loop in
     let f = finds-by (a .kind) (a .cmds .now) (l .left) (l .at) _ (c .before .before .before .before .find .ensures) in
     l .inv ∙ laws.clear-next (a .cmds .now) (a .field) (a .unit) (a .span) (a .kind) _ _ _ f (not-false _ (c .before .before .if1 .left)) _ (c .before .field32 .ensures .0) (c .if2 .left)

@@ -21,25 +21,25 @@ loop-holds : tie.Need-loop-holds Inv-loop μ-loop
 loop-holds c = (omega arith, omega arith)
 
 returns : tie.Need-returns Inv-loop μ-loop
-returns c = 
+returns c =
     let a = c .before .before .before .before .before .args in let l = c .before .before .before .loop in
     let f = finds-by (a .kind) (a .cmds .now) (l .left) (l .at) _ (c .before .before .find .ensures) in
     let e = ap (λ (x : List ℕ). length x) (f .none (not-true _ (c .if1 .taken))) in
     (omega arith, omega arith)
 
 add-n : tie.Need-add-n Inv-loop μ-loop
-add-n c = 
+add-n c =
     let a = c .before .before .before .before .before .args in let l = c .before .before .before .loop in
     let f = finds-by (a .kind) (a .cmds .now) (l .left) (l .at) _ (c .before .before .find .ensures) in
     omega (arith, f .fewer (not-false _ (c .if1 .left)))
 
 loop-less : tie.Need-loop-less Inv-loop μ-loop
-loop-less c = 
+loop-less c =
     let a = c .before .before .before .before .before .args in let l = c .before .before .before .loop in
     finds-by (a .kind) (a .cmds .now) (l .left) (l .at) _ (c .before .before .find .ensures) .fewer (not-false _ (c .if1 .left))
 
 loop-again : tie.Need-loop-again Inv-loop μ-loop
-loop-again c = 
+loop-again c =
     let a = c .before .before .before .before .before .args in let l = c .before .before .before .loop in
     let f = finds-by (a .kind) (a .cmds .now) (l .left) (l .at) _ (c .before .before .find .ensures) in
     let e = ap (λ (x : List ℕ). length x) (f .more (not-false _ (c .if1 .left))) in
