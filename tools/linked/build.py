@@ -22,7 +22,7 @@ FILES = {
     "shapes-x86_64-opcodes.dylib": ("shapes.m", "x86_64", "10.12", "-dylib -no_fixup_chains -no_objc_relative_method_lists"),
     "app-arm64": ("app.m", "arm64", "13", "-fixup_chains"),
     "app-x86_64": ("app.m", "x86_64", "10.12", "-no_fixup_chains"),
-    "plain.dylib": ("plain.m", "x86_64", "13", "-dylib -fixup_chains"),
+    "plain.dylib": ("plain.c", "x86_64", "13", "-dylib -fixup_chains"),
     "object.o": ("app.m", "x86_64", "13", None),
 }
 

@@ -1,17 +1,18 @@
 -- Question 25, by the tests that the code makes.
-use Prim.Native.Nat.{ℕ, _+_, _%_, _≤_, _<_}
-use mathlib.Core.Path.{_≡_, refl, sym, _∙_}
+use Prim.Native.Nat.{ℕ, _+_, _/_, _%_, _≤_, _<_}
+use mathlib.Core.Path.{_≡_}
 use mathlib.Core.Bool.{Bool, true, false, _&&_}
-use mathlib.Core.List.{List, [], _∷_}
-use borrow.Author.Tests.{le-ltb, lt-ltb, ne-eqb}
-use lib.Dec.{eqb, ltb}
+use mathlib.Core.List.{List}
+use lib.Dec.{eqb}
+use borrow.Author.Tests.{le-leb, lt-leb, ne-eqb}
 use Rattle.reads.specs.Outcome.{Outcome, value, number, choose}
 use Rattle.pointers.specs.Question.{question}
 use Rattle.macho.specs.Number.{u32At}
+use Rattle.macho.specs.Loader.{fileoff, filesize}
 use Rattle.macho.specs.Commands.{askedCommands, ofKind}
 use Rattle.macho.specs.declared.command.Found.{Found}
 use Rattle.macho.proofs.Commands.{Finds}
-use Rattle.filetables.specs.Kind.{typeRead, allClear, isRead, askedKind}
+use Rattle.filetables.specs.Kind.{typeRead, segmentRead, infoRead, commandRead, allRead, isRead, askedKind}
 
 module _ (t : ℕ) where
   pub type-first : t ≡ 2 → true ≡ typeRead t
@@ -30,24 +31,54 @@ module _ (t : ℕ) where
   unfolding typeRead
   type-last a b c = simp (ne-eqb t 2 a, ne-eqb t 6 b, ne-eqb t 7 c)
 
--- The bits of the commands of a kind, by what a search for them finds.
-module _ (cmds : List ℕ) (field unit span kind k a : ℕ) (r : Found) (found : Finds kind cmds k a r) where
-  pub clear-none : r .here ≡ false → true ≡ allClear cmds field unit span (ofKind kind cmds k a)
-  unfolding allClear
-  clear-none e = rw (found .none e)
+-- A segment.
+module _ (n : ℕ) (cmds : List ℕ) (a : ℕ) where
+  pub segment-past : (m : ℕ) → m ≡ fileoff cmds a + filesize cmds a → n < m → false ≡ segmentRead n cmds a
+  unfolding segmentRead
+  segment-past m e l = rw (← e, lt-leb m n l)
+
+  pub segment-by : (w : ℕ) → w ≡ u32At cmds (a + 68) → fileoff cmds a + filesize cmds a ≤ n → eqb (w / 8 % 2) 0 ≡ segmentRead n cmds a
+  unfolding segmentRead
+  segment-by w e l = rw (e, le-leb (fileoff cmds a + filesize cmds a) n l)
+
+-- A command of each kind.
+module _ (n : ℕ) (cmds : List ℕ) (kind a : ℕ) where
+  pub read-segment : kind ≡ 0x19 → segmentRead n cmds a ≡ commandRead n cmds kind a
+  unfolding commandRead choose
+  read-segment e = rw e
+
+  pub read-symtab : kind ≡ 0xB → (w : ℕ) → w ≡ u32At cmds (a + 68) → eqb w 0 ≡ commandRead n cmds kind a
+  unfolding commandRead choose
+  read-symtab e w g = rw (e, g)
+
+  pub read-encryption : kind ≡ 0x21 → (w : ℕ) → w ≡ u32At cmds (a + 16) → eqb w 0 ≡ commandRead n cmds kind a
+  unfolding commandRead choose
+  read-encryption e w g = rw (e, g)
+
+  pub read-encryption-64 : kind ≡ 0x2C → (w : ℕ) → w ≡ u32At cmds (a + 16) → eqb w 0 ≡ commandRead n cmds kind a
+  unfolding commandRead choose
+  read-encryption-64 e w g = rw (e, g)
+
+  pub read-info : (kind ≡ 0x19 → ⊥) → (kind ≡ 0xB → ⊥) → (kind ≡ 0x21 → ⊥) → (kind ≡ 0x2C → ⊥) → infoRead n cmds a ≡ commandRead n cmds kind a
+  unfolding commandRead choose
+  read-info x y z w = simp (ne-eqb kind 0x19 x, ne-eqb kind 0xB y, ne-eqb kind 0x21 z, ne-eqb kind 0x2C w)
+
+-- The commands of a kind, by what a search for them finds.
+module _ (n : ℕ) (cmds : List ℕ) (kind k a : ℕ) (r : Found) (found : Finds kind cmds k a r) where
+  pub read-none : r .here ≡ false → true ≡ allRead n cmds kind (ofKind kind cmds k a)
+  unfolding allRead
+  read-none e = rw (found .none e)
 
   module _ (h : r .here ≡ true) where
-    clear-more : allClear cmds field unit span (ofKind kind cmds k a)
-        ≡ (ltb (u32At cmds (r .at + field) % span) unit && allClear cmds field unit span (ofKind kind cmds (r .left) (r .next)))
-    unfolding allClear
-    clear-more = rw (found .more h)
+    read-more : allRead n cmds kind (ofKind kind cmds k a) ≡ (commandRead n cmds kind (r .at) && allRead n cmds kind (ofKind kind cmds (r .left) (r .next)))
+    unfolding allRead
+    read-more = rw (found .more h)
 
-    pub clear-not : (w : ℕ) → w ≡ u32At cmds (r .at + field) → unit ≤ w % span → false ≡ allClear cmds field unit span (ofKind kind cmds k a)
-    clear-not w e l = rw (clear-more, ← e, le-ltb (w % span) unit l)
+    pub read-not : commandRead n cmds kind (r .at) ≡ false → false ≡ allRead n cmds kind (ofKind kind cmds k a)
+    read-not e = rw (read-more, e)
 
-    pub clear-next : (w : ℕ) → w ≡ u32At cmds (r .at + field) → w % span < unit
-        → allClear cmds field unit span (ofKind kind cmds k a) ≡ allClear cmds field unit span (ofKind kind cmds (r .left) (r .next))
-    clear-next w e l = rw (clear-more, ← e, lt-ltb (w % span) unit l)
+    pub read-next : commandRead n cmds kind (r .at) ≡ true → allRead n cmds kind (ofKind kind cmds k a) ≡ allRead n cmds kind (ofKind kind cmds (r .left) (r .next))
+    read-next e = rw (read-more, e)
 
 -- 15 and 16, then 25.
 module _ (file : List ℕ) where

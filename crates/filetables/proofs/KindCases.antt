@@ -2,7 +2,7 @@
 use Prim.Native.Nat.{ℕ}
 use mathlib.Core.Path.{_≡_, refl}
 use mathlib.Core.List.{List, [], _∷_, _++_}
-use lib.ListN.{replicate}
+use lib.ListN.{set, replicate}
 use Rattle.reads.specs.Outcome.{value, number, choose}
 use Rattle.reads.specs.Place.{le, leIn}
 use Rattle.pointers.specs.Question.{question}
@@ -11,7 +11,7 @@ use Rattle.fixups.specs.Fixups.{fixupsIn, fixupsFrom, fixupsFound}
 use Rattle.opcodes.specs.DyldInfo.{earlier}
 use Rattle.opcodes.specs.Streams.{walk, streamAt, joined, streamsAt}
 use Rattle.opcodes.specs.Binds.{bindsFrom, bindsIn, bindsFound}
-use Rattle.filetables.specs.Kind.{typeRead, allClear, carriers, commandsRead, isRead, askedKind}
+use Rattle.filetables.specs.Kind.{typeRead, segmentRead, streamRead, infoRead, commandRead, allRead, carriers, commandsRead, isRead, askedKind}
 use Rattle.filetables.specs.FileRecords.{asRecords, recordsIn, fileRecords}
 
 abbrev zeros : ℕ → List ℕ
@@ -56,11 +56,14 @@ pub record Kinds : Type 0 where
   pub relocated : fileRecords (file 6 0 1 80 (dysymtab 1)) ≡ number 25
   pub noreloc : fileRecords (file 6 0 1 72 (segment 20)) ≡ value []
   pub protected : fileRecords (file 6 0 1 72 (segment 8)) ≡ number 25
+  pub to-the-end : fileRecords (set (file 6 0 1 72 (segment 0)) 80 104) ≡ value []
+  pub cut : fileRecords (set (file 6 0 1 72 (segment 0)) 80 105) ≡ number 25
+  pub stream-cut : fileRecords (set (set (file 6 0 1 48 infoOnly) 48 80) 52 1) ≡ number 25
   pub by-opcodes : fileRecords (file 6 0 1 48 infoOnly) ≡ value []
   pub by-chains : fileRecords (file 6 0 1 8 chained) ≡ number 19
   pub both : fileRecords (file 6 0 2 56 (chained ++ infoOnly)) ≡ number 25
   pub twice : fileRecords (file 6 0 2 96 (info ++ infoOnly)) ≡ number 25
 
 pub kinds : Kinds
-unfolding le leIn choose question headed sectioned fits allFit askedCommands ofKind firstOf fixupsIn fixupsFrom fixupsFound earlier walk streamAt joined streamsAt bindsFrom bindsIn bindsFound typeRead allClear carriers commandsRead isRead askedKind asRecords recordsIn fileRecords
-kinds = record { dylib = refl; executable = refl; object = refl; stub = refl; symbols = refl; cached = refl; plain = refl; encrypted = refl; symtab = refl; relocated = refl; noreloc = refl; protected = refl; by-opcodes = refl; by-chains = refl; both = refl; twice = refl }
+unfolding le leIn choose question headed sectioned fits allFit askedCommands ofKind firstOf fixupsIn fixupsFrom fixupsFound earlier walk streamAt joined streamsAt bindsFrom bindsIn bindsFound typeRead segmentRead streamRead infoRead commandRead allRead carriers commandsRead isRead askedKind asRecords recordsIn fileRecords
+kinds = record { dylib = refl; executable = refl; object = refl; stub = refl; symbols = refl; cached = refl; plain = refl; encrypted = refl; symtab = refl; relocated = refl; noreloc = refl; protected = refl; to-the-end = refl; cut = refl; stream-cut = refl; by-opcodes = refl; by-chains = refl; both = refl; twice = refl }
