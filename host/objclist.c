@@ -15,61 +15,9 @@
 
 enum { LISTED = 0, REFUSED = 1, SYSTEM = 2, UNWRITTEN = 3 };
 
-static const char *const questions[] = {
-    [1] = "Is the file, or the part of a universal one, at most 4,294,967,295 bytes long?",
-    [2] = "Has it at most 64 segments?",
-    [3] = "Is each section of Objective-C data at most as long as the file?",
-    [4] = "Is the image info at least 8 bytes long? A file without Objective-C has none.",
-    [5] = "Has it at most 16,777,215 rebases?",
-    [6] = "Has it at most 16,777,215 binds?",
-    [7] = "Is each bind's name inside the file?",
-    [8] = "Has the index a word for each of the 2 x 4,096 chains, each rebase and each bind?",
-    [9] = "Is each record number in a chain of the index below the one before it?",
-    [10] = "Is a walk's cursor at most its count?",
-    [11] = "Has the ledger a word for each full slot of the two lists walked?",
-    [14] = "Is each bind's name UTF-8?",
-    [15] = "Is there a header of 32 bytes with the magic 0xFEEDFACF, that of a 64-bit little-endian Mach-O file?",
-    [16] = "Does each load command lie in the stated size of the commands and in the file, and a segment command have room for its sections? Of a "
-           "universal file: do the table of parts and the part lie in the file?",
-    [18] = "Is a slice lent for each file number?",
-    [19] = "Is all fixup data of a form that is read, and inside its range and the file? arm64e pointers and imports with addends are not read.",
-    [20] = "Does each slot that is rebased or bound lie in its page or segment and in the file, and has each ordinal an import?",
-    [23] = "Is neither range's first end above its last?",
-    [25] = "Is the file of a kind that is read: an executable, a dylib, a bundle or a dynamic linker; not an object file (.o), a stub or debug "
-           "symbols; not out of a shared cache; not encrypted; bound by no relocations, and by at most one command?",
-};
-
-struct arch {
-    const char *name;
-    uint64_t cputype, cpusubtype;
-};
-static const struct arch archs[] = {
-    {"arm64", 0x100000c, 0}, {"arm64e", 0x100000c, 2}, {"x86_64", 0x1000007, 3}, {"x86_64h", 0x1000007, 8},
-    {"arm64_32", 0x200000c, 1}, {"armv7", 12, 9}, {"armv7s", 12, 11}, {"i386", 7, 3}, {"ppc", 18, 0},
-};
-enum { ARCHS = sizeof archs / sizeof *archs };
-
 static int fails(const char *path, const char *what) {
     fprintf(stderr, "%s: %s\n", path, what);
     return SYSTEM;
-}
-
-static int unwritten(const char *path) {
-    fprintf(stderr, "%s: the listing could not be written: %s\n", path, strerror(errno));
-    return UNWRITTEN;
-}
-
-static int says(const char *path, uint64_t number) {
-    const char *what = number < sizeof questions / sizeof *questions ? questions[number] : NULL;
-    fprintf(stderr, "%s: refused %u: %s\n", path, (unsigned)number, what ? what : "(docs/QUESTIONS.md)");
-    return REFUSED;
-}
-
-// A refusal before there is a listing: the line that a refused listing has.
-static int refuse(int fd, const char *path, uint64_t number) {
-    if (dprintf(fd, "refused %u\n", (unsigned)number) < 0)
-        return unwritten(path);
-    return says(path, number);
 }
 
 // Zeroed memory: pages that are never touched cost nothing. What is lent ends at a page that cannot be touched.
@@ -104,6 +52,59 @@ static struct lent lend_for(uint64_t size) {
     };
 }
 
+#ifndef NO_MAIN
+static const char *const questions[] = {
+    [1] = "Is the file, or the part of a universal one, at most 4,294,967,295 bytes long?",
+    [2] = "Has it at most 64 segments?",
+    [3] = "Is each section of Objective-C data at most as long as the file?",
+    [4] = "Is the image info at least 8 bytes long? A file without Objective-C has none.",
+    [5] = "Has it at most 16,777,215 rebases?",
+    [6] = "Has it at most 16,777,215 binds?",
+    [7] = "Is each bind's name inside the file?",
+    [8] = "Has the index a word for each of the 2 x 4,096 chains, each rebase and each bind?",
+    [9] = "Is each record number in a chain of the index below the one before it?",
+    [10] = "Is a walk's cursor at most its count?",
+    [11] = "Has the ledger a word for each full slot of the two lists walked?",
+    [14] = "Is each bind's name UTF-8?",
+    [15] = "Is there a header of 32 bytes with the magic 0xFEEDFACF, that of a 64-bit little-endian Mach-O file?",
+    [16] = "Does each load command lie in the stated size of the commands and in the file, and a segment command have room for its sections? Of a "
+           "universal file: do the table of parts and the part lie in the file?",
+    [18] = "Is a slice lent for each file number?",
+    [19] = "Is all fixup data of a form that is read, and inside its range and the file? arm64e pointers and imports with addends are not read.",
+    [20] = "Does each slot that is rebased or bound lie in its page or segment and in the file, and has each ordinal an import?",
+    [23] = "Is neither range's first end above its last?",
+    [25] = "Is the file of a kind that is read: an executable, a dylib, a bundle or a dynamic linker; not an object file (.o), a stub or debug "
+           "symbols; not out of a shared cache; not encrypted; bound by no relocations, and by at most one command?",
+};
+
+struct arch {
+    const char *name;
+    uint64_t cputype, cpusubtype;
+};
+static const struct arch archs[] = {
+    {"arm64", 0x100000c, 0}, {"arm64e", 0x100000c, 2}, {"x86_64", 0x1000007, 3}, {"x86_64h", 0x1000007, 8},
+    {"arm64_32", 0x200000c, 1}, {"armv7", 12, 9}, {"armv7s", 12, 11}, {"i386", 7, 3}, {"ppc", 18, 0},
+};
+enum { ARCHS = sizeof archs / sizeof *archs };
+
+static int unwritten(const char *path) {
+    fprintf(stderr, "%s: the listing could not be written: %s\n", path, strerror(errno));
+    return UNWRITTEN;
+}
+
+static int says(const char *path, uint64_t number) {
+    const char *what = number < sizeof questions / sizeof *questions ? questions[number] : NULL;
+    fprintf(stderr, "%s: refused %u: %s\n", path, (unsigned)number, what ? what : "(docs/QUESTIONS.md)");
+    return REFUSED;
+}
+
+// A refusal before there is a listing: the line that a refused listing has.
+static int refuse(int fd, const char *path, uint64_t number) {
+    if (dprintf(fd, "refused %u\n", (unsigned)number) < 0)
+        return unwritten(path);
+    return says(path, number);
+}
+
 // The ends of the ranges of frames and slides; these mark nothing.
 struct ranges {
     uint64_t first_frame, last_frame, first_slide, last_slide;
@@ -123,7 +124,6 @@ static int list(int fd, const char *path, const uint8_t *image, size_t size, str
     return w.status == OBJCLIST_OK ? LISTED : says(path, w.number);
 }
 
-#ifndef NO_MAIN
 static void print_arch(uint64_t cputype, uint64_t cpusubtype) {
     for (size_t k = 0; k < ARCHS; k++)
         if (archs[k].cputype == cputype && archs[k].cpusubtype == cpusubtype % 0x1000000) {
