@@ -15,7 +15,15 @@ try() {
     count=$((count + 1))
     target/host/objclist "$@" >"$out" 2>"$out.err"
     got=$?
-    if [ "$got" -ne "$want" ] || ! cmp -s "$out" "$listing" || ! grep -qF -e "$line" "$out.err" && [ -n "$line" ] || [ -z "$line" ] && [ -s "$out.err" ]; then
+    same=1
+    [ "$got" -eq "$want" ] || same=0
+    cmp -s "$out" "$listing" || same=0
+    if [ -n "$line" ]; then
+        grep -qF -e "$line" "$out.err" || same=0
+    else
+        [ ! -s "$out.err" ] || same=0
+    fi
+    if [ "$same" -eq 0 ]; then
         echo "host/run.sh: $*: status $got for $want, or another listing than $listing, or without '$line' on standard error" >&2
         bad=$((bad + 1))
     fi

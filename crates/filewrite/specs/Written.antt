@@ -2,7 +2,7 @@
 use Prim.Native.Nat.{ℕ}
 use mathlib.Core.Path.{_≡_}
 use mathlib.Core.List.{List, [], _++_}
-use lib.ListN.{take}
+use lib.ListN.{take, drop}
 use Rattle.reads.specs.Outcome.{Outcome, value, absent, number}
 use Rattle.pointers.specs.Tables.{Tables}
 use Rattle.listing.specs.Listing.{Answer}
@@ -19,15 +19,16 @@ pieceBytes = 65536
 abbrev pub nextPiece : Tables → Standing → List ℕ
 nextPiece t p = take pieceBytes (toCome t p)
 
--- From the standing p and the buffer b on: the text that was handed over, where the printing then stands, and what the buffer then holds.
-pub data Handing (t : Tables) (p : Standing) (b : List ℕ) : List ℕ → Standing → List ℕ → Type 0 where
-  begins : Handing t p b [] p b
-  hands : {text c : List ℕ} {q : Standing} → Handing t p b text q c
-      → Handing t p b (text ++ nextPiece t q) (past t q pieceBytes) (inFront (nextPiece t q) c)
+-- From the standing p and the buffer b on: the text that was handed over, where the printing then stands, and what the buffer then holds. After each
+-- piece the rest is still to come.
+pub data HandsOver (t : Tables) (p : Standing) (b : List ℕ) : List ℕ → Standing → List ℕ → Type 0 where
+  begins : HandsOver t p b [] p b
+  hands : {text c : List ℕ} {q : Standing} → HandsOver t p b text q c → toCome t (past t q pieceBytes) ≡ drop pieceBytes (toCome t q)
+      → HandsOver t p b (text ++ nextPiece t q) (past t q pieceBytes) (inFront (nextPiece t q) c)
 
-pub record Handed (t : Tables) (p : Standing) (b : List ℕ) (q : Standing) (c : List ℕ) : Type 0 where
+pub record HandedOver (t : Tables) (p : Standing) (b : List ℕ) (q : Standing) (c : List ℕ) : Type 0 where
   pub text : List ℕ
-  pub pieces : Handing t p b text q c
+  pub pieces : HandsOver t p b text q c
 
 -- The statuses: 0 listed, 1 refused by a number, 3 a write failed.
 abbrev pub wrote : ℕ → ℕ → Wrote
@@ -47,7 +48,7 @@ pub data Ends (t : Tables) (q : Standing) : Wrote → Type 0 where
 -- A writing from the standing p and the buffer b on, which ended so and left this ledger and this buffer.
 pub record Written (t : Tables) (p : Standing) (b : List ℕ) (w : Wrote) (l c : List ℕ) : Type 0 where
   pub last : Standing
-  pub handed : Handed t p b last c
+  pub handed : HandedOver t p b last c
   pub ledger : last .ledger ≡ l
   pub ends : Ends t last w
 

@@ -4,19 +4,21 @@ use filelist::file::next_piece;
 use frames::frames::Ranges;
 use listing::listing::Said;
 use macho::open::FileAnswer;
+use printing::pieces::Piece;
 use printing::pieces::Progress;
 use reads::text::Reading;
 ghost use mathlib.Core.Path.{_≡_};
 ghost use mathlib.Core.Bool.{true};
 ghost use mathlib.Core.List.{[]};
+ghost use lib.ListN.{drop};
 ghost use Rattle.reads.specs.Reference.{before, after};
 ghost use Rattle.pointers.specs.Tables.{readingNew};
 ghost use Rattle.macho.specs.OpenFile.{fileOutcome};
 ghost use Rattle.listing.specs.ListingAnswer.{saidOf};
-ghost use Rattle.printing.specs.Pieces.{standingOf, toCome, begun};
+ghost use Rattle.printing.specs.Pieces.{standingOf, toCome, begun, handedOf, pieceOf};
 ghost use Rattle.filelist.specs.FileText.{framedFile};
 ghost use Rattle.filelist.specs.FileLent.{indexUsed, segmentsAfter, sectionsAfter, indexAfter, tablesLent};
-ghost use Rattle.filewrite.specs.Written.{endOf, Handed, Written, tablesRead};
+ghost use Rattle.filewrite.specs.Written.{pieceBytes, endOf, HandedOver, Written, tablesRead};
 
 // How the writing of a listing ended, for C too: status 0, the whole listing was written; 1, the file was refused, by the number; 3, a write
 // failed.
@@ -40,6 +42,29 @@ pub struct Pieces {
     pub progress: Progress,
 }
 
+// The next piece, into a buffer of this length.
+fn whole_piece(
+    progress: Progress,
+    answer: FileAnswer,
+    file: &[u8],
+    segments: &[u64],
+    sections: &[u64],
+    rebases: &[u64],
+    binds: &[u64],
+    index: &[u32],
+    ledger: &mut [u64],
+    out: &mut [u8; 65536],
+) -> Piece
+    ensures piece { λ r. let t = tablesLent (fileOutcome answer) (before file) (before segments) (before sections) (before rebases) (before binds) (before index) in
+        ⌜ handedOf r (after ledger) (after out) ≡ pieceOf t (standingOf progress (before ledger)) pieceBytes (before out) ⌝ }
+    ensures rest { λ r. let t = tablesLent (fileOutcome answer) (before file) (before segments) (before sections) (before rebases) (before binds) (before index) in
+        ⌜ toCome t (standingOf (r .progress) (after ledger)) ≡ drop pieceBytes (toCome t (standingOf progress (before ledger))) ⌝ }
+{
+    next_piece(
+        progress, answer, file, segments, sections, rebases, binds, index, ledger, out,
+    )
+}
+
 // Hands all pieces that are still to come to the file descriptor; after a write that failed nothing more.
 fn write_pieces(
     fd: i32,
@@ -55,13 +80,13 @@ fn write_pieces(
     out: &mut [u8; 65536],
 ) -> Pieces
     ensures handed { λ r. let t = tablesLent (fileOutcome answer) (before file) (before segments) (before sections) (before rebases) (before binds) (before index) in
-        ⌜ Handed t (standingOf start (before ledger)) (before out) (standingOf (r .progress) (after ledger)) (after out) ⌝ }
+        ⌜ HandedOver t (standingOf start (before ledger)) (before out) (standingOf (r .progress) (after ledger)) (after out) ⌝ }
     ensures whole { λ r. let t = tablesLent (fileOutcome answer) (before file) (before segments) (before sections) (before rebases) (before binds) (before index) in
         ⌜ (r .whole ≡ true → toCome t (standingOf (r .progress) (after ledger)) ≡ []) ⌝ }
 {
     let mut progress = start;
     loop {
-        let piece = next_piece(
+        let piece = whole_piece(
             progress,
             answer,
             file,
