@@ -1,6 +1,6 @@
 // damage SEED COPIES FILE..: each file cut at each of its lengths, and COPIES copies in all with bytes changed, through the library. Each copy ends
 // at a page that cannot be touched, and so does all that is lent: a read or a write outside faults. Everything must give a listing or a number;
-// says how often each number came, 0 for a listing.
+// says how often each number came, 0 for a listing and 255 for no part.
 #define NO_MAIN
 #include "objclist.c"
 
@@ -29,11 +29,11 @@ static void change(uint8_t *at, size_t size) {
 static uint64_t met[256];
 static int sink;
 
-// The part of one file, its tables and its listing. A listing that a damaged count makes long is cut off by the reader: a failed write is no fault.
+// The part of one file, its tables and its listing.
 static void try(const uint8_t *file, size_t size, struct lent l) {
     struct objclist_part p = objclist_part(file, size);
     if (p.status != OBJCLIST_OK) {
-        met[p.number]++;
+        met[p.status == OBJCLIST_REFUSED ? p.number : 255]++;
         return;
     }
     struct objclist_sizes n = objclist_sizes(p.size);

@@ -73,8 +73,9 @@ static const char *const questions[] = {
     [19] = "Is all fixup data of a form that is read, and inside its range and the file? arm64e pointers and imports with addends are not read.",
     [20] = "Does each slot that is rebased or bound lie in its page or segment and in the file, and has each ordinal an import?",
     [23] = "Is neither range's first end above its last?",
-    [25] = "Is the file of a kind that is read: an executable, a dylib, a bundle or a dynamic linker; not an object file (.o), a stub or debug "
-           "symbols; not out of a shared cache; not encrypted; bound by no relocations, and by at most one command?",
+    [25] = "Is the file of a kind that is read, and whole: an executable, a dylib, a bundle or a dynamic linker; not an object file (.o), a stub or "
+           "debug symbols; not out of a shared cache; not encrypted; bound by no relocations, and by at most one command; with each segment's part "
+           "of the file, and each stream of bind opcodes, in the file?",
 };
 
 struct arch {
