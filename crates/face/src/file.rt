@@ -194,13 +194,13 @@ pub extern "C" fn objclist_write(
     ledger: &mut [u64],
     out: &mut [u8; 65536],
 ) -> Wrote
-    ensures written { λ r. let x = rangesOf first_frame last_frame first_slide last_slide in
+    ensures written { λ r. let x = rangesOf «first_frame» «last_frame» «first_slide» «last_slide» in
         let t = tablesRead x (before file) (before segments) (before sections) (before rebases) (before binds) (before index) in
         let opened = framedFile x (before file) (before segments) (before sections) (before rebases) (before binds) (indexUsed (before rebases) (before binds) (before index)) in
         ⌜ Written t (begun readingNew opened (before ledger)) (before out) r (after ledger) (after out) ⌝ }
-    ensures segments { λ _. ⌜ after segments ≡ segmentsAfter (rangesOf first_frame last_frame first_slide last_slide) (before file) (before segments) (before sections) (before rebases) (before binds) (before index) ⌝ }
-    ensures sections { λ _. ⌜ after sections ≡ sectionsAfter (rangesOf first_frame last_frame first_slide last_slide) (before file) (before segments) (before sections) (before rebases) (before binds) (before index) ⌝ }
-    ensures index { λ _. ⌜ after index ≡ indexAfter (rangesOf first_frame last_frame first_slide last_slide) (before file) (before segments) (before sections) (before rebases) (before binds) (before index) ⌝ }
+    ensures segments { λ _. ⌜ after segments ≡ segmentsAfter (rangesOf «first_frame» «last_frame» «first_slide» «last_slide») (before file) (before segments) (before sections) (before rebases) (before binds) (before index) ⌝ }
+    ensures sections { λ _. ⌜ after sections ≡ sectionsAfter (rangesOf «first_frame» «last_frame» «first_slide» «last_slide») (before file) (before segments) (before sections) (before rebases) (before binds) (before index) ⌝ }
+    ensures index { λ _. ⌜ after index ≡ indexAfter (rangesOf «first_frame» «last_frame» «first_slide» «last_slide») (before file) (before segments) (before sections) (before rebases) (before binds) (before index) ⌝ }
 {
     let ranges = Ranges {
         first_frame,
