@@ -61,7 +61,16 @@ fn whole_piece(
         ⌜ toCome t (standingOf (r .progress) (after ledger)) ≡ drop pieceBytes (toCome t (standingOf progress (before ledger))) ⌝ }
 {
     next_piece(
-        progress, answer, file, segments, sections, rebases, binds, index, ledger, out,
+        progress,
+        answer,
+        file,
+        segments,
+        sections,
+        rebases,
+        binds,
+        index,
+        ledger,
+        out,
     )
 }
 

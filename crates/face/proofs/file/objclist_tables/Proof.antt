@@ -12,7 +12,7 @@ same-length-2 : tie.Need-same-length-2
 same-length-2 c = c .before .before .before .before .before .file-tables .kept .1 .1 .0
 
 returns : tie.Need-returns
-returns c = 
+returns c =
     let e = c .before .before .before .before .before .file-tables .ensures in
     (c .tables-words .ensures ∙ ap (λ (r : Result). tablesWords (r .counts)) e, (ap (λ (r : Result). r .rebases) e, ap (λ (r : Result). r .binds) e))
 

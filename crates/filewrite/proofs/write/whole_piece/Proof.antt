@@ -6,7 +6,7 @@ use Rattle.filewrite.proofs.write.whole_piece.Statement.{statement}
 use Rattle.filewrite.proofs.write.whole_piece.Tie as tie
 
 returns : tie.Need-returns
-returns c = 
+returns c =
     let entry = c .before .before .before .before .before .before .before .before .before .before .before .before in
     let size : length (entry .args .out .now) ≡ 65536 = omega arith in
     rw size at (c .before .before .next-piece .ensures)

@@ -30,7 +30,7 @@ same-length : tie.Need-same-length Inv-loop μ-loop
 same-length c = c .before .before .before .before .whole-piece .kept .1 .1 .1 .1 .1 .1 .1 .1 .0 ∙ c .before .before .before .before .before .before .before .loop .inv .1
 
 returns : tie.Need-returns Inv-loop μ-loop
-returns c = 
+returns c =
     let e = c .before .before .before .before .whole-piece .ensures in
     (laws.handed-more _ _ _ _ _ (c .before .before .before .before .before .before .before .loop .inv .0) _ (e .0) (e .1), λ _. e .1 ∙ ap (λ (text : List ℕ). drop 65536 text) (piece-empty _ _ _ _ _ (e .0) (omega arith) (c .if1 .taken)))
 
@@ -41,7 +41,7 @@ same-length-2 : tie.Need-same-length-2 Inv-loop μ-loop
 same-length-2 c = c .before .before .before .before .before .before .before .before .before .whole-piece .kept .1 .1 .1 .1 .1 .1 .1 .1 .0 ∙ c .before .before .before .before .before .before .before .before .before .before .before .before .loop .inv .1
 
 returns-2 : tie.Need-returns-2 Inv-loop μ-loop
-returns-2 c = 
+returns-2 c =
     let e = c .before .before .before .before .before .before .before .before .before .whole-piece .ensures in
     (laws.handed-more _ _ _ _ _ (c .before .before .before .before .before .before .before .before .before .before .before .before .loop .inv .0) _ (e .0) (e .1), λ e. let z : _≡_ {A = ℕ} 0 1 = cc in absurd (omega arith))
 
@@ -49,7 +49,7 @@ loop-less : tie.Need-loop-less Inv-loop μ-loop
 loop-less c = less-comes _ _ _ _ _ (c .before .before .before .before .before .before .before .before .before .whole-piece .ensures .0) (c .before .before .before .before .before .before .before .before .before .whole-piece .ensures .1) (c .before .before .before .before .before .if1 .left)
 
 loop-again : tie.Need-loop-again Inv-loop μ-loop
-loop-again c = 
+loop-again c =
     let e = c .before .before .before .before .before .before .before .before .before .whole-piece .ensures in
     (laws.handed-more _ _ _ _ _ (c .before .before .before .before .before .before .before .before .before .before .before .before .loop .inv .0) _ (e .0) (e .1), c .before .before .before .before .before .before .before .before .before .whole-piece .kept .1 .1 .1 .1 .1 .1 .1 .1 .0 ∙ c .before .before .before .before .before .before .before .before .before .before .before .before .loop .inv .1)
 
