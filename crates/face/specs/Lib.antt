@@ -1,0 +1,2 @@
+-- The definitions that the contracts of face cite.
+pub mod File
