@@ -1,9 +1,10 @@
 -- A second worked listing: a class with its metaclass, a protocol, and a category that names one method list from two fields. The list's
 -- second row has no selector, so it is skipped and settled each time. The records lie in file 0, the strings in file 1 (document 02, note 6).
 use Prim.Native.Nat.{ℕ, _≤_}
-use mathlib.Core.Path.{_≡_, refl}
+use mathlib.Core.Path.{_≡_, refl, sym}
 use mathlib.Core.Bool.{true, false}
 use mathlib.Core.List.{List, [], _∷_, _++_, map}
+use native.Mathlib.Omega.{arith}
 use lib.ListN.{length, replicate}
 use borrow.Author.Tests.{le-leb}
 use Rattle.reads.specs.Breaks.{canRead}
@@ -23,10 +24,14 @@ use Rattle.pointers.specs.Index.{indexed}
 use Rattle.pointers.specs.Open.{askedOpening, opening, openedIndex, Opened}
 use Rattle.pointers.specs.Question.{question, imageFits, wholeRows, segmentFiles, sectionFits, every, sectionTable, infoWhole, bindFiles, namesInside, namesUtf8, indexFits, askedTables, askedIndex}
 use Rattle.pointers.specs.Section.{sectionAt}
-use Rattle.pointers.specs.Slot.{rebaseAt, bindAt, symbolOf, stored, resolve, pointerAt, pointerOr0At}
+use Rattle.pointers.specs.declared.setting.Lookup.{Lookup}
+use Rattle.pointers.specs.declared.setting.Lookup.the-variants.{Chained, Sorted}
+use Rattle.pointers.specs.declared.setting.Setting.{Setting}
+use Rattle.pointers.specs.Slot.{rebaseNumber, rebaseAt, bindAt, symbolOf, stored, resolve, pointerAt, pointerOr0At}
 use Rattle.pointers.specs.Symbol.{ascii}
 use Rattle.pointers.specs.Tables.{Tables, tablesOf, imageIn, withIndex, readingNew}
 use Rattle.pointers.proofs.Chains.{rebase-last-wins, bind-last-wins}
+use Rattle.pointers.proofs.SortedLookups.{sorted-past}
 use Rattle.records.specs.Category.{decodeCategoryLists, decodeCategoryProperties, decodeCategoryOf, decodeCategory, categoryAt, categoryClassName}
 use Rattle.records.specs.Class.{bitsOf, decodeData, decodeClass, classAt, decodeRoLists, decodeClassRo, decodeRoOf, roOf, decodeRoData, decodeClassName, decodeNonzeroClassName, decodeBoundName, decodeClassNameOf, superclassName}
 use Rattle.records.specs.Ask.{pickedIn, evenList, entrySize}
@@ -211,9 +216,14 @@ six-events =
     ∷ []
 
 module _ (before : List ℕ) where
-  pub no-rebase : (a : ℕ) → rebaseAt [] (indexed [] [] before) readingNew a ≡ absent NoRecord
-  unfolding rebaseAt lastAmong
-  no-rebase a = rw (rebase-last-wins [] [] before a)
+  no-number : (a : ℕ) (l : Lookup) → rebaseNumber l [] (indexed [] [] before) a ≡ absent NoRecord
+  unfolding lastAmong
+  no-number a Chained = rebase-last-wins [] [] before a
+  no-number a Sorted = sym (sorted-past [] a _ (omega arith))
+
+  pub no-rebase : (u : Setting) (a : ℕ) → rebaseAt [] (indexed [] [] before) u a ≡ absent NoRecord
+  unfolding rebaseAt
+  no-rebase u a = rw (no-number a (u .lookup))
 
   pub no-bind : (files : List (List ℕ)) (a : ℕ) → bindAt files [] [] (indexed [] [] before) a ≡ absent NoRecord
   unfolding bindAt lastAmong
