@@ -93,20 +93,18 @@ module _ (turn : RowWalk → RowTurn) where
     gather-none e = rw e
 
     module _ (x : RowTurn) (e : x ≡ turn w) where
-      pub gather-first : {k : ℕ} → (k ≡ 0 → ⊥) → (x .said .status .kind ≡ 0 → ⊥) → filled (x .said .status) n (x .walk) table ≡ gather turn k w n table
-      gather-first {zero} h no = absurd (h refl)
-      gather-first {suc k} h no = first k no
-        where
-          first : (k : ℕ) → (x .said .status .kind ≡ 0 → ⊥) → filled (x .said .status) n (x .walk) table ≡ gather turn (suc k) w n table
-          first k no = unfold gather in rw (← e, choose-false _ _ (ne-eqb _ _ no))
+      pub gather-first : (k : ℕ) → (k ≡ 0 → ⊥) → (x .said .status .kind ≡ 0 → ⊥) → filled (x .said .status) n (x .walk) table ≡ gather turn k w n table
+      unfolding gather
+      gather-first zero h d = absurd (h refl)
+      gather-first (suc k) h d = rw (← e, choose-false _ _ (ne-eqb _ _ d))
 
       module _ {room : ℕ} (h : n < room) where
         pub gather-ends : (x .said .status .kind ≡ 0 → ⊥) → filled (x .said .status) n (x .walk) table ≡ gather turn (room - n) w n table
-        gather-ends no = gather-first (λ z. omega (arith, z)) no
+        gather-ends d = gather-first (room - n) (λ z. omega (arith, z)) d
 
         pub gather-on : x .said .status .kind ≡ 0
             → gather turn (room - (n + 1)) (x .walk) (n + 1) (sets table (15 * n) (x .said .words)) ≡ gather turn (room - n) w n table
         unfolding gather
-        gather-on yes =
+        gather-on i =
             let s : room - n ≡ suc (room - (n + 1)) = omega arith in
-            rw (s, ← e, choose-true _ _ (eq-eqb _ _ yes), add-one)
+            rw (s, ← e, choose-true _ _ (eq-eqb _ _ i), add-one)

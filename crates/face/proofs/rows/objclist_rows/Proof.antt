@@ -1,4 +1,5 @@
 use mathlib.Core.Path.{_∙_}
+use native.Mathlib.Omega.{arith}
 use Rattle.pointers.specs.Question.{askedOutcome}
 use Rattle.walks.proofs.Steps.{outcome-told}
 use Rattle.face.proofs.RowLaws.{asked-turn, refused-turn, gather-same, gather-none, gather-first}
@@ -13,7 +14,7 @@ returns-2 : tie.Need-returns-2
 returns-2 c = c .before .before .gather-rows .ensures ∙ gather-same (asked-turn _ (outcome-told askedOutcome (c .before .before .before .before .before .before .ask .ensures) (c .before .before .before .before .enum-told .given .1))) _ _ _ _
 
 returns-3 : tie.Need-returns-3
-returns-3 c = rw (c .none2 .ensures, c .before .refused .ensures) (gather-first _ _ _ _ _ (refused-turn _ (outcome-told askedOutcome (c .before .before .before .before .before .before .ask .ensures) (c .before .before .before .before .k .given .1)) _) (c .before .before .if1 .left) ?no)
+returns-3 c = rw (c .none2 .ensures, c .before .refused .ensures) (gather-first _ _ _ _ _ (refused-turn _ (outcome-told askedOutcome (c .before .before .before .before .before .before .ask .ensures) (c .before .before .before .before .k .given .1)) _) _ (c .before .before .if1 .left) (λ z. omega (arith, z)))
 
 pub objclist-rows-spec : {M : Type 1} → statement M
 objclist-rows-spec =
@@ -28,6 +29,6 @@ objclist-rows-spec =
     returns
     (λ c. search needs)
     (λ c. search needs)
-    (λ c. ?same)
+    (λ c. search needs)
     returns-2
     returns-3)
