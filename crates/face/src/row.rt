@@ -24,9 +24,13 @@ ghost use Rattle.face.specs.Row.{numberOf, impNumber, offsetNumber, alig
 pub const ROW_WORDS: usize = 15;
 // What a row is.
 pub const METHOD: u64 = 0;
+
 pub const IVAR: u64 = 1;
+
 pub const PROPERTY: u64 = 2;
+
 pub const NAME: u64 = 3;
+
 pub const SKIPPED: u64 = 4;
 
 // A number, or none.
@@ -197,7 +201,23 @@ fn row_words(row: Row) -> [u64; ROW_WORDS]
 fn name_words(name: Text) -> [u64; ROW_WORDS]
     ensures { λ r. ⌜ r ≡ nameWords name ⌝ }
 {
-    [NAME, 0, 0, name.file, name.offset, name.len, 0, 0, 0, 0, 0, 0, 0, 0, 0]
+    [
+        NAME,
+        0,
+        0,
+        name.file,
+        name.offset,
+        name.len,
+        0,
+        0,
+        0,
+        0,
+        0,
+        0,
+        0,
+        0,
+        0,
+    ]
 }
 
 fn skipped_words(why: Reason, place: Number) -> [u64; ROW_WORDS]

@@ -130,7 +130,16 @@ pub extern "C" fn objclist_next_class(
         },
         setting,
     };
-    let stepped = at.next(files, segments, sections, info, rebases, binds, index, ledger);
+    let stepped = at.next(
+        files,
+        segments,
+        sections,
+        info,
+        rebases,
+        binds,
+        index,
+        ledger,
+    );
     let step = stepped.step;
     let next = stepped.walk;
     ClassWalked {
@@ -174,7 +183,16 @@ pub extern "C" fn objclist_next_category(
         },
         setting,
     };
-    let stepped = at.next(files, segments, sections, info, rebases, binds, index, ledger);
+    let stepped = at.next(
+        files,
+        segments,
+        sections,
+        info,
+        rebases,
+        binds,
+        index,
+        ledger,
+    );
     let step = stepped.step;
     let next = stepped.walk;
     CategoryWalked {

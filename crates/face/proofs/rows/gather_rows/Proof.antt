@@ -37,9 +37,11 @@ loop-less : tie.Need-loop-less Inv-loop μ-loop
 loop-less c = omega (arith, c .before .before .before .before .before .before .before .before .before .before .before .loop-test .taken)
 
 loop-again : tie.Need-loop-again Inv-loop μ-loop
-loop-again c = (omega (arith, c .before .before .before .before .before .before .before .before .before .before .before .loop-test .taken),
-    rw (c .before .before .put-row .ensures, length-sets) (c .before .before .before .before .before .before .before .before .before .before .before .before .loop .inv .1),
-    rw (c .before .before .put-row .ensures) (gather-on _ _ _ _ _ (c .before .before .before .before .before .before .before .before .before .before .next .ensures) (c .before .before .before .before .before .before .before .before .before .before .before .loop-test .taken) (c .before .before .before .before .before .if1 .left) ∙ c .before .before .before .before .before .before .before .before .before .before .before .before .loop .inv .2))
+loop-again c = (
+  omega (arith, c .before .before .before .before .before .before .before .before .before .before .before .loop-test .taken),
+  rw (c .before .before .put-row .ensures, length-sets) (c .before .before .before .before .before .before .before .before .before .before .before .before .loop .inv .1),
+  rw (c .before .before .put-row .ensures) (gather-on _ _ _ _ _ (c .before .before .before .before .before .before .before .before .before .before .next .ensures) (c .before .before .before .before .before .before .before .before .before .before .before .loop-test .taken) (c .before .before .before .before .before .if1 .left) ∙ c .before .before .before .before .before .before .before .before .before .before .before .before .loop .inv .2),
+)
 
 returns-2 : tie.Need-returns-2 Inv-loop μ-loop
 returns-2 c = rw (c .of .ensures) (gather-none _ _ _ _ (omega (arith, c .before .loop-test .left, c .before .before .loop .inv .0)) ∙ c .before .before .loop .inv .2)

@@ -17,11 +17,12 @@ loop-holds : tie.Need-loop-holds Inv-loop μ-loop
 loop-holds c = (omega arith, omega arith, copy-from-0 (c .args .table .now) (c .args .from) (c .args .words .now))
 
 loop-again : tie.Need-loop-again Inv-loop μ-loop
-loop-again c =
-    (omega arith,
-    simp length-set (omega arith),
-    copy-on (c .before .before .loop .table) (c .before .before .before .args .from) (c .before .before .before .args .words .now) (c .before .before .loop .i) (omega arith)
-    ∙ c .before .before .loop .inv .2)
+loop-again c = (
+  omega arith,
+  simp length-set (omega arith),
+  copy-on (c .before .before .loop .table) (c .before .before .before .args .from) (c .before .before .before .args .words .now) (c .before .before .loop .i) (omega arith)
+      ∙ c .before .before .loop .inv .2,
+)
 
 same-length : tie.Need-same-length Inv-loop μ-loop
 same-length c = omega arith
