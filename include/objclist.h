@@ -36,11 +36,11 @@ enum {
 // What an answer says first. Where it is not OBJCLIST_FOUND, the record or text beside it is all 0.
 enum {
     OBJCLIST_FOUND = 0,    // a record or a text
-    OBJCLIST_ABSENT = 1,   // `code` is the reason
-    OBJCLIST_DROPPED = 2,  // a slot of 0, or an address met before: no absence
-    OBJCLIST_FINISHED = 3, // nothing is left
-    OBJCLIST_REFUSED = 4,  // `code` is the number of the question that says no (docs/QUESTIONS.md); the state comes back as given
-    OBJCLIST_MORE = 5      // the lent words are full
+    OBJCLIST_REFUSED = 1,  // `code` is the number of the question that says no (docs/QUESTIONS.md); the state comes back as given
+    OBJCLIST_ABSENT = 2,   // `code` is the reason
+    OBJCLIST_DROPPED = 4,  // a slot of 0, or an address met before: no absence
+    OBJCLIST_FINISHED = 5, // nothing is left
+    OBJCLIST_MORE = 6      // the lent words are full
 };
 
 // The reasons of an absence.
@@ -77,6 +77,18 @@ struct objclist_info {
 struct objclist_info objclist_open(const struct objclist_bytes *files, size_t files_len, const uint64_t *segments, size_t segments_len,
     const uint64_t *sections, size_t sections_len, const uint8_t *info, size_t info_len, const uint64_t *rebases, size_t rebases_len,
     const uint64_t *binds, size_t binds_len, uint32_t *index, size_t index_len);
+
+// Opening a Mach-O file of one image, with rebases and binds lent: asks 15 and 16 too, fills segments (320 words) and sections by loader.h
+// and writes the index; with a number all three stay as they were. Later calls are lent 5 words for each of `segments` segments, and as
+// info the `info_len` bytes of the file from `info_at` on.
+enum { OBJCLIST_SEGMENT_TABLE_WORDS = 64 * OBJCLIST_SEGMENT_WORDS };
+struct objclist_file_told {
+    struct objclist_status status;
+    uint64_t segments, version, flags, info_at, info_len;
+};
+struct objclist_file_told objclist_open_file(const uint8_t *file, size_t file_len, uint64_t *segments, size_t segments_len,
+    uint64_t *sections, size_t sections_len, const uint64_t *rebases, size_t rebases_len, const uint64_t *binds, size_t binds_len,
+    uint32_t *index, size_t index_len);
 
 // Records. Fields that end in _address, and the lists, are addresses; 0 is none.
 struct objclist_class {

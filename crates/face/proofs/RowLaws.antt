@@ -1,7 +1,7 @@
 -- Laws of the rows of a call.
 use Prim.Native.Nat.{ℕ, zero, suc, _+_, _*_, _-_, _^_, _≤_, _<_}
 use mathlib.Core.Bool.{Bool, true, false}
-use mathlib.Core.Path.{_≡_, refl, sym, ap, _∙_}
+use mathlib.Core.Path.{_≡_, refl, ap}
 use mathlib.Core.List.{List}
 use native.Mathlib.Omega.{arith}
 use native.Mathlib.Numerals.{add-one}
@@ -16,7 +16,7 @@ use Rattle.records.specs.declared.list.ListKind.{ListKind}
 use Rattle.walks.specs.Handed.{unlessRefused}
 use Rattle.walks.specs.Walk.{nextUnder, nextOf}
 use Rattle.walks.specs.ProtocolNames.{nextNameUnder, nextName}
-use Rattle.face.specs.Status.{saysMore, saysRefused}
+use Rattle.face.specs.Status.{saysMore}
 use Rattle.face.specs.Rows.{listed, refusedTurn, listTurn, nameTurn, turnBy, listOver, namesOver, turnOver, rowTurn, Filled, filled, gather}
 use Rattle.face.specs.declared.rows.Listed.{Listed}
 use Rattle.face.specs.declared.rows.Listed.the-variants.{Rows, Names, Nothing}

@@ -3,7 +3,7 @@ use Prim.Native.Nat.{ℕ, zero, suc, _*_, _^_}
 use mathlib.Core.List.{List}
 use lib.Dec.{ltb, eqb}
 use lib.Seq.{sets}
-use Rattle.reads.specs.Outcome.{value, absent, number, choose}
+use Rattle.reads.specs.Outcome.{choose}
 use Rattle.pointers.specs.Tables.{Tables, under}
 use Rattle.pointers.specs.Question.{asked}
 use Rattle.records.specs.List.{listAt}

@@ -11,37 +11,37 @@ use Rattle.face.specs.declared.status.Status.{Status}
 abbrev pub status : ℕ → ℕ → ℕ → Status
 status kind code at = record { kind = kind; code = code; at = at }
 
--- The six kinds.
+-- The kinds but 2; 3, a write that failed, is none of these answers'.
 abbrev pub saysFound : Status
 saysFound = status 0 0 0
 
 abbrev pub saysDropped : Status
-saysDropped = status 2 0 0
+saysDropped = status 4 0 0
 
 abbrev pub saysFinished : Status
-saysFinished = status 3 0 0
+saysFinished = status 5 0 0
 
 abbrev pub saysRefused : ℕ → Status
-saysRefused k = status 4 k 0
+saysRefused k = status 1 k 0
 
 abbrev pub saysMore : Status
-saysMore = status 5 0 0
+saysMore = status 6 0 0
 
--- Kind 1: the codes of the reasons, and where a text is not UTF-8.
+-- Kind 2: the codes of the reasons, and where a text is not UTF-8.
 abbrev pub saysAbsent : Reason → Status
-saysAbsent NullAddress = status 1 1 0
-saysAbsent Unmapped = status 1 2 0
-saysAbsent PastEnd = status 1 3 0
-saysAbsent Unterminated = status 1 4 0
-saysAbsent (NotUtf8 at) = status 1 5 at
-saysAbsent NoData = status 1 6 0
-saysAbsent Unresolved = status 1 7 0
-saysAbsent Unreadable = status 1 8 0
-saysAbsent FieldOverflow = status 1 9 0
-saysAbsent NoRecord = status 1 10 0
-saysAbsent OddList = status 1 11 0
-saysAbsent ShortEntry = status 1 12 0
-saysAbsent Malformed = status 1 13 0
+saysAbsent NullAddress = status 2 1 0
+saysAbsent Unmapped = status 2 2 0
+saysAbsent PastEnd = status 2 3 0
+saysAbsent Unterminated = status 2 4 0
+saysAbsent (NotUtf8 at) = status 2 5 at
+saysAbsent NoData = status 2 6 0
+saysAbsent Unresolved = status 2 7 0
+saysAbsent Unreadable = status 2 8 0
+saysAbsent FieldOverflow = status 2 9 0
+saysAbsent NoRecord = status 2 10 0
+saysAbsent OddList = status 2 11 0
+saysAbsent ShortEntry = status 2 12 0
+saysAbsent Malformed = status 2 13 0
 
 abbrev pub saysMissing : Missing → Status
 saysMissing (Absent r) = saysAbsent r

@@ -16,7 +16,7 @@ ghost use lib.ListN.{length};
 ghost use lib.Seq.{sets};
 ghost use Rattle.reads.specs.Reference.{before, after};
 ghost use Rattle.pointers.specs.Tables.{lent};
-ghost use Rattle.face.specs.Rows.{listed, refusedTurn, movedTo, listTurn, nameTurn, listOver, namesOver, turnOver, rowTurn, filled, gather};
+ghost use Rattle.face.specs.Rows.{listed, refusedTurn, movedTo, listTurn, nameTurn, listOver, namesOver, turnOver, rowTurn, gather};
 
 // Where a walk over rows stands: the list's address, what it lists, the entries taken, and whether texts are read under the old reading.
 #[repr(C)]

@@ -24,7 +24,7 @@ ghost use Rattle.pointers.specs.Tables.{lent, under};
 ghost use Rattle.walks.specs.Sections.{classes, categories, stepOf, protocolStepOf, classStep, categoryStep, protocolStep};
 ghost use Rattle.face.specs.Words.{settingIn};
 ghost use Rattle.face.specs.Decoding.{classTold, categoryTold, protocolTold};
-ghost use Rattle.face.specs.Sections.{walkWords, classState, categoryState, protocolState, classWalked, categoryWalked, protocolWalked};
+ghost use Rattle.face.specs.Sections.{classState, categoryState, protocolState, classWalked, categoryWalked, protocolWalked};
 
 // Where a walk stands: the next slot; the words of the ledger in use and the highest of them; the address of the metaclass that waits;
 // and whether texts are read under the old reading. All 0 before the first slot.

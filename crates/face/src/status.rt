@@ -15,16 +15,16 @@ pub struct Status {
 impl Status {
     // A record, a row or a text.
     pub const FOUND: u64 = 0;
-    // Absent: the code is the reason's.
-    pub const ABSENT: u64 = 1;
-    // A slot of 0, or an address met before.
-    pub const DROPPED: u64 = 2;
-    // Nothing was left.
-    pub const FINISHED: u64 = 3;
     // A question refuses: the code is its number.
-    pub const REFUSED: u64 = 4;
+    pub const REFUSED: u64 = 1;
+    // Absent: the code is the reason's.
+    pub const ABSENT: u64 = 2;
+    // A slot of 0, or an address met before. (3, a write that failed, is none of these answers'.)
+    pub const DROPPED: u64 = 4;
+    // Nothing was left.
+    pub const FINISHED: u64 = 5;
     // The lent words are full.
-    pub const MORE: u64 = 5;
+    pub const MORE: u64 = 6;
 
     pub(crate) fn of(kind: u64) -> Status
         ensures { λ r. ⌜ r ≡ status kind 0 0 ⌝ }
@@ -43,7 +43,7 @@ impl Status {
     }
 
     fn reason(code: u64) -> Status
-        ensures { λ r. ⌜ r ≡ status 1 code 0 ⌝ }
+        ensures { λ r. ⌜ r ≡ status 2 code 0 ⌝ }
     {
         Status {
             kind: Status::ABSENT,

@@ -1,4 +1,3 @@
-use borrow.Author.Needs.{needs}
 use Rattle.face.proofs.words.flag_of.Statement.{statement}
 use Rattle.face.proofs.words.flag_of.Tie as tie
 

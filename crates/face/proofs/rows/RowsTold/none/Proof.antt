@@ -1,4 +1,3 @@
-use borrow.Author.Needs.{needs}
 use Rattle.face.proofs.rows.RowsTold.none.Statement.{statement}
 use Rattle.face.proofs.rows.RowsTold.none.Tie as tie
 
