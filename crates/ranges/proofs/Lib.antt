@@ -1,0 +1,5 @@
+-- Laws that the proofs of ranges share, and that the crates above cite.
+pub mod Covers
+pub mod RunLaws
+pub mod ApartLaws
+pub mod MergedLaws
