@@ -1,0 +1,3 @@
+-- When an old page is still good, and worked cases of what is used.
+pub mod SameScans
+pub mod AnswersAlike
