@@ -10,7 +10,7 @@ use Rattle.pointers.specs.Open.{Opened}
 use Rattle.pointers.specs.Tables.{Tables}
 use Rattle.ranges.specs.Range.{Range, covers}
 use Rattle.ranges.specs.Runs.{merged}
-use Rattle.used.specs.UsedBy.{fileLengths}
+use Rattle.used.specs.Used.{fileLengths}
 
 -- What is not a byte of a file. Of the index nothing is said: both images are opened, and its further words are the caller's.
 pub record SameTables (t u : Tables) : Type 0 where

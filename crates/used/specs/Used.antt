@@ -1,7 +1,8 @@
 -- The bytes of an image's files whose values a definition of a record, a row or a listing uses (document 02, note 13): those of each question
 -- that it asks, in order, until an answer ends it.
 use Prim.Native.Nat.{ℕ, _+_}
-use mathlib.Core.List.{List, [], _∷_, flatMap}
+use mathlib.Core.List.{List, [], _∷_, map, flatMap}
+use lib.ListN.{length}
 use Rattle.reads.specs.Outcome as outcomes
 use Rattle.reads.specs.Place as places
 use Rattle.reads.specs.Place.{Image}
@@ -81,3 +82,7 @@ uses t info = []
 
 abbrev pub used : {A : Type 0} → Tables → Decode A → List Range
 used t d = flatMap (uses t) (asks t d)
+
+-- The lengths of the files, in the order of their numbers: ranges are cut there when they are merged.
+abbrev pub fileLengths : List (List ℕ) → List ℕ
+fileLengths files = map length files
