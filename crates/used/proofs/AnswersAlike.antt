@@ -28,8 +28,8 @@ use Rattle.records.specs.Ask.{pickedIn, Ask, sum64, nonzero, even, atLeast, rea
 use Rattle.records.specs.Asks.{ifValue, ifAbsent, Each, asks}
 use Rattle.records.specs.Decode.{Decode, run}
 use Rattle.records.proofs.Asks.{each-left, each-right, Same, asks-decide}
-use Rattle.ranges.specs.Range.{Range}
-use Rattle.used.specs.Used.{placeRange, fieldRange, usesWord, usesSlotIn, usesSlot, usesPointerIn, usesPointer, usesText, nameRange, usesSymbolIn, usesSymbol, uses, used}
+use Rattle.ranges.specs.Range.{Range, range}
+use Rattle.used.specs.Used.{placeRange, usesField, usesWord, usesSlotIn, usesSlot, usesPointerIn, usesPointer, usesText, nameRange, usesSymbolIn, usesSymbol, uses, used}
 use Rattle.used.proofs.SameScans.{scan-same}
 
 -- The same tables with other files and another index.
@@ -106,9 +106,17 @@ module _ (t : Tables) (files : List (List ℕ)) (index : List ℕ)
       (λ p. placeRange p 8 ∷ []) (λ p. placeRange p 8 ∷ []) h
       (λ p g. record { outcome = ap (λ (s : List ℕ). value (le s)) (g .0); ranges = refl }))
 
-  field-alike : (k : ℕ) (p : Place) (i : ℕ) → Common (fieldRange p i k) → wordIn (t .files) k p i ≡ wordIn files k p i
-  unfolding wordIn leIn
-  field-alike k p i h = rw (lengths (p .file), h)
+  field-alike : (k : ℕ) (p : Place) (i : ℕ) → Each Common (usesField (t .files) k p i)
+      → Alike (value (wordIn (t .files) k p i)) (value (wordIn files k p i)) (usesField (t .files) k p i) (usesField files k p i)
+  unfolding wordIn leIn usesField
+  field-alike k p i h =
+      rw (← lengths (p .file))
+      record { outcome = go (leb (p .offset + i + k) (length (fileOf (t .files) (p .file)))) h; ranges = refl }
+    where
+      go : (inside : Bool) → Each Common (choose inside (range (p .file) (p .offset + i) k ∷ []) [])
+          → value (choose inside (le (part (fileOf (t .files) (p .file)) (p .offset + i) k)) 0) ≡ value (choose inside (le (part (fileOf files (p .file)) (p .offset + i) k)) 0)
+      go true h = unfold choose in ap (λ (s : List ℕ). value (le s)) (h .0)
+      go false h = unfold choose in refl
 
   slot-alike : (a : ℕ) → Each Common (usesSlot t a) → Alike (slots.slot t a) (slots.slot u a) (usesSlot t a) (usesSlot u a)
   unfolding usesSlotIn resolve stored
@@ -169,9 +177,9 @@ module _ (t : Tables) (files : List (List ℕ)) (index : List ℕ)
   answer-alike (even va) h = record { outcome = refl; ranges = refl }
   answer-alike (atLeast least size) h = record { outcome = refl; ranges = refl }
   answer-alike (readable va k) h = record { outcome = readable-alike va k; ranges = refl }
-  answer-alike (u32In p i) h = record { outcome = ap value (field-alike 4 p i (h .0)); ranges = refl }
-  answer-alike (u64In p i) h = record { outcome = ap value (field-alike 8 p i (h .0)); ranges = refl }
-  answer-alike (i32In p i) h = record { outcome = ap (λ (n : ℕ). value (signed32 n)) (field-alike 4 p i (h .0)); ranges = refl }
+  answer-alike (u32In p i) h = field-alike 4 p i h
+  answer-alike (u64In p i) h = field-alike 8 p i h
+  answer-alike (i32In p i) h = made-alike (λ (o : Outcome ℕ). andThen o (λ n. value (signed32 n))) (field-alike 4 p i h)
   answer-alike (u64At va) h = word-alike va h
   answer-alike (picked w) h = record { outcome = refl; ranges = refl }
   answer-alike (pickedAt a) h = made-alike (λ (o : Outcome ℕ). andThen o (addresses.picked (t .segments))) (word-alike a h)

@@ -2,8 +2,11 @@
 -- that it asks, in order, until an answer ends it.
 use Prim.Native.Nat.{ℕ, _+_}
 use mathlib.Core.List.{List, [], _∷_, map, flatMap}
+use lib.Dec.{leb}
 use lib.ListN.{length}
 use Rattle.reads.specs.Outcome as outcomes
+use Rattle.reads.specs.Outcome.{choose}
+use Rattle.reads.specs.Files.{fileOf}
 use Rattle.reads.specs.Place as places
 use Rattle.reads.specs.Place.{Image}
 use Rattle.reads.specs.Segment.{rows, lookup}
@@ -17,12 +20,14 @@ use Rattle.records.specs.Asks.{ifValue, ifAbsent, asks}
 use Rattle.records.specs.Decode.{Decode}
 use Rattle.ranges.specs.Range.{Range, range}
 
--- The k bytes at a place, and at i bytes from it.
+-- The k bytes at a place.
 abbrev pub placeRange : Place → ℕ → Range
 placeRange p k = range (p .file) (p .offset) k
 
-abbrev pub fieldRange : Place → ℕ → ℕ → Range
-fieldRange p i k = range (p .file) (p .offset + i) k
+-- The k bytes at i bytes from a place, where they lie in its file.
+unfoldable pub usesField : List (List ℕ) → ℕ → Place → ℕ → List Range
+usesField files k p i =
+    choose (leb (p .offset + i + k) (length (fileOf files (p .file)))) (range (p .file) (p .offset + i) k ∷ []) []
 
 -- The word of 8 bytes at an address, if it can be read.
 unfoldable pub usesWord : Image → ℕ → List Range
@@ -66,9 +71,9 @@ uses t (nonzero x) = []
 uses t (even va) = []
 uses t (atLeast least size) = []
 uses t (readable va k) = []
-uses t (u32In p i) = fieldRange p i 4 ∷ []
-uses t (u64In p i) = fieldRange p i 8 ∷ []
-uses t (i32In p i) = fieldRange p i 4 ∷ []
+uses t (u32In p i) = usesField (t .files) 4 p i
+uses t (u64In p i) = usesField (t .files) 8 p i
+uses t (i32In p i) = usesField (t .files) 4 p i
 uses t (u64At va) = usesWord (imageIn t) va
 uses t (picked w) = []
 uses t (pickedAt a) = usesWord (imageIn t) a
