@@ -3,3 +3,6 @@ pub mod Covers
 pub mod RunLaws
 pub mod ApartLaws
 pub mod MergedLaws
+pub mod BitLaws
+pub mod SheetLaws
+pub mod Shown
