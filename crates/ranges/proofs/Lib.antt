@@ -6,3 +6,6 @@ pub mod MergedLaws
 pub mod BitLaws
 pub mod SheetLaws
 pub mod Shown
+pub mod SweepLaws
+pub mod StepLaws
+pub mod WrittenLaws
