@@ -63,11 +63,11 @@ swept-more file u from n k p p′ h e =
     rw (left, here, e)
 
 -- A window, by the numbers that the code computes.
-pub window-over : (size file at left n next far start count : ℕ) (m out out′ : List ℕ) (p p′ : Progress) → left ≡ size - at → n ≡ min window left → next ≡ min (sheetNext m) left
-    → far ≡ max n next → p′ ≡ swept file (shown at m) n at p → progressOf start (output count out′) ≡ leapt file at n next p′
-    → reachedAt file (at + far) (progressOf start (output count out′)) ≡ overWindow size m (reachedAt file at p)
+pub window-over : (size file at left n next far start count : ℕ) (m words : List ℕ) (p p′ : Progress) → left ≡ size - at → n ≡ min window left → next ≡ min (sheetNext m) left
+    → far ≡ max n next → p′ ≡ swept file (shown at m) n at p → progressOf start (output count words) ≡ leapt file at n next p′
+    → reachedAt file (at + far) (progressOf start (output count words)) ≡ overWindow size m (reachedAt file at p)
 unfolding overWindow
-window-over size file at left n next far start count m out out′ p p′ a b c d e f = rw (← a, ← b, ← c, ← d, ← e) (ap (reachedAt file (at + far)) f)
+window-over size file at left n next far start count m words p p′ a b c d e f = rw (← a, ← b, ← c, ← d, ← e) (ap (reachedAt file (at + far)) f)
 
 -- What a sweep puts out, its last run too, is the runs.
 pub tell-append : (rs ss : List Range) (o : Output) → tell (rs ++ ss) o ≡ tell ss (tell rs o)

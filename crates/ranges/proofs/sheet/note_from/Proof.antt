@@ -1,3 +1,6 @@
+use Rattle.ranges.proofs.SheetLaws as laws
+use mathlib.Core.Path.{_≡_, refl, sym, ap, _∙_}
+use native.Mathlib.Omega.{arith}
 use borrow.Author.Needs.{needs}
 use Rattle.ranges.proofs.sheet.note_from.Statement.{statement}
 use Rattle.ranges.proofs.sheet.note_from.Tie as tie
@@ -8,33 +11,26 @@ use Rattle.ranges.proofs.sheet.lower.Reads as lower-reads
 use Rattle.ranges.proofs.sheet.set_bits.Reads as set-bits-reads
 use Rattle.reads.proofs.order.greatest.Reads as greatest-reads
 
--- src/sheet.rt:64:9
 less-requires : tie.Need-less-requires
 less-requires c κs = search needs
 
--- src/sheet.rt:66:9
 set-bits-requires : tie.Need-set-bits-requires
-set-bits-requires c κs = search needs
+set-bits-requires c κs = let room = c .before .before .less .ensures in omega arith
 
--- src/sheet.rt:67:9
 returns : tie.Need-returns
-returns c = search needs
+returns c = laws.from-inside _ _ _ _ _ (c .before .before .before .less .ensures) (omega arith) (c .set-bits .ensures)
 
--- src/sheet.rt:69:5
 set-bits-requires-2 : tie.Need-set-bits-requires-2
-set-bits-requires-2 c κs = search needs
+set-bits-requires-2 c κs = let room = c .before .before .less .ensures in omega arith
 
--- src/sheet.rt:70:18
 greatest-requires : tie.Need-greatest-requires
 greatest-requires c κs = search needs
 
--- src/sheet.rt:70:5
 lower-requires : tie.Need-lower-requires
 lower-requires c κs = search needs
 
--- src/sheet.rt:61:1
 returns-2 : tie.Need-returns-2
-returns-2 c = search needs
+returns-2 c = laws.from-beyond _ _ _ _ _ _ _ (c .before .before .before .before .before .before .less .ensures) (omega arith) (c .before .before .before .set-bits2 .ensures) (c .before .greatest .ensures) (c .lower .ensures)
 
 pub note-from-spec : {M : Type 1} → statement M
 note-from-spec =
