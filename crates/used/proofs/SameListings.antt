@@ -1,233 +1,61 @@
--- When an old page is still good (document 02, note 13): the listing is the same, its text, and the ranges.
-use Prim.Native.Nat.{ℕ, zero, suc, _+_}
-use mathlib.Core.Path.{_≡_, refl, sym, ap, _∙_, subst}
-use mathlib.Core.Bool.{Bool, true, false}
-use mathlib.Core.List.{List, [], _∷_, _++_, map, flatMap}
-use lib.ListN.{length}
-use Rattle.reads.specs.Outcome.{Outcome, value, absent, number, andThen, choose}
-use Rattle.reads.specs.Files.{fileOf}
-use Rattle.reads.specs.declared.text.Text.{Text}
+-- When an old page is still good (document 02, note 13): the lines are the same, and the ranges; and so are the bytes of the lines' texts.
+use Prim.Native.Nat.{ℕ}
+use mathlib.Core.Path.{_≡_, sym, ap, _∙_, subst}
+use mathlib.Core.List.{List, _∷_}
+use Rattle.reads.specs.Outcome.{Outcome, value, andThen}
 use Rattle.reads.proofs.Outcomes.{then-came}
 use Rattle.pointers.specs.Tables.{Tables}
+use Rattle.pointers.specs.declared.setting.Setting.{Setting}
 use Rattle.records.specs.Asks.{Each}
-use Rattle.records.specs.Category.{decodeCategory}
-use Rattle.records.specs.Class.{decodeClass, decodeRoOf, decodeClassNameOf}
-use Rattle.records.specs.Decode.{Decode, Tried, given, lacking, run, done, then, tried, nonzero}
-use Rattle.records.specs.List.{decodeList, entryAddress}
-use Rattle.records.specs.Protocol.{decodeProtocol}
-use Rattle.records.specs.Row.{decodeRow}
-use Rattle.records.specs.declared.list.Layout.{Layout}
-use Rattle.records.specs.declared.row.Row.{Row}
-use Rattle.records.specs.declared.row.Row.the-variants as row
-use Rattle.walks.specs.ProtocolNames.{hasSlot, slotIn, decodeProtocolList, decodeProtocolName, decodeProtocolNameIn, decodeNameIn}
-use Rattle.walks.specs.Slots.{decodeAddress, slotsOf}
-use Rattle.walks.specs.declared.protocol_names.ProtocolList.{ProtocolList}
-use Rattle.walks.specs.declared.slots.Lists.the-variants.{Protocols}
-use Rattle.frames.specs.Frames.{Frames}
-use Rattle.listing.specs.DecodeListing.{joined, gather, orNothing, ofValue, present, asEach, decodeClasses, decodeCategories, decodeProtocols, decodeRecords, decodeSlotNames, decodeProtocolNames, namedBy, decodeNamed, decodeOwnLines, decodeFields, decodeReadables, decodeEntryLines, decodeFieldLines, decodeFieldsLines, decodeLinesOf, decodeEventsFrom, decodeListing}
-use Rattle.listing.specs.PlainListing.{versionAndFlags, infoLine, classLine, categoryLine, rowLine, nameLine, endLine, Field, rowList, nameList, plainListing}
-use Rattle.listing.specs.declared.at.Record.{Record}
-use Rattle.listing.specs.declared.at.Record.the-variants as aRecord
+use Rattle.records.specs.Decode.{run}
+use Rattle.listing.specs.DecodeListing.{decodeListing}
+use Rattle.listing.specs.PlainListing.{versionAndFlags, infoLine, plainListing}
 use Rattle.listing.specs.declared.line.Line.{Line}
-use Rattle.listing.specs.declared.line.Line.the-variants as line
-use Rattle.listing.specs.declared.line.Named.{Named}
-use Rattle.listing.specs.declared.line.Named.the-variants as named
 use Rattle.listing.proofs.DecodedListing.{listing-runs}
-use Rattle.marking.specs.Marked.{startsIn, marked, markedLines, markedListing}
-use Rattle.printing.specs.BundleText.{listingText}
-use Rattle.printing.specs.LineText.{partField, textField, textFields, namedField, classText, roText, protocolText, categoryText, methodText, ivarText, propertyText, nameText, rowText, fieldsText, lineText}
-use Rattle.used.specs.Used.{used}
+use Rattle.ranges.specs.Range.{Range}
+use Rattle.ranges.specs.Runs.{merged}
+use Rattle.used.specs.Used.{used, fileLengths}
+use Rattle.used.specs.UsedBy.{usedBy, rangesUsed}
 use Rattle.used.specs.StillGood.{StillGood}
-use Rattle.used.proofs.AnswersAlike.{SamePart}
-use Rattle.used.proofs.Yields.{Yields, IfGiven, yields-done, yields-then, yields-next, yields-else-first, yields-when, yields-tried}
-use Rattle.used.proofs.SameTexts.{SameText, Gives, SameRow, symbol-gives, ro-of-gives, class-name-of-gives, protocol-gives, category-gives, row-gives}
+use Rattle.used.proofs.AnswersAlike.{Alike}
+use Rattle.used.proofs.StillGoods.{merged-parts, still-good}
+use Rattle.used.proofs.SameLines.{SameLine, listing-gives}
 
--- What holds of each of two lists holds of each of both together, and of each of a list made from one.
-each-append : {A : Type 0} (P : A → Type 0) (xs ys : List A) → Each P xs → Each P ys → Each P (xs ++ ys)
-each-append P [] ys h g = g
-each-append P (x ∷ xs) ys h g = (h .0, each-append P xs ys (h .1) g)
+module _ (t u : Tables) (good : StillGood t u (usedBy t)) where
+  decoded : StillGood t u (used t (decodeListing (t .sections)))
+  unfolding usedBy
+  decoded = good
 
-each-map : {A B : Type 0} (P : A → Type 0) (R : B → Type 0) (f : A → B) → ((a : A) → P a → R (f a)) → (xs : List A) → Each P xs → Each R (map f xs)
-each-map P R f k [] h = tt
-each-map P R f k (x ∷ xs) h = (k x (h .0), each-map P R f k xs (h .1))
+  alike : Alike (run t (decodeListing (t .sections))) (run u (decodeListing (t .sections))) (used t (decodeListing (t .sections))) (used u (decodeListing (t .sections)))
+  alike = still-good t u (decodeListing (t .sections)) decoded
 
-module _ (t : Tables) (others : List (List ℕ)) where
-  -- The words of DecodeListing.antt.
-  gives-joined : {A : Type 0} (P : A → Type 0) {d e : Decode (List A)} → Gives t others (Each P) d → Gives t others (Each P) e → Gives t others (Each P) (joined d e)
-  gives-joined P first second =
-      yields-then t _ first (λ xs here. yields-then t _ second (λ ys there. yields-done t _ (each-append P xs ys here there)))
+  -- Line I is made of the image info and the setting; the others of what the definition gives.
+  abbrev listed : List ℕ → Setting → Outcome (List Line) → Outcome (List Line)
+  listed info setting o = andThen o (λ lines. value (infoLine (versionAndFlags info) setting ∷ lines))
 
-  gives-gather : {A B : Type 0} (R : A → Type 0) (P : B → Type 0) {f : A → Decode (List B)} → ((a : A) → R a → Gives t others (Each P) (f a)) → (xs : List A) → Each R xs
-      → Gives t others (Each P) (gather f xs)
-  unfolding gather
-  gives-gather R P each [] h = yields-done t _ tt
-  gives-gather R P each (x ∷ xs) h = gives-joined P (each x (h .0)) (gives-gather R P each xs (h .1))
+  pub same-lines : plainListing t ≡ plainListing u
+  same-lines =
+      let same = good .tables in
+      sym (listing-runs t)
+      ∙ ap (listed (t .info) (t .setting)) (alike .outcome)
+      ∙ ap (λ (ws : List ℕ). listed (t .info) (t .setting) (run u (decodeListing ws))) (same .sections)
+      ∙ ap (λ (info : List ℕ). listed info (t .setting) (run u (decodeListing (u .sections)))) (same .info)
+      ∙ ap (λ (setting : Setting). listed (u .info) setting (run u (decodeListing (u .sections)))) (same .setting)
+      ∙ listing-runs u
 
-  any : {A : Type 0} (xs : List A) → Each (λ _. Unit {0}) xs
-  any [] = tt
-  any (x ∷ xs) = (tt, any xs)
+  pub same-ranges : rangesUsed t ≡ rangesUsed u
+  unfolding rangesUsed usedBy
+  same-ranges =
+      let same = good .tables in
+      ap (λ (ns : List ℕ). merged ns (used t (decodeListing (t .sections)))) (same .lengths)
+      ∙ ap (merged (fileLengths (u .files))) (alike .ranges)
+      ∙ ap (λ (ws : List ℕ). merged (fileLengths (u .files)) (used u (decodeListing ws))) (same .sections)
 
-  gives-all : {A B : Type 0} (P : B → Type 0) {f : A → Decode (List B)} → ((a : A) → Gives t others (Each P) (f a)) → (xs : List A) → Gives t others (Each P) (gather f xs)
-  gives-all P each xs = gives-gather (λ _. Unit {0}) P (λ a _. each a) xs (any xs)
-
-  gives-of : {A B : Type 0} {R : A → Type 0} (P : B → Type 0) {d : Decode A} (f : A → Decode (List B)) → Gives t others R d → ((a : A) → R a → Gives t others (Each P) (f a))
-      → Gives t others (Each P) (ofValue d f)
-  gives-of {A} {B} {R} P f first next = yields-then t _ (yields-tried t _ first) by-trial
-    where
-      by-trial : (x : Tried A) → IfGiven R x → Gives t others (Each P) (orNothing f x)
-      by-trial (given a) h = next a h
-      by-trial (lacking r) h = yields-done t _ tt
-
-  gives-of-any : {A B : Type 0} (P : B → Type 0) {d : Decode A} (f : A → Decode (List B)) → ((a : A) → Gives t others (Each P) (f a)) → Gives t others (Each P) (ofValue d f)
-  gives-of-any P f next = gives-of {R = λ _. Unit {0}} P f (record { holds = λ each a e. tt }) (λ a _. next a)
-
-  gives-present : {A : Type 0} (P : A → Type 0) {d : Decode A} → Gives t others P d → Gives t others (Each P) (present d)
-  gives-present P h = gives-of P (λ a. done (a ∷ [])) h (λ a k. yields-done t _ (k, tt))
-
-  gives-each : {A B : Type 0} (P : A → Type 0) (R : B → Type 0) (f : A → B) {d : Decode (List A)} → ((a : A) → P a → R (f a)) → Gives t others (Each P) d → Gives t others (Each R) (asEach f d)
-  gives-each P R f k h = yields-then t _ h (λ xs held. yields-done t _ (each-map P R f k xs held))
-
-  -- A record's name, where it has one; a line's texts.
-  abbrev SameRecord : Record → Type 0
-  SameRecord (aRecord.Class c) = Unit {0}
-  SameRecord (aRecord.Protocol p) = SameText t others (p .name)
-  SameRecord (aRecord.Category c) = SameText t others (c .name)
-
-  abbrev SameNamed : Named → Type 0
-  SameNamed (named.Text x) = SameText t others x
-  SameNamed named.Nothing = Unit {0}
-
-  abbrev SameLine : Line → Type 0
-  SameLine (line.Info i) = Unit {0}
-  SameLine (line.Class l) = SameNamed (l .«superclass_name»)
-  SameLine (line.Ro r) = SameText t others (r .name)
-  SameLine (line.Protocol p) = SameText t others (p .name)
-  SameLine (line.Category l) = SameText t others (l .category .name) × SameNamed (l .«class_name»)
-  SameLine (line.Row l) = SameRow t others (l .row)
-  SameLine (line.Name l) = SameText t others (l .name)
-  SameLine (line.End l) = Unit {0}
-
-  -- Whatever a definition gives.
-  gives-any : {A : Type 0} {P : A → Type 0} (d : Decode A) → ((a : A) → P a) → Gives t others P d
-  gives-any d h = record { holds = λ each a e. h a }
-
-  records-give : (ws : List ℕ) → Gives t others (Each SameRecord) (decodeRecords ws)
-  unfolding decodeRecords decodeProtocols decodeCategories
-  records-give ws =
-      gives-joined SameRecord
-      (yields-next t _ (λ cs. yields-done t _ (each-map (λ _. Unit {0}) SameRecord aRecord.Class (λ c _. tt) cs (any cs))))
-      (gives-joined SameRecord
-      (gives-each (λ p. SameText t others (p .name)) SameRecord aRecord.Protocol (λ p same. same)
-      (gives-all _ (λ a. gives-of-any _ _ (λ p. gives-present _ (protocol-gives t others p))) (slotsOf Protocols ws)))
-      (gives-each (λ c. SameText t others (c .name)) SameRecord aRecord.Category (λ c same. same)
-      (yields-next t _ (gives-all _ (λ a. gives-present _ (category-gives t others a))))))
-
-  named-gives : (d : Decode Text) → Gives t others (SameText t others) d → Gives t others SameNamed (decodeNamed d)
-  named-gives d h = yields-then t _ (yields-tried t _ h) by-trial
-    where
-      by-trial : (x : Tried Text) → IfGiven (SameText t others) x → Gives t others SameNamed (done (namedBy x))
-      by-trial (given name) same = yields-done t _ same
-      by-trial (lacking r) h = yields-done t _ tt
-
-  own-lines-give : (x : Record) → SameRecord x → Gives t others (Each SameLine) (decodeOwnLines x)
-  unfolding decodeOwnLines
-  own-lines-give (aRecord.Class c) h =
-      yields-then t _ (named-gives (decodeClassNameOf (c .address) (c .«superclass_address»)) (class-name-of-gives t others (c .address) (c .«superclass_address»))) (λ name same.
-      gives-joined SameLine (yields-done t _ (same, tt)) (gives-of SameLine (λ r. done (line.Ro r ∷ [])) (ro-of-gives t others c) (λ r alike. yields-done t _ (alike, tt))))
-  own-lines-give (aRecord.Protocol p) h = yields-done t _ (h, tt)
-  own-lines-give (aRecord.Category c) h =
-      yields-then t _ (named-gives (decodeClassNameOf (c .address) (c .«class_address»)) (class-name-of-gives t others (c .address) (c .«class_address»))) (λ name same. yields-done t _ ((h, same), tt))
-
-  protocol-name-gives : (a : ℕ) → Gives t others (SameText t others) (decodeNameIn a)
-  unfolding decodeNameIn decodeProtocolNameIn decodeProtocolName
-  protocol-name-gives a =
-      yields-else-first t _
-      (yields-next t _ (λ va. yields-next t _ (λ b. yields-then t _ (protocol-gives t others b) (λ p same. yields-done t _ same))))
-      (symbol-gives t others a)
-
-  slot-names-give : (l : ProtocolList) (i k : ℕ) → Gives t others (Each (SameText t others)) (decodeSlotNames l i k)
-  unfolding decodeSlotNames
-  slot-names-give l i zero = yields-done t _ tt
-  slot-names-give l i (suc k) =
-      yields-when t _ (gives-joined (SameText t others) (gives-present _ (protocol-name-gives (slotIn l i))) (slot-names-give l (i + 1) k)) (yields-done t _ tt)
-
-  names-give : (va : ℕ) → Gives t others (Each (SameText t others)) (decodeProtocolNames va)
-  unfolding decodeProtocolNames
-  names-give va = gives-of-any _ _ (λ l. slot-names-give l 0 (l .count))
-
-  field-lines-give : (n : ℕ) (f : Field) → Gives t others (Each SameLine) (decodeFieldLines n f)
-  unfolding decodeFieldLines
-  field-lines-give n (rowList k va) =
-      gives-of-any SameLine _ (λ h. yields-next t _ (λ js.
-      gives-all SameLine (λ j. gives-of SameLine (λ r. done (rowLine n r ∷ [])) (row-gives t others (h .kind) (entryAddress h j)) (λ r same. yields-done t _ (same, tt))) js))
-  field-lines-give n (nameList va) = gives-each (SameText t others) SameLine (nameLine n) (λ name same. same) (names-give va)
-
-  fields-lines-give : (n : ℕ) (fs : List Field) → Gives t others (Each SameLine) (decodeFieldsLines n fs)
-  unfolding decodeFieldsLines
-  fields-lines-give n [] = yields-done t _ tt
-  fields-lines-give n (f ∷ fs) = gives-joined SameLine (field-lines-give n f) (fields-lines-give (suc n) fs)
-
-  lines-give : (x : Record) → SameRecord x → Gives t others (Each SameLine) (decodeLinesOf x)
-  unfolding decodeLinesOf
-  lines-give x h = gives-joined SameLine (own-lines-give x h) (yields-next t _ (fields-lines-give 0))
-
-  listing-gives : (ws : List ℕ) → Gives t others (Each SameLine) (decodeListing ws)
-  unfolding decodeListing
-  listing-gives ws =
-      yields-then t _ (records-give ws) (λ records alike.
-      yields-then t _ (gives-gather SameRecord SameLine lines-give records alike) (λ lines same.
-      yields-next t _ (λ events.
-      yields-done t _ (each-append SameLine lines (endLine (length records) (length events) ∷ []) same (tt, tt)))))
-
-  -- A mark changes no text.
-  marked-same : (w : Frames) (x : Line) → SameLine x → SameLine (marked w x)
-  unfolding marked
-  marked-same w (line.Info i) h = h
-  marked-same w (line.Class l) h = h
-  marked-same w (line.Ro r) h = h
-  marked-same w (line.Protocol p) h = h
-  marked-same w (line.Category l) h = h
-  marked-same w (line.Row l) h = h
-  marked-same w (line.Name l) h = h
-  marked-same w (line.End l) h = h
-
--- Lines whose texts are the same in both are printed alike.
-module _ (t : Tables) (others : List (List ℕ)) (lengths : (f : ℕ) → length (fileOf (t .files) f) ≡ length (fileOf others f)) where
-  text-printed : (x : Text) → SameText t others x → textField (t .files) x ≡ textField others x
-  unfolding textField partField
-  text-printed x h = rw (lengths (x .file), h)
-
-  named-printed : (x : Named) → SameNamed t others x → namedField (t .files) x ≡ namedField others x
-  named-printed (named.Text x) h = text-printed x h
-  named-printed named.Nothing h = refl
-
-  texts-printed : (x y : Text) → SameText t others x → SameText t others y → textFields (t .files) x y ≡ textFields others x y
-  unfolding textFields
-  texts-printed x y h g = rw (text-printed x h, text-printed y g)
-
-  fields-printed : (x : Line) → SameLine t others x → fieldsText (t .files) x ≡ fieldsText others x
-  unfolding classText roText protocolText categoryText nameText
-  fields-printed (line.Info i) h = refl
-  fields-printed (line.Class l) h = rw (named-printed (l .«superclass_name») h)
-  fields-printed (line.Ro r) h = rw (text-printed (r .name) h)
-  fields-printed (line.Protocol p) h = rw (text-printed (p .name) h)
-  fields-printed (line.Category l) h = rw (text-printed (l .category .name) (h .0), named-printed (l .«class_name») (h .1))
-  fields-printed (line.Row l) h = row-printed (l .list) (l .mark) (l .row) h
-    where
-      row-printed : (n mark : ℕ) (r : Row) → SameRow t others r → rowText (t .files) n r mark ≡ rowText others n r mark
-      row-printed n mark (row.Method m) h = unfold methodText in rw (texts-printed (m .selector) (m .types) (h .0) (h .1))
-      row-printed n mark (row.Ivar v) h = unfold ivarText in rw (texts-printed (v .name) (v .«type_encoding») (h .0) (h .1))
-      row-printed n mark (row.Property p) h = unfold propertyText in rw (texts-printed (p .name) (p .attributes) (h .0) (h .1))
-  fields-printed (line.Name l) h = rw (text-printed (l .name) h)
-  fields-printed (line.End l) h = refl
-
-  lines-printed : (xs : List Line) → Each (SameLine t others) xs → flatMap (lineText (t .files)) xs ≡ flatMap (lineText others) xs
-  unfolding flatMap lineText
-  lines-printed [] h = refl
-  lines-printed (x ∷ xs) h = rw (fields-printed x (h .0), lines-printed xs (h .1))
-
-  -- Of whatever the listing gives.
-  pub listing-printed : (o : Outcome (List Line)) → ((xs : List Line) → o ≡ value xs → Each (SameLine t others) xs) → listingText (t .files) o ≡ listingText others o
-  listing-printed (value xs) h = lines-printed xs (h xs refl)
-  listing-printed (absent r) h = refl
-  listing-printed (number k) h = refl
+  -- Whatever lines the listing has, their texts are the same.
+  pub same-texts : (lines : List Line) → plainListing t ≡ value lines → Each (SameLine t (u .files)) lines
+  same-texts lines e =
+      let came = then-came (run t (decodeListing (t .sections))) _ lines (listing-runs t ∙ e) in
+      let parts = merged-parts (t .files) (u .files) (good .tables .lengths) (used t (decodeListing (t .sections))) (decoded .bytes) in
+      let each = listing-gives t (u .files) (t .sections) .holds parts (came .0) (came .1) in
+      let is : infoLine (versionAndFlags (t .info)) (t .setting) ∷ came .0 ≡ lines = cc in
+      subst (Each (SameLine t (u .files))) is (tt, each)

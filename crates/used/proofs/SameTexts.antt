@@ -124,7 +124,7 @@ module _ (t : Tables) (others : List (List ℕ)) where
       λ s. ap (take (name .len - n)) (sym (drop-drop n (name .offset) s)) ∙ sym (drop-of-take n (name .len) (drop (name .offset) s)) in
       from bytes ∙ ap (drop n) h ∙ sym (from (fileOf others (name .file)))
 
-  symbol-gives : (a : ℕ) → Gives SameText (symbol a)
+  pub symbol-gives : (a : ℕ) → Gives SameText (symbol a)
   symbol-gives a = record { holds = λ each x e. go x (subst (Each (SamePart (t .files) others)) (used-asked t (ask.symbol a)) each) e }
     where
       go : (x : Text) → Each (SamePart (t .files) others) (usesSymbolIn (t .files) (t .rebases) (t .binds) (t .index) a)
