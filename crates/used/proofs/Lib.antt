@@ -7,3 +7,5 @@ pub mod SameTexts
 pub mod StillGoods
 pub mod SameLines
 pub mod SameListings
+pub mod UsedCases
+pub mod HubUsed
