@@ -1,7 +1,7 @@
 -- A sheet on which the bytes that a definition uses are noted, taken question by question, as the code takes it.
 use Prim.Native.Nat.{ℕ}
 use mathlib.Core.Path.{_≡_, refl, sym, ap, _∙_}
-use mathlib.Core.Bool.{Bool, true, false, true≢false}
+use mathlib.Core.Bool.{Bool, true, false, not, true≢false}
 use mathlib.Core.List.{List, [], _∷_, _++_}
 use Rattle.reads.specs.Answer.{missed}
 use Rattle.reads.specs.Breaks.{isValue}
@@ -16,10 +16,10 @@ use Rattle.records.specs.Ask as ask
 use Rattle.records.specs.Ask.{Ask, Answer, answer}
 use Rattle.records.specs.Class.{decodeData}
 use Rattle.records.specs.Asks.{ifValue, ifAbsent}
-use Rattle.records.specs.Decode.{Decode, asked, run, done, then, else, elseFirst, when, or0, orEmpty, u32In, i32In, u64In, slot, pointer, pointerOr0, string}
+use Rattle.records.specs.Decode.{Decode, asked, run, done, then, else, elseFirst, when, or0, orEmpty, sum64, nonzero, even, atLeast, readable, u32In, i32In, u64In, u64At, slot, pointer, pointerOr0, string, symbol}
 use Rattle.ranges.specs.Range.{Range}
 use Rattle.ranges.specs.Sheet.{notedAll}
-use Rattle.used.specs.Used.{uses, used, usesField, usesSlot, usesPointer, usesText}
+use Rattle.used.specs.Used.{uses, used, usesField, usesWord, usesSlot, usesPointer, usesText, usesSymbol}
 use Rattle.used.proofs.UsedParts.{used-done, used-asked, used-then, used-else, used-else-first, used-when}
 use Rattle.usage.specs.Traced.{traced, going, goingOn, goingAfter}
 
@@ -64,28 +64,26 @@ module _ (t : Tables) {m : List ℕ} where
   unfolding notedAll
   ends {a = a} = record { noted = ap (λ (l : List Range). notedAll l m) (sym (used-done t a)) }
 
-  -- A question that is answered by a call, and its bytes noted.
-  module _ {W : Type 0} {q : Ask} (out : W → Outcome (Answer q)) {B : Type 0} {f : Answer q → Decode B} {w v : W} where
-    pub reads-value : {a : Answer q} {m′ n : List ℕ} → out w ≡ answer t q → m′ ≡ notedAll (uses t q) m → w ≡ v → out v ≡ value a → Notes t (f a) m′ n
-        → Notes t (then (asked q) f) m n
-    reads-value {a} e h g i next = past (asked q) f a (sym e ∙ ap out g ∙ i) (one t m q h) next
+  -- A part that is answered by a call, and its bytes noted.
+  module _ {W A B : Type 0} {d : Decode A} {f : A → Decode B} (out : W → Outcome A) {w v : W} where
+    pub reads-value : {a : A} {m′ n : List ℕ} → out w ≡ run t d → m′ ≡ notedAll (used t d) m → w ≡ v → out v ≡ value a → Notes t (f a) m′ n → Notes t (then d f) m n
+    reads-value {a} e h g i next = past d f a (sym e ∙ ap out g ∙ i) h next
 
-    pub reads-stop : (k : Missing) {n : List ℕ} → out w ≡ answer t q → n ≡ notedAll (uses t q) m → w ≡ v → out v ≡ missed k → Notes t (then (asked q) f) m n
-    reads-stop k e h g i = stops (asked q) f k (sym e ∙ ap out g ∙ i) (one t m q h)
+    pub reads-stop : (k : Missing) {n : List ℕ} → out w ≡ run t d → n ≡ notedAll (used t d) m → w ≡ v → out v ≡ missed k → Notes t (then d f) m n
+    reads-stop k e h g i = stops d f k (sym e ∙ ap out g ∙ i) h
 
     -- One that uses nothing.
-    pub tests-value : {a : Answer q} {n : List ℕ} → out w ≡ answer t q → uses t q ≡ [] → w ≡ v → out v ≡ value a → Notes t (f a) m n → Notes t (then (asked q) f) m n
+    pub tests-value : {a : A} {n : List ℕ} → out w ≡ run t d → used t d ≡ [] → w ≡ v → out v ≡ value a → Notes t (f a) m n → Notes t (then d f) m n
     unfolding notedAll
     tests-value e h g i next = reads-value e (ap (λ (l : List Range). notedAll l m) (sym h)) g i next
 
-    pub tests-stop : (k : Missing) → out w ≡ answer t q → uses t q ≡ [] → w ≡ v → out v ≡ missed k → Notes t (then (asked q) f) m m
+    pub tests-stop : (k : Missing) → out w ≡ run t d → used t d ≡ [] → w ≡ v → out v ≡ missed k → Notes t (then d f) m m
     unfolding notedAll
     tests-stop k e h g i = reads-stop k e (ap (λ (l : List Range). notedAll l m) (sym h)) g i
 
   -- One that has a value in any case, as a field.
-  pub sure : {q : Ask} {B : Type 0} {f : Answer q → Decode B} {a : Answer q} {m′ n : List ℕ} → answer t q ≡ value a → m′ ≡ notedAll (uses t q) m → Notes t (f a) m′ n
-      → Notes t (then (asked q) f) m n
-  sure {q} {f = f} {a = a} e h next = past (asked q) f a e (one t m q h) next
+  pub sure : {A B : Type 0} {d : Decode A} {f : A → Decode B} {a : A} {m′ n : List ℕ} → run t d ≡ value a → m′ ≡ notedAll (used t d) m → Notes t (f a) m′ n → Notes t (then d f) m n
+  sure {d = d} {f = f} {a = a} e h next = past d f a e h next
 
   -- A part of which only whether it gives a value is known.
   module _ {A B : Type 0} {d : Decode A} {f : A → Decode B} {b : Bool} {m′ : List ℕ} where
@@ -122,14 +120,14 @@ module _ (t : Tables) {m : List ℕ} where
   slot-goes {a} {b} {m′} e =
       record { is = e ∙ ap (λ (l : List Range). goingOn (orZero (slots.slot t a)) (notedAll l m)) (sym (used-else t (slot a) (done 0) ∙ whole (slots.slot t a))) }
     where
-      whole : (o : Outcome ℕ) → used t (slot a) ++ ifAbsent o (used t (done 0)) ≡ usesSlot t a
+      whole : (o : Outcome ℕ) → used t (slot a) ++ ifAbsent o (used {A = ℕ} t (done 0)) ≡ usesSlot t a
       whole (value x) = append-none (used t (slot a)) ∙ used-asked t (ask.slot a)
       whole (absent r) = ap (λ (l : List Range). used t (slot a) ++ l) (used-done t 0) ∙ append-none (used t (slot a)) ∙ used-asked t (ask.slot a)
       whole (number k) = append-none (used t (slot a)) ∙ used-asked t (ask.slot a)
 
   -- A definition that is itself a part, by the sheet and by whether it gives a value.
   both : {A : Type 0} (d : Decode A) {n : List ℕ} {c : Bool} → Notes t d m n → c ≡ isValue (run t d) → Goes t d m n c
-  both d h e = record { is = ap (λ (x : Bool). going x _) e ∙ ap (going (isValue (run t d))) (h .noted) }
+  both d {n} h e = record { is = ap (λ (x : Bool). going x n) e ∙ ap (going (isValue (run t d))) (h .noted) }
 
   module _ {A B : Type 0} {d : Decode A} {f : A → Decode B} {b : Bool} {m′ : List ℕ} where
     pub part-value : {c : Bool} {n : List ℕ} → Goes t d m m′ b → b ≡ true → ((a : A) → Goes t (f a) m′ n c) → Goes t (then d f) m n c
@@ -159,10 +157,6 @@ module _ (t : Tables) {m : List ℕ} where
       go (absent r) = refl
       go (number k) = refl
 
-  -- The last question of a definition, which is not answered.
-  pub asks-last : {q : Ask} {B : Type 0} {f : Answer q → Decode B} {n : List ℕ} → n ≡ notedAll (uses t q) m → ((a : Answer q) → used t (f a) ≡ []) → Notes t (then (asked q) f) m n
-  asks-last {q} h none = goes-last (one t m q h) none
-
 pub noted-of : (t : Tables) {A : Type 0} (d : Decode A) {m n : List ℕ} → Notes t d m n → n ≡ notedAll (used t d) m
 noted-of t d h = h .noted
 
@@ -173,6 +167,75 @@ pub goes-by : (t : Tables) {A : Type 0} (d : Decode A) {m n : List ℕ} {b : Boo
 goes-by t d e = record { is = e }
 
 -- The data address is made of a word that was read before.
+nothing-first : (t : Tables) {A : Type 0} (o : Outcome A) (us : A → List Range) → ((a : A) → us a ≡ []) → ifValue o us ≡ []
+nothing-first t (value a) us h = h a
+nothing-first t (absent r) us h = refl
+nothing-first t (number k) us h = refl
+
+nothing-else : {A : Type 0} (o : Outcome A) (rs : List Range) → rs ≡ [] → ifAbsent o rs ≡ []
+nothing-else (value a) rs e = refl
+nothing-else (absent r) rs e = e
+nothing-else (number k) rs e = refl
+
 pub data-uses : (t : Tables) {B : Type 0} (a raw : ℕ) (f : ℕ → B) → used t (then (or0 (decodeData a raw)) (λ x. done (f x))) ≡ []
 unfolding decodeData
-data-uses t a raw f = ?data
+data-uses t a raw f =
+    let first : used t (asked (ask.rebase a)) ≡ [] = used-asked t (ask.rebase a) in
+    let second : used t (asked (ask.picked raw)) ≡ [] = used-asked t (ask.picked raw) in
+    let target : used t (else (asked (ask.rebase a)) (asked (ask.picked raw))) ≡ [] =
+    used-else t (asked (ask.rebase a)) (asked (ask.picked raw)) ∙ rw first (nothing-else (slots.rebase t a) (used t (asked (ask.picked raw))) second) in
+    let whole : used t (or0 (else (asked (ask.rebase a)) (asked (ask.picked raw)))) ≡ [] =
+    used-else t (else (asked (ask.rebase a)) (asked (ask.picked raw))) (done 0) ∙ rw target (nothing-else (run t (else (asked (ask.rebase a)) (asked (ask.picked raw)))) (used {A = ℕ} t (done 0)) (used-done t 0)) in
+    used-then t (or0 (else (asked (ask.rebase a)) (asked (ask.picked raw)))) (λ x. done (f x))
+    ∙ rw whole (nothing-first t (run t (or0 (else (asked (ask.rebase a)) (asked (ask.picked raw))))) (λ x. used t (done (f x))) (λ x. used-done t (f x)))
+
+-- A test of a call's answer.
+pub not-true : {b : Bool} → not b ≡ true → b ≡ false
+not-true {b = true} e = absurd (true≢false (sym e))
+not-true {b = false} e = refl
+
+pub not-false : {b : Bool} → not b ≡ false → b ≡ true
+not-false {b = true} e = refl
+not-false {b = false} e = absurd (true≢false e)
+
+-- Questions that use nothing, and the others, each with its bytes.
+module _ (t : Tables) where
+  pub no-readable : (va k : ℕ) → used t (readable va k) ≡ []
+  no-readable va k = used-asked t (ask.readable va k)
+
+  pub no-sum : (va k : ℕ) → used t (sum64 va k) ≡ []
+  no-sum va k = used-asked t (ask.sum64 va k)
+
+  pub no-nonzero : (x : ℕ) → used t (nonzero x) ≡ []
+  no-nonzero x = used-asked t (ask.nonzero x)
+
+  pub no-even : (va : ℕ) → used t (even va) ≡ []
+  no-even va = used-asked t (ask.even va)
+
+  pub no-least : (least size : ℕ) → used t (atLeast least size) ≡ []
+  no-least least size = used-asked t (ask.atLeast least size)
+
+module _ (t : Tables) (m : List ℕ) where
+  pub slot-noted : (a : ℕ) {n : List ℕ} → n ≡ notedAll (usesSlot t a) m → n ≡ notedAll (used t (slot a)) m
+  slot-noted a h = one t m (ask.slot a) h
+
+  pub pointer-noted : (va k : ℕ) {n : List ℕ} → n ≡ notedAll (usesPointer t va k) m → n ≡ notedAll (used t (pointer va k)) m
+  pointer-noted va k h = one t m (ask.pointer va k) h
+
+  pub u32-noted : (p : Place) (i : ℕ) {n : List ℕ} → n ≡ notedAll (usesField (t .files) 4 p i) m → n ≡ notedAll (used t (u32In p i)) m
+  u32-noted p i h = one t m (ask.u32In p i) h
+
+  pub i32-noted : (p : Place) (i : ℕ) {n : List ℕ} → n ≡ notedAll (usesField (t .files) 4 p i) m → n ≡ notedAll (used t (i32In p i)) m
+  i32-noted p i h = one t m (ask.i32In p i) h
+
+  pub u64-noted : (p : Place) (i : ℕ) {n : List ℕ} → n ≡ notedAll (usesField (t .files) 8 p i) m → n ≡ notedAll (used t (u64In p i)) m
+  u64-noted p i h = one t m (ask.u64In p i) h
+
+  pub word-noted : (va : ℕ) {n : List ℕ} → n ≡ notedAll (usesWord (imageIn t) va) m → n ≡ notedAll (used t (u64At va)) m
+  word-noted va h = one t m (ask.u64At va) h
+
+  pub string-noted : (va : ℕ) {n : List ℕ} → n ≡ notedAll (usesText (imageIn t) va) m → n ≡ notedAll (used t (string va)) m
+  string-noted va h = one t m (ask.string va) h
+
+  pub symbol-noted : (a : ℕ) {n : List ℕ} → n ≡ notedAll (usesSymbol t a) m → n ≡ notedAll (used t (symbol a)) m
+  symbol-noted a h = one t m (ask.symbol a) h
