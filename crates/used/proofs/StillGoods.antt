@@ -17,7 +17,9 @@ use Rattle.pointers.specs.Chain.{lastRecord}
 use Rattle.pointers.specs.Index.{bindNexts}
 use Rattle.pointers.specs.Open.{Opened}
 use Rattle.pointers.specs.Question.{question, bindLent, bindInside, bindUtf8}
-use Rattle.pointers.specs.Slot.{rebaseAt, bindName, bindAt, rebase}
+use Rattle.pointers.specs.Slot.{rebaseNumber, rebaseAt, bindName, bindAt, rebase}
+use Rattle.pointers.specs.declared.setting.Lookup.{Lookup}
+use Rattle.pointers.specs.declared.setting.Lookup.the-variants.{Chained, Sorted}
 use Rattle.pointers.specs.Tables.{Tables, rebaseWords, bindWords, bindRecord}
 use Rattle.pointers.specs.declared.setting.Setting.{Setting}
 use Rattle.pointers.proofs.OpenedTables.{opened-follow-rebase, opened-follow-bind, bind-unrefused}
@@ -93,9 +95,13 @@ names-same files others binds (number k) h g = refl
 
 -- Over what opening accepted, lookups find the same: a slot's last record.
 module _ (t : Tables) (files : List (List ℕ)) (index : List ℕ) (o : Opened t) (p : Opened (over t files index)) where
+  number-same : (a : ℕ) (l : Lookup) → rebaseNumber l (t .rebases) (t .index) a ≡ rebaseNumber l (t .rebases) index a
+  number-same a Chained = opened-follow-rebase t o a ∙ sym (opened-follow-rebase (over t files index) p a)
+  number-same a Sorted = refl
+
   rebase-same : (a : ℕ) → rebase t a ≡ rebase (over t files index) a
   unfolding rebaseAt
-  rebase-same a = rw (opened-follow-rebase t o a, opened-follow-rebase (over t files index) p a)
+  rebase-same a = rw (number-same a (t .setting .lookup))
 
   bind-same : (a : ℕ) → bindAt (t .files) (t .rebases) (t .binds) (t .index) a ≡ bindAt files (t .rebases) (t .binds) index a
   unfolding bindAt

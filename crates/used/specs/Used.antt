@@ -15,6 +15,7 @@ use Rattle.reads.specs.declared.place.Place.{Place}
 use Rattle.reads.specs.declared.text.Text.{Text}
 use Rattle.pointers.specs.Slot as slots
 use Rattle.pointers.specs.Tables.{Tables, imageIn}
+use Rattle.pointers.specs.declared.setting.Setting.{Setting}
 use Rattle.records.specs.Ask.{Ask, sum64, nonzero, even, atLeast, readable, u32In, u64In, i32In, u64At, picked, pickedAt, slot, rebase, pointer, pointerOr0, string, symbol, info}
 use Rattle.records.specs.Asks.{ifValue, ifAbsent, asks}
 use Rattle.records.specs.Decode.{Decode}
@@ -34,18 +35,18 @@ unfoldable pub usesWord : Image → ℕ → List Range
 usesWord m va = ifValue (places.readable m va 8) (λ p. placeRange p 8 ∷ [])
 
 -- A slot: the word there, if the slot has no rebase.
-unfoldable pub usesSlotIn : Image → List ℕ → List ℕ → ℕ → List Range
-usesSlotIn m rebases index a = ifAbsent (slots.rebaseAt rebases index a) (usesWord m a)
+unfoldable pub usesSlotIn : Image → List ℕ → List ℕ → Setting → ℕ → List Range
+usesSlotIn m rebases index setting a = ifAbsent (slots.rebaseAt rebases index setting a) (usesWord m a)
 
 abbrev pub usesSlot : Tables → ℕ → List Range
-usesSlot t a = usesSlotIn (imageIn t) (t .rebases) (t .index) a
+usesSlot t a = usesSlotIn (imageIn t) (t .rebases) (t .index) (t .setting) a
 
 -- The slot in the field at va + k.
-unfoldable pub usesPointerIn : Image → List ℕ → List ℕ → ℕ → ℕ → List Range
-usesPointerIn m rebases index va k = ifValue (outcomes.sum64 va k) (usesSlotIn m rebases index)
+unfoldable pub usesPointerIn : Image → List ℕ → List ℕ → Setting → ℕ → ℕ → List Range
+usesPointerIn m rebases index setting va k = ifValue (outcomes.sum64 va k) (usesSlotIn m rebases index setting)
 
 abbrev pub usesPointer : Tables → ℕ → ℕ → List Range
-usesPointer t va k = usesPointerIn (imageIn t) (t .rebases) (t .index) va k
+usesPointer t va k = usesPointerIn (imageIn t) (t .rebases) (t .index) (t .setting) va k
 
 -- A text at an address: its bytes and the zero byte that ends it; one without an end is read to its file's end. Whether it is UTF-8 or not.
 unfoldable pub usesText : Image → ℕ → List Range
