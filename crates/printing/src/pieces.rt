@@ -6,6 +6,7 @@ use listing::listing::Said;
 use marking::framed::FramedAnswer;
 use marking::marked_listing::MarkedListing;
 use pointers::question::image_fits;
+use pointers::setting::Setting;
 use reads::answer::Missing;
 use reads::files::longest;
 use reads::text::Reading;
