@@ -192,7 +192,8 @@ struct objclist_row {
     uint64_t code, at;          // of an entry that is skipped: the reason, as in a status
     struct objclist_text name;  // selector or name
     struct objclist_text types; // types of a method, type of an ivar, attributes of a property
-    uint64_t has_number, number; // implementation of a method, offset of an ivar, index of a skipped entry; a protocol slot has no index
+    uint64_t has_number, number; // implementation of a method, offset of an ivar, index of a skipped entry; not of a protocol slot, whose
+                                 // index is the cursor before the call and the row's place in it
     uint64_t form;               // form of a method, size of an ivar
     uint64_t has_alignment, log2_alignment, aligned; // of an ivar
 };

@@ -1,15 +1,15 @@
 #!/bin/sh
 # The stored bundles listed through the calls of include/objclist.h alone, 1, 2, 3 and 64 rows a call, beside the listings that the program `replay` must
-# write. Marks, the last field of m lines, are not compared: no call gives them.
+# write. Marks are not compared: no call gives them.
 set -eu
 cd "$(dirname "$0")/../.."
 out=target/relist
 mkdir -p "$out"
 [ -f target/staticlib/libface.a ] || rt staticlib face >"$out/staticlib.log"
 cc -O2 -Wall -o "$out/relist" tools/relist/relist.c target/staticlib/libface.a
-sed 's/^\(m .*\) [012]$/\1/' crates/replay/stdout >"$out/expected"
+python3 tools/relist/unmarked.py <crates/replay/stdout >"$out/expected"
 for room in 1 2 3 64; do
-    "$out/relist" $room <crates/replay/data/cases | sed 's/^\(m .*\) [012]$/\1/' >"$out/printed"
+    "$out/relist" $room <crates/replay/data/cases >"$out/printed"
     cmp "$out/expected" "$out/printed"
-    echo "relist: $(grep -c '^#' "$out/printed") bundles, $(wc -l <"$out/printed") lines, $room rows a call: the same"
+    echo "relist: $(grep -ac '^#' "$out/printed") bundles, $(wc -l <"$out/printed") lines, $room rows a call: the same"
 done
