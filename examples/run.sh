@@ -1,5 +1,5 @@
 #!/bin/sh
-# Builds the examples against the library and compares the selectors that they print with the m rows of the listing: of the stored bundle, and of
+# Builds the examples against the library and compares the selectors that they print with the m rows of the listing: of the stored bundles, and of
 # each BUNDLE given, as `./list` lists it. The library is target/staticlib/libface.a, built (and proved) where it is not there.
 set -eu
 root=$(cd "$(dirname "$0")/.." && pwd)
@@ -28,6 +28,7 @@ compare() {
 }
 
 compare crates/objclist/stdin crates/objclist/stdout
+compare examples/records.bundle examples/records.listing
 for bundle in "$@"; do
     ./list "$bundle" >"$out/listing"
     compare "$bundle" "$out/listing"
