@@ -56,7 +56,7 @@ pub fn note_field(files: &[&[u8]], p: Place, i: u64, k: u64, sheet: &mut [u64; W
 }
 
 // The word in a slot that has no rebase.
-fn note_stored(
+pub fn note_stored(
     files: &[&[u8]],
     segments: &[u64],
     rebases: &[u64],
