@@ -33,7 +33,7 @@ use Rattle.walks.specs.Slots.{slotsOf, decodeAddress}
 use Rattle.walks.specs.declared.slots.Lists.{Lists}
 use Rattle.walks.specs.declared.slots.Lists.the-variants.{Classes, Categories, Protocols}
 use Rattle.walks.specs.PlainSections.{unless, without, once}
-use Rattle.walks.proofs.Gathers.{There, is-there, there-then, there-joined, Known, there-known}
+use Rattle.walks.proofs.Gathers.{There, is-there, there-then, there-joined, there-known}
 use Rattle.listing.specs.DecodeListing.{joined, gather, orNothing, ofValue, present, asEach, decodeAddresses, decodeListed, decodeWithMeta, decodeClasses, decodeCategories, decodeProtocols, decodeRecords, decodeListing, decodeSlotNames, decodeProtocolNames, namedBy, decodeNamed, decodeOwnLines, decodeFields, decodeReadables, decodeEntryLines, decodeFieldLines, decodeFieldsLines, decodeLinesOf, entryTried, decodeEntry, decodeEntries, decodeFieldEvents, decodeRecordEvents, decodeEventsFrom}
 use Rattle.listing.specs.PlainListing.{classLine, categoryLine, rowLine, nameLine, endLine, Field, rowList, nameList, roFields, protocolFields, categoryFields, Entry, Event, event}
 use Rattle.listing.specs.declared.at.Record.{Record}
@@ -42,13 +42,13 @@ use Rattle.listing.specs.declared.line.Line.{Line}
 use Rattle.listing.specs.declared.line.Line.the-variants as line
 use Rattle.listing.proofs.DecodedListing.{readables-run}
 use Rattle.ranges.specs.Range.{covers}
-use Rattle.ranges.proofs.Covers.{covers-append, or-assoc, or-comm, or-false}
+use Rattle.ranges.proofs.Covers.{covers-append, or-assoc, or-false}
 use Rattle.ranges.specs.Runs.{merged}
 use Rattle.ranges.proofs.MergedLaws.{merged-same}
 use Rattle.used.specs.Used.{used, fileLengths}
 use Rattle.used.specs.UsedBy.{usedBy, rangesUsed}
 use Rattle.usage.specs.Pass.{passMeta, passClass, passProtocol, passCategory, passSlots, decodePass}
-use Rattle.used.proofs.HubUsed.{readables-use}
+use Rattle.used.proofs.ReadableUses.{readables-use}
 use Rattle.used.proofs.UsedParts.{used-done, used-then, used-tried}
 
 -- One of a list passes a test; a value does; one of a value's list does.

@@ -12,11 +12,11 @@ tables s = under (s .args .setting) (tablesOf (filesLent (s .args .files .now)) 
 
 returns : tie.Need-returns
 unfolding decodeClassNameOf
-returns c = notes.first-absent (tables (c .before .before .before .before .before .before .before .before .before .before .before)) {d = decodeNonzeroClassName (c .before .before .before .before .before .before .before .before .before .before .before .args .class-va)} {e = decodeBoundName (c .before .before .before .before .before .before .before .before .before .before .before .args .address)} (c .before .before .before .note-decoded-name .ensures) (c .before .before .if1 .taken) (c .note-bound-name .ensures)
+returns c = notes.first-absent (tables (c .before .before .before .before .before .before .before .before .before .before .before)) (decodeNonzeroClassName (c .before .before .before .before .before .before .before .before .before .before .before .args .class-va)) (decodeBoundName (c .before .before .before .before .before .before .before .before .before .before .before .args .address)) _ (c .before .before .before .note-decoded-name .ensures) (c .before .before .if1 .taken) (c .note-bound-name .ensures)
 
 returns-2 : tie.Need-returns-2
 unfolding decodeClassNameOf
-returns-2 c = notes.first-there (tables (c .before .before .before .before .before .before .before .before .before)) {d = decodeNonzeroClassName (c .before .before .before .before .before .before .before .before .before .args .class-va)} {e = decodeBoundName (c .before .before .before .before .before .before .before .before .before .args .address)} (c .before .note-decoded-name .ensures) (c .if1 .left)
+returns-2 c = notes.first-there (tables (c .before .before .before .before .before .before .before .before .before)) (decodeNonzeroClassName (c .before .before .before .before .before .before .before .before .before .args .class-va)) (decodeBoundName (c .before .before .before .before .before .before .before .before .before .args .address)) _ (c .before .note-decoded-name .ensures) (c .if1 .left)
 
 pub note-class-name-of-spec : {M : Type 1} → statement M
 note-class-name-of-spec =

@@ -11,10 +11,10 @@ abbrev tables : tie.Start → Tables
 tables s = under (s .args .setting) (tablesOf (filesLent (s .args .files .now)) (s .args .segments .now) (s .args .sections .now) (s .args .info .now) (s .args .rebases .now) (s .args .binds .now) (s .args .index .now))
 
 returns : tie.Need-returns
-returns c = notes.zero-name (tables (c .before .before .before .before .before .before .before)) _ (c .if1 .taken)
+returns c = notes.zero-name (tables (c .before .before .before .before .before .before .before)) _ _ (c .if1 .taken)
 
 returns-2 : tie.Need-returns-2
-returns-2 c = notes.nonzero-name (tables (c .before .before .before .before .before .before .before .before .before .before .before)) _ (c .before .before .before .before .if1 .left) (c .before .class-name-at .ensures) (c .text-absent .ensures) (c .before .before .note-class-name .ensures)
+returns-2 c = notes.nonzero-name (tables (c .before .before .before .before .before .before .before .before .before .before .before)) _ _ (c .before .class-name-at .result) (c .before .before .before .before .if1 .left) (c .before .class-name-at .ensures) (c .text-absent .ensures) (c .before .before .note-class-name .ensures)
 
 pub note-decoded-name-spec : {M : Type 1} → statement M
 note-decoded-name-spec =

@@ -11,7 +11,7 @@ abbrev tables : tie.Start → Tables
 tables s = under (s .args .setting) (tablesOf (filesLent (s .args .files .now)) (s .args .segments .now) (s .args .sections .now) (s .args .info .now) (s .args .rebases .now) (s .args .binds .now) (s .args .index .now))
 
 returns : tie.Need-returns
-returns c = notes.ro-absent (tables (c .before .before .before .before .before .before .before .before .before .before .before .before)) _ _ (c .before .before .before .before .before .rebase-at .result) (c .before .before .before .before .before .rebase-at .ensures) (c .before .before .before .before .is-absent .ensures) (c .before .before .before .if1 .taken) (c .picked-at .ensures) (c .before .note-word .ensures)
+returns c = notes.ro-absent (tables (c .before .before .before .before .before .before .before .before .before .before .before .before)) _ _ (c .before .before .before .before .before .rebase-at .result) (c .picked-at .result) (c .before .before .before .before .before .rebase-at .ensures) (c .before .before .before .before .is-absent .ensures) (c .before .before .before .if1 .taken) (c .picked-at .ensures) (c .before .note-word .ensures)
 
 returns-2 : tie.Need-returns-2
 returns-2 c = notes.ro-present (tables (c .before .before .before .before .before .before .before .before .before)) _ _ (c .before .before .rebase-at .result) (c .before .before .rebase-at .ensures) (c .before .is-absent .ensures) (c .if1 .left)
