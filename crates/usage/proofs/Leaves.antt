@@ -1,14 +1,13 @@
 -- Laws of the bytes that questions use, one for each branch of src/leaf.rt.
-use Prim.Native.Nat.{ℕ, _+_, _-_, _≤_, _<_}
+use Prim.Native.Nat.{ℕ, _+_, _≤_, _<_}
 use mathlib.Core.Path.{_≡_, refl, sym, ap, _∙_}
 use mathlib.Core.Bool.{Bool, true, false, true≢false}
 use mathlib.Core.List.{List, [], _∷_}
 use native.Mathlib.Omega.{arith}
-use lib.Dec.{leb}
 use lib.ListN.{length}
 use borrow.Author.Tests.{le-leb, lt-leb}
 use Rattle.reads.specs.Answer.{missed}
-use Rattle.reads.specs.Outcome.{Outcome, value, absent, number, andThen, choose, isAbsent}
+use Rattle.reads.specs.Outcome.{Outcome, value, absent, number, andThen, isAbsent}
 use Rattle.reads.specs.Files.{fileOf}
 use Rattle.reads.specs.declared.answer.Missing.{Missing}
 use Rattle.reads.specs.declared.answer.Missing.the-variants.{Absent, Refused}

@@ -3,9 +3,17 @@ use Prim.Native.Nat.{ℕ}
 use mathlib.Core.Path.{_≡_, refl, sym, ap, _∙_}
 use mathlib.Core.Bool.{Bool, true, false, not, true≢false}
 use mathlib.Core.List.{List, [], _∷_, _++_}
-use Rattle.reads.specs.Answer.{missed}
+use Rattle.reads.specs.Answer.{missed, wordOutcome, textOutcome}
+use Rattle.reads.specs.Outcome as outcomes
+use Rattle.reads.specs.Place as places
+use Rattle.reads.specs.Place.{Image}
+use Rattle.reads.specs.declared.answer.Reason.the-variants.{NullAddress}
+use Rattle.reads.specs.declared.answer.Word.{Word}
+use Rattle.reads.specs.declared.text.TextAnswer.{TextAnswer}
+use Rattle.reads.proofs.Outcomes.{nonzero-zero, nonzero-else}
 use Rattle.reads.specs.Breaks.{isValue}
-use Rattle.reads.specs.Outcome.{Outcome, value, absent, number, andThen, orZero, choose}
+use Rattle.reads.specs.Outcome.{Outcome, value, absent, number, andThen, orElse, orZero, isAbsent}
+use Rattle.reads.proofs.Tests.{choose-true, choose-false}
 use Rattle.reads.specs.declared.answer.Missing.{Missing}
 use Rattle.reads.specs.declared.answer.Missing.the-variants.{Absent, Refused}
 use Rattle.reads.specs.declared.place.Place.{Place}
@@ -13,15 +21,15 @@ use Rattle.pointers.specs.Bytes as bytes
 use Rattle.pointers.specs.Slot as slots
 use Rattle.pointers.specs.Tables.{Tables, imageIn}
 use Rattle.records.specs.Ask as ask
-use Rattle.records.specs.Ask.{Ask, Answer, answer}
-use Rattle.records.specs.Class.{decodeData}
+use Rattle.records.specs.Ask.{pickedIn, Ask, answer}
+use Rattle.records.specs.Class.{decodeData, decodeRoData, decodeClassName, decodeNonzeroClassName}
 use Rattle.records.specs.Asks.{ifValue, ifAbsent}
-use Rattle.records.specs.Decode.{Decode, asked, run, done, then, else, elseFirst, when, or0, orEmpty, sum64, nonzero, even, atLeast, readable, u32In, i32In, u64In, u64At, slot, pointer, pointerOr0, string, symbol}
+use Rattle.records.specs.Decode.{Decode, asked, run, done, then, else, elseFirst, when, or0, sum64, nonzero, even, atLeast, readable, u32In, i32In, u64In, u64At, slot, pointer, pointerOr0, string, symbol}
 use Rattle.ranges.specs.Range.{Range}
 use Rattle.ranges.specs.Sheet.{notedAll}
 use Rattle.used.specs.Used.{uses, used, usesField, usesWord, usesSlot, usesPointer, usesText, usesSymbol}
 use Rattle.used.proofs.UsedParts.{used-done, used-asked, used-then, used-else, used-else-first, used-when}
-use Rattle.usage.specs.Traced.{traced, going, goingOn, goingAfter}
+use Rattle.usage.specs.Traced.{traced, trace, going, goingOn, goingAfter}
 
 pub noted-append : (rs ss : List Range) (m : List ℕ) → notedAll (rs ++ ss) m ≡ notedAll ss (notedAll rs m)
 unfolding notedAll
@@ -42,6 +50,14 @@ append-none (r ∷ rs) = ap (λ l. r ∷ l) (append-none rs)
 
 one : (t : Tables) (m : List ℕ) (q : Ask) {n : List ℕ} → n ≡ notedAll (uses t q) m → n ≡ notedAll (used t (asked q)) m
 one t m q h = h ∙ ap (λ (l : List Range). notedAll l m) (sym (used-asked t q))
+
+or0-uses : (t : Tables) (a : ℕ) → used t (or0 (slot a)) ≡ usesSlot t a
+or0-uses t a = used-else t (slot a) (done 0) ∙ whole (slots.slot t a)
+  where
+    whole : (o : Outcome ℕ) → used t (slot a) ++ ifAbsent o (used {A = ℕ} t (done 0)) ≡ usesSlot t a
+    whole (value x) = append-none (used t (slot a)) ∙ used-asked t (ask.slot a)
+    whole (absent r) = ap (λ (l : List Range). used t (slot a) ++ l) (used-done t 0) ∙ append-none (used t (slot a)) ∙ used-asked t (ask.slot a)
+    whole (number k) = append-none (used t (slot a)) ∙ used-asked t (ask.slot a)
 
 module _ (t : Tables) {m : List ℕ} where
   -- After the first part, which gives a value; and where that gives none.
@@ -118,12 +134,7 @@ module _ (t : Tables) {m : List ℕ} where
 
   pub slot-goes : {a : ℕ} {b : Bool} {m′ : List ℕ} → going b m′ ≡ goingOn (orZero (slots.slot t a)) (notedAll (usesSlot t a) m) → Goes t (or0 (slot a)) m m′ b
   slot-goes {a} {b} {m′} e =
-      record { is = e ∙ ap (λ (l : List Range). goingOn (orZero (slots.slot t a)) (notedAll l m)) (sym (used-else t (slot a) (done 0) ∙ whole (slots.slot t a))) }
-    where
-      whole : (o : Outcome ℕ) → used t (slot a) ++ ifAbsent o (used {A = ℕ} t (done 0)) ≡ usesSlot t a
-      whole (value x) = append-none (used t (slot a)) ∙ used-asked t (ask.slot a)
-      whole (absent r) = ap (λ (l : List Range). used t (slot a) ++ l) (used-done t 0) ∙ append-none (used t (slot a)) ∙ used-asked t (ask.slot a)
-      whole (number k) = append-none (used t (slot a)) ∙ used-asked t (ask.slot a)
+      record { is = e ∙ ap (λ (l : List Range). goingOn (orZero (slots.slot t a)) (notedAll l m)) (sym (or0-uses t a)) }
 
   -- A definition that is itself a part, by the sheet and by whether it gives a value.
   both : {A : Type 0} (d : Decode A) {n : List ℕ} {c : Bool} → Notes t d m n → c ≡ isValue (run t d) → Goes t d m n c
@@ -239,3 +250,117 @@ module _ (t : Tables) (m : List ℕ) where
 
   pub symbol-noted : (a : ℕ) {n : List ℕ} → n ≡ notedAll (usesSymbol t a) m → n ≡ notedAll (used t (symbol a)) m
   symbol-noted a h = one t m (ask.symbol a) h
+
+  pub or0-noted : (a : ℕ) {n : List ℕ} → n ≡ notedAll (usesSlot t a) m → n ≡ notedAll (used t (or0 (slot a))) m
+  or0-noted a h = h ∙ ap (λ (l : List Range). notedAll l m) (sym (or0-uses t a))
+
+-- A definition by its bytes as a whole, and one of two.
+pub is : (t : Tables) {A : Type 0} {d : Decode A} {m n : List ℕ} → n ≡ notedAll (used t d) m → Notes t d m n
+is t h = record { noted = h }
+
+pub when-true : (t : Tables) {A : Type 0} {b : Bool} {d e : Decode A} {m n : List ℕ} → b ≡ true → Notes t d m n → Notes t (when b d e) m n
+when-true t {b = b} {d = d} {e = e} {m = m} h g = record { noted = g .noted ∙ ap (λ (l : List Range). notedAll l m) (sym (used-when t b d e ∙ choose-true (used t d) (used t e) h)) }
+
+pub when-false : (t : Tables) {A : Type 0} {b : Bool} {d e : Decode A} {m n : List ℕ} → b ≡ false → Notes t e m n → Notes t (when b d e) m n
+when-false t {b = b} {d = d} {e = e} {m = m} h g = record { noted = g .noted ∙ ap (λ (l : List Range). notedAll l m) (sym (used-when t b d e ∙ choose-false (used t d) (used t e) h)) }
+
+pub goes-when-true : (t : Tables) {A : Type 0} {b c : Bool} {d e : Decode A} {m n : List ℕ} → b ≡ true → Goes t d m n c → Goes t (when b d e) m n c
+goes-when-true t {b = b} {d = d} {e = e} {m = m} h g =
+    record { is = g .is ∙ sym (ap (λ (l : List Range). goingOn (run t (when b d e)) (notedAll l m)) (used-when t b d e ∙ choose-true (used t d) (used t e) h) ∙ ap (λ (o : Outcome _). goingOn o (notedAll (used t d) m)) (choose-true (run t d) (run t e) h)) }
+
+pub goes-when-false : (t : Tables) {A : Type 0} {b : Bool} {d : Decode A} {a : A} {m : List ℕ} → b ≡ false → Goes t (when b d (done a)) m m true
+unfolding notedAll
+goes-when-false t {b = b} {d = d} {a = a} {m = m} h =
+    record { is = sym (ap (λ (l : List Range). goingOn (run t (when b d (done a))) (notedAll l m)) (used-when t b d (done a) ∙ choose-false (used t d) (used t (done a)) h ∙ used-done t a) ∙ ap (λ (o : Outcome _). goingOn o m) (choose-false (run t d) (value a) h)) }
+
+-- The second where the first is absent.
+pub first-absent : (t : Tables) {A : Type 0} (d e : Decode A) (m : List ℕ) {b : Bool} {m′ n : List ℕ} → going b m′ ≡ going (isAbsent (run t d)) (notedAll (used t d) m) → b ≡ true → n ≡ notedAll (used t e) m′
+    → n ≡ notedAll (used t (elseFirst d e)) m
+first-absent t {A} d e m {b} {m′} {n} g h next = go (run t d) refl
+  where
+    go : (o : Outcome A) → run t d ≡ o → n ≡ notedAll (used t (elseFirst d e)) m
+    go (value a) q = absurd (true≢false (sym h ∙ ap (λ x. x .on) g ∙ ap isAbsent q))
+    go (absent r) q =
+        next ∙ ap (notedAll (used t e)) (ap (λ x. x .sheet) g) ∙ sym (noted-append (used t d) (used t e) m)
+        ∙ ap (λ (l : List Range). notedAll l m) (sym (used-else-first t d e ∙ ap (λ (o : Outcome A). used t d ++ ifAbsent o (used t e)) q))
+    go (number k) q = absurd (true≢false (sym h ∙ ap (λ x. x .on) g ∙ ap isAbsent q))
+
+pub first-there : (t : Tables) {A : Type 0} (d e : Decode A) (m : List ℕ) {b : Bool} {m′ : List ℕ} → going b m′ ≡ going (isAbsent (run t d)) (notedAll (used t d) m) → b ≡ false → m′ ≡ notedAll (used t (elseFirst d e)) m
+first-there t {A} d e m {b} {m′} g h = go (run t d) refl
+  where
+    alone : (o : Outcome A) → run t d ≡ o → used t d ++ ifAbsent o (used t e) ≡ used t d → m′ ≡ notedAll (used t (elseFirst d e)) m
+    alone o q w = ap (λ x. x .sheet) g ∙ ap (λ (l : List Range). notedAll l m) (sym (used-else-first t d e ∙ ap (λ (o : Outcome A). used t d ++ ifAbsent o (used t e)) q ∙ w))
+
+    go : (o : Outcome A) → run t d ≡ o → m′ ≡ notedAll (used t (elseFirst d e)) m
+    go (value a) q = alone (value a) q (append-none (used t d))
+    go (absent r) q = absurd (true≢false (sym (ap isAbsent q) ∙ sym (ap (λ x. x .on) g) ∙ h))
+    go (number k) q = alone (number k) q (append-none (used t d))
+
+-- The class_ro of a bits word, by whether its slot has a rebase.
+module _ (t : Tables) (a : ℕ) (m : List ℕ) where
+  ro-uses : used t (decodeRoData a) ≡ ifAbsent (slots.rebase t a) (usesWord (imageIn t) a)
+  unfolding decodeRoData
+  ro-uses =
+      used-else t (asked (ask.rebase a)) (asked (ask.pickedAt a))
+      ∙ ap (λ (l : List Range). l ++ ifAbsent (slots.rebase t a) (used t (asked (ask.pickedAt a)))) (used-asked t (ask.rebase a))
+      ∙ ap (λ (l : List Range). ifAbsent (slots.rebase t a) l) (used-asked t (ask.pickedAt a))
+
+  pub ro-absent : (w r : Word) {b : Bool} {n : List ℕ} → wordOutcome w ≡ slots.rebase t a → b ≡ isAbsent (wordOutcome w) → b ≡ true → wordOutcome r ≡ pickedIn (imageIn t) a
+      → n ≡ notedAll (usesWord (imageIn t) a) m → traced (wordOutcome r) n ≡ trace t (decodeRoData a) m
+  unfolding decodeRoData
+  ro-absent w r {b} {n} e g h p s =
+      ap (λ (x : List ℕ). traced (wordOutcome r) x) (s ∙ ap (λ (l : List Range). notedAll l m) (sym (ro-uses ∙ none)))
+      ∙ ap (λ (x : Outcome ℕ). traced x (notedAll (used t (decodeRoData a)) m)) (p ∙ outcome)
+    where
+      is-absent-here : isAbsent (slots.rebase t a) ≡ true
+      is-absent-here = sym (ap isAbsent e) ∙ sym g ∙ h
+
+      by : (o : Outcome ℕ) → isAbsent o ≡ true → (ifAbsent o (usesWord (imageIn t) a) ≡ usesWord (imageIn t) a) × (pickedIn (imageIn t) a ≡ orElse o (pickedIn (imageIn t) a))
+      by (value x) q = absurd (true≢false (sym q))
+      by (absent why) q = (refl, refl)
+      by (number k) q = absurd (true≢false (sym q))
+
+      none : ifAbsent (slots.rebase t a) (usesWord (imageIn t) a) ≡ usesWord (imageIn t) a
+      none = by (slots.rebase t a) is-absent-here .0
+
+      outcome : pickedIn (imageIn t) a ≡ orElse (slots.rebase t a) (pickedIn (imageIn t) a)
+      outcome = by (slots.rebase t a) is-absent-here .1
+
+  pub ro-present : (w : Word) {b : Bool} → wordOutcome w ≡ slots.rebase t a → b ≡ isAbsent (wordOutcome w) → b ≡ false → traced (wordOutcome w) m ≡ trace t (decodeRoData a) m
+  unfolding decodeRoData notedAll
+  ro-present w {b} e g h =
+      ap (λ (x : Outcome ℕ). traced x m) (e ∙ by (slots.rebase t a) here .1)
+      ∙ ap (λ (l : List Range). traced (run t (decodeRoData a)) (notedAll l m)) (sym (ro-uses ∙ by (slots.rebase t a) here .0))
+    where
+      here : isAbsent (slots.rebase t a) ≡ false
+      here = sym (ap isAbsent e) ∙ sym g ∙ h
+
+      by : (o : Outcome ℕ) → isAbsent o ≡ false → (ifAbsent o (usesWord (imageIn t) a) ≡ []) × (o ≡ orElse o (pickedIn (imageIn t) a))
+      by (value x) q = (refl, refl)
+      by (absent why) q = absurd (true≢false q)
+      by (number k) q = (refl, refl)
+
+-- The name of a class, which 0 has not.
+none-noted : (m : List ℕ) → m ≡ notedAll [] m
+unfolding notedAll
+none-noted m = refl
+
+module _ (t : Tables) (va : ℕ) (m : List ℕ) where
+  pub zero-name : va ≡ 0 → going true m ≡ going (isAbsent (run t (decodeNonzeroClassName va))) (notedAll (used t (decodeNonzeroClassName va)) m)
+  unfolding decodeNonzeroClassName
+  zero-name e =
+      let none : outcomes.nonzero va ≡ absent NullAddress = ap outcomes.nonzero e ∙ nonzero-zero in
+      ap (going true) (stops t {m = m} (nonzero va) decodeClassName (Absent NullAddress) none (one t m (ask.nonzero va) (none-noted m)) .noted)
+      ∙ ap (λ (x : Bool). going x (notedAll (used t (then (nonzero va) decodeClassName)) m)) (sym (ap (λ (o : Outcome ℕ). isAbsent (andThen o (λ a. run t (decodeClassName a)))) none))
+
+  pub nonzero-name : (r : TextAnswer) {b : Bool} {n : List ℕ} → (va ≡ 0 → ⊥) → textOutcome r ≡ run t (decodeClassName va) → b ≡ isAbsent (textOutcome r) → n ≡ notedAll (used t (decodeClassName va)) m
+      → going b n ≡ going (isAbsent (run t (decodeNonzeroClassName va))) (notedAll (used t (decodeNonzeroClassName va)) m)
+  unfolding decodeNonzeroClassName
+  nonzero-name r {b} {n} h e g s =
+      let some : outcomes.nonzero va ≡ value va = nonzero-else va h in
+      ap (going b) (past t {m = m} (nonzero va) decodeClassName va some (one t m (ask.nonzero va) (none-noted m)) (record { noted = s }) .noted)
+      ∙ ap (λ (x : Bool). going x (notedAll (used t (then (nonzero va) decodeClassName)) m)) (g ∙ ap isAbsent e ∙ sym (ap (λ (o : Outcome ℕ). isAbsent (andThen o (λ a. run t (decodeClassName a)))) some))
+
+-- So many bytes, said in two ways.
+pub readable-size : (img : Image) (va k l : ℕ) {x : Outcome Place} → x ≡ places.readable img va k → k ≡ l → x ≡ places.readable img va l
+readable-size img va k l e q = e ∙ ap (λ (n : ℕ). places.readable img va n) q

@@ -56,7 +56,7 @@ pub fn note_field(files: &[&[u8]], p: Place, i: u64, k: u64, sheet: &mut [u64; W
 }
 
 // The word in a slot that has no rebase.
-fn note_stored(
+pub fn note_stored(
     files: &[&[u8]],
     segments: &[u64],
     rebases: &[u64],
@@ -82,7 +82,7 @@ pub fn note_slot(
 ) -> Word
     ensures { λ r. ⌜ traced (wordOutcome r) (after sheet)
         ≡ traced (resolve (lentImage files segments) (before rebases) (before index) slot)
-            (notedAll (usesSlotIn (lentImage files segments) (before rebases) (before index) slot) (before sheet)) ⌝ }
+        (notedAll (usesSlotIn (lentImage files segments) (before rebases) (before index) slot) (before sheet)) ⌝ }
 {
     note_stored(files, segments, rebases, index, slot, sheet);
     resolve_pointer(files, segments, rebases, index, slot)
@@ -99,7 +99,7 @@ pub fn note_slot_or_0(
 ) -> bool
     ensures { λ r. ⌜ going r (after sheet)
         ≡ goingOn (orZero (resolve (lentImage files segments) (before rebases) (before index) slot))
-            (notedAll (usesSlotIn (lentImage files segments) (before rebases) (before index) slot) (before sheet)) ⌝ }
+        (notedAll (usesSlotIn (lentImage files segments) (before rebases) (before index) slot) (before sheet)) ⌝ }
 {
     note_stored(files, segments, rebases, index, slot, sheet);
     match slot_or_0(files, segments, rebases, index, slot) {
@@ -120,7 +120,7 @@ pub fn note_pointer(
 ) -> Word
     ensures { λ r. ⌜ traced (wordOutcome r) (after sheet)
         ≡ traced (pointerAt (lentImage files segments) (before rebases) (before index) va k)
-            (notedAll (usesPointerIn (lentImage files segments) (before rebases) (before index) va k) (before sheet)) ⌝ }
+        (notedAll (usesPointerIn (lentImage files segments) (before rebases) (before index) va k) (before sheet)) ⌝ }
 {
     match checked_add(va, k) {
         Word::Value(slot) => note_slot(files, segments, rebases, index, slot, sheet),
@@ -140,7 +140,7 @@ pub fn note_pointer_or_0(
 ) -> bool
     ensures { λ r. ⌜ going r (after sheet)
         ≡ goingOn (pointerOr0At (lentImage files segments) (before rebases) (before index) va k)
-            (notedAll (usesPointerIn (lentImage files segments) (before rebases) (before index) va k) (before sheet)) ⌝ }
+        (notedAll (usesPointerIn (lentImage files segments) (before rebases) (before index) va k) (before sheet)) ⌝ }
 {
     match checked_add(va, k) {
         Word::Value(slot) => note_slot_or_0(files, segments, rebases, index, slot, sheet),

@@ -3,9 +3,9 @@
 use Prim.Native.Nat.{ℕ, _+_, _-_}
 use mathlib.Core.Path.{_≡_, refl, sym, ap, _∙_}
 use mathlib.Core.Bool.{Bool, true, false}
-use mathlib.Core.List.{List, [], _∷_, _++_, flatMap}
+use mathlib.Core.List.{List, [], _∷_, flatMap}
 use lib.Dec.{leb}
-use lib.ListN.{length, take, drop, length-drop}
+use lib.ListN.{length, drop, length-drop}
 use Rattle.reads.specs.Outcome as outcomes
 use Rattle.reads.specs.Outcome.{Outcome, value, absent, number, andThen, because, orElse, orZero, choose}
 use Rattle.reads.specs.Address as addresses
@@ -27,7 +27,7 @@ use Rattle.pointers.specs.Tables.{Tables, imageIn}
 use Rattle.records.specs.Ask.{pickedIn, Ask, sum64, nonzero, even, atLeast, readable, u32In, u64In, i32In, u64At, picked, pickedAt, slot, rebase, pointer, pointerOr0, string, symbol, info, answer}
 use Rattle.records.specs.Asks.{ifValue, ifAbsent, Each, asks}
 use Rattle.records.specs.Decode.{Decode, run}
-use Rattle.records.proofs.Asks.{each-left, each-right, Same, asks-decide}
+use Rattle.records.proofs.Asks.{each-left, each-right, asks-decide}
 use Rattle.ranges.specs.Range.{Range, range}
 use Rattle.used.specs.Used.{placeRange, usesField, usesWord, usesSlotIn, usesSlot, usesPointerIn, usesPointer, usesText, nameRange, usesSymbolIn, usesSymbol, uses, used}
 use Rattle.used.proofs.SameScans.{scan-same}

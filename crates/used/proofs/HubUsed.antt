@@ -1,12 +1,11 @@
 -- ◆ What the listing of document 01's image uses ("The program's listing"): the class without its cache and vtable, its class_ro without the
 -- reserved word, and all from there to the end of the bind's name. Its method list claims 4,294,967,295 rows, of which a law knows the two that
 -- are readable.
-use Prim.Native.Nat.{ℕ, zero, suc, _^_}
-use mathlib.Core.Path.{_≡_, refl, sym, ap, _∙_}
-use mathlib.Core.Bool.{Bool, true, false}
+use Prim.Native.Nat.{ℕ}
+use mathlib.Core.Path.{_≡_, refl, _∙_}
+use mathlib.Core.Bool.{false}
 use mathlib.Core.List.{List, [], _∷_, _++_, map, flatMap}
-use lib.Dec.{ltb}
-use Rattle.reads.specs.Outcome.{Outcome, value, absent, number, choose, sum64, nonzero, textOf}
+use Rattle.reads.specs.Outcome.{value, absent, choose, sum64, nonzero, textOf}
 use Rattle.reads.specs.Files.{fileOf}
 use Rattle.reads.specs.Place as places
 use Rattle.reads.specs.Place.{le, readableAt, word, wordIn, leIn}
@@ -16,25 +15,22 @@ use Rattle.reads.specs.Segment.{rows, ends, holds, placed, lookup}
 use Rattle.reads.specs.Text.{text, textFrom, textIn, readFrom}
 use Rattle.reads.specs.Utf8.{judge, utf8}
 use Rattle.reads.specs.declared.answer.Reason.the-variants.{NoRecord, Unmapped}
-use Rattle.reads.specs.declared.place.Place.{Place}
 use Rattle.pointers.specs.Chain.{lastAmong}
 use Rattle.pointers.specs.ImageInfo.{bit}
 use Rattle.pointers.specs.Question.{question, nameInside, nameUtf8}
 use Rattle.pointers.specs.Section.{sectionAt}
-use Rattle.pointers.specs.Slot.{rebaseAt, stored, resolve, pointerAt, pointerOr0At, bindName, bindAt, symbolOf, rebase}
-use Rattle.pointers.specs.Tables.{Tables, bindRecord, imageIn}
+use Rattle.pointers.specs.Slot.{rebaseAt, stored, resolve, pointerAt, pointerOr0At, bindName, bindAt, rebase}
+use Rattle.pointers.specs.Tables.{bindRecord}
 use Rattle.pointers.proofs.OpenedTables.{opened-follow-rebase, opened-follow-bind}
 use Rattle.records.specs.Ask.{evenList, entrySize}
-use Rattle.records.specs.Asks.{asks, ifValue}
+use Rattle.records.specs.Asks.{asks}
 use Rattle.records.specs.Class.{bitsOf, decodeData, decodeClass, decodeRoLists, decodeClassRo, decodeRoOf, decodeNonzeroClassName, decodeBoundName, decodeClassNameOf}
-use Rattle.records.specs.Decode.{Decode, Tried, given, lacking, run, done, then, tried, readable}
-use Rattle.records.specs.List.{least, methodRows, decodeList, entryAddress}
-use Rattle.records.specs.Search.{readables}
+use Rattle.records.specs.Decode.{Decode, given, lacking, run, done, then, tried, readable}
+use Rattle.records.specs.List.{methodRows, decodeList}
 use Rattle.records.specs.Row.{decodeRow, decodeLegacyMethod}
 use Rattle.records.specs.declared.list.Layout.{Layout}
 use Rattle.records.specs.declared.list.ListKind.the-variants.{Methods, Ivars, Properties}
 use Rattle.records.specs.declared.list.RowKind.the-variants.{Legacy}
-use Rattle.records.specs.declared.row.Row.{Row}
 use Rattle.records.proofs.HubImage.{counted}
 use Rattle.records.proofs.ListCases.{hub-list, hub-two}
 use Rattle.walks.specs.PlainSections.{once, without}
@@ -42,7 +38,7 @@ use Rattle.walks.specs.ProtocolNames.{decodeProtocolList}
 use Rattle.walks.specs.Sections.{metaOf}
 use Rattle.walks.specs.Slots.{slotsFrom, sectionSlots, decodeAddress}
 use Rattle.walks.proofs.HubRun.{binds, hub, hub-opened, hub-methods, up, row-0, row-1, hub-class-record, hub-ro, hub-ro-of, hub-superclass}
-use Rattle.listing.specs.DecodeListing.{decodeProtocolNames, decodeEventsFrom, decodeRecordEvents, decodeFieldEvents, decodeEntries, decodeEntry, entryTried, asEach, decodeLinesOf, decodeListing, decodeFields, decodeFieldsLines, joined, decodeNamed, decodeOwnLines, gather, ofValue, orNothing, decodeAddresses, decodeListed, decodeWithMeta, decodeClasses, decodeCategories, decodeProtocols, decodeRecords, decodeIndex, decodeIndices, decodeReadables, decodeEntryLines, decodeFieldLines}
+use Rattle.listing.specs.DecodeListing.{decodeProtocolNames, decodeEventsFrom, decodeRecordEvents, decodeFieldEvents, decodeEntries, decodeEntry, entryTried, asEach, decodeLinesOf, decodeListing, decodeFields, decodeFieldsLines, joined, decodeNamed, decodeOwnLines, gather, ofValue, orNothing, decodeAddresses, decodeListed, decodeWithMeta, decodeClasses, decodeCategories, decodeProtocols, decodeRecords, decodeReadables, decodeEntryLines, decodeFieldLines}
 use Rattle.listing.specs.PlainListing.{rowList, nameList, Field, roFields, rowLine, Entry, withRow, withoutRow, event}
 use Rattle.listing.specs.declared.at.Record.the-variants as aRecord
 use Rattle.listing.specs.declared.line.Line.the-variants as line
@@ -54,47 +50,13 @@ use Rattle.ranges.specs.Runs
 use Rattle.ranges.specs.Runs.{ended, begun, runs, runsFrom, merged}
 use Rattle.used.specs.Used.{uses, usesWord, usesField, usesSlotIn, usesPointerIn, usesText, usesSymbolIn, used}
 use Rattle.used.specs.UsedBy.{usedBy, rangesUsed}
-use Rattle.used.proofs.UsedParts.{used-done, used-then, used-when, used-tried, then-uses}
+use Rattle.used.proofs.ReadableUses.{readables-use}
+use Rattle.used.proofs.UsedParts.{used-done, used-tried, then-uses}
 
 -- No slot has a rebase.
 no-rebase : (a : ℕ) → rebase hub a ≡ absent NoRecord
 unfolding rebaseAt lastAmong
 no-rebase a = rw (opened-follow-rebase hub hub-opened a)
-
--- Which entries are readable is a test, and uses nothing.
-none-of : {A : Type 0} (o : Outcome A) (us : A → List Range) → ((a : A) → us a ≡ []) → ifValue o us ≡ []
-none-of (value a) us h = h a
-none-of (absent r) us h = refl
-none-of (number k) us h = refl
-
-none-then : {A B : Type 0} (t : Tables) (d : Decode A) (f : A → Decode B) → used t d ≡ [] → ((a : A) → used t (f a) ≡ []) → used t (then d f) ≡ []
-none-then t d f e h = used-then t d f ∙ rw e (none-of (run t d) (λ a. used t (f a)) h)
-
-module _ (t : Tables) (h : Layout) where
-  index-uses : (i : ℕ) → used t (decodeIndex h i) ≡ []
-  unfolding decodeIndex
-  index-uses i =
-      used-when t _ (ofValue (readable (entryAddress h i) (least (h .kind))) (λ p. done (i ∷ []))) (done [])
-      ∙ go (ltb (entryAddress h i) (2 ^ 64))
-    where
-      by-trial : (x : Tried Place) → used t (orNothing (λ p. done (i ∷ [])) x) ≡ []
-      by-trial (given p) = used-done t (i ∷ [])
-      by-trial (lacking r) = used-done t []
-
-      go : (b : Bool) → choose b (used t (ofValue (readable (entryAddress h i) (least (h .kind))) (λ p. done (i ∷ [])))) (used {A = List ℕ} t (done [])) ≡ []
-      go true = unfold choose in none-then t (tried (readable (entryAddress h i) (least (h .kind)))) (orNothing (λ p. done (i ∷ []))) (unfold asks flatMap in refl) by-trial
-      go false = unfold choose in used-done t []
-
-  indices-use : (k i : ℕ) → used t (decodeIndices h k i) ≡ []
-  unfolding decodeIndices
-  indices-use zero i = used-done t []
-  indices-use (suc k) i =
-      none-then t (decodeIndex h i) (λ xs. then (decodeIndices h k (suc i)) (λ ys. done (xs ++ ys))) (index-uses i) (λ xs.
-      none-then t (decodeIndices h k (suc i)) (λ ys. done (xs ++ ys)) (indices-use k (suc i)) (λ ys. used-done t (xs ++ ys)))
-
-  -- What is made of the entries that are readable.
-  pub readables-use : {A : Type 0} (f : List ℕ → Decode A) → used t (then (decodeReadables h) f) ≡ used t (f (readables (imageIn t) h))
-  readables-use f = used-then t (decodeReadables h) f ∙ rw (indices-use (h .count) 0, readables-run t h) refl
 
 class-uses : used hub (decodeClass 0x1000 false) ≡ range 0 0 8 ∷ range 0 8 8 ∷ range 0 32 8 ∷ []
 unfolding asks flatMap fileOf decodeClass decodeData usesSlotIn usesWord resolve picked pickedWide mapped dataArm64e data64 places.readable readableAt lookup rows ends holds placed sum64 stored word stripped le nonzero choose counted

@@ -2,6 +2,7 @@
 pub mod SameScans
 pub mod AnswersAlike
 pub mod UsedParts
+pub mod ReadableUses
 pub mod Yields
 pub mod SameTexts
 pub mod StillGoods

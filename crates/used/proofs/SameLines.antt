@@ -160,4 +160,3 @@ module _ (t : Tables) (others : List (List ℕ)) where
       yields-then t _ (gives-gather SameRecord SameLine lines-give records alike) (λ lines same.
       yields-next t _ (λ events.
       yields-done t _ (each-append SameLine lines (endLine (length records) (length events) ∷ []) same (tt, tt)))))
-

@@ -12,7 +12,6 @@ use Rattle.listing.specs.DecodeListing.{decodeListing}
 use Rattle.listing.specs.PlainListing.{versionAndFlags, infoLine, plainListing}
 use Rattle.listing.specs.declared.line.Line.{Line}
 use Rattle.listing.proofs.DecodedListing.{listing-runs}
-use Rattle.ranges.specs.Range.{Range}
 use Rattle.ranges.specs.Runs.{merged}
 use Rattle.used.specs.Used.{used, fileLengths}
 use Rattle.used.specs.UsedBy.{usedBy, rangesUsed}

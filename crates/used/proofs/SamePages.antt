@@ -1,6 +1,6 @@
 -- When an old page is still good (document 02, note 13): the listing is the same, its text, and the ranges.
 use Prim.Native.Nat.{ℕ}
-use mathlib.Core.Path.{_≡_, refl, sym, ap, _∙_, subst}
+use mathlib.Core.Path.{_≡_, refl, ap, _∙_, subst}
 use mathlib.Core.List.{List, [], _∷_, flatMap}
 use lib.ListN.{length}
 use Rattle.reads.specs.Outcome.{Outcome, value, absent, number, andThen}

@@ -1,18 +1,18 @@
 -- The texts that definitions of records and rows give have the same bytes in both images: they lie in the ranges used.
-use Prim.Native.Nat.{ℕ, zero, suc, _+_, _-_, _≤_, min}
+use Prim.Native.Nat.{ℕ, zero, suc, _+_, _-_, _≤_}
 use mathlib.Core.Path.{_≡_, refl, sym, ap, _∙_, subst}
 use mathlib.Core.Bool.{Bool, true, false}
-use mathlib.Core.List.{List, [], _∷_, _++_}
+use mathlib.Core.List.{List, [], _∷_}
 use native.Mathlib.Omega.{arith}
 use lib.Dec.{leb}
 use lib.ListN.{length, take, drop, length-drop}
 use lib.Seq.{take-nil, drop-nil, take-take, drop-drop}
 use Rattle.reads.specs.Outcome as outcomes
-use Rattle.reads.specs.Outcome.{Outcome, value, absent, number, andThen, choose, textOf}
+use Rattle.reads.specs.Outcome.{value, absent, andThen, choose, textOf}
 use Rattle.reads.specs.Files.{fileOf}
 use Rattle.reads.specs.Place.{part}
 use Rattle.reads.specs.Segment.{rows, lookup}
-use Rattle.reads.specs.Text.{text, scanOf, ifGood, goodText, ended, ifEnded, textFrom, textAt, textIn, readFrom, readAt}
+use Rattle.reads.specs.Text.{text, scanOf, ifGood, ended, ifEnded, textFrom, textAt, textIn, readFrom, readAt}
 use Rattle.reads.specs.Utf8.{verdict}
 use Rattle.reads.specs.declared.answer.Reason.the-variants.{PastEnd}
 use Rattle.reads.specs.declared.place.Place.{Place}
@@ -27,28 +27,24 @@ use Rattle.pointers.specs.Slot.{bindAt, symbolOf}
 use Rattle.pointers.specs.Symbol.{prefixes, fitting, strippedIn, strippedName}
 use Rattle.pointers.specs.Tables.{Tables, imageIn}
 use Rattle.records.specs.Ask as ask
-use Rattle.records.specs.Asks.{ifValue, Each}
+use Rattle.records.specs.Asks.{Each}
 use Rattle.records.specs.Category.{decodeCategoryOf, decodeCategory}
 use Rattle.records.specs.Class.{decodeClassRo, decodeRoOf, decodeClassName, decodeNonzeroClassName, decodeBoundName, decodeClassNameOf}
-use Rattle.records.specs.Decode.{Decode, run, string, symbol, orEmpty}
+use Rattle.records.specs.Decode.{Decode, string, symbol, orEmpty}
 use Rattle.records.specs.Protocol.{decodeProtocol}
 use Rattle.records.specs.Row.{decodeLegacyMethod, decodeTypes, decodeSmallMethod, decodeIvar, decodeProperty, decodeRow}
-use Rattle.records.specs.declared.category.ObjcCategory.{ObjcCategory}
-use Rattle.records.specs.declared.class.ClassRo.{ClassRo}
 use Rattle.records.specs.declared.class.ObjcClass.{ObjcClass}
 use Rattle.records.specs.declared.list.RowKind.{RowKind}
 use Rattle.records.specs.declared.list.RowKind.the-variants as kind
 use Rattle.records.specs.declared.method.Method.{Method}
 use Rattle.records.specs.declared.ivar.Ivar.{Ivar}
 use Rattle.records.specs.declared.property.Property.{Property}
-use Rattle.records.specs.declared.protocol.ObjcProtocol.{ObjcProtocol}
 use Rattle.records.specs.declared.row.Row.{Row}
 use Rattle.records.specs.declared.row.Row.the-variants as row
-use Rattle.ranges.specs.Range.{Range}
 use Rattle.used.specs.Used.{placeRange, nameRange, usesText, usesSymbolIn, used}
 use Rattle.used.proofs.AnswersAlike.{SamePart}
 use Rattle.used.proofs.UsedParts.{used-asked}
-use Rattle.used.proofs.Yields.{Yields, after-value, yields-done, yields-then, yields-next, yields-else, yields-else-first, yields-when}
+use Rattle.used.proofs.Yields.{Yields, after-value, yields-done, yields-then, yields-next, yields-else, yields-else-first}
 
 -- A part of equal parts is equal: its beginning, and what is left after a beginning.
 shorter : (s z : List ℕ) (m n : ℕ) → m ≤ n → take n s ≡ take n z → take m s ≡ take m z

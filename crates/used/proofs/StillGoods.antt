@@ -2,25 +2,22 @@
 -- ranges.
 use Prim.Native.Nat.{ℕ, _+_, _-_, _<_, min}
 use mathlib.Core.Path.{_≡_, refl, sym, ap, _∙_, subst}
-use mathlib.Core.Bool.{Bool, true, false, _&&_, _||_}
-use mathlib.Core.List.{List, [], _∷_, map}
+use mathlib.Core.Bool.{Bool, true, false}
+use mathlib.Core.List.{List, [], _∷_}
 use native.Mathlib.Omega.{arith}
-use lib.Dec.{ltb}
-use lib.ListN.{length, getD, take, drop, length-take, length-drop, List·getD-map}
+use lib.ListN.{length, getD, drop, length-take, length-drop, List·getD-map}
 use lib.Seq.{getD-take, getD-drop, ext-getD}
 use borrow.Author.Tests.{lt-ltb}
 use Rattle.reads.specs.Outcome.{Outcome, value, absent, number, Unrefused, is-value, is-absent, andThen, choose}
 use Rattle.reads.specs.Files.{fileOf}
 use Rattle.reads.specs.Place.{part}
-use Rattle.reads.specs.declared.text.Text.{Text}
 use Rattle.pointers.specs.Chain.{lastRecord}
-use Rattle.pointers.specs.Index.{bindNexts}
 use Rattle.pointers.specs.Open.{Opened}
 use Rattle.pointers.specs.Question.{question, bindLent, bindInside, bindUtf8}
 use Rattle.pointers.specs.Slot.{rebaseNumber, rebaseAt, bindName, bindAt, rebase}
 use Rattle.pointers.specs.declared.setting.Lookup.{Lookup}
 use Rattle.pointers.specs.declared.setting.Lookup.the-variants.{Chained, Sorted}
-use Rattle.pointers.specs.Tables.{Tables, rebaseWords, bindWords, bindRecord}
+use Rattle.pointers.specs.Tables.{Tables, bindWords, bindRecord}
 use Rattle.pointers.specs.declared.setting.Setting.{Setting}
 use Rattle.pointers.proofs.OpenedTables.{opened-follow-rebase, opened-follow-bind, bind-unrefused}
 use Rattle.records.specs.Asks.{Each}

@@ -1,14 +1,13 @@
 -- Worked cases of what is used, read by read: laws alone do not say which reads count (a definition by which a test of readability used bytes
 -- would meet them too).
-use Prim.Native.Nat.{ℕ, _+_, _^_, _-_}
+use Prim.Native.Nat.{ℕ, _^_, _-_}
 use mathlib.Core.Path.{_≡_, refl}
 use mathlib.Core.Bool.{true}
 use mathlib.Core.List.{List, [], _∷_, _++_, flatMap}
-use lib.ListN.{length, replicate}
+use lib.ListN.{replicate}
 use Rattle.reads.specs.Outcome.{value, choose, sum64, nonzero}
 use Rattle.reads.specs.Files.{fileOf}
 use Rattle.reads.specs.Place.{le, readableAt, readable, word, wordIn, leIn}
-use Rattle.reads.specs.Relative.{signed32, signedIn}
 use Rattle.reads.specs.Address.{stripped}
 use Rattle.reads.specs.Segment.{rows, ends, holds, placed, lookup}
 use Rattle.reads.specs.Text.{text, textFrom, textIn, readFrom}
@@ -27,7 +26,7 @@ use Rattle.records.specs.declared.list.ListKind.the-variants.{Methods}
 use Rattle.listing.proofs.LittleEndian.{bytesOf, eights}
 use Rattle.ranges.specs.Range.{range, lies, covers}
 use Rattle.ranges.specs.Runs.{run, ended, begun, runs, runsFrom, merged}
-use Rattle.used.specs.Used.{usesWord, usesField, usesSlotIn, usesPointerIn, usesText, used, fileLengths}
+use Rattle.used.specs.Used.{usesWord, usesField, usesSlotIn, usesPointerIn, usesText, used}
 
 -- One segment, of one file.
 abbrev image : ℕ → ℕ → List ℕ → Tables

@@ -4,9 +4,9 @@ use mathlib.Core.Bool.{Bool, true, false}
 use mathlib.Core.List.{List, [], _∷_, _++_, flatMap, append-assoc, append-nil}
 use Rattle.reads.specs.Outcome.{Outcome, value, absent, number, choose}
 use Rattle.pointers.specs.Tables.{Tables}
-use Rattle.records.specs.Ask.{Ask, Answer}
+use Rattle.records.specs.Ask.{Ask}
 use Rattle.records.specs.Asks.{ifValue, ifAbsent, asks}
-use Rattle.records.specs.Decode.{Decode, Tried, asked, run, done, then, else, elseFirst, when, tried}
+use Rattle.records.specs.Decode.{Decode, asked, run, done, then, else, elseFirst, when, tried}
 use Rattle.ranges.specs.Range.{Range}
 use Rattle.used.specs.Used.{uses, used}
 

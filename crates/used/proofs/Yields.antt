@@ -1,10 +1,10 @@
 -- What holds of everything that a definition gives, given what holds of the ranges that it uses: by the parts of the definition.
 use mathlib.Core.Path.{_≡_, refl, subst}
 use mathlib.Core.Bool.{Bool, true, false}
-use mathlib.Core.List.{List, [], _∷_, _++_}
+use mathlib.Core.List.{List, _++_}
 use Prim.Native.Nat.{ℕ}
 use native.Mathlib.Omega.{arith}
-use Rattle.reads.specs.Outcome.{Outcome, value, absent, number, andThen, orElse, orFirst, because, choose}
+use Rattle.reads.specs.Outcome.{Outcome, value, absent, number, orElse, orFirst, because, choose}
 use Rattle.reads.specs.declared.answer.Reason.{Reason}
 use Rattle.reads.proofs.Outcomes.{then-came}
 use Rattle.pointers.specs.Tables.{Tables}

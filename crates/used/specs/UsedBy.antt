@@ -1,6 +1,5 @@
 -- The bytes that a listing uses, as ranges (document 02, note 13): of each read of document 01's sections, records, lists and rows, shown or
 -- not.
-use Prim.Native.Nat.{ℕ}
 use mathlib.Core.List.{List}
 use Rattle.pointers.specs.Tables.{Tables}
 use Rattle.listing.specs.DecodeListing.{decodeListing}
