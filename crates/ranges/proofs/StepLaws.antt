@@ -5,7 +5,7 @@ use mathlib.Core.Bool.{Bool, true, false}
 use mathlib.Core.List.{List, [], _∷_, _++_}
 use native.Mathlib.Omega.{arith}
 use lib.Dec.{leb, ltb}
-use lib.ListN.{length, getD, drop}
+use lib.ListN.{length, getD, drop, drop-of-length-le, List·getD-eq-default}
 use lib.Seq.{drop-cons}
 use borrow.Author.Tests.{leb-true, leb-false, ltb-true, ltb-false}
 use Rattle.reads.specs.Outcome.{choose}
@@ -105,3 +105,87 @@ module _ (f : ℕ) (u : ℕ → Bool) where
       past a n x e l = omega arith
       short : (a next known x : ℕ) → next ≡ known → a ≤ x → x < a + next → x - a < known
       short a next known x e l k = omega arith
+
+-- What is to be put out from the first byte of a file on: the runs of this file and of the later ones.
+module _ (lengths : List ℕ) (u : ℕ → ℕ → Bool) where
+  pub finished-file : (f : ℕ) (o : Output) → finished lengths u (reachedAt f 0 (progressOf 0 o)) ≡ tell (runsFrom f (drop f lengths) u) o
+  unfolding finished
+  finished-file f o = go (ltb f (length lengths)) refl
+    where
+      rest : Output → Output
+      rest o′ = tell (runsFrom (suc f) (drop (suc f) lengths) u) o′
+      go : (t : Bool) → ltb f (length lengths) ≡ t
+          → rest (closedAt f (getD lengths f 0) (swept f (u f) (getD lengths f 0 - 0) 0 (progressOf 0 o))) ≡ tell (runsFrom f (drop f lengths) u) o
+      go true e =
+          let all : getD lengths f 0 - 0 ≡ getD lengths f 0 = omega arith in
+          let end : getD lengths f 0 ≡ 0 + getD lengths f 0 = omega arith in
+          rw (drop-cons lengths f 0 (ltb-true f (length lengths) e), all)
+          (ap rest (ap (λ b. closedAt f b (swept f (u f) (getD lengths f 0) 0 (progressOf 0 o))) end ∙ swept-runs f (u f) (getD lengths f 0) 0 (progressOf 0 o))
+          ∙ sym (unfold runsFrom in tell-append (runs f (u f) (getD lengths f 0) 0 0) (runsFrom (suc f) (drop (suc f) lengths) u) o))
+      go false e =
+          let l = ltb-false f (length lengths) e in
+          rw (drop-of-length-le lengths {i = f} l, drop-of-length-le lengths {i = suc f} (omega arith), List·getD-eq-default lengths 0 l)
+          (unfold runsFrom in unfold tell in unfold swept in unfold closedAt in rw (run-none f 0 0 (omega arith)) refl)
+
+  -- At the end of all files nothing is left to do.
+  pub finished-last : (s : Reached) → length lengths ≤ s .file → finished lengths u s ≡ s .progress .told
+  unfolding finished
+  finished-last s h =
+      let none : 0 - s .at ≡ 0 = omega arith in
+      rw (drop-of-length-le lengths {i = suc (s .file)} (omega arith), List·getD-eq-default lengths 0 h, none)
+      (unfold runsFrom in unfold tell in unfold swept in unfold closedAt in rw (run-none (s .file) (s .progress .start) 0 (omega arith)) refl)
+
+  -- A run ends with its file.
+  finished-past : (s : Reached) → getD lengths (s .file) 0 ≤ s .at
+      → finished lengths u s ≡ tell (runsFrom (suc (s .file)) (drop (suc (s .file)) lengths) u) (closedAt (s .file) (getD lengths (s .file) 0) (s .progress))
+  unfolding finished swept
+  finished-past s h = let none : getD lengths (s .file) 0 - s .at ≡ 0 = omega arith in rw none refl
+
+  finished-end : (s : Reached) → getD lengths (s .file) 0 ≤ s .at → more (s .file) ≡ suc (s .file)
+      → finished lengths u (overEnd (getD lengths (s .file) 0) s) ≡ finished lengths u s
+  unfolding overEnd
+  finished-end s h next =
+      ap (λ f. finished lengths u (reachedAt f 0 (progressOf 0 (closedAt (s .file) (getD lengths (s .file) 0) (s .progress))))) next
+      ∙ finished-file (suc (s .file)) (closedAt (s .file) (getD lengths (s .file) 0) (s .progress))
+      ∙ sym (finished-past s h)
+
+  finished-window : (s : Reached) (m : List ℕ) → s .at < getD lengths (s .file) 0 → Shows (s .file) (s .at) (getD lengths (s .file) 0 - s .at) m (u (s .file))
+      → finished lengths u (overWindow (getD lengths (s .file) 0) m s) ≡ finished lengths u s
+  unfolding finished overWindow
+  finished-window s m h shows =
+      ap (λ p. tell (runsFrom (suc (s .file)) (drop (suc (s .file)) lengths) u) (closedAt (s .file) (getD lengths (s .file) 0) p))
+      (window-passed (s .file) (u (s .file)) (getD lengths (s .file) 0) (s .at) _ _ m (s .progress) h shows refl refl)
+
+-- A sweep over the files: a step leaves all that is put out in the end as it is.
+module _ (lengths : List ℕ) (rs : List Range) where
+  pub step-finished : (s : Reached) → suc (s .file) < 2 ^ 64 → finished lengths (covers rs) (stepped lengths rs s) ≡ finished lengths (covers rs) s
+  unfolding stepped
+  step-finished s h =
+      by-choose (λ r. finished lengths (covers rs) r ≡ finished lengths (covers rs) s)
+      (λ e. finished-end lengths (covers rs) s (leb-true (getD lengths (s .file) 0) (s .at) e) (unfold more in omega arith))
+      (λ e. finished-window lengths (covers rs) s (notedAll rs (blank (s .file) (s .at) (getD lengths (s .file) 0 - s .at))) (leb-false (getD lengths (s .file) 0) (s .at) e)
+          (shows-ranges rs (s .file) (s .at) (getD lengths (s .file) 0 - s .at)))
+
+  -- From the first byte on all that is put out is the merged ranges.
+  pub sweep-merged : (o : Output) → finished lengths (covers rs) (reachedAt 0 0 (progressOf 0 o)) ≡ tell (merged lengths rs) o
+  unfolding merged
+  sweep-merged o = finished-file lengths (covers rs) 0 o
+
+-- What is left to pass falls with each step: a measure.
+abbrev pub remaining : List ℕ → Reached → ℕ
+remaining lengths s = (length lengths - s .file) * 36893488147419103232 + (18446744073709551616 - s .at)
+
+pub step-less : (lengths : List ℕ) (rs : List Range) (s : Reached) → s .file < length lengths → suc (s .file) < 2 ^ 64 → s .at < 2 ^ 64
+    → remaining lengths (stepped lengths rs s) < remaining lengths s
+unfolding stepped
+step-less lengths rs s l h k =
+    by-choose (λ r. remaining lengths r < remaining lengths s)
+    (λ e. unfold overEnd in unfold more in end-less (length lengths) (s .file) (s .at) (min (suc (s .file)) (2 ^ 64 - 1)) l (omega arith))
+    (λ e. unfold overWindow in window-less (length lengths) (s .file) (s .at) (getD lengths (s .file) 0) _ _ k (leb-false (getD lengths (s .file) 0) (s .at) e) refl)
+  where
+    end-less : (files f at g : ℕ) → f < files → g ≡ suc f
+        → (files - g) * 36893488147419103232 + (18446744073709551616 - 0) < (files - f) * 36893488147419103232 + (18446744073709551616 - at)
+    end-less files f at g a b = omega arith
+    window-less : (files f at size n next : ℕ) → at < 18446744073709551616 → at < size → n ≡ min window (size - at)
+        → (files - f) * 36893488147419103232 + (18446744073709551616 - (at + max n next)) < (files - f) * 36893488147419103232 + (18446744073709551616 - at)
+    window-less files f at size n next a b e = omega arith
