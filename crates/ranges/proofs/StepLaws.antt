@@ -85,8 +85,8 @@ module _ (f : ℕ) (u : ℕ → Bool) where
       let within : next ≤ size - at = subst (λ (k : ℕ). k ≤ size - at) (sym known) (s .within) in
       let seen = window-seen (size - at) at n m p s (n-most (size - at) n e) in
       let none : (x : ℕ) → at + n ≤ x → x < at + next → u x ≡ false = λ x l k.
-          let all = n-window (size - at) n next (sheetNext m) e known (s .within) (lt-by at n next x l k) in
-          ap u (sym (back at n x l)) ∙ s .clear (x - at) (past at n x all l) (short at next (sheetNext m) x known (low at n x l) k) in
+      let all = n-window (size - at) n next (sheetNext m) e known (s .within) (lt-by at n next x l k) in
+      ap u (sym (back at n x l)) ∙ s .clear (x - at) (past at n x all l) (short at next (sheetNext m) x known (low at n x l) k) in
       let mid : at + n + (next - n) ≡ at + next = omega (arith, up) in
       rw (seen, max-right n next up)
       (ap (swept f u (size - (at + next)) (at + next)) (sym (leap-unused at n next (swept f u n at p) none))
@@ -97,12 +97,16 @@ module _ (f : ℕ) (u : ℕ → Bool) where
     where
       lt-by : (a n next x : ℕ) → a + n ≤ x → x < a + next → n < next
       lt-by a n next x l k = omega arith
+
       low : (a n x : ℕ) → a + n ≤ x → a ≤ x
       low a n x l = omega arith
+
       back : (a n x : ℕ) → a + n ≤ x → a + (x - a) ≡ x
       back a n x l = omega arith
+
       past : (a n x : ℕ) → n ≡ window → a + n ≤ x → window ≤ x - a
       past a n x e l = omega arith
+
       short : (a next known x : ℕ) → next ≡ known → a ≤ x → x < a + next → x - a < known
       short a next known x e l k = omega arith
 
@@ -114,6 +118,7 @@ module _ (lengths : List ℕ) (u : ℕ → ℕ → Bool) where
     where
       rest : Output → Output
       rest o′ = tell (runsFrom (suc f) (drop (suc f) lengths) u) o′
+
       go : (t : Bool) → ltb f (length lengths) ≡ t
           → rest (closedAt f (getD lengths f 0) (swept f (u f) (getD lengths f 0 - 0) 0 (progressOf 0 o))) ≡ tell (runsFrom f (drop f lengths) u) o
       go true e =
@@ -164,7 +169,7 @@ module _ (lengths : List ℕ) (rs : List Range) where
       by-choose (λ r. finished lengths (covers rs) r ≡ finished lengths (covers rs) s)
       (λ e. finished-end lengths (covers rs) s (leb-true (getD lengths (s .file) 0) (s .at) e) (unfold more in omega arith))
       (λ e. finished-window lengths (covers rs) s (notedAll rs (blank (s .file) (s .at) (getD lengths (s .file) 0 - s .at))) (leb-false (getD lengths (s .file) 0) (s .at) e)
-          (shows-ranges rs (s .file) (s .at) (getD lengths (s .file) 0 - s .at)))
+      (shows-ranges rs (s .file) (s .at) (getD lengths (s .file) 0 - s .at)))
 
   -- From the first byte on all that is put out is the merged ranges.
   pub sweep-merged : (o : Output) → finished lengths (covers rs) (reachedAt 0 0 (progressOf 0 o)) ≡ tell (merged lengths rs) o
@@ -186,6 +191,7 @@ step-less lengths rs s l h k =
     end-less : (files f at g : ℕ) → f < files → g ≡ suc f
         → (files - g) * 36893488147419103232 + (18446744073709551616 - 0) < (files - f) * 36893488147419103232 + (18446744073709551616 - at)
     end-less files f at g a b = omega arith
+
     window-less : (files f at size n next : ℕ) → at < 18446744073709551616 → at < size → n ≡ min window (size - at)
         → (files - f) * 36893488147419103232 + (18446744073709551616 - (at + max n next)) < (files - f) * 36893488147419103232 + (18446744073709551616 - at)
     window-less files f at size n next a b e = omega arith

@@ -76,7 +76,7 @@ module _ (rs : List Range) (out none left : List ℕ) (count : ℕ) (counted : o
   written-none a m e d =
       by-choose (λ r. resultOf a out ≡ r)
       (λ t. let l = leb-true (length rs * 3) (length out) t in
-          is-value count m (sym (ap rangesOutcome d) ∙ e ∙ sym (room-some count out (omega (arith, all-counted)))))
+      is-value count m (sym (ap rangesOutcome d) ∙ e ∙ sym (room-some count out (omega (arith, all-counted)))))
       (λ t. let l = leb-false (length rs * 3) (length out) t in ap (λ o. result o out) (e ∙ sym (room-none count out (omega (arith, all-counted)))))
     where
       is-value : (n : ℕ) (k : Missing) {x y : Result} → missed k ≡ value n → x ≡ y
@@ -89,11 +89,11 @@ module _ (rs : List Range) (out none left : List ℕ) (count : ℕ) (counted : o
   written-all a n c′ out′ e d w =
       by-choose (λ r. resultOf a out′ ≡ r)
       (λ t. let l = leb-true (length rs * 3) (length out) t in
-          let same : count ≡ length rs = omega (arith, all-counted) in
-          let told : out′ ≡ rangeWords rs ++ drop (length rs * 3) out = ap (λ o. o .words) w ∙ tell-words rs out l long in
-          ap (λ o. result o out′) (e ∙ sym (room-some count out (omega (arith, all-counted))) ∙ ap value same) ∙ ap (result (value (length rs))) told)
+      let same : count ≡ length rs = omega (arith, all-counted) in
+      let told : out′ ≡ rangeWords rs ++ drop (length rs * 3) out = ap (λ o. o .words) w ∙ tell-words rs out l long in
+      ap (λ o. result o out′) (e ∙ sym (room-some count out (omega (arith, all-counted))) ∙ ap value same) ∙ ap (result (value (length rs))) told)
       (λ t. let l = leb-false (length rs * 3) (length out) t in
-          is-number n (sym (ap rangesOutcome d) ∙ e ∙ sym (room-none count out (omega (arith, all-counted)))))
+      is-number n (sym (ap rangesOutcome d) ∙ e ∙ sym (room-none count out (omega (arith, all-counted)))))
     where
       is-number : (k : ℕ) {x y : Result} → value k ≡ number 24 → x ≡ y
       is-number k i = cc
