@@ -5,14 +5,14 @@ use mathlib.Core.Bool.{Bool, true, false}
 use mathlib.Core.List.{List, [], _∷_, _++_}
 use native.Mathlib.Omega.{arith}
 use lib.Dec.{leb, ltb}
-use lib.ListN.{length, getD, drop, drop-of-length-le, List·getD-eq-default}
+use lib.ListN.{length, getD, drop, replicate, drop-of-length-le, List·getD-eq-default}
 use lib.Seq.{drop-cons}
-use borrow.Author.Tests.{leb-true, leb-false, ltb-true, ltb-false}
+use borrow.Author.Tests.{le-leb, lt-leb, leb-true, leb-false, ltb-true, ltb-false}
 use Rattle.reads.specs.Outcome.{choose}
 use Rattle.reads.proofs.Tests.{by-choose}
 use Rattle.ranges.specs.Range.{Range, covers}
 use Rattle.ranges.specs.Runs.{run, ended, begun, runs, runsFrom, merged}
-use Rattle.ranges.specs.Sheet.{window, sheetNext, shown, blank, notedAll}
+use Rattle.ranges.specs.Sheet.{window, sheetNext, shown, headed, blank, notedAll}
 use Rattle.ranges.specs.Sweep.{more, Output, tell, Progress, progressOf, closedAt, passed, swept, leapt, Reached, reachedAt, overWindow, overEnd, stepped, finished}
 use Rattle.ranges.proofs.RunLaws.{run-none}
 use Rattle.ranges.proofs.Shown.{Shows, shows-ranges}
@@ -175,6 +175,17 @@ module _ (lengths : List ℕ) (rs : List Range) where
   pub sweep-merged : (o : Output) → finished lengths (covers rs) (reachedAt 0 0 (progressOf 0 o)) ≡ tell (merged lengths rs) o
   unfolding merged
   sweep-merged o = finished-file lengths (covers rs) 0 o
+
+-- A step by its branches in the code: at a file's end, and else with a sheet of zeros that is begun and on which the ranges are noted.
+module _ (lengths : List ℕ) (rs : List Range) (s r : Reached) (size : ℕ) (is-size : size ≡ getD lengths (s .file) 0) where
+  pub step-end : size ≤ s .at → r ≡ overEnd size s → r ≡ stepped lengths rs s
+  unfolding stepped choose
+  step-end h e = rw (← is-size, le-leb size (s .at) h) e
+
+  pub step-window : (m m′ : List ℕ) → s .at < size → m ≡ headed (s .file) (s .at) (size - s .at) (replicate 32771 0) → m′ ≡ notedAll rs m → r ≡ overWindow size m′ s
+      → r ≡ stepped lengths rs s
+  unfolding stepped choose blank
+  step-window m m′ h e d i = rw (← is-size, lt-leb size (s .at) h, ← e, ← d) i
 
 -- What is left to pass falls with each step: a measure.
 abbrev pub remaining : List ℕ → Reached → ℕ
