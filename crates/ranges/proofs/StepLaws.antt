@@ -187,22 +187,40 @@ module _ (lengths : List ℕ) (rs : List Range) (s r : Reached) (size : ℕ) (is
   unfolding stepped choose blank
   step-window m m′ h e d i = rw (← is-size, lt-leb size (s .at) h, ← e, ← d) i
 
--- What is left to pass falls with each step: a measure.
-abbrev pub remaining : List ℕ → Reached → ℕ
-remaining lengths s = (length lengths - s .file) * 36893488147419103232 + (18446744073709551616 - s .at)
+-- What is left to pass falls with each step: a measure, of the files that are left and the bytes of all files.
+total : List ℕ → ℕ
+total [] = 0
+total (n ∷ ns) = n + total ns
 
-pub step-less : (lengths : List ℕ) (rs : List Range) (s : Reached) → s .file < length lengths → suc (s .file) < 2 ^ 64 → s .at < 2 ^ 64
+total-most : (lengths : List ℕ) (f : ℕ) → getD lengths f 0 ≤ total lengths
+unfolding total
+total-most [] f = omega arith
+total-most (n ∷ ns) zero = omega arith
+total-most (n ∷ ns) (suc f) = let ih = total-most ns f in omega arith
+
+times : ℕ → ℕ → ℕ
+times zero k = 0
+times (suc d) k = k + times d k
+
+pub remaining : List ℕ → Reached → ℕ
+remaining lengths s = times (length lengths - s .file) (suc (total lengths)) + (total lengths - s .at)
+
+pub step-less : (lengths : List ℕ) (rs : List Range) (s : Reached) → s .file < length lengths → suc (s .file) < 2 ^ 64
     → remaining lengths (stepped lengths rs s) < remaining lengths s
-unfolding stepped
-step-less lengths rs s l h k =
+unfolding stepped remaining
+step-less lengths rs s l h =
     by-choose (λ r. remaining lengths r < remaining lengths s)
-    (λ e. unfold overEnd in unfold more in end-less (length lengths) (s .file) (s .at) (min (suc (s .file)) (2 ^ 64 - 1)) l (omega arith))
-    (λ e. unfold overWindow in window-less (length lengths) (s .file) (s .at) (getD lengths (s .file) 0) _ _ k (leb-false (getD lengths (s .file) 0) (s .at) e) refl)
+    (λ e. unfold overEnd in unfold more in end-less (length lengths) (s .file) (s .at) (min (suc (s .file)) (2 ^ 64 - 1)) (total lengths) l (omega arith))
+    (λ e. unfold overWindow in
+    window-less (times (length lengths - s .file) (suc (total lengths))) (s .at) (getD lengths (s .file) 0) _ _ (total lengths) (leb-false (getD lengths (s .file) 0) (s .at) e)
+    (total-most lengths (s .file)) refl)
   where
-    end-less : (files f at g : ℕ) → f < files → g ≡ suc f
-        → (files - g) * 36893488147419103232 + (18446744073709551616 - 0) < (files - f) * 36893488147419103232 + (18446744073709551616 - at)
-    end-less files f at g a b = omega arith
+    end-less : (files f at g all : ℕ) → f < files → g ≡ suc f → times (files - g) (suc all) + (all - 0) < times (files - f) (suc all) + (all - at)
+    end-less files f at g all a b = go (files - g) (files - f) (omega arith)
+      where
+        go : (d e : ℕ) → e ≡ suc d → times d (suc all) + (all - 0) < times e (suc all) + (all - at)
+        go d e i = rw i (unfold times in omega arith)
 
-    window-less : (files f at size n next : ℕ) → at < 18446744073709551616 → at < size → n ≡ min window (size - at)
-        → (files - f) * 36893488147419103232 + (18446744073709551616 - (at + max n next)) < (files - f) * 36893488147419103232 + (18446744073709551616 - at)
-    window-less files f at size n next a b e = omega arith
+    window-less : (rest at size n next all : ℕ) → at < size → size ≤ all → n ≡ min window (size - at)
+        → rest + (all - (at + max n next)) < rest + (all - at)
+    window-less rest at size n next all a b e = omega arith
