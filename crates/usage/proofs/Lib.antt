@@ -1,0 +1,2 @@
+-- Laws that the proofs of usage share.
+pub mod Leaves

@@ -1,0 +1,2 @@
+-- The definitions that the contracts of usage cite.
+pub mod Traced
