@@ -8,7 +8,7 @@ use lib.Dec.{leb}
 use lib.ListN.{length}
 use borrow.Author.Tests.{le-leb, lt-leb}
 use Rattle.reads.specs.Answer.{missed}
-use Rattle.reads.specs.Outcome.{Outcome, value, absent, number, choose, isAbsent}
+use Rattle.reads.specs.Outcome.{Outcome, value, absent, number, andThen, choose, isAbsent}
 use Rattle.reads.specs.Files.{fileOf}
 use Rattle.reads.specs.declared.answer.Missing.{Missing}
 use Rattle.reads.specs.declared.answer.Missing.the-variants.{Absent, Refused}
@@ -18,7 +18,7 @@ use Rattle.records.specs.Asks.{ifValue, ifAbsent}
 use Rattle.ranges.specs.Range.{Range, range}
 use Rattle.ranges.specs.Sheet.{noted, notedAll}
 use Rattle.used.specs.Used.{usesField}
-use Rattle.usage.specs.Traced.{traced}
+use Rattle.usage.specs.Traced.{Traced, traced, Going, going, goingOn}
 
 -- One range is noted, or none.
 pub noted-one : (r : Range) (m n : List ℕ) → n ≡ noted r m → n ≡ notedAll (r ∷ []) m
@@ -73,3 +73,32 @@ module _ (files : List (List ℕ)) (k : ℕ) (p : Place) (i n : ℕ) (size : n �
 
 pub both-are : {A : Type 0} {o p : Outcome A} {m n : List ℕ} → o ≡ p → m ≡ n → traced o m ≡ traced p n
 both-are e f = rw (e, f) refl
+
+-- Whether a call's answer is a value, beside a sheet.
+module _ {W A : Type 0} (out : W → Outcome A) where
+  pub goes-on : {w v : W} {x : Outcome A} {a : A} {m n : List ℕ} → out w ≡ x → w ≡ v → out v ≡ value a → m ≡ n → going true m ≡ goingOn x n
+  goes-on e g h k = rw (← e, g, h, k) refl
+
+  pub goes-not : (k : Missing) {w v : W} {x : Outcome A} {m n : List ℕ} → out w ≡ x → w ≡ v → out v ≡ missed k → m ≡ n → going false m ≡ goingOn x n
+  goes-not (Absent r) e g h k = rw (← e, g, h, k) refl
+  goes-not (Refused j) e g h k = rw (← e, g, h, k) refl
+
+-- A field of a record: its address, then the slot there.
+module _ {W A B : Type 0} (out : W → Outcome A) (f : A → Outcome B) (us : A → List Range) (m : List ℕ) where
+  pub traced-value : {w v : W} {x : Outcome A} {a : A} {y : Traced B} → out w ≡ x → w ≡ v → out v ≡ value a → y ≡ traced (f a) (notedAll (us a) m)
+      → y ≡ traced (andThen x f) (notedAll (ifValue x us) m)
+  traced-value e g h r = rw (← e, g, h) r
+
+  pub traced-missing : (k : Missing) {w v : W} {x : Outcome A} → out w ≡ x → w ≡ v → out v ≡ missed k → traced (missed k) m ≡ traced (andThen x f) (notedAll (ifValue x us) m)
+  unfolding notedAll
+  traced-missing (Absent r) e g h = rw (← e, g, h) refl
+  traced-missing (Refused j) e g h = rw (← e, g, h) refl
+
+  pub going-value : {w v : W} {x : Outcome A} {a : A} {y : Going} → out w ≡ x → w ≡ v → out v ≡ value a → y ≡ goingOn (f a) (notedAll (us a) m)
+      → y ≡ goingOn (andThen x f) (notedAll (ifValue x us) m)
+  going-value e g h r = rw (← e, g, h) r
+
+  pub going-missing : (k : Missing) {w v : W} {x : Outcome A} → out w ≡ x → w ≡ v → out v ≡ missed k → going false m ≡ goingOn (andThen x f) (notedAll (ifValue x us) m)
+  unfolding notedAll
+  going-missing (Absent r) e g h = rw (← e, g, h) refl
+  going-missing (Refused j) e g h = rw (← e, g, h) refl

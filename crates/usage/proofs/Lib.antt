@@ -1,2 +1,3 @@
 -- Laws that the proofs of usage share.
 pub mod Leaves
+pub mod Notes

@@ -1,2 +1,3 @@
 -- The definitions that the contracts of usage cite.
 pub mod Traced
+pub mod Pass

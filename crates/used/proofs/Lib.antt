@@ -9,3 +9,4 @@ pub mod SameLines
 pub mod SameListings
 pub mod UsedCases
 pub mod HubUsed
+pub mod SamePages

@@ -36,7 +36,7 @@ file-length : (files : List (List ℕ)) (f : ℕ) → getD (fileLengths files) f
 unfolding fileOf
 file-length files f = List·getD-map length files f []
 
-lengths-same : (files others : List (List ℕ)) → fileLengths files ≡ fileLengths others → (f : ℕ) → length (fileOf files f) ≡ length (fileOf others f)
+pub lengths-same : (files others : List (List ℕ)) → fileLengths files ≡ fileLengths others → (f : ℕ) → length (fileOf files f) ≡ length (fileOf others f)
 lengths-same files others e f = sym (file-length files f) ∙ ap (λ (ns : List ℕ). getD ns f 0) e ∙ file-length others f
 
 -- The bytes of a range are the same where each that lies in it, and in its file, is.

@@ -60,3 +60,8 @@ module _ (t : Tables) where
   pub used-tried : {A : Type 0} (d : Decode A) → used t (tried d) ≡ used t d
   unfolding asks
   used-tried d = refl
+
+  -- Where the first part gives a value, in any of the forms of DecodeListing.antt.
+  pub then-uses : {A B : Type 0} (d : Decode A) (f : A → Decode B) {a : A} {rs ss : List Range} → used t d ≡ rs → run t d ≡ value a → used t (f a) ≡ ss
+      → used t (then d f) ≡ rs ++ ss
+  then-uses d f e v g = used-then d f ∙ rw (e, v, g) refl

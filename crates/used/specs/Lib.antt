@@ -2,3 +2,4 @@
 pub mod Used
 pub mod UsedBy
 pub mod StillGood
+pub mod SamePage
