@@ -1,3 +1,4 @@
 -- Laws that the proofs of usage share.
 pub mod Leaves
 pub mod Notes
+pub mod Noting

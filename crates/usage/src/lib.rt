@@ -1,3 +1,6 @@
 // The ranges of an image's files whose bytes a listing uses (document 02, note 13).
 mod class;
 mod leaf;
+mod row;
+mod text;
+mod word;
