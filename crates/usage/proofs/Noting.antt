@@ -6,7 +6,7 @@ use mathlib.Core.List.{List, [], _++_, append-nil}
 use Rattle.reads.specs.Answer.{missed, textOutcome}
 use Rattle.reads.specs.declared.text.TextAnswer.{TextAnswer}
 use Rattle.reads.specs.Breaks.{isValue}
-use Rattle.reads.specs.Outcome.{Outcome, value, absent, number, Unrefused, is-value, is-absent, andThen, orZero, textOf}
+use Rattle.reads.specs.Outcome.{Outcome, value, absent, number, Unrefused, is-value, is-absent, andThen, orZero, choose, textOf}
 use Rattle.reads.specs.Outcome.{orEmpty as orEmptyOf}
 use Rattle.reads.proofs.Unrefused.{text-in-unrefused}
 use Rattle.reads.specs.declared.answer.Missing.{Missing}
@@ -22,7 +22,7 @@ use Rattle.records.specs.declared.ivar.IvarOffset.the-variants as offset
 use Rattle.records.specs.Ask as asks
 use Rattle.records.specs.Ask.{Ask, Answer, answer}
 use Rattle.records.specs.Asks.{ifValue, ifAbsent}
-use Rattle.records.specs.Decode.{Decode, asked, run, done, then, else, when, or0, orEmpty, nonzero, readable, u32In, slot, string}
+use Rattle.records.specs.Decode.{Decode, asked, run, done, then, else, when, or0, orEmpty, sum64, nonzero, even, atLeast, readable, u32In, slot, string}
 use Rattle.ranges.specs.Range.{Range}
 use Rattle.ranges.specs.Sheet.{notedAll}
 use Rattle.ranges.proofs.SheetLaws.{noted-append}
@@ -120,6 +120,10 @@ module _ (t : Tables) {B : Type 0} (q : Ask) (f : Answer q → Decode B) where
         missing : (j : Missing) → answer t q ≡ missed j → isValue (answer t q) ≡ false
         missing (Absent r) i = ap isValue i
         missing (Refused j) i = ap isValue i
+
+unused : (rs : List Range) (m : List ℕ) → rs ≡ [] → m ≡ notedAll rs m
+unfolding notedAll
+unused rs m n = rw n refl
 
 -- What counts as something where it is absent uses the same.
 pub used-or : (t : Tables) (q : Ask) (a : Answer q) → used t (else (asked q) (done a)) ≡ uses t q
@@ -247,3 +251,35 @@ pub offset-noted : (t : Tables) (cell : ℕ) (m : List ℕ) {m₁ : List ℕ}
     → m₁ ≡ notedAll (used t (then (nonzero cell) (λ a. then (readable a 4) (λ p. then (u32In p 0) (λ n. done (offset.At n)))))) m → m₁ ≡ notedAll (used t (decodeOffset cell)) m
 unfolding decodeOffset
 offset-noted t cell m g = noted-or t (then (nonzero cell) (λ a. then (readable a 4) (λ p. then (u32In p 0) (λ n. done (offset.At n))))) offset.Nothing m g
+
+-- A part that uses nothing, answered by a call.
+module _ (t : Tables) {A B : Type 0} (d : Decode A) (f : A → Decode B) {W : Type 0} (out : W → Outcome A) {w v : W} (is : w ≡ v) where
+  pub check-next : (a : A) (m : List ℕ) {m₂ : List ℕ} → out w ≡ run t d → used t d ≡ [] → out v ≡ value a → m₂ ≡ notedAll (used t (f a)) m → m₂ ≡ notedAll (used t (then d f)) m
+  check-next a m e n g h = noted-next t d f a m (sym e ∙ ap out is ∙ g) (unused (used t d) m n) h
+
+  pub check-stop : (k : Missing) (m : List ℕ) → out w ≡ run t d → used t d ≡ [] → out v ≡ missed k → m ≡ notedAll (used t (then d f)) m
+  check-stop k m e n g = noted-stop t d f m (none-missing k (sym e ∙ ap out is ∙ g)) (unused (used t d) m n)
+    where
+      none-missing : (j : Missing) → run t d ≡ missed j → isValue (run t d) ≡ false
+      none-missing (Absent r) i = ap isValue i
+      none-missing (Refused j) i = ap isValue i
+
+-- The parity of a list's address, and the tests at the end of a header, use nothing.
+pub parity-none : (t : Tables) (b : Bool) (va : ℕ) → used t (when b (even va) (done va)) ≡ []
+parity-none t true va = used-when t true (even va) (done va) ∙ unfold choose in used-asked t (asks.even va)
+parity-none t false va = used-when t false (even va) (done va) ∙ unfold choose in used-done t va
+
+none-then : (t : Tables) {A B : Type 0} (d : Decode A) (f : A → Decode B) → used t d ≡ [] → ((a : A) → used t (f a) ≡ []) → used t (then d f) ≡ []
+none-then t {A} d f n h = used-then t d f ∙ ap (λ l. l ++ ifValue (run t d) (λ a. used t (f a))) n ∙ go (run t d)
+  where
+    go : (o : Outcome A) → ifValue o (λ a. used t (f a)) ≡ []
+    go (value a) = h a
+    go (absent r) = refl
+    go (number k) = refl
+
+pub sum-none : (t : Tables) {B : Type 0} (va k : ℕ) (g : ℕ → B) → used t (then (sum64 va k) (λ base. done (g base))) ≡ []
+sum-none t va k g = none-then t (sum64 va k) (λ base. done (g base)) (used-asked t (asks.sum64 va k)) (λ base. used-done t (g base))
+
+pub size-none : (t : Tables) {B : Type 0} (least size va k : ℕ) (g : ℕ → B) → used t (then (atLeast least size) (λ _. then (sum64 va k) (λ base. done (g base)))) ≡ []
+size-none t least size va k g =
+    none-then t (atLeast least size) (λ _. then (sum64 va k) (λ base. done (g base))) (used-asked t (asks.atLeast least size)) (λ _. sum-none t va k g)
