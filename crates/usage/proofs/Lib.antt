@@ -2,3 +2,4 @@
 pub mod Leaves
 pub mod Notes
 pub mod PassUses
+pub mod Noting

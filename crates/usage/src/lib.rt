@@ -4,3 +4,7 @@ mod class;
 mod class_name;
 mod leaf;
 mod protocol;
+mod list;
+mod row;
+mod text;
+mod word;
