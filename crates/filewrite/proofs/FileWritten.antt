@@ -38,4 +38,4 @@ module _ (x : Ranges) (file segments sections rebases binds index ledger out : L
       go (over e g) =
           all-handed _ _ _ out c _ (text-so-far _ _ _ (h .handed .pieces)) e
           ∙ file-printed readingNew x file segments sections rebases binds index ledger long classes categories rows words
-      go failed = absurd (n refl)
+      go (failed e) = absurd (n (ap (λ (v : Wrote). v .status) e))

@@ -32,7 +32,7 @@ pub record HandedOver (t : Tables) (p : Standing) (b : List ℕ) (q : Standing) 
 
 -- The statuses: 0 listed, 1 refused by a number, 3 a write failed.
 abbrev pub wrote : ℕ → ℕ → Wrote
-wrote status number = record { status = status; number = number }
+wrote s k = record { status = s; number = k }
 
 -- The status of a text that was handed over to its end, by what the last step said.
 abbrev pub endOf : Outcome Answer → Wrote
@@ -43,7 +43,7 @@ endOf (number k) = wrote 1 k
 -- What is claimed of an end: nothing is still to come, or a write failed.
 pub data Ends (t : Tables) (q : Standing) : Wrote → Type 0 where
   over : {w : Wrote} → toCome t q ≡ [] → w ≡ endOf (q .said) → Ends t q w
-  failed : Ends t q (wrote 3 0)
+  failed : {w : Wrote} → w ≡ wrote 3 0 → Ends t q w
 
 -- A writing from the standing p and the buffer b on, which ended so and left this ledger and this buffer.
 pub record Written (t : Tables) (p : Standing) (b : List ℕ) (w : Wrote) (l c : List ℕ) : Type 0 where

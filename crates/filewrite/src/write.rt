@@ -175,10 +175,12 @@ pub fn write_file(
         binds,
         index,
     );
+    let start = listing.progress;
+    let answer = listing.answer;
     let pieces = write_pieces(
         fd,
-        listing.progress,
-        listing.answer,
+        start,
+        answer,
         file,
         segments,
         sections,
@@ -195,5 +197,6 @@ pub fn write_file(
         };
     }
     let progress = pieces.progress;
-    ended(progress.said)
+    let said = progress.said;
+    ended(said)
 }
