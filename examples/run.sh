@@ -1,35 +1,40 @@
 #!/bin/sh
-# Builds the examples against the library and compares the selectors that they print with the m rows of the listing: of the stored bundles, and of
-# each BUNDLE given, as `./list` lists it. The library is target/staticlib/libface.a, built (and proved) where it is not there.
-set -eu
-root=$(cd "$(dirname "$0")/.." && pwd)
-cd "$root"
-out=target/examples
+# Builds the examples against the library and holds what they print of each stored Mach-O file to its listing: the selectors of the m rows, or of a
+# refused file its number. Status 0 if all is as it should be. Where there is no rustc, selectors.rs is left out.
+root=$(cd "$(dirname "$0")/.." && pwd) || exit 2
+cd "$root" || exit 2
+host/build.sh || exit 2
 library=target/staticlib
-mkdir -p "$out"
-[ -f "$library/libface.a" ] || rt staticlib face >"$out/staticlib.log"
-cc -O2 -Wall -o "$out/selectors-c" examples/selectors.c "$library/libface.a"
-examples=selectors-c
+out=target/examples
+mkdir -p "$out" || exit 2
+cc -std=c11 -O2 -Wall -Wextra -Werror -o "$out/selectors.c.run" examples/selectors.c "$library/libface.a" || exit 2
+examples=selectors.c
 if command -v rustc >/dev/null 2>&1; then
-    rustc --edition 2021 -O -L "$library" -o "$out/selectors-rs" examples/selectors.rs
-    examples="$examples selectors-rs"
+    rustc --edition 2021 -O -D warnings -L "$library" -o "$out/selectors.rs.run" examples/selectors.rs || exit 2
+    examples="selectors.c selectors.rs"
 else
-    echo "examples: no rustc, so selectors.rs is not run"
+    echo "examples/run.sh: no rustc on the PATH: selectors.rs is not built and not run"
 fi
-
-# compare BUNDLE LISTING
-compare() {
-    sed -n 's/^m [0-9a-f]* [0-9a-f]*:\([^ ]*\) .*/\1/p' "$2" >"$out/expected"
-    for e in $examples; do
-        "$out/$e" "$1" >"$out/printed"
-        cmp "$out/expected" "$out/printed"
-        echo "examples: $e prints the $(wc -l <"$out/printed") selectors of $1"
+bad=0
+files=0
+selectors=0
+for listing in host/files/*.listing; do
+    file=${listing%.listing}
+    : >"$out/said"
+    case $(cat "$listing") in
+    refused*) want=1 && echo "$file: $(cat "$listing")" >"$out/said" ;;
+    *) want=0 ;;
+    esac
+    sed -n 's/^m [0-9a-f]* [0-9a-f]*:\([^ ]*\) .*/\1/p' "$listing" >"$out/selectors"
+    files=$((files + 1))
+    selectors=$((selectors + $(wc -l <"$out/selectors")))
+    for example in $examples; do
+        "$out/$example.run" "$file" >"$out/printed" 2>"$out/printed.err"
+        if [ $? -ne "$want" ] || ! cmp -s "$out/selectors" "$out/printed" || ! cmp -s "$out/said" "$out/printed.err"; then
+            echo "examples/run.sh: $example: $file: another status than $want, or other selectors or words than of $listing" >&2
+            bad=$((bad + 1))
+        fi
     done
-}
-
-compare crates/objclist/stdin crates/objclist/stdout
-compare examples/records.bundle examples/records.listing
-for bundle in "$@"; do
-    ./list "$bundle" >"$out/listing"
-    compare "$bundle" "$out/listing"
 done
+echo "examples/run.sh: $files files, $selectors selectors, by each of $examples: $bad failed"
+[ "$bad" -eq 0 ] && [ "$selectors" -gt 0 ]

@@ -1,8 +1,8 @@
-//! selectors BUNDLE: as selectors.c, in Rust.
+//! selectors FILE: as selectors.c, in Rust. An error is the number of the question that refused (docs/QUESTIONS.md).
 use std::io::Write;
 use std::process::exit;
 
-// What of include/objclist.h is used here.
+// What of include/objclist.h and include/objclist_file.h is used here.
 #[repr(C)]
 #[derive(Clone, Copy)]
 struct Bytes {
@@ -27,11 +27,41 @@ struct Text {
 }
 
 #[repr(C)]
-#[derive(Clone, Copy, Default)]
-struct Info {
+struct Part {
+    status: u64,
+    number: u64,
+    cputype: u64,
+    cpusubtype: u64,
+    offset: u64,
+    size: u64,
+}
+
+#[repr(C)]
+struct Sizes {
+    segments: u64,
+    sections: u64,
+    rebases: u64,
+    binds: u64,
+    index: u64,
+    ledger: u64,
+}
+
+#[repr(C)]
+struct Counts {
+    status: u64,
+    number: u64,
+    rebases: u64,
+    binds: u64,
+}
+
+#[repr(C)]
+struct Opened {
     status: Status,
+    segments: u64,
     version: u64,
     flags: u64,
+    info_at: u64,
+    info_len: u64,
 }
 
 #[repr(C)]
@@ -136,40 +166,42 @@ struct Row {
 
 const FOUND: u64 = 0;
 const REFUSED: u64 = 1;
+const ABSENT: u64 = 2;
 const FINISHED: u64 = 5;
 const MORE: u64 = 6;
 const METHOD: u64 = 0;
 const ROW_WORDS: usize = 15;
+const SEGMENT_WORDS: usize = 5;
+const REBASE_WORDS: usize = 2;
+const BIND_WORDS: usize = 4;
 const INDEX_HEADS: usize = 8192;
 
-// What every call is lent: README.md, "What it reads", says what each table holds.
-struct Bundle<'a> {
-    files: [&'a [u8]; 4],
-    pairs: [Bytes; 4],
-    segments: &'a [u64],
-    sections: &'a [u64],
-    info: &'a [u8],
-    rebases: &'a [u64],
-    binds: &'a [u64],
-    index: Vec<u32>,
-    ledger: Vec<u64>,
+#[link(name = "face", kind = "static")]
+extern "C" {
+    fn objclist_part(file: *const u8, file_len: usize) -> Part;
+    fn objclist_sizes(n: u64) -> Sizes;
+    fn objclist_tables(
+        file: *const u8, file_len: usize, rebases: *mut u64, rebases_len: usize, binds: *mut u64, binds_len: usize,
+    ) -> Counts;
+    fn objclist_open_file(
+        file: *const u8, file_len: usize, segments: *mut u64, segments_len: usize, sections: *mut u64, sections_len: usize,
+        rebases: *const u64, rebases_len: usize, binds: *const u64, binds_len: usize, index: *mut u32, index_len: usize,
+    ) -> Opened;
 }
 
 macro_rules! lent_to {
     ($($name:ident($($p:ident: $t:ty),*) -> $r:ty;)*) => {
-        #[link(name = "face", kind = "static")]
         extern "C" {
             $(fn $name(
                 files: *const Bytes, files_len: usize, segments: *const u64, segments_len: usize, sections: *const u64,
                 sections_len: usize, info: *const u8, info_len: usize, rebases: *const u64, rebases_len: usize,
-                binds: *const u64, binds_len: usize, index: *mut u32, index_len: usize $(, $p: $t)*
+                binds: *const u64, binds_len: usize, index: *const u32, index_len: usize $(, $p: $t)*
             ) -> $r;)*
         }
     };
 }
 
 lent_to! {
-    objclist_open() -> Info;
     objclist_next_class(walk: Walk, ledger: *mut u64, ledger_len: usize) -> Step<Class>;
     objclist_next_protocol(walk: Walk) -> Step<Protocol>;
     objclist_next_category(walk: Walk, ledger: *mut u64, ledger_len: usize) -> Step<Category>;
@@ -177,119 +209,140 @@ lent_to! {
     objclist_rows(walk: RowWalk, rows: *mut u64, rows_len: usize) -> Rows;
 }
 
+// What every call is lent, once the image is open.
+struct Image<'a> {
+    file: &'a [u8],
+    segments: Vec<u64>,
+    sections: Vec<u64>,
+    info: &'a [u8],
+    rebases: Vec<u64>,
+    binds: Vec<u64>,
+    index: Vec<u32>,
+}
+
 // Safe: every slice is lent with its own length, and none that is written is lent twice.
 macro_rules! call {
-    ($name:ident, $b:expr $(, $arg:expr)*) => {
+    ($name:ident, $image:expr $(, $arg:expr)*) => {{
+        let i = $image;
+        let file = Bytes { bytes: i.file.as_ptr(), len: i.file.len() };
         unsafe {
             $name(
-                $b.pairs.as_ptr(), 4, $b.segments.as_ptr(), $b.segments.len(), $b.sections.as_ptr(), $b.sections.len(),
-                $b.info.as_ptr(), $b.info.len(), $b.rebases.as_ptr(), $b.rebases.len(), $b.binds.as_ptr(), $b.binds.len(),
-                $b.index.as_mut_ptr(), $b.index.len() $(, $arg)*
+                &file, 1, i.segments.as_ptr(), i.segments.len(), i.sections.as_ptr(), i.sections.len(), i.info.as_ptr(),
+                i.info.len(), i.rebases.as_ptr(), i.rebases.len(), i.binds.as_ptr(), i.binds.len(), i.index.as_ptr(),
+                i.index.len() $(, $arg)*
             )
         }
+    }};
+}
+
+fn unrefused(status: Status) -> Result<u64, u64> {
+    if status.kind == REFUSED { Err(status.code) } else { Ok(status.kind) }
+}
+
+// Opens an image, which is a thin file or a part of a universal one. The tables are lent as long as any image may need, then cut to what it has;
+// zeroed memory that is never touched costs nothing.
+fn open(file: &[u8]) -> Result<Image<'_>, u64> {
+    let most = unsafe { objclist_sizes(file.len() as u64) };
+    let mut rebases = vec![0u64; most.rebases as usize];
+    let mut binds = vec![0u64; most.binds as usize];
+    let counts = unsafe {
+        objclist_tables(file.as_ptr(), file.len(), rebases.as_mut_ptr(), rebases.len(), binds.as_mut_ptr(), binds.len())
     };
-}
-
-fn fail(why: &str) -> ! {
-    eprintln!("selectors: {why}");
-    exit(1)
-}
-
-fn unrefused(status: Status) -> Status {
-    if status.kind == REFUSED {
-        fail(&format!("question {} refuses", status.code));
+    if counts.status != FOUND {
+        return Err(counts.number);
     }
-    status
+    rebases.truncate(REBASE_WORDS * counts.rebases as usize);
+    binds.truncate(BIND_WORDS * counts.binds as usize);
+    let mut index = vec![0u32; INDEX_HEADS + counts.rebases as usize + counts.binds as usize];
+    let mut segments = vec![0u64; most.segments as usize];
+    let mut sections = vec![0u64; most.sections as usize];
+    let opened = unsafe {
+        objclist_open_file(
+            file.as_ptr(), file.len(), segments.as_mut_ptr(), segments.len(), sections.as_mut_ptr(), sections.len(),
+            rebases.as_ptr(), rebases.len(), binds.as_ptr(), binds.len(), index.as_mut_ptr(), index.len(),
+        )
+    };
+    if opened.status.kind != FOUND {
+        return Err(opened.status.code);
+    }
+    segments.truncate(SEGMENT_WORDS * opened.segments as usize);
+    let info = &file[opened.info_at as usize..][..opened.info_len as usize];
+    Ok(Image { file, segments, sections, info, rebases, binds, index })
 }
 
 // The selectors of a list, some rows a call. An entry that has no selector is a row too, of another kind.
-fn selectors(b: &mut Bundle, list: u64, out: &mut Vec<u8>) {
+fn selectors(image: &Image, list: u64, out: &mut Vec<u8>) -> Result<(), u64> {
     let mut rows = [Row::default(); 16];
     let mut walk = RowWalk { list, ..RowWalk::default() };
     loop {
-        let told = call!(objclist_rows, b, walk, rows.as_mut_ptr().cast(), 16 * ROW_WORDS);
+        let told = call!(objclist_rows, image, walk, rows.as_mut_ptr().cast(), rows.len() * ROW_WORDS);
         for row in rows[..told.rows as usize].iter().filter(|row| row.kind == METHOD) {
-            let from = row.name.offset as usize;
-            out.extend_from_slice(&b.files[row.name.file as usize][from..from + row.name.len as usize]);
+            out.extend_from_slice(&image.file[row.name.offset as usize..][..row.name.len as usize]);
             out.push(b'\n');
         }
-        walk = told.walk;
-        if unrefused(told.status).kind != MORE {
-            return;
+        if unrefused(told.status)? != MORE {
+            return Ok(());
         }
+        walk = told.walk;
     }
 }
 
-// Each record that a walk gives.
-fn records<R: Copy + Default>(b: &mut Bundle, next: fn(&mut Bundle, Walk) -> Step<R>, mut each: impl FnMut(&mut Bundle, R)) {
+// The records of a walk, which ends: each step takes a slot, or the metaclass that waited. A slot without a record that can be read has no line
+// in the listing.
+fn records<R>(mut next: impl FnMut(Walk) -> Step<R>, mut each: impl FnMut(R) -> Result<(), u64>) -> Result<(), u64> {
     let mut walk = Walk::default();
     loop {
-        let step = next(b, walk);
-        match unrefused(step.status).kind {
-            FINISHED => return,
-            FOUND => each(b, step.record),
+        let step = next(walk);
+        match unrefused(step.status)? {
+            FINISHED => return Ok(()),
+            FOUND => each(step.record)?,
             _ => {}
         }
         walk = step.walk;
     }
 }
 
-fn listed(b: &mut Bundle) -> Vec<u8> {
+fn all_selectors(file: &[u8]) -> Result<Vec<u8>, u64> {
+    let image = &open(file)?;
+    let mut ledger = vec![0u64; unsafe { objclist_sizes(file.len() as u64) }.ledger as usize];
     let mut out = Vec::new();
     records(
-        b,
-        |b, walk| call!(objclist_next_class, b, walk, b.ledger.as_mut_ptr(), b.ledger.len()),
-        |b, class: Class| {
-            let ro = call!(objclist_class_ro, b, 0, class);
-            if ro.status.kind == FOUND {
-                selectors(b, ro.methods, &mut out);
+        |walk| call!(objclist_next_class, image, walk, ledger.as_mut_ptr(), ledger.len()),
+        |class: Class| {
+            let data = call!(objclist_class_ro, image, 0, class);
+            if unrefused(data.status)? != FOUND {
+                return Ok(());
             }
+            selectors(image, data.methods, &mut out)
         },
-    );
+    )?;
     records(
-        b,
-        |b, walk| call!(objclist_next_protocol, b, walk),
-        |b, p: Protocol| p.methods.iter().for_each(|&list| selectors(b, list, &mut out)),
-    );
+        |walk| call!(objclist_next_protocol, image, walk),
+        |protocol: Protocol| protocol.methods.iter().try_for_each(|&list| selectors(image, list, &mut out)),
+    )?;
     records(
-        b,
-        |b, walk| call!(objclist_next_category, b, walk, b.ledger.as_mut_ptr(), b.ledger.len()),
-        |b, c: Category| c.methods.iter().for_each(|&list| selectors(b, list, &mut out)),
-    );
-    out
+        |walk| call!(objclist_next_category, image, walk, ledger.as_mut_ptr(), ledger.len()),
+        |category: Category| category.methods.iter().try_for_each(|&list| selectors(image, list, &mut out)),
+    )?;
+    Ok(out)
 }
 
-// The parts of a bundle.
-fn parts<'a>(words: &'a [u64], bytes: &'a [u8]) -> Option<Bundle<'a>> {
-    let counts = words.get(..7)?;
-    if counts.iter().any(|&n| n > 32768) {
-        return None;
-    }
-    let n = |i: usize| counts[i] as usize;
-    let (segments, rest) = words.get(12..)?.split_at_checked(5 * n(0))?;
-    let (sections, rest) = rest.split_at_checked(15)?;
-    let (rebases, rest) = rest.split_at_checked(2 * n(1))?;
-    let (binds, _) = rest.split_at_checked(4 * n(2))?;
-    let mut rest = bytes.get(8 * (12 + 5 * n(0) + 15 + 2 * n(1) + 4 * n(2))..)?;
-    let mut files: [&[u8]; 4] = [&[]; 4];
-    for (i, file) in files.iter_mut().enumerate() {
-        (*file, rest) = rest.split_at_checked(n(3 + i))?;
-    }
-    let pairs = files.map(|f| Bytes { bytes: f.as_ptr(), len: f.len() });
-    let index = vec![0; INDEX_HEADS + n(1) + n(2)];
-    rest.is_empty().then_some(Bundle { files, pairs, segments, sections, info: &bytes[88..96], rebases, binds, index, ledger: Vec::new() })
+fn fail(status: i32, why: &str) -> ! {
+    eprintln!("{why}");
+    exit(status)
 }
 
 fn main() {
-    let path = std::env::args().nth(1).unwrap_or_else(|| fail("usage: selectors BUNDLE"));
-    let bytes = std::fs::read(path).unwrap_or_else(|e| fail(&e.to_string()));
-    let words: Vec<u64> = bytes.chunks_exact(8).map(|w| u64::from_le_bytes(w.try_into().unwrap())).collect();
-    let mut b = parts(&words, &bytes).unwrap_or_else(|| fail("no bundle"));
-    if unrefused(call!(objclist_open, b).status).kind != FOUND {
-        fail("no image info");
+    let Some(path) = std::env::args().nth(1) else { fail(2, "usage: selectors FILE") };
+    let file = std::fs::read(&path).unwrap_or_else(|e| fail(2, &format!("{path}: {e}")));
+    let part = unsafe { objclist_part(file.as_ptr(), file.len()) };
+    if part.status == REFUSED {
+        fail(1, &format!("{path}: refused {}", part.number));
     }
-    let slots = |i: usize| if b.sections[3 * i] == 0 { 0 } else { b.sections[3 * i + 2] as usize / 8 };
-    b.ledger = vec![0; (slots(0) + slots(1)).max(slots(2) + slots(3))];
-    let out = listed(&mut b);
-    std::io::stdout().write_all(&out).unwrap_or_else(|e| fail(&e.to_string()));
+    if part.status == ABSENT {
+        fail(1, &format!("{path}: no 64-bit part"));
+    }
+    let image = &file[part.offset as usize..][..part.size as usize];
+    let out = all_selectors(image).unwrap_or_else(|number| fail(1, &format!("{path}: refused {number}")));
+    std::io::stdout().write_all(&out).unwrap_or_else(|e| fail(2, &format!("standard output: {e}")));
 }

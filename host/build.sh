@@ -4,7 +4,7 @@
 root=$(cd "$(dirname "$0")/.." && pwd) || exit 2
 program=$root/target/host/objclist
 log=$root/target/host.log
-if [ -x "$program" ] && [ -x "$root/target/host/damage" ] && [ -z "$(find "$root/crates" "$root/crates.txt" "$root/host" "$root/include" -newer "$program" | head -n 1)" ]; then
+if [ -x "$program" ] && [ -x "$root/target/host/damage" ] && [ -f "$root/target/staticlib/libface.a" ] && [ -z "$(find "$root/crates" "$root/crates.txt" "$root/host" "$root/include" -newer "$program" | head -n 1)" ]; then
     exit 0
 fi
 for tool in rt cc; do

@@ -1,6 +1,6 @@
 #!/bin/sh
-# Lists the stored files through the command and holds the listings to those beside them; tries its words, refusals and statuses; and runs the
-# damage test in small: host/run.sh [COPIES]. Status 0 if all is as it should be.
+# Lists the stored files through the command and holds the listings to those beside them; tries its words, refusals and statuses; runs the damage
+# test in small; and builds and runs the examples (examples/run.sh): host/run.sh [COPIES]. Status 0 if all is as it should be.
 root=$(cd "$(dirname "$0")/.." && pwd) || exit 2
 cd "$root" || exit 2
 host/build.sh || exit 2
@@ -65,4 +65,5 @@ if ! target/host/damage 1 "${1:-2000}" host/files/app-x86_64 host/files/shapes-x
     bad=$((bad + 1))
 fi
 echo "host/run.sh: $count runs of the command and the damage test, $bad failed"
+examples/run.sh || bad=$((bad + 1))
 [ "$bad" -eq 0 ]

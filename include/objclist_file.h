@@ -1,14 +1,15 @@
-// A Mach-O file, for C on x86-64: target/staticlib/libface.a (rt staticlib face), crate face, module file.
-//
-// A slice is a pointer and a number of elements: the pointer is not null, also where the number is 0, and aligned for its elements. What is
-// lent to be written overlaps nothing else. No call keeps a pointer or allocates.
+// A Mach-O file, thin or universal: its parts, its tables, and its listing. Of the same archive as objclist.h, and what that says of slices
+// holds here.
 #ifndef OBJCLIST_FILE_H
 #define OBJCLIST_FILE_H
-#include <stddef.h>
-#include <stdint.h>
+#include "objclist.h"
 
-// The status of an answer. REFUSED comes with the number of the question that says no (docs/QUESTIONS.md).
-enum { OBJCLIST_OK = 0, OBJCLIST_REFUSED = 1, OBJCLIST_ABSENT = 2, OBJCLIST_FAILED = 3 };
+#ifdef __cplusplus
+extern "C" {
+#endif
+
+// The status of an answer is one of these, OBJCLIST_REFUSED with the number of the question that says no, or OBJCLIST_ABSENT.
+enum { OBJCLIST_OK = OBJCLIST_FOUND, OBJCLIST_FAILED = 3 };
 
 // A part of a universal file, which is the image: `size` bytes from `offset` on. A thin file is one part.
 struct objclist_part {
@@ -45,4 +46,8 @@ struct objclist_wrote objclist_write(int32_t fd, uint64_t first_frame, uint64_t 
     const uint8_t *file, size_t file_len, uint64_t *segments, size_t segments_len, uint64_t *sections, size_t sections_len,
     const uint64_t *rebases, size_t rebases_len, const uint64_t *binds, size_t binds_len, uint32_t *index, size_t index_len, uint64_t *ledger,
     size_t ledger_len, uint8_t out[OBJCLIST_PIECE]);
+
+#ifdef __cplusplus
+}
+#endif
 #endif

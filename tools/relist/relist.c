@@ -1,6 +1,6 @@
 // relist ROOM <CASES: the listings of stored bundles (crates/replay/data/cases), printed through the calls of include/objclist.h alone, as the program
 // `replay` prints them, ROOM rows a call. What the calls do not give is printed as none was known: marks as 0.
-#include "../../examples/bundle.h"
+#include "bundle.h"
 #include <stdio.h>
 #include <string.h>
 

@@ -1,7 +1,7 @@
 // A bundle's parts (README.md, "What it reads"), as the calls of include/objclist.h are lent them.
 #ifndef BUNDLE_H
 #define BUNDLE_H
-#include "../include/objclist.h"
+#include "../../include/objclist.h"
 #include <stdlib.h>
 
 struct bundle {
