@@ -8,7 +8,7 @@
 extern "C" {
 #endif
 
-// The status of an answer is one of these, OBJCLIST_REFUSED with the number of the question that says no, or OBJCLIST_ABSENT.
+// The status of an answer: one of these, OBJCLIST_REFUSED with the number of the question that says no, or, of a part, OBJCLIST_ABSENT.
 enum { OBJCLIST_OK = OBJCLIST_FOUND, OBJCLIST_FAILED = 3 };
 
 // A part of a universal file, which is the image: `size` bytes from `offset` on. A thin file is one part.
