@@ -1,0 +1,23 @@
+use Rattle.face.proofs.Told.{says-missed, words-missed}
+use borrow.Author.Needs.{needs}
+use Rattle.face.proofs.opening.InfoTold.of.Statement.{statement}
+use Rattle.face.proofs.opening.InfoTold.of.Tie as tie
+
+returns : tie.Need-returns
+returns c = rw (c .before .before .before .before .answer .given .1, c .before .before .found .ensures)
+
+returns-2 : tie.Need-returns-2
+returns-2 c = rw (c .before .before .answer2 .given .1, says-missed, words-missed, words-missed, c .missing .ensures)
+
+pub of-spec : {M : Type 1} → statement M
+of-spec =
+    tie.close
+    (tie.spec
+    (λ c. search needs)
+    (λ c. search needs)
+    (λ c. search needs)
+    (λ c. search needs)
+    (λ c. search needs)
+    (λ c. search needs)
+    returns
+    returns-2)

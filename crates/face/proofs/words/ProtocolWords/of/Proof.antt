@@ -1,0 +1,12 @@
+use borrow.Author.Needs.{needs}
+use Rattle.face.proofs.words.ProtocolWords.of.Statement.{statement}
+use Rattle.face.proofs.words.ProtocolWords.of.Tie as tie
+
+pub of-spec : {M : Type 1} → statement M
+of-spec =
+    tie.close
+    (tie.spec
+    (λ c κs. search needs)
+    (λ c. search needs)
+    (λ c. search needs)
+    (λ c. cc))

@@ -1,0 +1,3 @@
+-- The definitions that the contracts of filetables cite.
+pub mod Kind
+pub mod FileRecords

@@ -1,0 +1,2 @@
+-- The definitions that the contracts of filewrite cite.
+pub mod Written

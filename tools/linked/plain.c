@@ -1,0 +1,4 @@
+// A dylib without Objective-C.
+int answer(void) {
+    return 42;
+}
