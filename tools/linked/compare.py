@@ -119,13 +119,13 @@ def bundle(image):
             tables = chained(image, at, segments)
         if kind in (0x22, 0x80000022):
             tables = opcodes(image, at, segments)
-    packed, rows = b"", b""
+    packed, rows = bytearray(), b""
     for vmaddr, vmsize, fileoff, filesize, _ in segments:
         part = image[fileoff:fileoff + filesize].rstrip(b"\0")
         part += b"\0" * min(32, filesize - len(part))
         rows += struct.pack("<5Q", vmaddr, vmsize, len(packed), len(part), 0)
         packed += part
-    bound = b""
+    bound = bytearray()
     for slot, name in tables[1]:
         bound += struct.pack("<4Q", slot, len(packed), len(name), 0)
         packed += name + b"\0"
