@@ -46,7 +46,7 @@ pub or-false : (t : Bool) → (t || false) ≡ t
 or-false true = refl
 or-false false = refl
 
-and-false : (t : Bool) → (t && false) ≡ false
+pub and-false : (t : Bool) → (t && false) ≡ false
 and-false true = refl
 and-false false = refl
 

@@ -9,3 +9,4 @@ pub mod Shown
 pub mod SweepLaws
 pub mod StepLaws
 pub mod WrittenLaws
+pub mod MergedCases

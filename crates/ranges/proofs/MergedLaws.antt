@@ -7,10 +7,10 @@ use mathlib.Core.List.{List, [], _∷_, _++_}
 use native.Mathlib.Omega.{arith}
 use lib.Dec.{ltb}
 use lib.ListN.{length, getD}
-use borrow.Author.Tests.{ltb-true, ltb-false, le-ltb}
+use borrow.Author.Tests.{ltb-true, ltb-false, lt-ltb, le-ltb}
 use Rattle.ranges.specs.Range.{Range, covers}
 use Rattle.ranges.specs.Runs.{runs, runsFrom, merged, Apart}
-use Rattle.ranges.proofs.Covers.{or-false, covers-append}
+use Rattle.ranges.proofs.Covers.{or-false, and-false, covers-append}
 use Rattle.ranges.proofs.RunLaws.{runs-inside, runs-after, runs-elsewhere, runs-apart, apart-later}
 use Rattle.ranges.proofs.ApartLaws.{apart-unique}
 
@@ -67,3 +67,12 @@ pub merged-same : (lengths : List ℕ) (rs ss : List Range) → ((f b : ℕ) →
 merged-same lengths rs ss e =
     apart-unique 0 0 0 0 (merged lengths rs) (merged lengths ss) (merged-apart lengths rs) (merged-apart lengths ss)
     (λ f b. ranges-exact lengths rs f b ∙ ap (λ t. ltb b (getD lengths f 0) && t) (e f b) ∙ sym (ranges-exact lengths ss f b))
+
+-- Ranges that are merged already, and lie in their files, stay.
+pub merged-itself : (lengths : List ℕ) (rs : List Range) → Apart 0 0 rs → ((f b : ℕ) → covers rs f b ≡ true → b < getD lengths f 0) → merged lengths rs ≡ rs
+merged-itself lengths rs h inside =
+    apart-unique 0 0 0 0 (merged lengths rs) rs (merged-apart lengths rs) h (λ f b. ranges-exact lengths rs f b ∙ go f b (covers rs f b) refl)
+  where
+    go : (f b : ℕ) (t : Bool) → covers rs f b ≡ t → (ltb b (getD lengths f 0) && t) ≡ t
+    go f b true e = rw (lt-ltb b (getD lengths f 0) (inside f b e)) refl
+    go f b false e = and-false (ltb b (getD lengths f 0))

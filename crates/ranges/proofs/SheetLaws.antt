@@ -49,8 +49,8 @@ marked-bit m k j l h = go (eqb (j / 64) (k / 64)) refl
     go true e =
         let f : j / 64 ≡ k / 64 = eqb-true (j / 64) (k / 64) e in
         let same : eqb (j % 64) (k % 64) ≡ eqb j k = tests-same (eqb (j % 64) (k % 64)) (eqb j k)
-            (λ d. let g = eqb-true (j % 64) (k % 64) d in eq-eqb j k (omega arith))
-            (λ d. let g = eqb-true j k d in eq-eqb (j % 64) (k % 64) (ap (λ n. n % 64) g)) in
+        (λ d. let g = eqb-true (j % 64) (k % 64) d in eq-eqb j k (omega arith))
+        (λ d. let g = eqb-true j k d in eq-eqb (j % 64) (k % 64) (ap (λ n. n % 64) g)) in
         rw (f, getD-set-same m (k / 64 + 3) (bitOr (getD m (k / 64 + 3) 0) (2 ^ (k % 64))) 0 (omega arith), bit-set, same) refl
     go false e =
         let f = eqb-false (j / 64) (k / 64) e in
@@ -74,8 +74,8 @@ word-kept m k (suc n) i h =
 one-more : (k n j : ℕ) → (eqb j (k + n) || lies (range 0 k n) 0 j) ≡ lies (range 0 k (suc n)) 0 j
 one-more k n j = tests-same (eqb j (k + n) || lies (range 0 k n) 0 j) (lies (range 0 k (suc n)) 0 j)
     (λ e. ⊎-elim (λ d. let f = eqb-true j (k + n) d in lies-in (range 0 k (suc n)) 0 j refl (omega arith) (omega arith))
-        (λ d. let f = lies-true (range 0 k n) 0 j d in lies-in (range 0 k (suc n)) 0 j refl (f .1) (let l = f .2 in omega arith))
-        (or-true (eqb j (k + n)) (lies (range 0 k n) 0 j) e))
+    (λ d. let f = lies-true (range 0 k n) 0 j d in lies-in (range 0 k (suc n)) 0 j refl (f .1) (let l = f .2 in omega arith))
+    (or-true (eqb j (k + n)) (lies (range 0 k n) 0 j) e))
     (λ e. let f = lies-true (range 0 k (suc n)) 0 j e in go (f .1) (f .2) (eqb j (k + n)) refl)
   where
     go : k ≤ j → j < k + suc n → (t : Bool) → eqb j (k + n) ≡ t → (t || lies (range 0 k n) 0 j) ≡ true

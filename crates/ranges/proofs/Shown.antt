@@ -113,7 +113,7 @@ module _ (file from least : ℕ) (m : List ℕ) (u : ℕ → Bool) (s : Shows fi
       let long = long-bits m f (window - f) ∙ s .long in
       let m′ = loweredTo (withBits m f (window - f)) (max f window) in
       let next : sheetNext m′ ≡ min (max f window) (sheetNext m) =
-          lowered-next (withBits m f (window - f)) (max f window) long ∙ ap (min (max f window)) (word-kept m f (window - f) 2 (omega arith)) in
+      lowered-next (withBits m f (window - f)) (max f window) long ∙ ap (min (max f window)) (word-kept m f (window - f) 2 (omega arith)) in
       let down = next-within (sheetNext m′) (sheetNext m) f next in
       record {
         long = lowered-long (withBits m f (window - f)) (max f window) ∙ long;
@@ -134,14 +134,14 @@ module _ (file from least : ℕ) (m : List ℕ) (u : ℕ → Bool) (s : Shows fi
 
 shows-same : (file from least : ℕ) (m : List ℕ) (u v : ℕ → Bool) → ((x : ℕ) → u x ≡ v x) → Shows file from least m u → Shows file from least m v
 shows-same file from least m u v e s = record {
-    long = s .long;
-    holds = s .holds;
-    begins = s .begins;
-    bits = λ k h. s .bits k h ∙ e (from + k);
-    clear = λ k h n. sym (e (from + k)) ∙ s .clear k h n;
-    beyond = s .beyond;
-    within = s .within;
-  }
+  long = s .long;
+  holds = s .holds;
+  begins = s .begins;
+  bits = λ k h. s .bits k h ∙ e (from + k);
+  clear = λ k h n. sym (e (from + k)) ∙ s .clear k h n;
+  beyond = s .beyond;
+  within = s .within;
+}
 
 shows-noted : (file from least : ℕ) (m : List ℕ) (u : ℕ → Bool) (r : Range) → Shows file from least m u → Shows file from least (noted r m) (λ b. u b || lies r file b)
 unfolding noted choose

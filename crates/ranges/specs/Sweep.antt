@@ -69,10 +69,10 @@ reachedAt file at progress = record { file = file; at = at; progress = progress 
 
 -- At the first byte of the first file.
 abbrev pub firstByte : Sweep
-firstByte = record { file = 0; at = 0; start = 0; count = 0 }
+firstByte = record { file = 0; at = 0; run = record { start = 0; count = 0 } }
 
 abbrev pub reached : Sweep → List ℕ → Reached
-reached w words = reachedAt (w .file) (w .at) (progressOf (w .start) (output (w .count) words))
+reached w words = reachedAt (w .file) (w .at) (progress (w .run) words)
 
 -- The window at `at` of a file of `size` bytes is passed, and the bytes past it to the next that its sheet knows to be used.
 unfoldable pub overWindow : ℕ → List ℕ → Reached → Reached

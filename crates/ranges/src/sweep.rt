@@ -13,19 +13,17 @@ ghost use Rattle.ranges.specs.Range.{range};
 ghost use Rattle.ranges.specs.Sheet.{window, shown, headed};
 ghost use Rattle.ranges.specs.Sweep.{output, progress, putAt, closedAt, passed, swept, leapt, firstByte, reached, overWindow, overEnd};
 
-// The sweep has come to byte `at` of a file. All bytes from `start` to there are used, and belong to a run that is not yet put out; `count`
-// runs are.
-pub struct Sweep {
-    pub file: u64,
-    pub at: u64,
+// All bytes from `start` on are used, and belong to a run that is not yet put out; `count` runs are.
+pub struct Open {
     pub start: u64,
     pub count: u64,
 }
 
-// The run that is open, and how many were put out before it.
-struct Open {
-    start: u64,
-    count: u64,
+// The sweep has come to byte `at` of a file.
+pub struct Sweep {
+    pub file: u64,
+    pub at: u64,
+    pub run: Open,
 }
 
 // Puts a range out as number i, three words, if there is room.
@@ -60,7 +58,11 @@ fn pass(out: &mut [u64], file: u64, run: Open, b: u64, used: bool) -> Open
     if used {
         return run;
     }
-    Open { start: b + 1, count: close(out, file, run, b) }
+    let count = close(out, file, run, b);
+    Open {
+        start: b + 1,
+        count,
+    }
 }
 
 // The first n bytes of the window at `from` are passed.
@@ -85,7 +87,11 @@ fn leap(out: &mut [u64], file: u64, run: Open, at: u64, n: u64, next: u64) -> Op
     if next <= n {
         return run;
     }
-    Open { start: at + next, count: close(out, file, run, at + n) }
+    let count = close(out, file, run, at + n);
+    Open {
+        start: at + next,
+        count,
+    }
 }
 
 impl Sweep {
@@ -93,7 +99,12 @@ impl Sweep {
     pub fn new() -> Sweep
         ensures { λ r. ⌜ r ≡ firstByte ⌝ }
     {
-        Sweep { file: 0, at: 0, start: 0, count: 0 }
+        let run = Open { start: 0, count: 0 };
+        Sweep {
+            file: 0,
+            at: 0,
+            run,
+        }
     }
 
     // Begins the sheet of the window that comes next, of a file of `size` bytes.
@@ -114,16 +125,19 @@ impl Sweep {
         let left = less(size, at);
         let n = least(WINDOW, left);
         let next = least(sheet[2], left);
-        let run = scan(sheet, file, at, n, Open { start: self.start, count: self.count }, out);
-        let last = leap(out, file, run, at, n, next);
-        Sweep { file, at: at + greatest(n, next), start: last.start, count: last.count }
+        let run = scan(sheet, file, at, n, self.run, out);
+        let run = leap(out, file, run, at, n, next);
+        let at = at + greatest(n, next);
+        Sweep { file, at, run }
     }
 
     // Passes the end of a file of `size` bytes: a run ends with its file.
     pub fn over_end(self, size: u64, out: &mut [u64]) -> Sweep
         ensures { λ r. ⌜ reached r (after out) ≡ overEnd size (reached self (before out)) ⌝ }
     {
-        let count = close(out, self.file, Open { start: self.start, count: self.count }, size);
-        Sweep { file: more(self.file), at: 0, start: 0, count }
+        let count = close(out, self.file, self.run, size);
+        let run = Open { start: 0, count };
+        let file = more(self.file);
+        Sweep { file, at: 0, run }
     }
 }

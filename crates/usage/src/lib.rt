@@ -1,6 +1,10 @@
-// The ranges of an image's files whose bytes a listing uses (document 02, note 13).
-mod category;
-mod class;
-mod class_name;
+// The reads of a listing noted on a sheet, record by record and row by row (document 02, note 13): what the ranges of the bytes used are made from.
+pub mod category;
+pub mod class;
+pub mod class_name;
 mod leaf;
-mod protocol;
+pub mod list;
+pub mod protocol;
+pub mod row;
+mod text;
+mod word;

@@ -1,10 +1,7 @@
 use Rattle.ranges.proofs.WrittenLaws as laws
 use native.Mathlib.Omega.{arith}
-use borrow.Author.Needs.{needs}
 use Rattle.ranges.proofs.answer.room_for.Statement.{statement}
 use Rattle.ranges.proofs.answer.room_for.Tie as tie
-use Rattle.ranges.proofs.answer.room_for.Reads as reads
-use Rattle.ranges.proofs.answer.room_for.Lts as lts
 
 returns : tie.Need-returns
 returns c = laws.room-none _ _ (omega arith)

@@ -1,14 +1,11 @@
 use Rattle.ranges.specs.Sheet.{withBits}
 use native.Mathlib.Numerals.{add-one}
-use Prim.Native.Nat.{_+_, _-_, _≤_, suc}
-use mathlib.Core.Path.{_≡_, refl, sym, ap, _∙_}
+use Prim.Native.Nat.{_-_, _≤_}
+use mathlib.Core.Path.{_≡_, refl}
 use native.Mathlib.Omega.{arith}
 use borrow.Author.Needs.{needs}
 use Rattle.ranges.proofs.sheet.set_bits.Statement.{statement}
 use Rattle.ranges.proofs.sheet.set_bits.Tie as tie
-use Rattle.ranges.proofs.sheet.set_bits.Reads as reads
-use Rattle.ranges.proofs.sheet.set_bits.Lts as lts
-use Rattle.ranges.proofs.sheet.set_bit.Reads as set-bit-reads
 
 abbrev Inv-loop : tie.InvT-loop
 Inv-loop sheet₀ k n i₀ sheet i = (i ≤ n) × (sheet ≡ withBits sheet₀ k i)
@@ -19,18 +16,6 @@ abbrev μ-loop : tie.MeasureT-loop
 loop-holds : tie.Need-loop-holds Inv-loop μ-loop
 unfolding withBits
 loop-holds c = (omega arith, refl)
-
-add-set-bit : tie.Need-add-set-bit Inv-loop μ-loop
-add-set-bit c = search needs
-
-set-bit-requires : tie.Need-set-bit-requires Inv-loop μ-loop
-set-bit-requires c κs = search needs
-
-add-i : tie.Need-add-i Inv-loop μ-loop
-add-i c = search needs
-
-loop-less : tie.Need-loop-less Inv-loop μ-loop
-loop-less c = omega arith
 
 loop-again : tie.Need-loop-again Inv-loop μ-loop
 unfolding withBits
@@ -47,9 +32,9 @@ set-bits-spec =
     Inv-loop
     μ-loop
     loop-holds
-    add-set-bit
-    set-bit-requires
-    add-i
-    loop-less
+    (λ c. search needs)
+    (λ c κs. search needs)
+    (λ c. search needs)
+    (λ c. omega arith)
     loop-again
     returns)

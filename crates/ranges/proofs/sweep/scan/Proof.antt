@@ -1,17 +1,13 @@
 use Rattle.ranges.specs.Sweep.{progress, passed, swept}
 use Rattle.ranges.specs.Sheet.{shown}
 use lib.ListN.{length}
-use Prim.Native.Nat.{_+_, _-_, _≤_, suc}
+use Prim.Native.Nat.{_+_, _-_, _≤_}
 use Rattle.ranges.proofs.SweepLaws as laws
-use mathlib.Core.Path.{_≡_, refl, sym, ap, _∙_}
+use mathlib.Core.Path.{_≡_, refl, _∙_}
 use native.Mathlib.Omega.{arith}
 use borrow.Author.Needs.{needs}
 use Rattle.ranges.proofs.sweep.scan.Statement.{statement}
 use Rattle.ranges.proofs.sweep.scan.Tie as tie
-use Rattle.ranges.proofs.sweep.scan.Reads as reads
-use Rattle.ranges.proofs.sweep.scan.Lts as lts
-use Rattle.ranges.proofs.sheet.marked.Reads as marked-reads
-use Rattle.ranges.proofs.sweep.pass.Reads as pass-reads
 
 abbrev Inv-loop : tie.InvT-loop
 Inv-loop sheet file from n out₀ run₀ k₀ out run k = (k ≤ n) × (swept file (shown from sheet) (n - k) (from + k) (progress run out) ≡ swept file (shown from sheet) n from (progress run₀ out₀)) × (length out ≡ length out₀)
@@ -25,30 +21,16 @@ loop-holds c = let a = c .before .args in
     let here : a .from + 0 ≡ a .from = omega arith in
     (omega arith, rw (all, here) refl, refl)
 
-add-pass : tie.Need-add-pass Inv-loop μ-loop
-add-pass c = search needs
-
-marked-requires : tie.Need-marked-requires Inv-loop μ-loop
-marked-requires c κs = search needs
-
-pass-requires : tie.Need-pass-requires Inv-loop μ-loop
-pass-requires c κs = search needs
-
-add-k : tie.Need-add-k Inv-loop μ-loop
-add-k c = search needs
-
-loop-less : tie.Need-loop-less Inv-loop μ-loop
-loop-less c = omega arith
-
 loop-again : tie.Need-loop-again Inv-loop μ-loop
 loop-again c = let a = c .before .before .before .before .before .before .before .before .args in
     let at = c .before .before .before .before .before .before .loop in
     let done = c .before .before .pass in
     let seen : progress (done .result) (done .last .0) ≡ passed (a .file) (shown (a .from) (a .sheet .now) (a .from + at .k)) (a .from + at .k) (progress (at .run) (at .out)) =
-        rw (laws.shown-at (a .from) (at .k) (a .sheet .now), ← c .before .before .before .marked .ensures) (done .ensures) in
-    (omega arith,
-    laws.swept-more (a .file) (shown (a .from) (a .sheet .now)) (a .from) (a .n) (at .k) (progress (at .run) (at .out)) (progress (done .result) (done .last .0)) (omega arith) seen ∙ at .inv .1,
-    done .kept .0 ∙ at .inv .2)
+    rw (laws.shown-at (a .from) (at .k) (a .sheet .now), ← c .before .before .before .marked .ensures) (done .ensures) in (
+      omega arith,
+      laws.swept-more (a .file) (shown (a .from) (a .sheet .now)) (a .from) (a .n) (at .k) (progress (at .run) (at .out)) (progress (done .result) (done .last .0)) (omega arith) seen ∙ at .inv .1,
+      done .kept .0 ∙ at .inv .2,
+    )
 
 same-length : tie.Need-same-length Inv-loop μ-loop
 same-length c = c .before .loop .inv .2
@@ -68,11 +50,11 @@ scan-spec =
     Inv-loop
     μ-loop
     loop-holds
-    add-pass
-    marked-requires
-    pass-requires
-    add-k
-    loop-less
+    (λ c. search needs)
+    (λ c κs. search needs)
+    (λ c κs. search needs)
+    (λ c. search needs)
+    (λ c. omega arith)
     loop-again
     same-length
     returns)
