@@ -29,7 +29,7 @@ use Rattle.ranges.specs.Range.{Range}
 use Rattle.ranges.specs.Sheet.{notedAll}
 use Rattle.used.specs.Used.{uses, used, usesField, usesWord, usesSlot, usesPointer, usesText, usesSymbol}
 use Rattle.used.proofs.UsedParts.{used-done, used-asked, used-then, used-else, used-else-first, used-when}
-use Rattle.usage.specs.Traced.{traced, trace, going, goingOn, goingAfter}
+use Rattle.usage.specs.Traced.{traced, trace, going, goingOn, goingAfter, lacksAfter}
 
 pub noted-append : (rs ss : List Range) (m : List ℕ) → notedAll (rs ++ ss) m ≡ notedAll ss (notedAll rs m)
 unfolding notedAll
@@ -364,3 +364,40 @@ module _ (t : Tables) (va : ℕ) (m : List ℕ) where
 -- So many bytes, said in two ways.
 pub readable-size : (img : Image) (va k l : ℕ) {x : Outcome Place} → x ≡ places.readable img va k → k ≡ l → x ≡ places.readable img va l
 readable-size img va k l e q = e ∙ ap (λ (n : ℕ). places.readable img va n) q
+
+-- Whether a definition is absent: after 0, and after another address; after a slot; by its first part.
+module _ (t : Tables) (m : List ℕ) {B : Type 0} where
+  pub zero-lacks : (va : ℕ) (f : ℕ → Decode B) → va ≡ 0 → going true m ≡ lacksAfter t (then (nonzero va) f) m
+  zero-lacks va f e =
+      let none : outcomes.nonzero va ≡ absent NullAddress = ap outcomes.nonzero e ∙ nonzero-zero in
+      ap (going true) (stops t {m = m} (nonzero va) f (Absent NullAddress) none (one t m (ask.nonzero va) (none-noted m)) .noted)
+      ∙ ap (λ (x : Bool). going x (notedAll (used t (then (nonzero va) f)) m)) (sym (ap (λ (o : Outcome ℕ). isAbsent (andThen o (λ a. run t (f a)))) none))
+
+  pub value-lacks : {A : Type 0} (d : Decode A) (f : A → Decode B) (a : A) {b : Bool} {m′ n : List ℕ} → run t d ≡ value a → m′ ≡ notedAll (used t d) m → going b n ≡ lacksAfter t (f a) m′
+      → going b n ≡ lacksAfter t (then d f) m
+  value-lacks d f a {b} {m′} {n} e h g =
+      ap (λ (x : Bool). going x n) (ap (λ x. x .on) g ∙ sym (ap (λ (o : Outcome _). isAbsent (andThen o (λ y. run t (f y)))) e))
+      ∙ ap (going (isAbsent (run t (then d f)))) (past t {m = m} d f a e h (record { noted = ap (λ x. x .sheet) g }) .noted)
+
+  pub nonzero-lacks : (va : ℕ) (f : ℕ → Decode B) {b : Bool} {n : List ℕ} → (va ≡ 0 → ⊥) → going b n ≡ lacksAfter t (f va) m → going b n ≡ lacksAfter t (then (nonzero va) f) m
+  nonzero-lacks va f h g = value-lacks (nonzero va) f va (nonzero-else va h) (one t m (ask.nonzero va) (none-noted m)) g
+
+  pub missing-lacks : {A : Type 0} (d : Decode A) (f : A → Decode B) (k : Missing) {b : Bool} {n : List ℕ} → run t d ≡ missed k → b ≡ isAbsent (missed {A = A} k) → n ≡ notedAll (used t d) m
+      → going b n ≡ lacksAfter t (then d f) m
+  missing-lacks {A} d f k {b} {n} e q h =
+      ap (λ (x : Bool). going x n) (q ∙ same k ∙ sym (ap (λ (o : Outcome A). isAbsent (andThen o (λ y. run t (f y)))) e))
+      ∙ ap (going (isAbsent (run t (then d f)))) (stops t {m = m} d f k e h .noted)
+    where
+      same : (k : Missing) → isAbsent (missed {A = A} k) ≡ isAbsent (andThen (missed {A = A} k) (λ y. run t (f y)))
+      same (Absent r) = refl
+      same (Refused j) = refl
+
+  pub last-lacks : {A : Type 0} (d : Decode A) (g : A → B) {b : Bool} {n : List ℕ} → b ≡ isAbsent (run t d) → n ≡ notedAll (used t d) m → going b n ≡ lacksAfter t (then d (λ a. done (g a))) m
+  last-lacks {A} d g {b} {n} q h =
+      ap (λ (x : Bool). going x n) (q ∙ same (run t d))
+      ∙ ap (going (isAbsent (run t (then d (λ a. done (g a)))))) (goes-last t {m = m} {d = d} h (λ a. used-done t (g a)) .noted)
+    where
+      same : (o : Outcome A) → isAbsent o ≡ isAbsent (andThen o (λ a. value (g a)))
+      same (value a) = refl
+      same (absent r) = refl
+      same (number k) = refl

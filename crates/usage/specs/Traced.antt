@@ -3,7 +3,7 @@ use Prim.Native.Nat.{ℕ}
 use mathlib.Core.Bool.{Bool}
 use mathlib.Core.List.{List}
 use Rattle.reads.specs.Breaks.{isValue}
-use Rattle.reads.specs.Outcome.{Outcome}
+use Rattle.reads.specs.Outcome.{Outcome, isAbsent}
 use Rattle.pointers.specs.Tables.{Tables}
 use Rattle.records.specs.Decode.{Decode, run}
 use Rattle.ranges.specs.Sheet.{notedAll}
@@ -32,3 +32,7 @@ goingOn o sheet = going (isValue o) sheet
 
 abbrev pub goingAfter : {A : Type 0} → Tables → Decode A → List ℕ → Going
 goingAfter t d m = goingOn (run t d) (notedAll (used t d) m)
+
+-- Whether a definition is absent, and the sheet then.
+abbrev pub lacksAfter : {A : Type 0} → Tables → Decode A → List ℕ → Going
+lacksAfter t d m = going (isAbsent (run t d)) (notedAll (used t d) m)

@@ -5,6 +5,7 @@ pub mod class_name;
 mod leaf;
 pub mod list;
 pub mod protocol;
+pub mod protocol_name;
 pub mod row;
 mod text;
 mod word;
