@@ -6,5 +6,6 @@ mod leaf;
 pub mod list;
 pub mod protocol;
 pub mod row;
+pub mod rows;
 mod text;
 mod word;
