@@ -2,3 +2,4 @@
 pub mod Traced
 pub mod Pass
 pub mod ListUses
+pub mod NamesUse
