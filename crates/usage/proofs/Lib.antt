@@ -3,3 +3,4 @@ pub mod Leaves
 pub mod Notes
 pub mod Noting
 pub mod PassUses
+pub mod RowsNoted

@@ -7,5 +7,6 @@ pub mod list;
 pub mod protocol;
 pub mod protocol_name;
 pub mod row;
+pub mod rows;
 mod text;
 mod word;
