@@ -121,9 +121,14 @@ def write(root, fn):
     needs, terms = places(root, fn), answers(definition, stages)
     names = sorted(set(re.findall(r"decode\w+", " ".join(terms))))
     outs = sorted({o for o in ("placeOutcome", "textOutcome", "wordOutcome") if any(o in t for t in terms)})
-    lines = ["use mathlib.Core.Path.{refl, ap}", "use Rattle.pointers.specs.Tables.{Tables, tablesOf, under}", "use Rattle.reads.specs.Files.{filesLent}"]
+    said = " ".join(terms)
+    paths = [x for x in ("refl", "ap") if re.search(rf"\b{x}\b", said)]
+    lines = ["use mathlib.Core.Path.{" + ", ".join(paths) + "}"] if paths else []
+    lines += ["use Rattle.pointers.specs.Tables.{Tables, tablesOf, under}", "use Rattle.reads.specs.Files.{filesLent}"]
     lines += ["use Rattle.reads.specs.Answer.{" + ", ".join(outs) + "}"] if outs else []
-    lines += [f"use Rattle.records.specs.{module}.{{{', '.join(names)}}}", "use Rattle.used.proofs.UsedParts.{used-done}", "use Rattle.usage.proofs.Notes as notes",
+    lines += [f"use Rattle.records.specs.{module}.{{{', '.join(names)}}}"]
+    lines += ["use Rattle.used.proofs.UsedParts.{used-done}"] if "used-done" in said else []
+    lines += ["use Rattle.usage.proofs.Notes as notes",
               "use borrow.Author.Needs.{needs}", f"use Rattle.usage.proofs.{fn}.Statement.{{statement}}", f"use Rattle.usage.proofs.{fn}.Tie as tie", "",
               "-- All that the function is lent.", "abbrev tables : tie.Start → Tables",
               "tables s = under (s .args .setting) (tablesOf (filesLent (s .args .files .now)) " + " ".join(f"(s .args .{x} .now)" for x in ("segments", "sections", "info", "rebases", "binds", "index")) + ")", ""]

@@ -1,7 +1,5 @@
-use mathlib.Core.Path.{refl, ap}
 use Rattle.pointers.specs.Tables.{Tables, tablesOf, under}
 use Rattle.reads.specs.Files.{filesLent}
-use Rattle.used.proofs.UsedParts.{used-done}
 use Rattle.usage.proofs.Notes as notes
 use Rattle.records.specs.Category.{decodeCategoryLists}
 use borrow.Author.Needs.{needs}

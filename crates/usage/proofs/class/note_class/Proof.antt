@@ -1,7 +1,6 @@
-use mathlib.Core.Path.{refl, ap}
+use mathlib.Core.Path.{refl}
 use Rattle.pointers.specs.Tables.{Tables, tablesOf, under}
 use Rattle.reads.specs.Files.{filesLent}
-use Rattle.used.proofs.UsedParts.{used-done}
 use Rattle.usage.proofs.Notes as notes
 use Rattle.reads.specs.Answer.{placeOutcome, wordOutcome}
 use Rattle.records.specs.Class.{decodeClass}

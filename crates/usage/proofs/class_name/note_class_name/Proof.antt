@@ -1,10 +1,9 @@
 use mathlib.Core.Path.{refl, ap}
 use Rattle.pointers.specs.Tables.{Tables, tablesOf, under}
 use Rattle.reads.specs.Files.{filesLent}
-use Rattle.used.proofs.UsedParts.{used-done}
 use Rattle.usage.proofs.Notes as notes
 use Rattle.reads.specs.Answer.{placeOutcome, wordOutcome}
-use Rattle.records.specs.Class.{decodeRoData, decodeClassName}
+use Rattle.records.specs.Class.{decodeClassName}
 use borrow.Author.Needs.{needs}
 use Rattle.usage.proofs.class_name.note_class_name.Statement.{statement}
 use Rattle.usage.proofs.class_name.note_class_name.Tie as tie

@@ -1,4 +1,3 @@
-use Rattle.records.specs.Class.{decodeNonzeroClassName}
 use Rattle.pointers.specs.Tables.{Tables, tablesOf, under}
 use Rattle.reads.specs.Files.{filesLent}
 use Rattle.usage.proofs.Notes as notes

@@ -1,4 +1,3 @@
-use Rattle.records.specs.Class.{decodeRoData}
 use Rattle.pointers.specs.Tables.{Tables, tablesOf, under}
 use Rattle.reads.specs.Files.{filesLent}
 use Rattle.usage.proofs.Notes as notes

@@ -1,4 +1,4 @@
-use mathlib.Core.Path.{refl, sym, ap, _∙_}
+use mathlib.Core.Path.{sym, ap, _∙_}
 use Rattle.reads.specs.Answer.{missed, textOutcome}
 use Rattle.reads.specs.Outcome.{isAbsent}
 use Rattle.reads.specs.declared.text.Text.{Text}

@@ -4,7 +4,7 @@ use Rattle.reads.specs.Files.{filesLent}
 use Rattle.used.proofs.UsedParts.{used-done}
 use Rattle.usage.proofs.Notes as notes
 use Rattle.reads.specs.Answer.{placeOutcome, textOutcome, wordOutcome}
-use Rattle.records.specs.Protocol.{decodeClassProperties, decodeProtocolLists, decodeProtocol}
+use Rattle.records.specs.Protocol.{decodeProtocolLists, decodeProtocol}
 use borrow.Author.Needs.{needs}
 use Rattle.usage.proofs.protocol.note_protocol.Statement.{statement}
 use Rattle.usage.proofs.protocol.note_protocol.Tie as tie
