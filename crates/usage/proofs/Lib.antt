@@ -4,3 +4,4 @@ pub mod Notes
 pub mod Noting
 pub mod PassUses
 pub mod RowsNoted
+pub mod NamesNoted

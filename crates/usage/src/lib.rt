@@ -2,8 +2,10 @@
 pub mod category;
 pub mod class;
 pub mod class_name;
+pub mod fields;
 mod leaf;
 pub mod list;
+pub mod names;
 pub mod protocol;
 pub mod protocol_name;
 pub mod row;
