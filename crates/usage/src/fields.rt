@@ -30,10 +30,57 @@ pub fn note_ro_fields(
     ensures { λ _. let t = under setting (lent files segments sections info rebases binds index) in
         ⌜ after sheet ≡ notedAll (fieldsUse t (roFields ro)) (before sheet) ⌝ }
 {
-    note_list_rows(files, segments, sections, info, rebases, binds, index, setting, ListKind::Methods, ro.methods, sheet);
-    note_list_rows(files, segments, sections, info, rebases, binds, index, setting, ListKind::Ivars, ro.ivars, sheet);
-    note_list_rows(files, segments, sections, info, rebases, binds, index, setting, ListKind::Properties, ro.properties, sheet);
-    note_protocol_names(files, segments, sections, info, rebases, binds, index, setting, ro.protocols, sheet);
+    note_list_rows(
+        files,
+        segments,
+        sections,
+        info,
+        rebases,
+        binds,
+        index,
+        setting,
+        ListKind::Methods,
+        ro.methods,
+        sheet,
+    );
+    note_list_rows(
+        files,
+        segments,
+        sections,
+        info,
+        rebases,
+        binds,
+        index,
+        setting,
+        ListKind::Ivars,
+        ro.ivars,
+        sheet,
+    );
+    note_list_rows(
+        files,
+        segments,
+        sections,
+        info,
+        rebases,
+        binds,
+        index,
+        setting,
+        ListKind::Properties,
+        ro.properties,
+        sheet,
+    );
+    note_protocol_names(
+        files,
+        segments,
+        sections,
+        info,
+        rebases,
+        binds,
+        index,
+        setting,
+        ro.protocols,
+        sheet,
+    );
 }
 
 // Of a protocol.
@@ -52,13 +99,96 @@ pub fn note_protocol_fields(
     ensures { λ _. let t = under setting (lent files segments sections info rebases binds index) in
         ⌜ after sheet ≡ notedAll (fieldsUse t (protocolFields protocol)) (before sheet) ⌝ }
 {
-    note_list_rows(files, segments, sections, info, rebases, binds, index, setting, ListKind::Methods, protocol.instance_methods, sheet);
-    note_list_rows(files, segments, sections, info, rebases, binds, index, setting, ListKind::Methods, protocol.class_methods, sheet);
-    note_list_rows(files, segments, sections, info, rebases, binds, index, setting, ListKind::Methods, protocol.optional_instance_methods, sheet);
-    note_list_rows(files, segments, sections, info, rebases, binds, index, setting, ListKind::Methods, protocol.optional_class_methods, sheet);
-    note_list_rows(files, segments, sections, info, rebases, binds, index, setting, ListKind::Properties, protocol.instance_properties, sheet);
-    note_list_rows(files, segments, sections, info, rebases, binds, index, setting, ListKind::Properties, protocol.class_properties, sheet);
-    note_protocol_names(files, segments, sections, info, rebases, binds, index, setting, protocol.protocols, sheet);
+    note_list_rows(
+        files,
+        segments,
+        sections,
+        info,
+        rebases,
+        binds,
+        index,
+        setting,
+        ListKind::Methods,
+        protocol.instance_methods,
+        sheet,
+    );
+    note_list_rows(
+        files,
+        segments,
+        sections,
+        info,
+        rebases,
+        binds,
+        index,
+        setting,
+        ListKind::Methods,
+        protocol.class_methods,
+        sheet,
+    );
+    note_list_rows(
+        files,
+        segments,
+        sections,
+        info,
+        rebases,
+        binds,
+        index,
+        setting,
+        ListKind::Methods,
+        protocol.optional_instance_methods,
+        sheet,
+    );
+    note_list_rows(
+        files,
+        segments,
+        sections,
+        info,
+        rebases,
+        binds,
+        index,
+        setting,
+        ListKind::Methods,
+        protocol.optional_class_methods,
+        sheet,
+    );
+    note_list_rows(
+        files,
+        segments,
+        sections,
+        info,
+        rebases,
+        binds,
+        index,
+        setting,
+        ListKind::Properties,
+        protocol.instance_properties,
+        sheet,
+    );
+    note_list_rows(
+        files,
+        segments,
+        sections,
+        info,
+        rebases,
+        binds,
+        index,
+        setting,
+        ListKind::Properties,
+        protocol.class_properties,
+        sheet,
+    );
+    note_protocol_names(
+        files,
+        segments,
+        sections,
+        info,
+        rebases,
+        binds,
+        index,
+        setting,
+        protocol.protocols,
+        sheet,
+    );
 }
 
 // Of a category.
@@ -77,9 +207,68 @@ pub fn note_category_fields(
     ensures { λ _. let t = under setting (lent files segments sections info rebases binds index) in
         ⌜ after sheet ≡ notedAll (fieldsUse t (categoryFields category)) (before sheet) ⌝ }
 {
-    note_list_rows(files, segments, sections, info, rebases, binds, index, setting, ListKind::Methods, category.instance_methods, sheet);
-    note_list_rows(files, segments, sections, info, rebases, binds, index, setting, ListKind::Methods, category.class_methods, sheet);
-    note_protocol_names(files, segments, sections, info, rebases, binds, index, setting, category.protocols, sheet);
-    note_list_rows(files, segments, sections, info, rebases, binds, index, setting, ListKind::Properties, category.instance_properties, sheet);
-    note_list_rows(files, segments, sections, info, rebases, binds, index, setting, ListKind::Properties, category.class_properties, sheet);
+    note_list_rows(
+        files,
+        segments,
+        sections,
+        info,
+        rebases,
+        binds,
+        index,
+        setting,
+        ListKind::Methods,
+        category.instance_methods,
+        sheet,
+    );
+    note_list_rows(
+        files,
+        segments,
+        sections,
+        info,
+        rebases,
+        binds,
+        index,
+        setting,
+        ListKind::Methods,
+        category.class_methods,
+        sheet,
+    );
+    note_protocol_names(
+        files,
+        segments,
+        sections,
+        info,
+        rebases,
+        binds,
+        index,
+        setting,
+        category.protocols,
+        sheet,
+    );
+    note_list_rows(
+        files,
+        segments,
+        sections,
+        info,
+        rebases,
+        binds,
+        index,
+        setting,
+        ListKind::Properties,
+        category.instance_properties,
+        sheet,
+    );
+    note_list_rows(
+        files,
+        segments,
+        sections,
+        info,
+        rebases,
+        binds,
+        index,
+        setting,
+        ListKind::Properties,
+        category.class_properties,
+        sheet,
+    );
 }

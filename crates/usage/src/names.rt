@@ -85,7 +85,18 @@ fn note_slot_names(
 {
     let mut i = 0;
     while has_slot(list, i) {
-        note_name_in(files, segments, sections, info, rebases, binds, index, setting, list.base + 8 * i, sheet);
+        note_name_in(
+            files,
+            segments,
+            sections,
+            info,
+            rebases,
+            binds,
+            index,
+            setting,
+            list.base + 8 * i,
+            sheet,
+        );
         i += 1;
     }
 }
@@ -106,9 +117,41 @@ pub fn note_protocol_names(
     ensures { λ _. let t = under setting (lent files segments sections info rebases binds index) in
         ⌜ after sheet ≡ notedAll (namesUse t va) (before sheet) ⌝ }
 {
-    note_protocol_list(files, segments, sections, info, rebases, binds, index, setting, va, sheet);
-    match protocol_list_at(files, segments, sections, info, rebases, binds, index, setting, va) {
-        ProtocolListAnswer::List(list) => note_slot_names(files, segments, sections, info, rebases, binds, index, setting, list, sheet),
+    note_protocol_list(
+        files,
+        segments,
+        sections,
+        info,
+        rebases,
+        binds,
+        index,
+        setting,
+        va,
+        sheet,
+    );
+    match protocol_list_at(
+        files,
+        segments,
+        sections,
+        info,
+        rebases,
+        binds,
+        index,
+        setting,
+        va,
+    ) {
+        ProtocolListAnswer::List(list) => note_slot_names(
+            files,
+            segments,
+            sections,
+            info,
+            rebases,
+            binds,
+            index,
+            setting,
+            list,
+            sheet,
+        ),
         ProtocolListAnswer::Missing(_) => {}
     }
 }

@@ -41,7 +41,19 @@ fn note_entry(
 {
     let kind = h.kind;
     let va = h.base + j * (h.size as u64);
-    note_row(files, segments, sections, info, rebases, binds, index, setting, kind, va, sheet);
+    note_row(
+        files,
+        segments,
+        sections,
+        info,
+        rebases,
+        binds,
+        index,
+        setting,
+        kind,
+        va,
+        sheet,
+    );
 }
 
 // Every entry that can be read.
@@ -64,7 +76,19 @@ fn note_rows(
     loop {
         match first_readable(files, segments, h, i) {
             Entry::At(j) => {
-                note_entry(files, segments, sections, info, rebases, binds, index, setting, h, j, sheet);
+                note_entry(
+                    files,
+                    segments,
+                    sections,
+                    info,
+                    rebases,
+                    binds,
+                    index,
+                    setting,
+                    h,
+                    j,
+                    sheet,
+                );
                 i = j as u32 + 1;
             }
             Entry::Nothing => {
@@ -91,9 +115,43 @@ pub fn note_list_rows(
     ensures { λ _. let t = under setting (lent files segments sections info rebases binds index) in
         ⌜ after sheet ≡ notedAll (listUses t kind va) (before sheet) ⌝ }
 {
-    note_list(files, segments, sections, info, rebases, binds, index, setting, kind, va, sheet);
-    match list_at(files, segments, sections, info, rebases, binds, index, setting, kind, va) {
-        LayoutAnswer::List(h) => note_rows(files, segments, sections, info, rebases, binds, index, setting, h, sheet),
+    note_list(
+        files,
+        segments,
+        sections,
+        info,
+        rebases,
+        binds,
+        index,
+        setting,
+        kind,
+        va,
+        sheet,
+    );
+    match list_at(
+        files,
+        segments,
+        sections,
+        info,
+        rebases,
+        binds,
+        index,
+        setting,
+        kind,
+        va,
+    ) {
+        LayoutAnswer::List(h) => note_rows(
+            files,
+            segments,
+            sections,
+            info,
+            rebases,
+            binds,
+            index,
+            setting,
+            h,
+            sheet,
+        ),
         LayoutAnswer::Missing(_) => {}
     }
 }

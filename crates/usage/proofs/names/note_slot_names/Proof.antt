@@ -1,4 +1,4 @@
-use mathlib.Core.Path.{_≡_, refl, sym, ap, _∙_}
+use mathlib.Core.Path.{_≡_, _∙_}
 use native.Mathlib.Omega.{arith}
 use Prim.Native.Nat.{_-_, _≤_}
 use borrow.Author.Needs.{needs}
@@ -23,9 +23,6 @@ loop-holds : tie.Need-loop-holds Inv-loop μ-loop
 loop-holds c =
     (omega arith, laws.slots-all _ _ _)
 
-has-slot-requires : tie.Need-has-slot-requires Inv-loop μ-loop
-has-slot-requires c κs = search needs
-
 mul-note-name-in : tie.Need-mul-note-name-in Inv-loop μ-loop
 mul-note-name-in c =
     let l = laws.slot-in-64 _ _ _ (c .before .has-slot .ensures) (c .if1 .taken) in omega arith
@@ -33,9 +30,6 @@ mul-note-name-in c =
 add-note-name-in : tie.Need-add-note-name-in Inv-loop μ-loop
 add-note-name-in c =
     let l = laws.slot-in-64 _ _ _ (c .before .before .has-slot .ensures) (c .before .if1 .taken) in omega arith
-
-note-name-in-requires : tie.Need-note-name-in-requires Inv-loop μ-loop
-note-name-in-requires c κs = search needs
 
 add-i : tie.Need-add-i Inv-loop μ-loop
 add-i c =
@@ -62,10 +56,10 @@ note-slot-names-spec =
     Inv-loop
     μ-loop
     loop-holds
-    has-slot-requires
+    (λ c κs. search needs)
     mul-note-name-in
     add-note-name-in
-    note-name-in-requires
+    (λ c κs. search needs)
     add-i
     loop-less
     loop-again
