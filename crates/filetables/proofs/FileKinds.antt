@@ -1,11 +1,11 @@
 -- Question 25, by the tests that the code makes.
 use Prim.Native.Nat.{ℕ, _+_, _/_, _%_, _≤_, _<_}
 use mathlib.Core.Path.{_≡_}
-use mathlib.Core.Bool.{Bool, true, false, _&&_}
+use mathlib.Core.Bool.{true, false, _&&_}
 use mathlib.Core.List.{List}
 use lib.Dec.{eqb}
 use borrow.Author.Tests.{le-leb, lt-leb, ne-eqb}
-use Rattle.reads.specs.Outcome.{Outcome, value, number, choose}
+use Rattle.reads.specs.Outcome.{value, number, choose}
 use Rattle.pointers.specs.Question.{question}
 use Rattle.macho.specs.Number.{u32At}
 use Rattle.macho.specs.Loader.{fileoff, filesize}

@@ -1,6 +1,6 @@
 -- Where no write failed the text that was handed to the writer is the file's text.
 use Prim.Native.Nat.{ℕ, _≤_}
-use mathlib.Core.Path.{_≡_, refl, sym, ap, _∙_}
+use mathlib.Core.Path.{_≡_, sym, ap, _∙_}
 use mathlib.Core.List.{List, [], _++_, append-nil}
 use lib.ListN.{length}
 use Rattle.reads.specs.declared.text.Reading.the-variants.{New}

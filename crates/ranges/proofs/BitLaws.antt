@@ -1,13 +1,12 @@
 -- Laws of the bits of a word.
-use Prim.Native.Nat.{ℕ, zero, suc, _+_, _-_, _*_, _/_, _%_, _^_, _≤_, _<_}
-use mathlib.Core.Path.{_≡_, refl, sym, ap, _∙_}
+use Prim.Native.Nat.{ℕ, zero, suc, _-_, _*_, _/_, _%_, _^_, _<_}
+use mathlib.Core.Path.{_≡_, refl}
 use mathlib.Core.Bool.{Bool, true, false, _||_, not}
 use native.Mathlib.Omega.{arith}
 use native.Mathlib.Nat.{pow-le-pow-right, pow-suc, one-le-pow, div-eq-of-lt, mul-div-mul-right}
 use lib.Bits.{bitAnd, bitOr, and-mask, or-shr, or-mod, or-zero-r}
 use lib.Dec.{eqb, eqb·zero-suc, eqb·suc-zero, eqb·suc-suc}
 use Rattle.reads.specs.Outcome.{choose}
-use borrow.Author.Tests.{eq-eqb, ne-eqb}
 use Rattle.ranges.specs.Sheet.{bitOf}
 
 low-bit : (w : ℕ) (t : ℕ) → w % 2 ≡ t → not (eqb t 0) ≡ eqb t 1

@@ -1,13 +1,13 @@
 -- Worked cases: ranges merged, and written.
-use Prim.Native.Nat.{ℕ, zero, suc, _+_, _<_}
+use Prim.Native.Nat.{ℕ, zero, suc, _<_}
 use mathlib.Core.Path.{_≡_, refl, sym, _∙_}
 use mathlib.Core.Bool.{true}
-use mathlib.Core.List.{List, [], _∷_}
+use mathlib.Core.List.{[], _∷_}
 use mathlib.Core.Logic.{inr}
 use native.Mathlib.Omega.{arith}
 use lib.ListN.{getD}
 use Rattle.reads.specs.Outcome.{value, number, choose}
-use Rattle.ranges.specs.Range.{Range, range, lies, covers, rangeWords}
+use Rattle.ranges.specs.Range.{range, lies, covers, rangeWords}
 use Rattle.ranges.specs.Runs.{run, ended, begun, runs, runsFrom, merged}
 use Rattle.ranges.specs.Written.{result, written, mergedInto}
 use Rattle.ranges.proofs.Covers.{covers-one, lies-true}

@@ -1,6 +1,6 @@
 -- Laws of a sweep: one for each branch of its code, and what is put out when bytes are passed.
 use Prim.Native.Nat.{ℕ, zero, suc, _+_, _-_, _*_, _/_, _≤_, _<_, min, max}
-use mathlib.Core.Path.{_≡_, refl, sym, ap, _∙_}
+use mathlib.Core.Path.{_≡_, refl, ap}
 use mathlib.Core.Bool.{Bool, true, false}
 use mathlib.Core.List.{List, [], _∷_, _++_}
 use native.Mathlib.Numerals.{add-one}
@@ -11,7 +11,7 @@ use Rattle.reads.specs.Outcome.{choose}
 use Rattle.ranges.specs.Range.{Range, range}
 use Rattle.ranges.specs.Runs.{run, ended, begun, runs}
 use Rattle.ranges.specs.Sheet.{window, sheetNext, markedAt, shown}
-use Rattle.ranges.specs.Sweep.{more, Output, output, putAt, tell, Progress, progressOf, closedAt, passed, swept, leapt, Reached, reachedAt, overWindow}
+use Rattle.ranges.specs.Sweep.{more, Output, output, putAt, tell, Progress, progressOf, closedAt, passed, swept, leapt, reachedAt, overWindow}
 
 pub put-room : (out : List ℕ) (i file offset len : ℕ) → i < length out / 3
     → set (set (set out (i * 3) file) (i * 3 + 1) offset) (i * 3 + 2) len ≡ putAt out i (range file offset len)

@@ -1,5 +1,5 @@
 -- What is put out, as words, and the answer.
-use Prim.Native.Nat.{ℕ, zero, suc, _+_, _-_, _*_, _/_, _^_, _≤_, _<_, min}
+use Prim.Native.Nat.{ℕ, suc, _+_, _-_, _*_, _/_, _^_, _≤_, _<_, min}
 use mathlib.Core.Path.{_≡_, refl, sym, ap, _∙_}
 use mathlib.Core.List.{List, [], _∷_, _++_}
 use native.Mathlib.Omega.{arith}
@@ -7,7 +7,7 @@ use lib.ListN.{length, set, drop, length-set}
 use lib.Seq.{sets, sets-eq}
 use borrow.Author.Tests.{lt-ltb, le-leb, lt-leb, leb-true, leb-false}
 use Rattle.reads.specs.Answer.{missed}
-use Rattle.reads.specs.Outcome.{Outcome, value, number, choose}
+use Rattle.reads.specs.Outcome.{value, number, choose}
 use Rattle.reads.specs.declared.answer.Missing.{Missing}
 use Rattle.reads.specs.declared.answer.Missing.the-variants as missing
 use Rattle.reads.proofs.Tests.{by-choose}

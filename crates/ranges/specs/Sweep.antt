@@ -5,7 +5,7 @@ use mathlib.Core.List.{List, [], _∷_}
 use lib.Dec.{leb, ltb}
 use lib.ListN.{length, getD, set, drop}
 use Rattle.reads.specs.Outcome.{choose}
-use Rattle.ranges.specs.Range.{Range, covers}
+use Rattle.ranges.specs.Range.{Range}
 use Rattle.ranges.specs.Runs.{run, ended, begun, runsFrom}
 use Rattle.ranges.specs.Sheet.{window, sheetNext, shown, blank, notedAll}
 use Rattle.ranges.specs.declared.sweep.Open.{Open}

@@ -1,5 +1,5 @@
 -- Ranges written into a lent buffer (document 02, note 13), or 24 where it is too short.
-use Prim.Native.Nat.{ℕ, _*_, _/_}
+use Prim.Native.Nat.{ℕ, _*_}
 use mathlib.Core.List.{List, _++_}
 use lib.Dec.{leb}
 use lib.ListN.{length, drop}

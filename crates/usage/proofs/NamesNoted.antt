@@ -1,14 +1,14 @@
 -- Laws of the names of a protocol list that are noted one by one, and of the lists of a record.
-use Prim.Native.Nat.{ℕ, zero, suc, _+_, _-_, _*_, _≤_, _<_, _^_}
+use Prim.Native.Nat.{ℕ, zero, suc, _+_, _-_, _<_, _^_}
 use mathlib.Core.Path.{_≡_, refl, sym, ap, _∙_}
-use mathlib.Core.Bool.{Bool, true, false, _&&_}
+use mathlib.Core.Bool.{Bool, true, false}
 use mathlib.Core.List.{List, [], _∷_, _++_, append-nil}
 use native.Mathlib.Omega.{arith}
 use lib.Dec.{ltb}
 use borrow.Author.Tests.{ltb-true}
 use Rattle.reads.proofs.Tests.{both-true, choose-true, choose-false}
 use Rattle.reads.specs.Answer.{missed}
-use Rattle.reads.specs.Outcome.{Outcome, value, choose}
+use Rattle.reads.specs.Outcome.{value}
 use Rattle.reads.specs.declared.answer.Missing.{Missing}
 use Rattle.reads.specs.declared.answer.Missing.the-variants.{Absent, Refused}
 use Rattle.pointers.specs.Tables.{Tables}
@@ -16,7 +16,6 @@ use Rattle.records.specs.Asks.{ifValue}
 use Rattle.walks.specs.ProtocolNames.{hasSlot, slotIn, decodeProtocolList, protocolListAt, decodeNameIn}
 use Rattle.walks.specs.declared.protocol_names.ProtocolList.{ProtocolList}
 use Rattle.listing.specs.PlainListing.{Field}
-use Rattle.ranges.specs.Range.{Range}
 use Rattle.ranges.specs.Sheet.{notedAll}
 use Rattle.ranges.proofs.SheetLaws.{noted-append}
 use Rattle.used.specs.Used.{used}

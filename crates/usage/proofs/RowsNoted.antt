@@ -1,16 +1,16 @@
 -- Laws of the rows of a list that are noted one by one.
 use Prim.Native.Nat.{ℕ, suc, _+_, _-_, _≤_, _<_, _^_}
 use mathlib.Core.Path.{_≡_, refl, sym, ap, _∙_}
-use mathlib.Core.Bool.{Bool, true, false}
-use mathlib.Core.List.{List, [], _∷_, _++_, append-nil}
-use mathlib.Core.Option.{none, some}
+use mathlib.Core.Bool.{true}
+use mathlib.Core.List.{List, _++_, append-nil}
+use mathlib.Core.Option.{some}
 use native.Mathlib.Omega.{arith}
 use borrow.Author.Tests.{ltb-true}
 use lib.Dec.{ltb}
 use Rattle.reads.proofs.Tests.{both-true}
 use Rattle.reads.specs.Answer.{missed}
 use Rattle.reads.specs.Breaks.{canRead}
-use Rattle.reads.specs.Outcome.{Outcome, value}
+use Rattle.reads.specs.Outcome.{value}
 use Rattle.reads.specs.Place.{Image}
 use Rattle.reads.specs.declared.answer.Missing.{Missing}
 use Rattle.reads.specs.declared.answer.Missing.the-variants.{Absent, Refused}
@@ -24,7 +24,6 @@ use Rattle.records.specs.declared.list.Entry.the-variants as entries
 use Rattle.records.specs.declared.list.Layout.{Layout}
 use Rattle.records.specs.declared.list.ListKind.{ListKind}
 use Rattle.records.proofs.Firsts.{first-some, all-of-some, all-of-first-none}
-use Rattle.ranges.specs.Range.{Range}
 use Rattle.ranges.specs.Sheet.{notedAll}
 use Rattle.ranges.proofs.SheetLaws.{noted-append}
 use Rattle.used.specs.Used.{used}

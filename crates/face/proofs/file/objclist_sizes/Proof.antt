@@ -1,5 +1,4 @@
 use mathlib.Core.Path.{refl}
-use native.Mathlib.Omega.{arith}
 use Rattle.face.specs.File.{sizesOf}
 use borrow.Author.Needs.{needs}
 use Rattle.face.proofs.file.objclist_sizes.Statement.{statement}

@@ -1,4 +1,3 @@
-use native.Mathlib.Omega.{arith}
 use borrow.Author.Needs.{needs}
 use Rattle.face.proofs.file.part_words.Statement.{statement}
 use Rattle.face.proofs.file.part_words.Tie as tie

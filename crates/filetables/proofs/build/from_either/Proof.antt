@@ -1,4 +1,4 @@
-use mathlib.Core.Path.{_∙_, sym, ap}
+use mathlib.Core.Path.{_∙_, ap}
 use borrow.Author.Tests.{not-true, not-false}
 use Rattle.fixups.specs.Fixups.{settled}
 use Rattle.filetables.proofs.Records as laws

@@ -1,6 +1,3 @@
-use mathlib.Core.Path.{_∙_, sym, ap}
-use Rattle.reads.specs.Answer.{missed}
-use Rattle.opcodes.specs.Binds.{builtOutcome}
 use Rattle.filetables.proofs.Records as laws
 use borrow.Author.Needs.{needs}
 use Rattle.filetables.proofs.build.from_opcodes.Statement.{statement}

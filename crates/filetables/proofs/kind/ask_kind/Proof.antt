@@ -1,5 +1,4 @@
 use mathlib.Core.Path.{_∙_, sym, ap}
-use borrow.Author.Tests.{not-true, not-false}
 use Rattle.pointers.specs.Question.{askedOutcome}
 use Rattle.filetables.proofs.FileKinds as laws
 use borrow.Author.Needs.{needs}

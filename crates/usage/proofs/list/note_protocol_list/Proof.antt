@@ -1,10 +1,8 @@
-use mathlib.Core.Path.{_≡_, refl, sym, ap, _∙_}
+use mathlib.Core.Path.{refl}
 use borrow.Author.Needs.{needs}
-use borrow.Author.Tests.{not-true, not-false}
-use Rattle.reads.specs.Answer.{wordOutcome, placeOutcome, textOutcome}
+use Rattle.reads.specs.Answer.{wordOutcome, placeOutcome}
 use Rattle.usage.proofs.Noting as noting
 use Rattle.records.specs.Ask as asks
-use Rattle.used.proofs.UsedParts.{used-done}
 use Rattle.walks.specs.ProtocolNames.{decodeProtocolList}
 use Rattle.usage.proofs.list.note_protocol_list.Statement.{statement}
 use Rattle.usage.proofs.list.note_protocol_list.Tie as tie

@@ -1,7 +1,5 @@
-use mathlib.Core.Path.{_≡_, refl, sym, ap, _∙_}
+use mathlib.Core.Path.{sym, ap, _∙_}
 use borrow.Author.Needs.{needs}
-use borrow.Author.Tests.{not-true, not-false}
-use Rattle.reads.specs.Answer.{wordOutcome, placeOutcome, textOutcome}
 use Rattle.usage.proofs.Noting as noting
 use Rattle.walks.specs.ProtocolNames.{protocolListOutcome}
 use Rattle.usage.proofs.NamesNoted as laws

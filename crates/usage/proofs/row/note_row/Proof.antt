@@ -1,7 +1,4 @@
-use mathlib.Core.Path.{_≡_, refl, sym, ap, _∙_}
 use borrow.Author.Needs.{needs}
-use borrow.Author.Tests.{not-true, not-false}
-use Rattle.reads.specs.Answer.{wordOutcome, placeOutcome, textOutcome}
 use Rattle.usage.proofs.Noting as noting
 use Rattle.used.proofs.UsedParts.{used-done}
 use Rattle.records.specs.Row.{decodeRow}

@@ -1,7 +1,6 @@
-use mathlib.Core.Path.{_≡_, refl, sym, ap, _∙_}
+use mathlib.Core.Path.{sym, ap, _∙_}
 use borrow.Author.Needs.{needs}
-use borrow.Author.Tests.{not-true, not-false}
-use Rattle.reads.specs.Answer.{wordOutcome, placeOutcome, textOutcome}
+use Rattle.reads.specs.Answer.{textOutcome}
 use Rattle.usage.proofs.Noting as noting
 use Rattle.reads.specs.Breaks.{isValue}
 use Rattle.usage.proofs.text.is_found.Statement.{statement}
