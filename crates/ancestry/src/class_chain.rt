@@ -21,14 +21,14 @@ use records::class::{ClassAnswer, ObjcClass, class_at};
 
 // What is told of a class, as the three words of its record: the count of decoded classes above it, the address of the last (0 if none),
 // 1 if it loops.
-#[derive(Drop)]
+#[derive(Clone, Copy)]
 pub struct Ancestry {
     pub count: u64,
     pub last: u64,
     pub looping: u64,
 }
 
-#[derive(Drop)]
+#[derive(Clone, Copy)]
 pub enum AncestryAnswer {
     Found(Ancestry),
     Missing(Missing),

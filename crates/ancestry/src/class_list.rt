@@ -17,7 +17,7 @@ use reads::answer::Missing;
 use records::class::{ClassAnswer, class_at};
 
 // How many classes have a record, or the number of the question that refuses.
-#[derive(Drop)]
+#[derive(Clone, Copy)]
 pub enum AncestriesAnswer {
     Classes(u64),
     Refused(u8),

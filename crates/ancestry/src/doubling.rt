@@ -4,7 +4,7 @@ ghost use Rattle.reads.specs.Reference.{before, after};
 ghost use Rattle.ancestry.specs.Doubling.{state_at, put_at, joined_of, jumped_at, jumped_to, finished_at, finished_to, Ground, Following};
 
 // What is known of a class while chains are followed: specs/Doubling.antt.
-#[derive(Drop)]
+#[derive(Clone, Copy)]
 pub struct State {
     pub count: u64,
     pub place: u64,

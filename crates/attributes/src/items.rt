@@ -9,28 +9,28 @@ use reads::answer::{Missing, Reason};
 use reads::text::{Verdict, utf8_verdict};
 
 // A value: the part of the text from `start`, `len` bytes long.
-#[derive(Drop)]
+#[derive(Clone, Copy)]
 pub struct Value {
     pub start: u64,
     pub len: u64,
 }
 
 // An item: a key byte and its value.
-#[derive(Drop)]
+#[derive(Clone, Copy)]
 pub struct Item {
     pub key: u8,
     pub value: Value,
 }
 
 // How many items there are, and the first T value that is not empty (0, 0 if there is none).
-#[derive(Drop)]
+#[derive(Clone, Copy)]
 pub struct Attributes {
     pub count: u64,
     pub type_encoding: Value,
 }
 
 // The attributes, or none.
-#[derive(Drop)]
+#[derive(Clone, Copy)]
 pub enum AttributesAnswer {
     Attributes(Attributes),
     Missing(Missing),

@@ -12,14 +12,14 @@ use crate::property::Attribute;
 pub const LETTERS: [u8; 12] = *b"TRC&NDWPGStV";
 
 // An item, and where the next one begins.
-#[derive(Drop)]
+#[derive(Clone, Copy)]
 pub struct Step {
     pub item: Item,
     pub next: usize,
 }
 
 // Which items are handed out: all, or those of unknown letters.
-#[derive(Drop)]
+#[derive(Clone, Copy)]
 pub enum Which {
     All,
     Unknown,

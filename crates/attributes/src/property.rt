@@ -9,14 +9,14 @@ use reads::answer::{Missing, Reason};
 use reads::text::{Verdict, utf8_verdict};
 
 // A letter that is given, with its value (of most flags the empty one), or not given.
-#[derive(Drop)]
+#[derive(Clone, Copy)]
 pub enum Attribute {
     Given(Value),
     Nothing,
 }
 
 // A declared property: the first value of each letter, and how many items have other letters.
-#[derive(Drop)]
+#[derive(Clone, Copy)]
 pub struct Declared {
     // T
     pub type_encoding: Attribute,
@@ -46,7 +46,7 @@ pub struct Declared {
 }
 
 // A declared property, or none.
-#[derive(Drop)]
+#[derive(Clone, Copy)]
 pub enum DeclaredAnswer {
     Declared(Declared),
     Missing(Missing),

@@ -22,21 +22,21 @@ use reads::answer::Missing;
 use records::class::{ClassAnswer, ObjcClass, class_at};
 
 // How many selectors there are.
-#[derive(Drop)]
+#[derive(Clone, Copy)]
 pub enum MethodsAnswer {
     Methods(u64),
     Missing(Missing),
 }
 
 // How many selectors there are, or that there are at least so many.
-#[derive(Drop)]
+#[derive(Clone, Copy)]
 pub enum Counted {
     All(usize),
     AtLeast(usize),
 }
 
 // All rows can be reached and are at most so many; they can be reached and are more; or the number of the question that refuses.
-#[derive(Drop)]
+#[derive(Clone, Copy)]
 pub enum Survey {
     Fits,
     More,
@@ -44,7 +44,7 @@ pub enum Survey {
 }
 
 // There is room for each selector, or not; or the number of the question that refuses.
-#[derive(Drop)]
+#[derive(Clone, Copy)]
 pub enum Fit {
     Enough,
     Short,

@@ -1,4 +1,6 @@
 // Which method gets called: the effective methods of a class, with those of its categories (document 02, note 10).
+#![tactic(auto)]
+
 pub mod asks;
 pub mod effective;
 pub mod rows;

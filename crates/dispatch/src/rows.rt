@@ -22,7 +22,7 @@ use records::row::{Row, RowAnswer, row_at};
 
 // A row as it appears: its selector, the numbers of its source and of its entry, and the address of the record that its list
 // came from.
-#[derive(Drop)]
+#[derive(Clone, Copy)]
 pub struct Appearance {
     pub selector: Text,
     pub source: u64,
@@ -31,7 +31,7 @@ pub struct Appearance {
 }
 
 // The source that it stands in (0: the class's own, k + 1: that of the category in slot k), with its list, and the entry to go on from.
-#[derive(Drop)]
+#[derive(Clone, Copy)]
 pub struct Position {
     pub source: u64,
     pub origin: u64,
@@ -39,21 +39,21 @@ pub struct Position {
     pub entry: u32,
 }
 
-#[derive(Drop)]
+#[derive(Clone, Copy)]
 pub enum AppearanceAnswer {
     Row(Appearance),
     Missing(Missing),
 }
 
 // The first entry of a source, or the number of the question that refuses.
-#[derive(Drop)]
+#[derive(Clone, Copy)]
 pub enum Entered {
     At(Position),
     Refused(u8),
 }
 
 // A row, and the position after it.
-#[derive(Drop)]
+#[derive(Clone, Copy)]
 pub struct Reached {
     pub row: Appearance,
     pub next: Position,
@@ -61,7 +61,7 @@ pub struct Reached {
 
 // A step gives the next row, or nothing from what it took, or there was nothing left; or the number of the question that
 // refuses.
-#[derive(Drop)]
+#[derive(Clone, Copy)]
 pub enum Step {
     Row(Reached),
     Passed(Position),

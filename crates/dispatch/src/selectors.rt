@@ -11,7 +11,7 @@ use reads::files::is_lent;
 use reads::text::Text;
 
 // Where the bytes of a text begin and end, as far as they lie in its file.
-#[derive(Drop)]
+#[derive(Clone, Copy)]
 struct Part {
     from: usize,
     end: usize,

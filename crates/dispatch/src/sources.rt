@@ -13,20 +13,20 @@ use records::category::{CategoryAnswer, ObjcCategory, category_at};
 use records::class::{ClassAnswer, ClassRoAnswer, ObjcClass, class_at, ro_of};
 
 // Instance methods, or class methods.
-#[derive(Drop)]
+#[derive(Clone, Copy)]
 pub enum Side {
     Instance,
     Class,
 }
 
 // A method list, and the address of the record that names it.
-#[derive(Drop)]
+#[derive(Clone, Copy)]
 pub struct Source {
     pub origin: u64,
     pub list: u64,
 }
 
-#[derive(Drop)]
+#[derive(Clone, Copy)]
 pub enum SourceAnswer {
     Source(Source),
     Missing(Missing),

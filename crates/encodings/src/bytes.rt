@@ -4,7 +4,7 @@ ghost use Rattle.encodings.specs.Grammar.{digit_byte, name_byte, quoted_byte};
 ghost use Rattle.encodings.specs.Machine.{class_of};
 
 // What a byte begins, where a type may begin.
-#[derive(Drop)]
+#[derive(Clone, Copy)]
 pub enum Class {
     Basic,
     Qualifier,

@@ -1,4 +1,6 @@
 // Type encodings: a text, as of a method's types, read as its outermost types with their frame offsets.
+#![tactic(auto)]
+
 mod bytes;
 mod parser;
 mod reading;

@@ -10,7 +10,7 @@ use crate::bytes::{Class, class_of, in_name, in_quotes, is_digit};
 use reads::answer::{Missing, Reason, Word};
 
 // What was read last, and so what may come.
-#[derive(Drop)]
+#[derive(Clone, Copy)]
 pub enum Mode {
     // a type must begin
     Wanted,
@@ -37,7 +37,7 @@ pub enum Mode {
 }
 
 // What is kept of the bytes before.
-#[derive(Drop)]
+#[derive(Clone, Copy)]
 pub struct Parser {
     // how many levels are open, 32 at most, and two bits for each of them, its kind, the innermost lowest
     pub depth: usize,
@@ -49,7 +49,7 @@ pub struct Parser {
 }
 
 // What a byte leads to: the text goes on, or is absent or refused.
-#[derive(Drop)]
+#[derive(Clone, Copy)]
 pub enum Next {
     On(Mode, Parser),
     Missing(Missing),

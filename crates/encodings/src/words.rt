@@ -7,7 +7,7 @@ use crate::reading::read_types;
 use reads::answer::{Missing, Word};
 
 // How many outermost types there are, or none.
-#[derive(Drop)]
+#[derive(Clone, Copy)]
 pub enum TypesAnswer {
     Types(u64),
     Missing(Missing),

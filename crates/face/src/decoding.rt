@@ -19,35 +19,35 @@ use records::class::{ClassAnswer, ClassRoAnswer, ObjcClass};
 use records::protocol::ProtocolAnswer;
 
 #[repr(C)]
-#[derive(Drop)]
+#[derive(Clone, Copy)]
 pub struct ClassTold {
     pub status: Status,
     pub cls: ClassWords,
 }
 
 #[repr(C)]
-#[derive(Drop)]
+#[derive(Clone, Copy)]
 pub struct RoTold {
     pub status: Status,
     pub ro: RoWords,
 }
 
 #[repr(C)]
-#[derive(Drop)]
+#[derive(Clone, Copy)]
 pub struct ProtocolTold {
     pub status: Status,
     pub protocol: ProtocolWords,
 }
 
 #[repr(C)]
-#[derive(Drop)]
+#[derive(Clone, Copy)]
 pub struct CategoryTold {
     pub status: Status,
     pub category: CategoryWords,
 }
 
 #[repr(C)]
-#[derive(Drop)]
+#[derive(Clone, Copy)]
 pub struct NameTold {
     pub status: Status,
     pub name: TextWords,

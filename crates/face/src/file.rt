@@ -26,7 +26,7 @@ use universal::part::{PartAnswer, find_part, part_at};
 
 // A part of a universal file. Status 0: it was found; 1: refused, by the number; 2: there is none.
 #[repr(C)]
-#[derive(Drop)]
+#[derive(Clone, Copy)]
 pub struct FilePart {
     pub status: u64,
     pub number: u64,
@@ -38,7 +38,7 @@ pub struct FilePart {
 
 // How many rebases and binds were written. Status 0: these; 1: refused, by the number, and nothing was written; 2 is never given.
 #[repr(C)]
-#[derive(Drop)]
+#[derive(Clone, Copy)]
 pub struct Counts {
     pub status: u64,
     pub number: u64,
@@ -48,7 +48,7 @@ pub struct Counts {
 
 // The elements to lend for a file: as many as no question refuses.
 #[repr(C)]
-#[derive(Drop)]
+#[derive(Clone, Copy)]
 pub struct Sizes {
     pub segments: u64,
     pub sections: u64,

@@ -15,7 +15,7 @@ use pointers::open::open;
 
 // The image info: version and flags.
 #[repr(C)]
-#[derive(Drop)]
+#[derive(Clone, Copy)]
 pub struct InfoTold {
     pub status: Status,
     pub version: u64,
@@ -24,7 +24,7 @@ pub struct InfoTold {
 
 // An opened file: how many segments it has, its image info, and where the bytes of that lie in the file.
 #[repr(C)]
-#[derive(Drop)]
+#[derive(Clone, Copy)]
 pub struct FileWords {
     pub segments: u64,
     pub version: u64,
@@ -34,7 +34,7 @@ pub struct FileWords {
 }
 
 #[repr(C)]
-#[derive(Drop)]
+#[derive(Clone, Copy)]
 pub struct FileTold {
     pub status: Status,
     pub file: FileWords,

@@ -28,14 +28,14 @@ pub const NAME: u64 = 3;
 pub const SKIPPED: u64 = 4;
 
 // A number, or none.
-#[derive(Drop)]
+#[derive(Clone, Copy)]
 pub struct Number {
     pub here: u64,
     pub n: u64,
 }
 
 // What a step says: a row's words where one is found.
-#[derive(Drop)]
+#[derive(Clone, Copy)]
 pub struct RowSaid {
     pub status: Status,
     pub words: [u64; ROW_WORDS],

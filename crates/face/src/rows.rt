@@ -15,7 +15,7 @@ use walks::protocol_names::ProtocolNameWalk;
 
 // Where a walk over rows stands: the list's address, what it lists, the entries taken, and whether texts are read under the old reading.
 #[repr(C)]
-#[derive(Drop)]
+#[derive(Clone, Copy)]
 pub struct RowWalk {
     pub list: u64,
     pub kind: u64,
@@ -25,7 +25,7 @@ pub struct RowWalk {
 
 // What ended a call, how many rows it gave, and the walk after them.
 #[repr(C)]
-#[derive(Drop)]
+#[derive(Clone, Copy)]
 pub struct RowsTold {
     pub status: Status,
     pub rows: u64,
@@ -33,7 +33,7 @@ pub struct RowsTold {
 }
 
 // What a list lists.
-#[derive(Drop)]
+#[derive(Clone, Copy)]
 pub enum Listed {
     Rows(ListKind),
     Names,
@@ -41,7 +41,7 @@ pub enum Listed {
 }
 
 // What a step says, and the walk after it.
-#[derive(Drop)]
+#[derive(Clone, Copy)]
 pub struct RowTurn {
     pub said: RowSaid,
     pub walk: RowWalk,

@@ -19,7 +19,7 @@ use walks::slots::SlotWalk;
 // Where a walk stands: the next slot; the words of the ledger in use and the highest of them; the address of the metaclass that waits;
 // and whether texts are read under the old reading. All 0 before the first slot.
 #[repr(C)]
-#[derive(Drop)]
+#[derive(Clone, Copy)]
 pub struct WalkWords {
     pub slot: u64,
     pub used: u64,
@@ -29,21 +29,21 @@ pub struct WalkWords {
 }
 
 #[repr(C)]
-#[derive(Drop)]
+#[derive(Clone, Copy)]
 pub struct ClassWalked {
     pub told: ClassTold,
     pub walk: WalkWords,
 }
 
 #[repr(C)]
-#[derive(Drop)]
+#[derive(Clone, Copy)]
 pub struct CategoryWalked {
     pub told: CategoryTold,
     pub walk: WalkWords,
 }
 
 #[repr(C)]
-#[derive(Drop)]
+#[derive(Clone, Copy)]
 pub struct ProtocolWalked {
     pub told: ProtocolTold,
     pub walk: WalkWords,

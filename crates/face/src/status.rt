@@ -6,7 +6,7 @@ use reads::answer::{Missing, Reason};
 
 // The kind; the code of a reason or the number of a question; and of a text that is not UTF-8 the offset in it.
 #[repr(C)]
-#[derive(Drop)]
+#[derive(Clone, Copy)]
 pub struct Status {
     pub kind: u64,
     pub code: u64,

@@ -10,7 +10,7 @@ use records::protocol::ObjcProtocol;
 
 // A text: `len` bytes of a file from an offset on.
 #[repr(C)]
-#[derive(Drop)]
+#[derive(Clone, Copy)]
 pub struct TextWords {
     pub file: u64,
     pub offset: u64,
@@ -18,7 +18,7 @@ pub struct TextWords {
 }
 
 #[repr(C)]
-#[derive(Drop)]
+#[derive(Clone, Copy)]
 pub struct ClassWords {
     pub address: u64,
     pub isa: u64,
@@ -28,7 +28,7 @@ pub struct ClassWords {
 }
 
 #[repr(C)]
-#[derive(Drop)]
+#[derive(Clone, Copy)]
 pub struct RoWords {
     pub address: u64,
     pub flags: u64,
@@ -44,7 +44,7 @@ pub struct RoWords {
 }
 
 #[repr(C)]
-#[derive(Drop)]
+#[derive(Clone, Copy)]
 pub struct ProtocolWords {
     pub address: u64,
     pub name: TextWords,
@@ -60,7 +60,7 @@ pub struct ProtocolWords {
 }
 
 #[repr(C)]
-#[derive(Drop)]
+#[derive(Clone, Copy)]
 pub struct CategoryWords {
     pub address: u64,
     pub name: TextWords,

@@ -32,7 +32,7 @@ use reads::segment::Segment;
 use reads::text::Reading;
 
 // A listing that is begun: what opening the file answered, and where the printing stands.
-#[derive(Drop)]
+#[derive(Clone, Copy)]
 pub struct FileListing {
     pub answer: FileAnswer,
     pub progress: Progress,

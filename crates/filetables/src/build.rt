@@ -15,7 +15,7 @@ use pointers::question::Asked;
 use reads::answer::Missing;
 
 // How many rebases and binds were written, or the number of the question that says no.
-#[derive(Drop)]
+#[derive(Clone, Copy)]
 pub enum FileTables {
     Tables(u64, u64),
     Missing(Missing),

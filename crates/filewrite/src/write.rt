@@ -19,7 +19,7 @@ use reads::text::Reading;
 // How the writing of a listing ended, for C too: status 0, the whole listing was written; 1, the file was refused, by the number; 3, a write
 // failed.
 #[repr(C)]
-#[derive(Drop)]
+#[derive(Clone, Copy)]
 pub struct Wrote {
     pub status: u64,
     pub number: u64,
@@ -34,7 +34,7 @@ impl Wrote {
 }
 
 // Whether every write went well, and where the printing stands.
-#[derive(Drop)]
+#[derive(Clone, Copy)]
 pub struct Pieces {
     pub whole: bool,
     pub progress: Progress,

@@ -25,7 +25,7 @@ use reads::place::{u32_from, u64_from};
 const TEXT: [u8; 16] = *b"__TEXT\0\0\0\0\0\0\0\0\0\0";
 
 // How many rebases and binds were written, or the number of the question that says no.
-#[derive(Drop)]
+#[derive(Clone, Copy)]
 pub enum Built {
     Tables(u64, u64),
     Refused(u8),

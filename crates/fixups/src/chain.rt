@@ -12,7 +12,7 @@ use reads::place::u64_from;
 
 // What the header of the fixup data says (starts_offset, imports_offset, symbols_offset, imports_count), where the fixup data stands
 // in the file, and the image base.
-#[derive(Drop)]
+#[derive(Clone, Copy)]
 pub struct Fixups {
     pub at: u32,
     pub starts: u32,
@@ -23,7 +23,7 @@ pub struct Fixups {
 }
 
 // A segment with starts: its command's vmaddr and fileoff, its starts' pointer_format and page_size.
-#[derive(Drop)]
+#[derive(Clone, Copy)]
 pub struct Starts {
     pub vmaddr: u64,
     pub fileoff: u64,
@@ -32,27 +32,27 @@ pub struct Starts {
 }
 
 // A record: a rebase's slot and target; a bind's slot, name offset and name length.
-#[derive(Drop)]
+#[derive(Clone, Copy)]
 pub enum Fixup {
     Rebase(u64, u64),
     Bind(u64, u64, u64),
 }
 
-#[derive(Drop)]
+#[derive(Clone, Copy)]
 pub enum Entry {
     At(Fixup),
     Refused(u8),
 }
 
 // The counts after a slot, and the bytes to the next.
-#[derive(Drop)]
+#[derive(Clone, Copy)]
 pub enum Visit {
     Slot { rebases: u64, binds: u64, step: u64 },
     Refused(u8),
 }
 
 // The counts after a part of the walk.
-#[derive(Drop)]
+#[derive(Clone, Copy)]
 pub enum Walked {
     Counts(u64, u64),
     Refused(u8),

@@ -1,4 +1,6 @@
 // The rebase and bind tables of a Mach-O file with chained fixups (fixup-chains.h).
+#![tactic(auto)]
+
 pub mod build;
 mod chain;
 mod fixup_chains;

@@ -7,7 +7,7 @@ use crate::chain::Fixups;
 use reads::place::u32_from;
 
 // A name's offset in the file and its length, or the number that refuses it.
-#[derive(Drop)]
+#[derive(Clone, Copy)]
 pub enum Name {
     Text(u64, u64),
     Refused(u8),

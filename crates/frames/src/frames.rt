@@ -4,7 +4,7 @@ ghost use Rattle.frames.specs.Frames.{no_ranges};
 ghost use Rattle.frames.specs.Marks.{frames_outcome, frames_of, no_frames, raised, is_at, met, mark_of};
 
 // A range of frames and a range of slides, both ends included.
-#[derive(Drop)]
+#[derive(Clone, Copy)]
 pub struct Ranges {
     pub first_frame: u64,
     pub last_frame: u64,
@@ -13,14 +13,14 @@ pub struct Ranges {
 }
 
 // The greatest start met at or before an address.
-#[derive(Drop)]
+#[derive(Clone, Copy)]
 pub enum Floor {
     At(u64),
     Nothing,
 }
 
 // The possible unslid addresses, if there are any: all from low to high; and of the starts met the floor of each of the two.
-#[derive(Drop)]
+#[derive(Clone, Copy)]
 pub struct Frames {
     pub any: bool,
     pub low: u64,
@@ -29,7 +29,7 @@ pub struct Frames {
     pub high_floor: Floor,
 }
 
-#[derive(Drop)]
+#[derive(Clone, Copy)]
 pub enum FramesAnswer {
     Frames(Frames),
     Refused(u8),

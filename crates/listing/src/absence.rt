@@ -2,7 +2,7 @@
 use reads::answer::Reason;
 
 // An entry of the record's list of that number whose row is skipped.
-#[derive(Drop)]
+#[derive(Clone, Copy)]
 pub struct SkippedEntry {
     pub list: u16,
     pub index: u32,
@@ -10,7 +10,7 @@ pub struct SkippedEntry {
 }
 
 // A slot of the record's list of protocol names of that number that gives no name.
-#[derive(Drop)]
+#[derive(Clone, Copy)]
 pub struct UnnamedSlot {
     pub list: u16,
     pub slot: u64,
@@ -18,7 +18,7 @@ pub struct UnnamedSlot {
 }
 
 // A record of a section, a waiting metaclass or a class's class_ro that is absent; a skipped entry; a slot without a name.
-#[derive(Drop)]
+#[derive(Clone, Copy)]
 pub enum Absence {
     Record(Reason),
     Entry(SkippedEntry),

@@ -12,7 +12,7 @@ use walks::list_walk::ListWalk;
 use walks::protocol_names::ProtocolNameWalk;
 
 // A record that a section gives.
-#[derive(Drop)]
+#[derive(Clone, Copy)]
 pub enum Record {
     Class(ObjcClass),
     Protocol(ObjcProtocol),
@@ -20,7 +20,7 @@ pub enum Record {
 }
 
 // The record whose lists are walked; of a class it is the class_ro.
-#[derive(Drop)]
+#[derive(Clone, Copy)]
 pub enum Owner {
     Class(ClassRo),
     Protocol(ObjcProtocol),
@@ -28,14 +28,14 @@ pub enum Owner {
 }
 
 // A walk over a list of rows, or over one of protocol names.
-#[derive(Drop)]
+#[derive(Clone, Copy)]
 pub enum FieldWalk {
     Rows(ListWalk),
     Names(ProtocolNameWalk),
 }
 
 // A list of a record: the walk over it, and the record.
-#[derive(Drop)]
+#[derive(Clone, Copy)]
 pub struct ListAt {
     pub(crate) walk: FieldWalk,
     pub(crate) owner: Owner,
@@ -44,7 +44,7 @@ pub struct ListAt {
 // What the next step does: the line of the image info; a step of the section walk; the line of a record that the section gave; the line
 // of a class's class_ro; a step over the record's list of that number; nothing, after the last line. The number has 16 bits: it parts the
 // seven bytes between the case and the words after it, which would be copied by themselves at each step (docs/PERFORMANCE.md).
-#[derive(Drop)]
+#[derive(Clone, Copy)]
 pub enum At {
     Info,
     Section,

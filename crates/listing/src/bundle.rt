@@ -27,7 +27,7 @@ const LAST_SLIDE_AT: u64 = FIRST_SLIDE_AT + 8;
 
 // How many segments, rebases and binds a bundle has, and how many bytes each of the image's four files. Counts of an
 // accepted bundle fit 32 bits, and no sum below passes 64 bits then.
-#[derive(Drop)]
+#[derive(Clone, Copy)]
 pub struct Counts {
     pub segments: u32,
     pub rebases: u32,
@@ -38,7 +38,7 @@ pub struct Counts {
     pub image3: u32,
 }
 
-#[derive(Drop)]
+#[derive(Clone, Copy)]
 pub enum CountsAnswer {
     Counts(Counts),
     Missing(Missing),

@@ -1,4 +1,6 @@
 // The bundle that the program reads, and the listing of opened tables.
+#![tactic(auto)]
+
 pub mod absence;
 pub mod at;
 pub mod bundle;

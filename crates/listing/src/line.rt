@@ -7,35 +7,35 @@ use records::protocol::ObjcProtocol;
 use records::row::Row;
 
 // A name, or none: an empty name is there.
-#[derive(Drop)]
+#[derive(Clone, Copy)]
 pub enum Named {
     Text(Text),
     Nothing,
 }
 
 // I: the image info, and the reading of the listing.
-#[derive(Drop)]
+#[derive(Clone, Copy)]
 pub struct InfoLine {
     pub info: ImageInfo,
     pub reading: Reading,
 }
 
 // C or M, by `class.is_meta`: a class or metaclass, and its superclass's name.
-#[derive(Drop)]
+#[derive(Clone, Copy)]
 pub struct ClassLine {
     pub class: ObjcClass,
     pub superclass_name: Named,
 }
 
 // K: a category, and its host class's name.
-#[derive(Drop)]
+#[derive(Clone, Copy)]
 pub struct CategoryLine {
     pub category: ObjcCategory,
     pub class_name: Named,
 }
 
 // m, v or p: a row of the record's list of that number; and the mark of a method, which crate `marking` sets: 0 before that, and of v and p.
-#[derive(Drop)]
+#[derive(Clone, Copy)]
 pub struct RowLine {
     pub list: u16,
     pub row: Row,
@@ -43,21 +43,21 @@ pub struct RowLine {
 }
 
 // q: a protocol name of the record's list of that number.
-#[derive(Drop)]
+#[derive(Clone, Copy)]
 pub struct NameLine {
     pub list: u16,
     pub name: Text,
 }
 
 // E: records (lines C, M, P and K), and entries settled, a number of two words: high x 2^64 + low.
-#[derive(Drop)]
+#[derive(Clone, Copy)]
 pub struct EndLine {
     pub records: u64,
     pub settled_high: u64,
     pub settled_low: u64,
 }
 
-#[derive(Drop)]
+#[derive(Clone, Copy)]
 pub enum Line {
     Info(InfoLine),
     Class(ClassLine),

@@ -30,7 +30,7 @@ use walks::list_walk::{ListStep, ListStepped, ListWalked};
 use walks::protocol_names::{NameStep, ProtocolNameStepped, ProtocolNamesWalked};
 
 // The setting that the listing began with; where it stands; the records so far; the entries settled so far, high x 2^64 + low.
-#[derive(Drop)]
+#[derive(Clone, Copy)]
 pub struct Listing {
     setting: Setting,
     at: At,
@@ -41,7 +41,7 @@ pub struct Listing {
 }
 
 // What a step says: a line; what is absent and why; nothing; or the listing has ended; or the number of the question that refuses.
-#[derive(Drop)]
+#[derive(Clone, Copy)]
 pub enum Said {
     Line(Line),
     Absent(Absence),
@@ -51,14 +51,14 @@ pub enum Said {
 }
 
 // What a step says, and the listing to go on with; with a number it is as given.
-#[derive(Drop)]
+#[derive(Clone, Copy)]
 pub struct Listed {
     pub said: Said,
     pub listing: Listing,
 }
 
 // A name or none, or the number of the question that refuses.
-#[derive(Drop)]
+#[derive(Clone, Copy)]
 enum NameAnswer {
     Name(Named),
     Refused(u8),

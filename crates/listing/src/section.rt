@@ -16,7 +16,7 @@ use walks::sections::{
 
 // The section walks side by side, and which is under way: 0, 1, and from 2 on the last. The others stand at their starts, or where a state
 // that no step handed back has them. The stage is a word, so that no hole stands before the walks (docs/PERFORMANCE.md).
-#[derive(Drop)]
+#[derive(Clone, Copy)]
 pub struct Section {
     pub(crate) stage: u64,
     classes: ClassWalk,
@@ -26,7 +26,7 @@ pub struct Section {
 
 // What a step of a section walk gives: a record, or the reason for which it is absent; a slot is dropped; there was nothing left; or the
 // number of the question that refuses.
-#[derive(Drop)]
+#[derive(Clone, Copy)]
 pub(crate) enum Taken {
     Record(Record),
     Passed(Reason),
@@ -36,7 +36,7 @@ pub(crate) enum Taken {
 }
 
 // The same with the section walk as it is then; with a number it is as given.
-#[derive(Drop)]
+#[derive(Clone, Copy)]
 pub(crate) struct SectionStepped {
     pub(crate) taken: Taken,
     pub(crate) section: Section,

@@ -13,7 +13,7 @@ use crate::number::field32;
 use pointers::question::Asked;
 
 // A command that was looked for: where it stands, and how many commands are left after it, from where on.
-#[derive(Drop)]
+#[derive(Clone, Copy)]
 pub struct Found {
     pub here: bool,
     pub at: u64,

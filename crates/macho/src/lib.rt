@@ -1,4 +1,6 @@
 // A Mach-O file (loader.h): header, load commands, segments and sections, and the tables that they fill.
+#![tactic(auto)]
+
 pub mod command;
 pub mod header;
 pub mod loader;

@@ -30,7 +30,7 @@ pub const SEGMENT_TABLE_WORDS: usize = 64 * Segment::WORDS;
 
 // An opened file: how many segments it has, its image info, and where the bytes of that lie in the file. Later calls are lent the rows
 // of these segments, the section table, and those bytes.
-#[derive(Drop)]
+#[derive(Clone, Copy)]
 pub struct OpenedFile {
     pub segments: u64,
     pub info: ImageInfo,
@@ -38,7 +38,7 @@ pub struct OpenedFile {
     pub info_len: u64,
 }
 
-#[derive(Drop)]
+#[derive(Clone, Copy)]
 pub enum FileAnswer {
     File(OpenedFile),
     Missing(Missing),

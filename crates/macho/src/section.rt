@@ -28,7 +28,7 @@ const SECTION_NAMES: [[u8; 16]; 5] = [
 pub(crate) const IMAGE_INFO: [u8; 16] = *b"__objc_imageinfo";
 
 // A section: present is 1, or 0 with all else 0 for an absent one.
-#[derive(Drop)]
+#[derive(Clone, Copy)]
 pub struct Section {
     pub present: u64,
     pub addr: u64,

@@ -15,13 +15,13 @@ use pointers::table::{Bind, Rebase};
 use reads::answer::Missing;
 
 // An opened image: its image info, and the frames, which have met no start.
-#[derive(Drop)]
+#[derive(Clone, Copy)]
 pub struct Framed {
     pub info: ImageInfo,
     pub frames: Frames,
 }
 
-#[derive(Drop)]
+#[derive(Clone, Copy)]
 pub enum FramedAnswer {
     Framed(Framed),
     Missing(Missing),

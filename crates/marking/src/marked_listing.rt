@@ -13,7 +13,7 @@ use pointers::setting::Setting;
 use reads::text::Reading;
 
 // Whether the starts are still being found; the frames with the starts met so far; and the listing that is gone over.
-#[derive(Drop)]
+#[derive(Clone, Copy)]
 pub struct MarkedListing {
     finding: bool,
     frames: Frames,
@@ -21,7 +21,7 @@ pub struct MarkedListing {
 }
 
 // What a step says, and the listing to go on with; with a number it is as given.
-#[derive(Drop)]
+#[derive(Clone, Copy)]
 pub struct MarkedListed {
     pub said: Said,
     pub listing: MarkedListing,

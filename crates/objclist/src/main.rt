@@ -1,5 +1,7 @@
 // The listing of the bundle on standard input (document 01, "The program's listing"), under the new reading of texts: the library writes its
 // text to standard output. That a bundle was refused, and that a write failed, is said on standard error too.
+#![tactic(auto)]
+
 use libc::{STDERR_FILENO, STDIN_FILENO, STDOUT_FILENO};
 use printing::bundle::{decode, open};
 use printing::pieces::Progress;

@@ -1,4 +1,6 @@
 // The same as objclist under the old reading of texts, which is the Rust's (document 02, note 12).
+#![tactic(auto)]
+
 use libc::{STDERR_FILENO, STDIN_FILENO, STDOUT_FILENO};
 use printing::bundle::{decode, open};
 use printing::pieces::Progress;

@@ -9,7 +9,7 @@ use fixups::table::put_bind;
 
 // What the opcodes have set: a segment, by its command's vmaddr, fileoff and filesize, with the slot's offset in it; and a symbol, by its
 // name's offset in the file and length.
-#[derive(Drop)]
+#[derive(Clone, Copy)]
 pub struct State {
     pub placed: bool,
     pub vmaddr: u64,
@@ -22,21 +22,21 @@ pub struct State {
 }
 
 // A bind: its slot, its name's offset in the file and length.
-#[derive(Drop)]
+#[derive(Clone, Copy)]
 pub struct Bound {
     pub slot: u64,
     pub name: u64,
     pub len: u64,
 }
 
-#[derive(Drop)]
+#[derive(Clone, Copy)]
 pub enum Entry {
     At(Bound),
     Refused(u8),
 }
 
 // The state after an opcode, and how many records there are.
-#[derive(Drop)]
+#[derive(Clone, Copy)]
 pub enum Ran {
     On(State, u64),
     Refused(u8),

@@ -19,7 +19,7 @@ use pointers::table::Bind;
 use reads::answer::Missing;
 
 // How many binds were written, or the number of the question that says no.
-#[derive(Drop)]
+#[derive(Clone, Copy)]
 pub enum BindsBuilt {
     Binds(u64),
     Missing(Missing),

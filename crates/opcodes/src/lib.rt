@@ -1,4 +1,6 @@
 // The bind table of a Mach-O file from before chained fixups (loader.h, dyld_info_command and the opcodes BIND_OPCODE_*).
+#![tactic(auto)]
+
 mod binding;
 pub mod build;
 mod dyld_info;

@@ -36,7 +36,7 @@ const BIND_TYPE_POINTER: u8 = 1;
 const SIZEOF_POINTER: u64 = 8;
 
 // What an opcode says, with its operands read.
-#[derive(Drop)]
+#[derive(Clone, Copy)]
 pub enum Instruction {
     // Nothing that a bind record has.
     Pass,
@@ -51,7 +51,7 @@ pub enum Instruction {
 }
 
 // What an opcode says, and how many bytes its operands are; or the number that refuses it.
-#[derive(Drop)]
+#[derive(Clone, Copy)]
 pub enum Decoded {
     Read(Instruction, usize),
     Refused(u8),

@@ -9,7 +9,7 @@ use macho::command::find;
 use macho::loader::{FILEOFF, FILESIZE, LC_SEGMENT_64, VMADDR};
 use reads::place::u64_from;
 
-#[derive(Drop)]
+#[derive(Clone, Copy)]
 pub enum Placed {
     In(State),
     Refused(u8),

@@ -18,14 +18,14 @@ use macho::header::range_of;
 use macho::number::field32;
 
 // The state after an opcode, how many records there are, and how many bytes its operands are.
-#[derive(Drop)]
+#[derive(Clone, Copy)]
 pub enum Stepped {
     On(State, u64, usize),
     Refused(u8),
 }
 
 // How many records there are after a stream.
-#[derive(Drop)]
+#[derive(Clone, Copy)]
 pub enum Walked {
     Count(u64),
     Refused(u8),

@@ -7,13 +7,13 @@ use reads::answer::{Missing, Reason};
 use reads::place::u32_from;
 
 // Version, always 0 so far, and the flags.
-#[derive(Drop)]
+#[derive(Clone, Copy)]
 pub struct ImageInfo {
     pub version: u32,
     pub flags: u32,
 }
 
-#[derive(Drop)]
+#[derive(Clone, Copy)]
 pub enum ImageInfoAnswer {
     Info(ImageInfo),
     Missing(Missing),

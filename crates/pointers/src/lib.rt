@@ -1,4 +1,6 @@
 // Tables, questions, the index, opening and pointer slots: mod.rs, section.rs and imageinfo.rs of the Rust.
+#![tactic(auto)]
+
 pub mod imageinfo;
 pub mod index;
 pub mod open;

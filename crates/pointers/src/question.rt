@@ -17,7 +17,7 @@ use reads::segment::Segment;
 use reads::text::{Text, utf8};
 
 // Yes to every question, or the number of the first that says no.
-#[derive(Drop)]
+#[derive(Clone, Copy)]
 pub enum Asked {
     Yes,
     Refused(u8),

@@ -4,7 +4,7 @@ ghost use Rattle.reads.specs.Reference.{before};
 ghost use Rattle.pointers.specs.Section.{section_at};
 
 // A section of pointer slots: where it starts, and how many full slots it has; an absent one has none.
-#[derive(Drop)]
+#[derive(Clone, Copy)]
 pub struct ObjcSection {
     pub vmaddr: u64,
     pub slots: u64,

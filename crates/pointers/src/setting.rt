@@ -5,14 +5,14 @@ ghost use Rattle.pointers.specs.Tables.{reading_new, reading_under};
 use reads::text::Reading;
 
 // How a slot's rebase is found: by its chain, or by halves in a table whose slots ascend.
-#[derive(Drop)]
+#[derive(Clone, Copy)]
 pub enum Lookup {
     Chained,
     Sorted,
 }
 
 // Under which reading texts are read, and how rebases are found.
-#[derive(Drop)]
+#[derive(Clone, Copy)]
 pub struct Setting {
     pub reading: Reading,
     pub lookup: Lookup,

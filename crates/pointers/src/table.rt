@@ -7,7 +7,7 @@ ghost use Rattle.pointers.specs.Tables.{rebase_words, bind_words, rebase_record,
 use reads::text::Text;
 
 // A rebase: the slot, and the address that it points to.
-#[derive(Drop)]
+#[derive(Clone, Copy)]
 pub struct Rebase {
     pub slot: u64,
     pub target: u64,
@@ -31,7 +31,7 @@ impl Rebase {
 }
 
 // A bind: the slot, and the name of its symbol, a part of a file of the image.
-#[derive(Drop)]
+#[derive(Clone, Copy)]
 pub struct Bind {
     pub slot: u64,
     pub name: Text,

@@ -6,7 +6,7 @@ ghost use Rattle.reads.specs.Reference.{before, after};
 ghost use Rattle.printing.specs.Buffer.{buffer, put_all, hex_text, hex_word, decimal_text};
 
 // How many bytes of the text to come are passed over, and how many bytes of the buffer are taken.
-#[derive(Drop)]
+#[derive(Clone, Copy)]
 pub(crate) struct Window {
     pub skip: usize,
     pub at: usize,

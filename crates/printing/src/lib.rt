@@ -1,5 +1,7 @@
 // Printing a listing: the text of each line, and the listing of a bundle, piece by piece through a buffer that the caller lends, or written to a
 // file descriptor.
+#![tactic(auto)]
+
 mod buffer;
 pub mod bundle;
 pub mod pieces;

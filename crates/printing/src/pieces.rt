@@ -24,7 +24,7 @@ use reads::files::longest;
 use reads::text::Reading;
 
 // Where the printing of a listing stands: what the last step said, how many bytes of its text are out, and the listing after it.
-#[derive(Drop)]
+#[derive(Clone, Copy)]
 pub struct Progress {
     pub said: Said,
     pub out: usize,
@@ -32,7 +32,7 @@ pub struct Progress {
 }
 
 // The length of a piece, and where the printing stands after it.
-#[derive(Drop)]
+#[derive(Clone, Copy)]
 pub struct Piece {
     pub len: usize,
     pub progress: Progress,

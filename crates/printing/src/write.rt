@@ -8,7 +8,7 @@ use crate::bundle::next_piece;
 use crate::pieces::Progress;
 
 // Whether every write went well, and where the printing stands.
-#[derive(Drop)]
+#[derive(Clone, Copy)]
 pub struct Written {
     pub whole: bool,
     pub progress: Progress,

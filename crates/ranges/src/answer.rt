@@ -6,7 +6,7 @@ ghost use Rattle.ranges.specs.Written.{ranges_outcome, room_for};
 use reads::answer::Missing;
 
 // How many ranges, or what stands in their place.
-#[derive(Drop)]
+#[derive(Clone, Copy)]
 pub enum RangesAnswer {
     Ranges(u64),
     Missing(Missing),

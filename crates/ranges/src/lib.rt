@@ -1,4 +1,6 @@
 // Ranges of the bytes of an image's files: the ranges that some reads make together, ascending and merged (document 02, note 13).
+#![tactic(auto)]
+
 pub mod answer;
 pub mod number;
 pub mod sheet;

@@ -10,14 +10,14 @@ use crate::sheet::{WINDOW, WORDS, marked};
 use reads::order::{greatest, least};
 
 // All bytes from `start` on are used, and belong to a run that is not yet put out; `count` runs are.
-#[derive(Drop)]
+#[derive(Clone, Copy)]
 pub struct Open {
     pub start: u64,
     pub count: u64,
 }
 
 // The sweep has come to byte `at` of a file.
-#[derive(Drop)]
+#[derive(Clone, Copy)]
 pub struct Sweep {
     pub file: u64,
     pub at: u64,

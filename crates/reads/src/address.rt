@@ -9,7 +9,7 @@ use crate::place::Placed;
 use crate::segment::vm_to_file_offset_in;
 
 // An address of the image, with the constants of addresses.
-#[derive(Drop)]
+#[derive(Clone, Copy)]
 pub struct Address {
     pub va: u64,
 }

@@ -4,7 +4,7 @@ ghost use Rattle.reads.specs.Outcome.{because, is_absent, or_zero, sum64, nonzer
 ghost use Rattle.reads.specs.Answer.{missing_because, word_outcome};
 
 // Why a value is absent.
-#[derive(Drop)]
+#[derive(Clone, Copy)]
 pub enum Reason {
     // An address is 0.
     NullAddress,
@@ -36,7 +36,7 @@ pub enum Reason {
 }
 
 // What stands in place of a value: absent for a reason, or the number of the question that refuses.
-#[derive(Drop)]
+#[derive(Clone, Copy)]
 pub enum Missing {
     Absent(Reason),
     Refused(u8),
@@ -55,14 +55,14 @@ impl Missing {
 }
 
 // A number, or none.
-#[derive(Drop)]
+#[derive(Clone, Copy)]
 pub enum Word {
     Value(u64),
     Missing(Missing),
 }
 
 // A signed number, or none.
-#[derive(Drop)]
+#[derive(Clone, Copy)]
 pub enum Signed {
     Value(i32),
     Missing(Missing),

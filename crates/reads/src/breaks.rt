@@ -7,7 +7,7 @@ use crate::files::file_len;
 use crate::segment::Segment;
 
 // A breakpoint, or none.
-#[derive(Drop)]
+#[derive(Clone, Copy)]
 pub enum Break {
     At(u64),
     Nothing,

@@ -7,28 +7,28 @@ ghost use Rattle.reads.specs.Leb128.{uleb_outcome, sleb_outcome, digit_count, di
 use crate::answer::{Missing, Reason, Word};
 
 // An unsigned number, and how many bytes it took.
-#[derive(Drop)]
+#[derive(Clone, Copy)]
 pub struct Uleb {
     pub value: u64,
     pub consumed: usize,
 }
 
 // A signed number, and how many bytes it took.
-#[derive(Drop)]
+#[derive(Clone, Copy)]
 pub struct Sleb {
     pub value: i64,
     pub consumed: usize,
 }
 
 // An unsigned number, or none.
-#[derive(Drop)]
+#[derive(Clone, Copy)]
 pub enum UlebAnswer {
     Read(Uleb),
     Missing(Missing),
 }
 
 // A signed number, or none.
-#[derive(Drop)]
+#[derive(Clone, Copy)]
 pub enum SlebAnswer {
     Read(Sleb),
     Missing(Missing),

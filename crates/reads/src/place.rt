@@ -10,14 +10,14 @@ use crate::files::{file_len, is_lent};
 use crate::segment::vm_to_file_offset_in;
 
 // A place in the image: a file, and the offset of a byte in it.
-#[derive(Drop)]
+#[derive(Clone, Copy)]
 pub struct Place {
     pub file: u64,
     pub offset: u64,
 }
 
 // A place, or none.
-#[derive(Drop)]
+#[derive(Clone, Copy)]
 pub enum Placed {
     At(Place),
     Missing(Missing),

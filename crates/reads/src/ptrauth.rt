@@ -4,7 +4,7 @@ ghost use Rattle.reads.specs.Ptrauth.{key_of};
 
 // What an arm64e slot says of its signature (fixup-chains.h): the discriminator, whether the slot's address is blended into
 // it, and the key.
-#[derive(Drop)]
+#[derive(Clone, Copy)]
 pub struct PtrAuth {
     pub diversity: u16,
     pub addr_div: bool,
@@ -12,7 +12,7 @@ pub struct PtrAuth {
 }
 
 // The four keys of ARMv8.3: instruction keys A and B, data keys A and B.
-#[derive(Drop)]
+#[derive(Clone, Copy)]
 pub enum PacKey {
     IA,
     IB,

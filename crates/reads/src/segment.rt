@@ -9,7 +9,7 @@ use crate::answer::{Missing, Reason, Word, because, checked_add};
 use crate::place::{Place, Placed};
 
 // A row of the segment table.
-#[derive(Drop)]
+#[derive(Clone, Copy)]
 pub struct Segment {
     pub vmaddr: u64,
     pub vmsize: u64,

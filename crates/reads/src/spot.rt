@@ -14,7 +14,7 @@ use crate::segment::Segment;
 
 // Where an address looks up, and its room: for how many bytes from it on the place moves with the address. A room of 0: the address is in
 // no segment's bytes.
-#[derive(Drop)]
+#[derive(Clone, Copy)]
 pub struct Spot {
     pub file: u64,
     pub offset: u64,

@@ -18,7 +18,7 @@ use crate::place::{Place, Placed};
 use crate::segment::vm_to_file_offset_in;
 
 // A text: a part of a file of the image.
-#[derive(Drop)]
+#[derive(Clone, Copy)]
 pub struct Text {
     pub file: u64,
     pub offset: u64,
@@ -26,14 +26,14 @@ pub struct Text {
 }
 
 // How a text is read that no zero byte ends: under the old reading it runs to its file's end, under the new one it is absent.
-#[derive(Drop)]
+#[derive(Clone, Copy)]
 pub enum Reading {
     Old,
     New,
 }
 
 // A text, or none.
-#[derive(Drop)]
+#[derive(Clone, Copy)]
 pub enum TextAnswer {
     Found(Text),
     Missing(Missing),
@@ -41,14 +41,14 @@ pub enum TextAnswer {
 
 // Bytes are UTF-8, or they are not: the offset of the first byte that no well-formed text can continue, or their count where
 // they end inside a character.
-#[derive(Drop)]
+#[derive(Clone, Copy)]
 pub enum Verdict {
     Good,
     Bad(u64),
 }
 
 // What one pass over a text finds: its length, how many bytes were read for it, and whether it is UTF-8.
-#[derive(Drop)]
+#[derive(Clone, Copy)]
 pub struct Scan {
     pub len: u64,
     pub read: u64,
@@ -56,14 +56,14 @@ pub struct Scan {
 }
 
 // A text or none, and how many bytes were read for it: the count is raised at each byte.
-#[derive(Drop)]
+#[derive(Clone, Copy)]
 pub struct CstrRead {
     pub text: TextAnswer,
     pub read: u64,
 }
 
 // A byte, its offset, and the count of the bytes read with it. Where no byte is left 0 stands for it, and the count is not raised.
-#[derive(Drop)]
+#[derive(Clone, Copy)]
 struct ByteRead {
     at: usize,
     byte: u8,
@@ -71,7 +71,7 @@ struct ByteRead {
 }
 
 // A character so far: its last byte read, and whether that is one that continues it.
-#[derive(Drop)]
+#[derive(Clone, Copy)]
 struct Step {
     fits: bool,
     last: ByteRead,

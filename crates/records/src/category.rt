@@ -15,7 +15,7 @@ use reads::place::{Placed, readable};
 use reads::text::{Text, TextAnswer, read_cstr};
 
 // A category: name, host class, and the addresses of its lists; class_properties is 0 where it has none.
-#[derive(Drop)]
+#[derive(Clone, Copy)]
 pub struct ObjcCategory {
     pub address: u64,
     pub name: Text,
@@ -32,7 +32,7 @@ impl ObjcCategory {
     pub const SIZE: u64 = 48;
 }
 
-#[derive(Drop)]
+#[derive(Clone, Copy)]
 pub enum CategoryAnswer {
     Category(ObjcCategory),
     Missing(Missing),
@@ -54,7 +54,7 @@ const INSTANCE_PROPERTIES: u64 = 40;
 const CLASS_PROPERTIES: u64 = 48;
 
 // The lists of a category_t but its class properties; each or 0.
-#[derive(Drop)]
+#[derive(Clone, Copy)]
 struct CategoryLists {
     instance_methods: u64,
     class_methods: u64,
@@ -62,7 +62,7 @@ struct CategoryLists {
     instance_properties: u64,
 }
 
-#[derive(Drop)]
+#[derive(Clone, Copy)]
 enum CategoryListsAnswer {
     Lists(CategoryLists),
     Missing(Missing),

@@ -20,7 +20,7 @@ use reads::spot::{Spot, readable_spot, spot_place};
 use reads::text::{Text, TextAnswer, read_cstr, text_because};
 
 // A class or metaclass.
-#[derive(Drop)]
+#[derive(Clone, Copy)]
 pub struct ObjcClass {
     pub address: u64,
     pub isa: u64,
@@ -29,14 +29,14 @@ pub struct ObjcClass {
     pub is_meta: bool,
 }
 
-#[derive(Drop)]
+#[derive(Clone, Copy)]
 pub enum ClassAnswer {
     Class(ObjcClass),
     Missing(Missing),
 }
 
 // The read-only record of a class: name, and the addresses of its lists.
-#[derive(Drop)]
+#[derive(Clone, Copy)]
 pub struct ClassRo {
     pub address: u64,
     pub flags: u32,
@@ -51,14 +51,14 @@ pub struct ClassRo {
     pub properties: u64,
 }
 
-#[derive(Drop)]
+#[derive(Clone, Copy)]
 pub enum ClassRoAnswer {
     Ro(ClassRo),
     Missing(Missing),
 }
 
 // What stands behind the name of a class_ro_t: its lists, and the weak ivar layout among them; each or 0.
-#[derive(Drop)]
+#[derive(Clone, Copy)]
 struct RoLists {
     methods: u64,
     protocols: u64,
@@ -67,7 +67,7 @@ struct RoLists {
     properties: u64,
 }
 
-#[derive(Drop)]
+#[derive(Clone, Copy)]
 enum RoListsAnswer {
     Lists(RoLists),
     Missing(Missing),
@@ -554,7 +554,7 @@ impl ObjcClass {
 }
 
 // The flags of class_ro_t (objc-runtime-new.h, RO_*).
-#[derive(Drop)]
+#[derive(Clone, Copy)]
 pub struct RoFlags {}
 
 impl RoFlags {

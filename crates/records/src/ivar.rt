@@ -14,35 +14,35 @@ use reads::spot::{readable_spot, spot_place};
 use reads::text::{Text, TextAnswer, read_cstr, read_cstr_or_empty};
 
 // An ivar's offset in its instance, or none: a stored 0 is the offset 0.
-#[derive(Drop)]
+#[derive(Clone, Copy)]
 pub enum IvarOffset {
     At(u32),
     Nothing,
 }
 
 // An ivar's alignment by its log2; none where its word can be no alignment.
-#[derive(Drop)]
+#[derive(Clone, Copy)]
 pub enum Alignment {
     Log2(u8),
     Nothing,
 }
 
 // Whether an ivar's offset is aligned; unknown without an offset or an alignment.
-#[derive(Drop)]
+#[derive(Clone, Copy)]
 pub enum Aligned {
     Yes,
     No,
     Unknown,
 }
 
-#[derive(Drop)]
+#[derive(Clone, Copy)]
 enum OffsetAnswer {
     Offset(IvarOffset),
     Missing(Missing),
 }
 
 // A row of an ivar list.
-#[derive(Drop)]
+#[derive(Clone, Copy)]
 pub struct Ivar {
     pub name: Text,
     pub type_encoding: Text,
@@ -65,7 +65,7 @@ impl Ivar {
     pub const OWN_SIZE: u64 = 28;
 }
 
-#[derive(Drop)]
+#[derive(Clone, Copy)]
 pub enum IvarAnswer {
     Row(Ivar),
     Missing(Missing),

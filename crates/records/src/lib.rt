@@ -1,4 +1,6 @@
 // Records, lists and rows: class.rs, protocol.rs, category.rs, method.rs, ivar.rs and property.rs of the Rust.
+#![tactic(auto)]
+
 pub mod calls;
 pub mod category;
 pub mod class;

@@ -29,7 +29,7 @@ const SMALL_METHOD_LIST_FLAG: u32 = 0x8000_0000;
 const RELATIVE_METHOD_SELECTORS_ARE_DIRECT_FLAG: u32 = 0x4000_0000;
 
 // Which list a walk goes over.
-#[derive(Drop)]
+#[derive(Clone, Copy)]
 pub enum ListKind {
     Methods,
     Ivars,
@@ -37,7 +37,7 @@ pub enum ListKind {
 }
 
 // What the entries of a list are.
-#[derive(Drop)]
+#[derive(Clone, Copy)]
 pub enum RowKind {
     Legacy,
     SmallIndirect,
@@ -47,7 +47,7 @@ pub enum RowKind {
 }
 
 // Where a list's entries stand: the address of the first, their size, how many the header claims, and what they are.
-#[derive(Drop)]
+#[derive(Clone, Copy)]
 pub struct Layout {
     pub base: u64,
     pub size: u32,
@@ -55,7 +55,7 @@ pub struct Layout {
     pub kind: RowKind,
 }
 
-#[derive(Drop)]
+#[derive(Clone, Copy)]
 pub enum LayoutAnswer {
     List(Layout),
     Missing(Missing),
@@ -71,14 +71,14 @@ impl Layout {
 }
 
 // The index of an entry, or none.
-#[derive(Drop)]
+#[derive(Clone, Copy)]
 pub enum Entry {
     At(u64),
     Nothing,
 }
 
 // What trying one index gives: the answer of the search, or the index to try next.
-#[derive(Drop)]
+#[derive(Clone, Copy)]
 pub(crate) enum Try {
     Stop(Entry),
     Go(u64),

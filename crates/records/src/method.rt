@@ -17,7 +17,7 @@ use reads::spot::{readable_spot, spot_place};
 use reads::text::{Text, TextAnswer, read_cstr, read_cstr_or_empty};
 
 // Which form of method_t a row came from.
-#[derive(Drop)]
+#[derive(Clone, Copy)]
 pub enum MethodKind {
     Legacy,
     SmallIndirect,
@@ -25,14 +25,14 @@ pub enum MethodKind {
 }
 
 // An implementation's address, or none: an implementation that is there can be 0 after masking.
-#[derive(Drop)]
+#[derive(Clone, Copy)]
 pub enum Imp {
     At(u64),
     Nothing,
 }
 
 // A row of a method list.
-#[derive(Drop)]
+#[derive(Clone, Copy)]
 pub struct Method {
     pub selector: Text,
     pub types: Text,
@@ -40,7 +40,7 @@ pub struct Method {
     pub kind: MethodKind,
 }
 
-#[derive(Drop)]
+#[derive(Clone, Copy)]
 pub enum MethodAnswer {
     Row(Method),
     Missing(Missing),

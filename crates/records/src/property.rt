@@ -11,7 +11,7 @@ use reads::spot::{readable_spot, spot_place};
 use reads::text::{Text, TextAnswer, read_cstr, read_cstr_or_empty};
 
 // A row of a property list; `parse_attributes` takes its attributes apart.
-#[derive(Drop)]
+#[derive(Clone, Copy)]
 pub struct Property {
     pub name: Text,
     pub attributes: Text,
@@ -24,7 +24,7 @@ impl Property {
     pub const ATTRIBUTES: u64 = 8;
 }
 
-#[derive(Drop)]
+#[derive(Clone, Copy)]
 pub enum PropertyAnswer {
     Row(Property),
     Missing(Missing),

@@ -11,7 +11,7 @@ use reads::place::{Place, Placed, readable, u32_in};
 use reads::text::{Text, TextAnswer, read_cstr};
 
 // A protocol: name, and the addresses of its lists; class_properties is 0 where it has none.
-#[derive(Drop)]
+#[derive(Clone, Copy)]
 pub struct ObjcProtocol {
     pub address: u64,
     pub name: Text,
@@ -31,7 +31,7 @@ impl ObjcProtocol {
     pub const SIZE: u64 = 72;
 }
 
-#[derive(Drop)]
+#[derive(Clone, Copy)]
 pub enum ProtocolAnswer {
     Protocol(ObjcProtocol),
     Missing(Missing),
@@ -61,7 +61,7 @@ const CLASS_PROPERTIES: u64 = 88;
 const SIZE_WITH_CLASS_PROPERTIES: u32 = 96;
 
 // The lists of a protocol_t but its class properties; each or 0.
-#[derive(Drop)]
+#[derive(Clone, Copy)]
 struct ProtocolLists {
     protocols: u64,
     instance_methods: u64,
@@ -71,7 +71,7 @@ struct ProtocolLists {
     instance_properties: u64,
 }
 
-#[derive(Drop)]
+#[derive(Clone, Copy)]
 enum ProtocolListsAnswer {
     Lists(ProtocolLists),
     Missing(Missing),

@@ -11,14 +11,14 @@ use crate::property::{Property, PropertyAnswer, property_at};
 use pointers::setting::Setting;
 use reads::answer::Missing;
 
-#[derive(Drop)]
+#[derive(Clone, Copy)]
 pub enum Row {
     Method(Method),
     Ivar(Ivar),
     Property(Property),
 }
 
-#[derive(Drop)]
+#[derive(Clone, Copy)]
 pub enum RowAnswer {
     Row(Row),
     Missing(Missing),

@@ -1,6 +1,8 @@
 // The listings of stored bundles. The file `cases` has the number of cases as a word, then for each case its title and its bundle, each with
 // its length in front as a word; words are little-endian. Printed are a line with the title, the bundle's listing under the old reading of
 // texts, and the one under the new. Nothing else is decided here.
+#![tactic(auto)]
+
 ghost use Rattle.std.specs.Prelude.{◌≤◌, length};
 ghost use Rattle.reads.specs.Reference.{after};
 ghost use Rattle.replay.specs.Parts.{size_of};
@@ -14,14 +16,14 @@ use reads::place::read_u64_le_at;
 use reads::text::Reading;
 
 // A part of the file, read to the front of a buffer: so many bytes, or cut, since the file ends before or the buffer is too short.
-#[derive(Drop)]
+#[derive(Clone, Copy)]
 enum Part {
     Bytes(usize),
     Cut,
 }
 
 // Whether cases were there and written: the file ends before, or a write failed.
-#[derive(Drop)]
+#[derive(Clone, Copy)]
 enum Replayed {
     Whole,
     Cut,

@@ -19,21 +19,21 @@ pub const CPU_TYPE_ARM64: u64 = 0x0100_000C;
 
 pub const CPU_SUBTYPE_ARM64_ALL: u64 = 0;
 
-#[derive(Drop)]
+#[derive(Clone, Copy)]
 pub struct Arch {
     pub cputype: u64,
     pub cpusubtype: u64,
 }
 
 // What part is wanted: of an architecture; or arm64, without it the first 64-bit one.
-#[derive(Drop)]
+#[derive(Clone, Copy)]
 pub enum Wanted {
     Default,
     Arch(Arch),
 }
 
 // What an entry is looked for by.
-#[derive(Drop)]
+#[derive(Clone, Copy)]
 pub enum Sought {
     Arch(Arch),
     Abi64,

@@ -32,7 +32,7 @@ pub const SIZE: u64 = 12;
 pub const SIZE_64: u64 = 16;
 
 // A part of a file: its architecture, and the range of its bytes.
-#[derive(Drop)]
+#[derive(Clone, Copy)]
 pub struct Part {
     pub cputype: u64,
     pub cpusubtype: u64,
@@ -41,7 +41,7 @@ pub struct Part {
 }
 
 // Not universal; with a table of fat_arch; with one of fat_arch_64.
-#[derive(Drop)]
+#[derive(Clone, Copy)]
 pub enum Kind {
     Thin,
     Fat,

@@ -9,7 +9,7 @@ use crate::number::be32;
 use reads::place::u32_from;
 
 // A part; or that there is none; or the number of the question that says no.
-#[derive(Drop)]
+#[derive(Clone, Copy)]
 pub enum PartAnswer {
     Found(Part),
     Absent,

@@ -1,4 +1,6 @@
 // The reads of a listing noted on a sheet, record by record and row by row (document 02, note 13): what the ranges of the bytes used are made from.
+#![tactic(auto)]
+
 pub mod category;
 pub mod class;
 pub mod class_name;

@@ -16,7 +16,7 @@ use records::list::{Entry, Layout, LayoutAnswer, ListKind, first_readable, list_
 use records::row::{Row, RowAnswer, row_at};
 
 // A walk: list address, kind and cursor, and the setting that it began with.
-#[derive(Drop)]
+#[derive(Clone, Copy)]
 pub struct ListWalk {
     pub list: u64,
     pub kind: ListKind,
@@ -26,7 +26,7 @@ pub struct ListWalk {
 
 // A step's answer: the row reached, or the index of an entry whose row is skipped and why, or finished, or the number of the
 // question that refuses.
-#[derive(Drop)]
+#[derive(Clone, Copy)]
 pub enum ListStep {
     Row(Row),
     Skipped(u32, Reason),
@@ -35,14 +35,14 @@ pub enum ListStep {
 }
 
 // A list that is absent has no steps: why it is.
-#[derive(Drop)]
+#[derive(Clone, Copy)]
 pub enum ListWalked {
     Step(ListStep),
     Absent(Reason),
 }
 
 // The answer, with the walk to go on with.
-#[derive(Drop)]
+#[derive(Clone, Copy)]
 pub struct ListStepped {
     pub walked: ListWalked,
     pub walk: ListWalk,

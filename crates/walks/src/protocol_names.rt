@@ -15,7 +15,7 @@ use records::list::even_list;
 use records::protocol::{ProtocolAnswer, protocol_at};
 
 // A list of protocols: the address of its first slot, and the capped number of slots.
-#[derive(Drop)]
+#[derive(Clone, Copy)]
 pub struct ProtocolList {
     pub base: u64,
     pub count: u64,
@@ -28,14 +28,14 @@ impl ProtocolList {
     pub const COUNT: u64 = 0;
 }
 
-#[derive(Drop)]
+#[derive(Clone, Copy)]
 pub enum ProtocolListAnswer {
     List(ProtocolList),
     Missing(Missing),
 }
 
 // A walk over the names of a list: its address, the number of slots taken, and the setting that it began with.
-#[derive(Drop)]
+#[derive(Clone, Copy)]
 pub struct ProtocolNameWalk {
     pub list: u64,
     pub cursor: u64,
@@ -43,7 +43,7 @@ pub struct ProtocolNameWalk {
 }
 
 // What a step reached: a name, a slot that gives none and why, the end, or the number of the question that refuses.
-#[derive(Drop)]
+#[derive(Clone, Copy)]
 pub enum NameStep {
     Name(Text),
     Passed(Reason),
@@ -52,14 +52,14 @@ pub enum NameStep {
 }
 
 // A step, or the list is absent.
-#[derive(Drop)]
+#[derive(Clone, Copy)]
 pub enum ProtocolNamesWalked {
     Step(NameStep),
     Absent(Reason),
 }
 
 // What a step says, and the walk to give to the next.
-#[derive(Drop)]
+#[derive(Clone, Copy)]
 pub struct ProtocolNameStepped {
     pub walked: ProtocolNamesWalked,
     pub walk: ProtocolNameWalk,

@@ -17,40 +17,40 @@ use records::class::{ClassAnswer, ObjcClass, class_at};
 use records::protocol::{ProtocolAnswer, protocol_at};
 
 // Where a walk over classes stands: the slots, and the address of the metaclass that waits (0: none).
-#[derive(Drop)]
+#[derive(Clone, Copy)]
 pub struct ClassSlots {
     pub slots: SlotWalk,
     pub meta: u64,
 }
 
 // The step, and where the walk stands then; with a number where it stood.
-#[derive(Drop)]
+#[derive(Clone, Copy)]
 pub(crate) struct ClassTaken {
     pub(crate) step: ClassStep,
     pub(crate) slots: ClassSlots,
 }
 
 // Where a walk over categories stands: the slots.
-#[derive(Drop)]
+#[derive(Clone, Copy)]
 pub struct CategorySlots {
     pub slots: SlotWalk,
 }
 
 // The step, and where the walk stands then; with a number where it stood.
-#[derive(Drop)]
+#[derive(Clone, Copy)]
 pub(crate) struct CategoryTaken {
     pub(crate) step: CategoryStep,
     pub(crate) slots: CategorySlots,
 }
 
 // Where a walk over protocols stands: the next slot.
-#[derive(Drop)]
+#[derive(Clone, Copy)]
 pub struct ProtocolSlots {
     pub slot: u64,
 }
 
 // The step, and where the walk stands then; with a number where it stood.
-#[derive(Drop)]
+#[derive(Clone, Copy)]
 pub(crate) struct ProtocolTaken {
     pub(crate) step: ProtocolStep,
     pub(crate) slots: ProtocolSlots,

@@ -13,7 +13,7 @@ use records::class::ObjcClass;
 use records::protocol::ObjcProtocol;
 
 // A walk over classes: where it stands, and the setting that it began with.
-#[derive(Drop)]
+#[derive(Clone, Copy)]
 pub struct ClassWalk {
     pub slots: ClassSlots,
     pub setting: Setting,
@@ -21,7 +21,7 @@ pub struct ClassWalk {
 
 // A step gives a class, or the reason for which it is absent; a slot of 0 or an address met before is dropped, which is no absence; or there was
 // nothing left; or the number of the question that refuses.
-#[derive(Drop)]
+#[derive(Clone, Copy)]
 pub enum ClassStep {
     Record(ObjcClass),
     Passed(Reason),
@@ -31,14 +31,14 @@ pub enum ClassStep {
 }
 
 // The step with the walk as it is then; with a number it is as given.
-#[derive(Drop)]
+#[derive(Clone, Copy)]
 pub struct ClassStepped {
     pub step: ClassStep,
     pub walk: ClassWalk,
 }
 
 // A walk over categories: where it stands, and the setting that it began with.
-#[derive(Drop)]
+#[derive(Clone, Copy)]
 pub struct CategoryWalk {
     pub slots: CategorySlots,
     pub setting: Setting,
@@ -46,7 +46,7 @@ pub struct CategoryWalk {
 
 // A step gives a category, or the reason for which it is absent; a slot of 0 or an address met before is dropped, which is no absence; or there was
 // nothing left; or the number of the question that refuses.
-#[derive(Drop)]
+#[derive(Clone, Copy)]
 pub enum CategoryStep {
     Record(ObjcCategory),
     Passed(Reason),
@@ -56,14 +56,14 @@ pub enum CategoryStep {
 }
 
 // The step with the walk as it is then; with a number it is as given.
-#[derive(Drop)]
+#[derive(Clone, Copy)]
 pub struct CategoryStepped {
     pub step: CategoryStep,
     pub walk: CategoryWalk,
 }
 
 // A walk over protocols: where it stands, and the setting that it began with.
-#[derive(Drop)]
+#[derive(Clone, Copy)]
 pub struct ProtocolWalk {
     pub slots: ProtocolSlots,
     pub setting: Setting,
@@ -71,7 +71,7 @@ pub struct ProtocolWalk {
 
 // A step gives a protocol, or the reason for which it is absent; a slot of 0 is dropped, which is no absence; or there was
 // nothing left; or the number of the question that refuses.
-#[derive(Drop)]
+#[derive(Clone, Copy)]
 pub enum ProtocolStep {
     Record(ObjcProtocol),
     Passed(Reason),
@@ -81,7 +81,7 @@ pub enum ProtocolStep {
 }
 
 // The step with the walk as it is then; with a number it is as given.
-#[derive(Drop)]
+#[derive(Clone, Copy)]
 pub struct ProtocolStepped {
     pub step: ProtocolStep,
     pub walk: ProtocolWalk,

@@ -15,7 +15,7 @@ use reads::order::greatest;
 use reads::relative::slot_address;
 
 // The lists that are walked: class_list, then nlclslist; cat_list, then nlcat_list; proto_list.
-#[derive(Drop)]
+#[derive(Clone, Copy)]
 pub enum Lists {
     Classes,
     Categories,
@@ -23,7 +23,7 @@ pub enum Lists {
 }
 
 // What the next slot comes to: the address in it; it is dropped; no slot is left; or the number of the question that refuses.
-#[derive(Drop)]
+#[derive(Clone, Copy)]
 pub(crate) enum SlotStep {
     Address(u64),
     Dropped,
@@ -32,7 +32,7 @@ pub(crate) enum SlotStep {
 }
 
 // Where a walk that meets each address once stands: the next slot, the words of the ledger in use, and the highest of them.
-#[derive(Drop)]
+#[derive(Clone, Copy)]
 pub struct SlotWalk {
     pub slot: u64,
     pub used: u64,
