@@ -118,14 +118,22 @@ def main():
         text = open(path, encoding="utf-8").read()
         page = path.endswith(".md")
 
+        # A file's names from a library are not this repository's.
+        own = "|".join(sorted(os.listdir("crates")))
+        theirs = set()
+        for u in re.finditer(r"^(?:ghost )?use (?!Rattle\.(?:%s)\.)\S*\.\{(.*)\}" % own, text, re.M):
+            theirs |= {w.strip() for w in u.group(1).split(",")}
+
         def turn(m):
             n = m.group(0)
+            if n in theirs:
+                return n
             # A page or an edit may also name what is respelled already.
             past = page or path.endswith(".edit")
             return to[n] if n in to else snake(n) if past and n not in new_names and snake(n) in new_names else n
 
         if page:
-            new = re.sub(r"`[^`\n/]*`", lambda q: NAME.sub(turn, q.group(0)), text)
+            new = re.sub(r"`[^`\n]*`", lambda q: q.group(0) if "/" in q.group(0) else NAME.sub(turn, q.group(0)), text)
         else:
             new = NAME.sub(turn, text)
         if new != text:

@@ -4,7 +4,7 @@ use mathlib.Core.Path.{◌≡◌, refl, ap, sym, ◌∙◌}
 use mathlib.Core.Bool.{Bool, true, false, not}
 use mathlib.Core.List.{List}
 use lib.ListN.{length}
-use borrow.Author.Tests.{leb-true, not_true, not_false}
+use borrow.Author.Tests.{leb-true, not-true, not-false}
 use Rattle.reads.specs.Outcome.{Outcome, value, absent, number}
 use Rattle.reads.specs.Utf8.{verdict}
 use Rattle.reads.specs.declared.answer.Reason.TheVariants.{NotUtf8}
@@ -53,16 +53,16 @@ module _ {A : Type 0} (text buffer : List ℕ) (which : Which) {is : List Item} 
 
     pub tested_room : not fits ≡ false → 3 * length (chosen which (items text)) ≤ length buffer
     unfolding items_fit
-    tested_room h = rw same (leb-true (3 * length is) (length buffer) (asked ∙ not_false fits h))
+    tested_room h = rw same (leb-true (3 * length is) (length buffer) (asked ∙ not-false fits h))
 
     module _ (u : v ≡ Good) where
       pub tested_number : not fits ≡ true → Handed text buffer is a (number 12) buffer
-      tested_number h = rw (handed_number text is a (length buffer) (sym g ∙ u) (asked ∙ not_true fits h)) (refl, refl)
+      tested_number h = rw (handed_number text is a (length buffer) (sym g ∙ u) (asked ∙ not-true fits h)) (refl, refl)
 
       pub tested_value : not fits ≡ false → {now : List ℕ} → now ≡ filled (chosen which (items text)) buffer
           → {b : A} → b ≡ a → Handed text buffer is a (value b) now
       tested_value h w e =
-          rw (handed_value text is a (length buffer) (sym g ∙ u) (asked ∙ not_false fits h))
+          rw (handed_value text is a (length buffer) (sym g ∙ u) (asked ∙ not-false fits h))
           (ap value e, w ∙ ap (λ (l : List Item). filled l buffer) same)
 
 -- What the two calls count, and what parsing hands back.

@@ -8,7 +8,7 @@ use native.Mathlib.Numerals.{add-one}
 use lib.Dec.{eqb, ltb}
 use lib.ListN.{length, get_or, drop, length-drop, drop_of_length-le}
 use lib.Seq.{drop-drop, drop-cons}
-use borrow.Author.Tests.{eq-eqb, ne_eqb, le-leb, lt-leb, not_true, not_false}
+use borrow.Author.Tests.{eq-eqb, ne_eqb, le-leb, lt-leb, not-true, not-false}
 use Rattle.reads.specs.Outcome.{choose}
 use Rattle.reads.proofs.Tests.{choose_true, choose_false}
 use Rattle.attributes.specs.Attributes.{value_length, item_of, items_from, items, is_type, type_among, value_of}
@@ -103,11 +103,11 @@ module _ {text : List ℕ} {i : ℕ} {s : Step} (at : Stepped text i s) where
   module _ (which : Which) {asked : Bool} (w : asked ≡ wanted which s.item.key) where
     pub item_chosen : not asked ≡ false → chosen which (items_at text i) ≡ s.item ∷ chosen which (items_at text s.next)
     unfolding chosen
-    item_chosen h = rw at.here (choose_true _ _ (sym w ∙ not_false asked h))
+    item_chosen h = rw at.here (choose_true _ _ (sym w ∙ not-false asked h))
 
     pub item_passed : not asked ≡ true → chosen which (items_at text i) ≡ chosen which (items_at text s.next)
     unfolding chosen
-    item_passed h = rw at.here (choose_false _ _ (sym w ∙ not_true asked h))
+    item_passed h = rw at.here (choose_false _ _ (sym w ∙ not-true asked h))
 
   module _ (letter least : ℕ) where
     pub value_found : s.item.key ≡ letter → least ≤ s.item.value.len → first_value letter least (items_at text i) ≡ Given s.item.value

@@ -8,7 +8,7 @@ use native.Mathlib.Omega.{arith}
 use lib.Dec.{eqb}
 use lib.ListN.{length}
 use lib.Seq.{append_snoc}
-use borrow.Author.Tests.{eq-eqb, ne_eqb, eqb-false, le-leb, not_true}
+use borrow.Author.Tests.{eq-eqb, ne_eqb, eqb-false, le-leb, not-true}
 use Rattle.reads.specs.Outcome.{choose}
 use Rattle.reads.proofs.Rows.{all}
 use Rattle.reads.proofs.Tests.{both_true, choose_true, choose_false, by_choose}
@@ -127,7 +127,7 @@ firsts_given (l ∷ ls) (none ∷ vs) ps qs d e a b =
     let t = both_true (not (among ls l)) (distinct ls) d in
     rw (
       none_then l ps (given ls vs ++ qs) a.0,
-      none_then l (given ls vs) qs (none_given l ls vs (not_true (among ls l) t.0)),
+      none_then l (given ls vs) qs (none_given l ls vs (not-true (among ls l) t.0)),
       b.0,
       firsts_given ls vs ps qs t.1 (omega arith) a.1 b.1,
     )
@@ -137,14 +137,14 @@ firsts_given (l ∷ ls) (some v ∷ vs) ps qs d e a b =
     let here : first_part l (ps ++ (p ∷ (given ls vs ++ qs))) ≡ some v =
     none_then l ps (p ∷ (given ls vs ++ qs)) a.0 ∙ unfold first_part in choose_true (some v) _ (eq-eqb l l refl) in
     let more = firsts_given ls vs (ps ++ (p ∷ [])) qs t.1 (omega arith)
-    (none_of_both ls ps (p ∷ []) a.1 (none_of_one ls p (not_true (among ls l) t.0))) b.1 in
+    (none_of_both ls ps (p ∷ []) a.1 (none_of_one ls p (not-true (among ls l) t.0))) b.1 in
     rw here (ap (λ (r : List (Option (List ℕ))). some v ∷ r) (ap (first_parts ls) (sym (append_snoc ps p (given ls vs ++ qs))) ∙ more))
 
 none_of_given : (ls ks : List ℕ) (vs : List (Option (List ℕ))) → all (λ l. not (among ks l)) ls ≡ true → NoneOf ls (given ks vs)
 none_of_given [] ks vs e = tt
 none_of_given (l ∷ ls) ks vs e =
     let b = both_true (not (among ks l)) (all (λ x. not (among ks x)) ls) e in
-    (none_given l ks vs (not_true (among ks l) b.0), none_of_given ls ks vs b.1)
+    (none_given l ks vs (not-true (among ks l) b.0), none_of_given ls ks vs b.1)
 
 -- Unknown letters are none of Apple's.
 abbrev Unknown : List Part → Type 0

@@ -15,11 +15,11 @@ use Rattle.attributes.specs.Written.{Part, bytes_of, part_of, following, joined}
 use Rattle.attributes.specs.RoundTrip.{Closed, Each}
 use Rattle.attributes.proofs.ValueEnds.{first_hit, first_miss}
 
-unfoldable pub parts_from_lem : ℕ → List ℕ → List Part
-parts_from_lem zero s = []
-parts_from_lem (suc n) [] = []
-parts_from_lem (suc n) (key ∷ s) =
-    record { key = key; value = choose (ltb key 0x80) (take (value_length s) s) [] } ∷ parts_from_lem n (drop (value_length s + 1) s)
+unfoldable pub parts_from : ℕ → List ℕ → List Part
+parts_from zero s = []
+parts_from (suc n) [] = []
+parts_from (suc n) (key ∷ s) =
+    record { key = key; value = choose (ltb key 0x80) (take (value_length s) s) [] } ∷ parts_from n (drop (value_length s + 1) s)
 
 -- The first item's value, wherever it stands.
 item_part : (text : List ℕ) (at key n : ℕ) (s : List ℕ) → s ≡ drop at text
@@ -31,8 +31,8 @@ item_part text at key n s e = rw (← e) (ap (λ (v : List ℕ). record { key = 
     go true = unfold choose in refl
     go false = unfold choose in refl
 
-parts_from_lem : (text : List ℕ) (n at : ℕ) (s : List ℕ) → s ≡ drop at text → map (part_of text) (items_from n at s) ≡ parts_from_lem n s
-unfolding items_from parts_from_lem
+parts_from_lem : (text : List ℕ) (n at : ℕ) (s : List ℕ) → s ≡ drop at text → map (part_of text) (items_from n at s) ≡ parts_from n s
+unfolding items_from parts_from
 parts_from_lem text zero at s e = refl
 parts_from_lem text (suc n) at [] e = refl
 parts_from_lem text (suc n) at (key ∷ s) e =
@@ -42,7 +42,7 @@ parts_from_lem text (suc n) at (key ∷ s) e =
     ap (drop (value_length s + 1)) value ∙ drop-drop (value_length s + 1) (at + 1) text ∙ ap (λ (k : ℕ). drop k text) sum in
     rw (item_part text (at + 1) key (value_length s) s value, parts_from_lem text n (at + 1 + value_length s + 1) (drop (value_length s + 1) s) rest)
 
-pub parts_of : (text : List ℕ) → map (part_of text) (items text) ≡ parts_from_lem (length text) text
+pub parts_of : (text : List ℕ) → map (part_of text) (items text) ≡ parts_from (length text) text
 unfolding items
 parts_of text = parts_from_lem text (length text) 0 text refl
 
@@ -95,8 +95,8 @@ past_value v (p ∷ ps) = drop-append-add v (0x2C ∷ p.key ∷ (p.value ++ foll
 
 -- The text of parts that can be told apart again has these parts.
 pub parts_joined : (n : ℕ) (ps : List Part) → length (joined ps) ≤ n → Each (λ p. p.key < 0x80) ps → Each (λ p. Closed p.value) ps
-    → parts_from_lem n (joined ps) ≡ ps
-unfolding parts_from_lem joined
+    → parts_from n (joined ps) ≡ ps
+unfolding parts_from joined
 parts_joined zero [] h a c = refl
 parts_joined (suc n) [] h a c = refl
 parts_joined zero (p ∷ ps) h a c = absurd (omega arith)

@@ -18,7 +18,7 @@ use Rattle.reads.proofs.Grammar.{onward, accepts}
 use Rattle.attributes.specs.Attributes.{quotes, splits, first, value_length}
 use Rattle.attributes.specs.RoundTrip.{Each}
 use Rattle.attributes.proofs.ValueEnds.{first_hit, first_miss}
-use Rattle.attributes.proofs.Parts.{parts_from_lem}
+use Rattle.attributes.proofs.Parts.{parts_from}
 
 -- Bytes above ASCII.
 abbrev upper : Range → Bool
@@ -150,8 +150,8 @@ module _ (key : ℕ) (s : List ℕ) (e : accepts [] (key ∷ s) ≡ true) where
           (rw (take_all (value_length s) s more) e, rw (drop_of_length-le s none) (unfold accepts in refl))
 
 -- The values of a text behind ASCII keys are UTF-8.
-pub parts_utf8 : (n : ℕ) (s : List ℕ) → accepts [] s ≡ true → Each (λ p. p.key < 0x80 → accepts [] p.value ≡ true) (parts_from_lem n s)
-unfolding parts_from_lem
+pub parts_utf8 : (n : ℕ) (s : List ℕ) → accepts [] s ≡ true → Each (λ p. p.key < 0x80 → accepts [] p.value ≡ true) (parts_from n s)
+unfolding parts_from
 parts_utf8 zero s e = tt
 parts_utf8 (suc n) [] e = tt
 parts_utf8 (suc n) (key ∷ s) e =

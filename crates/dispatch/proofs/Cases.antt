@@ -34,7 +34,7 @@ use Rattle.dispatch.specs.declared.sources.Side.TheVariants.{Instance, Class}
 use Rattle.dispatch.specs.declared.rows.Appearance.{Appearance}
 use Rattle.dispatch.specs.Sources.{list_of, metaclass_of, own_source, methods_on, of_class}
 use Rattle.dispatch.specs.Appearances.{appearance, entry_rows, list_rows, source_rows, category_rows, appearances}
-use Rattle.dispatch.specs.Dispatch.{same_bytes_lem, same_selector, comes_before, has_earlier, firsts, supersedes, standing, standing_for, effective_of, effective_among, effective, words, filled, Left, leaves, left}
+use Rattle.dispatch.specs.Dispatch.{same_bytes, same_selector, comes_before, has_earlier, firsts, supersedes, standing, standing_for, effective_of, effective_among, effective, words, filled, Left, leaves, left}
 
 -- class_t at 0x1000, with isa 0x1028 and class_ro 0x1050; at 0x1028 another, with isa 0 and no class_ro.
 abbrev classes_bytes : List ℕ
@@ -163,7 +163,7 @@ calls =
     ∷ []
 
 pub calls_hold : map (λ (c : Case). left (effective example c.side c.class) c.result) calls ≡ map (λ (c : Case). c.expected) calls
-unfolding file_of longest can_read le readable_at readable word word_in le_in stripped data_arm64e data64 mapped picked_wide picked slot_address rows ends holds placed lookup text text_from text_in judge utf8 follow_from follow image_info bit question image_fits whole_rows segment_files section_fits every section_table info_whole index_fits asked_tables asked_index asked_lent section_at rebase_at stored resolve pointer_at pointer_or0_at even_list entry_size decode_category_lists decode_category_properties decode_category_of decode_category bits_of decode_data decode_class decode_ro_lists decode_class_ro decode_ro_of method_rows decode_list entry legacy_imp decode_legacy_method decode_row all_from readables gather addresses_in without once listed plain_categories meta_of slots_from section_slots decode_address list_of metaclass_of own_source methods_on of_class appearance entry_rows list_rows source_rows category_rows appearances same_bytes_lem same_selector comes_before has_earlier firsts supersedes standing standing_for effective_of effective_among effective words filled left choose sum64 nonzero
+unfolding file_of longest can_read le readable_at readable word word_in le_in stripped data_arm64e data64 mapped picked_wide picked slot_address rows ends holds placed lookup text text_from text_in judge utf8 follow_from follow image_info bit question image_fits whole_rows segment_files section_fits every section_table info_whole index_fits asked_tables asked_index asked_lent section_at rebase_at stored resolve pointer_at pointer_or0_at even_list entry_size decode_category_lists decode_category_properties decode_category_of decode_category bits_of decode_data decode_class decode_ro_lists decode_class_ro decode_ro_of method_rows decode_list entry legacy_imp decode_legacy_method decode_row all_from readables gather addresses_in without once listed plain_categories meta_of slots_from section_slots decode_address list_of metaclass_of own_source methods_on of_class appearance entry_rows list_rows source_rows category_rows appearances same_bytes same_selector comes_before has_earlier firsts supersedes standing standing_for effective_of effective_among effective words filled left choose sum64 nonzero
 calls_hold = refl
 
 -- Rows alone: the texts at 0, 3 and 6 of file 0 and at 0 of file 1 are "a", "b", "a" and "a"; one of length 0 is a selector too.
@@ -185,5 +185,5 @@ among =
 
 pub rows_hold : map (effective_of letters) among
     ≡ (row 0 0 1 1 0 ∷ row 0 3 1 0 1 ∷ []) ∷ (row 0 0 1 2 0 ∷ row 0 3 1 1 1 ∷ []) ∷ (row 0 0 1 1 0 ∷ []) ∷ (row 1 0 1 2 0 ∷ []) ∷ (row 1 1 0 1 0 ∷ row 0 0 1 0 1 ∷ []) ∷ []
-unfolding file_of same_bytes_lem same_selector comes_before has_earlier firsts supersedes standing standing_for effective_of choose
+unfolding file_of same_bytes same_selector comes_before has_earlier firsts supersedes standing standing_for effective_of choose
 rows_hold = refl

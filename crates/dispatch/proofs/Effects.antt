@@ -1,7 +1,7 @@
 -- The three theorems on the effective methods: each selector once, the row that stands, the order.
 use Prim.Native.Nat.{ℕ, ◌<◌, ◌≤◌}
 use mathlib.Core.Path.{◌≡◌, refl, ap, sym, subst, ◌∙◌}
-use mathlib.Core.Bool.{Bool, true, false, ◌&&◌, ◌||◌, and_false}
+use mathlib.Core.Bool.{Bool, true, false, ◌&&◌, ◌||◌, and-false}
 use mathlib.Core.List.Memᴰ
 use mathlib.Core.List.{List, [], ◌∷◌}
 use mathlib.Core.Logic.{◌⊎◌, inl, inr, ⊎_elim}
@@ -20,7 +20,7 @@ use Rattle.walks.specs.PlainSections.{plain_categories}
 use Rattle.dispatch.specs.declared.sources.Side.{Side}
 use Rattle.dispatch.specs.declared.rows.Appearance.{Appearance}
 use Rattle.dispatch.specs.Appearances.{appearances}
-use Rattle.dispatch.specs.Dispatch.{same_bytes_lem, same_selector, comes_before, has_earlier, firsts, supersedes, standing, standing_for, effective_of, effective_among, effective}
+use Rattle.dispatch.specs.Dispatch.{same_bytes, same_selector, comes_before, has_earlier, firsts, supersedes, standing, standing_for, effective_of, effective_among, effective}
 use Rattle.dispatch.specs.Claims.{In, bytes_of, Ordered, ordered_none, ordered_next, Once, once_none, once_next, First, Stands, ByFirst, first_none, first_next}
 use Rattle.dispatch.proofs.Places.{before_made, before_false_made, before_true, before_false, in_cons, appearances_ordered}
 
@@ -28,19 +28,19 @@ pub never : {X : Type 0} → true ≡ false → X
 never e = let z : ◌≡◌ {A = ℕ} 0 1 = cc in absurd (omega arith)
 
 -- The test on bytes is their equality.
-equal : (a b : List ℕ) → same_bytes_lem a b ≡ true → a ≡ b
-unfolding same_bytes_lem
+equal : (a b : List ℕ) → same_bytes a b ≡ true → a ≡ b
+unfolding same_bytes
 equal [] [] e = refl
 equal [] (y ∷ b) e = never (sym e)
 equal (x ∷ a) [] e = never (sym e)
 equal (x ∷ a) (y ∷ b) e =
-    let w = both_true (eqb x y) (same_bytes_lem a b) e in
+    let w = both_true (eqb x y) (same_bytes a b) e in
     let p = eqb-true x y w.0 in
     let q = equal a b w.1 in
     cc
 
-pub same_self : (a : List ℕ) → same_bytes_lem a a ≡ true
-unfolding same_bytes_lem
+pub same_self : (a : List ℕ) → same_bytes a a ≡ true
+unfolding same_bytes
 same_self [] = refl
 same_self (x ∷ a) = rw (eq-eqb x x refl) (same_self a)
 
@@ -91,7 +91,7 @@ module _ (files : List (List ℕ)) where
     where
       go : (t : Bool) → same_selector files a.selector x.selector ≡ t → (comes_before x a && t) ≡ false
       go true e = rw (f x (Memᴰ.head refl) (same_bytes_lem a x e))
-      go false e = and_false (comes_before x a)
+      go false e = and-false (comes_before x a)
 
   module _ (all : List Appearance) where
     -- The first rows.

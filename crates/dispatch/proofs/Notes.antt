@@ -1,7 +1,7 @@
 -- Rows in order, noted one by one in a table, give the effective methods.
 use Prim.Native.Nat.{ℕ}
 use mathlib.Core.Path.{◌≡◌, refl, ap, sym, subst, ◌∙◌}
-use mathlib.Core.Bool.{Bool, true, false, ◌&&◌, ◌||◌, and_false}
+use mathlib.Core.Bool.{Bool, true, false, ◌&&◌, ◌||◌, and-false}
 use mathlib.Core.List.Memᴰ
 use mathlib.Core.List.{List, [], ◌∷◌, ◌++◌, append-nil}
 use native.Mathlib.Omega.{arith}
@@ -80,7 +80,7 @@ module _ (files : List (List ℕ)) where
     where
       go : (t : Bool) → same_selector files a.selector b.selector ≡ t → (ltb a.source b.source && t) ≡ false
       go true e = absurd (n (same_bytes_lem files a b e))
-      go false e = and_false (ltb a.source b.source)
+      go false e = and-false (ltb a.source b.source)
 
   stays : (a b : Appearance) (rows : List Appearance) → (bytes_of files a ≡ bytes_of files b → ⊥) → standing files a (rows ++ (b ∷ [])) ≡ standing files a rows
   stays a b rows n = standing_last a b rows ∙ choose_false _ _ (other (standing files a rows) b (λ e. n (sym (standing_bytes files rows rows a) ∙ e)))
@@ -106,7 +106,7 @@ module _ (files : List (List ℕ)) where
       where
         go : (t : Bool) → same_selector files b.selector x.selector ≡ t → (comes_before x b && t) ≡ false
         go true e = absurd (n (sym (same_bytes_lem files b x e)))
-        go false e = and_false (comes_before x b)
+        go false e = and-false (comes_before x b)
 
     note_hit : (x : Appearance) (rows : List Appearance) → bytes_of files x ≡ bytes_of files b
         → note files b (standing files x all ∷ rows) ≡ standing files x (all ++ (b ∷ [])) ∷ rows

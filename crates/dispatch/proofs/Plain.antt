@@ -1,7 +1,7 @@
 -- The slots, gone over without a ledger, meet the categories of the plain definition: the rows of both are the same, in the same order.
 use Prim.Native.Nat.{ℕ, zero, suc, ◌+◌, ◌<◌, ◌≤◌}
 use mathlib.Core.Path.{◌≡◌, refl, sym, ap, ◌∙◌}
-use mathlib.Core.Bool.{Bool, true, false, ◌||◌, or_false}
+use mathlib.Core.Bool.{Bool, true, false, ◌||◌, or-false}
 use mathlib.Core.List.{List, [], ◌∷◌, ◌++◌}
 use native.Mathlib.Omega.{arith}
 use native.Mathlib.Numerals.{add-one}
@@ -103,14 +103,14 @@ module _ (t : Tables) (s : Side) (class : ℕ) where
         rw (take-suc (held t) k 0 l, among_end va (take k (held t)) (get_or (held t) k 0), held_listed t k h)
 
     seen_none : {why : Reason} → listed_at t k ≡ absent why → Seen (suc k) seen
-    seen_none e va n = held_more va ∙ rw (e, ne_eqb 0 va (λ q. n (sym q)), or_false (held_before t k va)) (f va n)
+    seen_none e va n = held_more va ∙ rw (e, ne_eqb 0 va (λ q. n (sym q)), or-false (held_before t k va)) (f va n)
 
     seen_again : {va : ℕ} → listed_at t k ≡ value va → among va seen ≡ true → Seen (suc k) seen
     seen_again {va} e m v n = held_more v ∙ rw (e, f v n) (go (eqb va v) refl)
       where
         go : (x : Bool) → eqb va v ≡ x → (among v seen || x) ≡ among v seen
         go true q = let w : among v seen ≡ true = ap (λ (y : ℕ). among y seen) (sym (eqb-true va v q)) ∙ m in rw w
-        go false q = or_false (among v seen)
+        go false q = or-false (among v seen)
 
     seen_new : {va : ℕ} → listed_at t k ≡ value va → Seen (suc k) (seen ++ (va ∷ []))
     seen_new {va} e v n = held_more v ∙ rw (e, f v n) (sym (among_end v seen va))

@@ -6,7 +6,7 @@ use mathlib.Core.List.{List, [], ◌∷◌, ◌++◌}
 use native.Mathlib.Omega.{arith}
 use lib.Dec.{leb, ltb}
 use lib.ListN.{length, drop}
-use borrow.Author.Tests.{le-leb, lt-leb, leb-true, not_true, not_false}
+use borrow.Author.Tests.{le-leb, lt-leb, leb-true, not-true, not-false}
 use Rattle.reads.specs.Outcome.{Outcome, value, number, choose}
 use Rattle.reads.proofs.Tests.{le_same, choose_true, choose_false}
 use Rattle.pointers.specs.Tables.{Tables}
@@ -214,11 +214,11 @@ module _ {t : Tables} {s : Side} {class : ℕ} {p : Position} {r : Step} (h : St
     pub earlier_stop : {x : Reached} {y : Bool} → r ≡ step.Row x → y ≡ comes_before x.row a → not y ≡ true → false ≡ e
     earlier_stop {x} g u v =
         sym (past_place files a x.row (ahead t s class x.next).rows (ahead_ordered t s class x.next)
-        (rows_after g) (sym u ∙ not_true _ v)) ∙ by_row (λ q. has_earlier files a q.rows) i g
+        (rows_after g) (sym u ∙ not-true _ v)) ∙ by_row (λ q. has_earlier files a q.rows) i g
 
     module _ {x : Reached} {y z : Bool} (g : r ≡ step.Row x) (u : y ≡ comes_before x.row a) (v : not y ≡ false) (m : z ≡ same_selector files a.selector x.row.selector) where
       both : (comes_before x.row a && same_selector files a.selector x.row.selector) ≡ z
-      both = rw (sym u ∙ not_false _ v) (sym m)
+      both = rw (sym u ∙ not-false _ v) (sym m)
 
       pub earlier_here : z ≡ true → true ≡ e
       unfolding has_earlier

@@ -6,7 +6,7 @@ use mathlib.Core.List.{List, [], ◌∷◌, ◌++◌}
 use native.Mathlib.Omega.{arith}
 use lib.Dec.{leb}
 use lib.ListN.{length}
-use borrow.Author.Tests.{leb-true, leb-false, not_true, not_false}
+use borrow.Author.Tests.{leb-true, leb-false, not-true, not-false}
 use Rattle.reads.specs.Answer.{missed}
 use Rattle.reads.specs.Outcome.{Outcome, value, absent, number}
 use Rattle.reads.specs.declared.answer.Missing.{Missing}
@@ -71,12 +71,12 @@ module _ (text buffer : List ℕ) {o : Outcome ℕ} {left : List ℕ} (r : Read 
     asked = ap (λ (k : ℕ). words_fit k (length buffer)) reading.2 ∙ ap (λ (l : List ℕ). words_fit n (length l)) (sym unchanged) ∙ sym f
 
     pub answers_number : not fits ≡ true → Answers text buffer (number 12) (left ++ buffer)
-    answers_number h = let a = answers-short text buffer reading.1 (asked ∙ not_true fits h) in (a.0, unchanged ∙ a.1)
+    answers_number h = let a = answers-short text buffer reading.1 (asked ∙ not-true fits h) in (a.0, unchanged ∙ a.1)
 
     pub answers-value : not fits ≡ false → {o' : Outcome ℕ} {now : List ℕ} → Read text (left ++ buffer) o' now → Answers text buffer (value n) now
     unfolding words_fit
     answers-value h q =
-        let yes = asked ∙ not_false fits h in
+        let yes = asked ∙ not-false fits h in
         let a = answers-types text buffer reading.1 yes in
         let room : 4 * count reading.0 ≤ length (left ++ buffer) = rw unchanged (leb-true _ _ yes) in (
           ap value (sym reading.2) ∙ a.0,

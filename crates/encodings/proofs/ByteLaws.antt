@@ -6,7 +6,7 @@ use mathlib.Core.Bool.{Bool, true, false, not, ◌&&◌, ◌||◌, true≢false,
 use mathlib.Core.Logic.{inl, inr}
 use mathlib.Core.List.{List, [], ◌∷◌}
 use types.Run.{OneOf}
-use borrow.Author.Tests.{eqb-true, ne_eqb, not_true}
+use borrow.Author.Tests.{eqb-true, ne_eqb, not-true}
 use lib.Dec.{eqb}
 use Rattle.pointers.specs.Symbol.{ascii}
 use Rattle.reads.proofs.Tests.{by_choose, choose_true, choose_false, both_true}
@@ -86,7 +86,7 @@ class_basic b h = choose_true _ _ h
 pub class_qualifier : (b : ℕ) → among qualifiers b ≡ true → class_of b ≡ Qualifier
 unfolding class_of among
 class_qualifier b h =
-    choose_false _ _ (not_true _ (among_passes (λ j. not (among codes j)) qualifiers b refl h)) ∙ choose_true _ _ h
+    choose_false _ _ (not-true _ (among_passes (λ j. not (among codes j)) qualifiers b refl h)) ∙ choose_true _ _ h
 
 -- A byte that is no key of `class_of` begins nothing.
 module _ (one two three four : List ℕ) (b : ℕ) where
@@ -121,7 +121,7 @@ module _ (b : ℕ) (h : start_byte b ≡ true) where
   start_parts = unfold start_byte in both_true _ _ h
 
   pub start_digit : digit_byte b ≡ false
-  start_digit = not_true _ start_parts.0
+  start_digit = not-true _ start_parts.0
 
   pub start_quoted : quoted_byte b ≡ true
   start_quoted = (both_true _ _ start_parts.1).0
@@ -131,7 +131,7 @@ module _ (b : ℕ) (h : start_byte b ≡ true) where
       ne_eqb b (closer k) (λ e. true≢false (sym (ap (λ (x : ℕ). among (ascii "]})") x) e ∙ closing k) ∙ no_closing))
     where
       no_closing : among (ascii "]})") b ≡ false
-      no_closing = not_true (among (ascii "]})") b) (both_true (quoted_byte b) (not (among (ascii "]})") b)) start_parts.1).1
+      no_closing = not-true (among (ascii "]})") b) (both_true (quoted_byte b) (not (among (ascii "]})") b)) start_parts.1).1
 
       closing : (k : Composite) → among (ascii "]})") (closer k) ≡ true
       closing structure = unfold among in refl

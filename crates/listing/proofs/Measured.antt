@@ -1,6 +1,6 @@
 -- Question 13: when a bundle is refused, and what is known of one that is accepted.
 use Rattle.std.proofs.Common.{◌≡◌, ℕ, ◌+◌, ◌*◌, ◌<◌, ◌≤◌, true, false, eqb, leb, List, length, sym, ap, ◌∙◌, true≢false, arith, eq-eqb, ne_eqb, eqb-true, le-leb, leb-true}
-use mathlib.Core.Bool.{and_false}
+use mathlib.Core.Bool.{and-false}
 use borrow.Author.Tests.{lt-leb}
 use Rattle.reads.specs.Outcome.{Outcome, value, number, choose}
 use Rattle.reads.proofs.Tests.{by_choose, both_true}
@@ -52,7 +52,7 @@ module _ (bytes : List ℕ) where
 
   pub other_length : (length bytes ≡ said_length (counts_of bytes) → ⊥) → number 13 ≡ bundle_counts bytes
   unfolding bundle_counts bundle_fits choose
-  other_length h = simp (ne_eqb _ _ h, and_false)
+  other_length h = simp (ne_eqb _ _ h, and-false)
 
   pub other_counts : length bytes ≤ 32768 → counts_fit bytes ≡ false → number 13 ≡ bundle_counts bytes
   other_counts h f = other_length (λ e. true≢false (sym (fits_below (omega arith)) ∙ f))

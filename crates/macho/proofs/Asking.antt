@@ -1,7 +1,7 @@
 -- What is asked of a file before its tables are opened, by the tests that the code makes.
 use Prim.Native.Nat.{ℕ, ◌≤◌, ◌<◌}
 use mathlib.Core.Path.{◌≡◌, sym}
-use mathlib.Core.Bool.{true, false, ◌&&◌, and_false}
+use mathlib.Core.Bool.{true, false, ◌&&◌, and-false}
 use mathlib.Core.List.{List}
 use lib.Dec.{leb, eqb}
 use lib.ListN.{length}
@@ -47,7 +47,7 @@ module _ (file : List ℕ) (segments sections : ℕ) where
       unfolding asked_lent
       ask_2_many e =
           let m : 64 < length (file_segments file) = rw (g, c, n) at e in
-          after_yes 1 _ _ i (after_no 2 _ _ (simp (lt-leb (length (file_segments file)) 64 m, and_false)))
+          after_yes 1 _ _ i (after_no 2 _ _ (simp (lt-leb (length (file_segments file)) 64 m, and-false)))
 
       module _ (l : k ≤ 64) where
         few : (eqb segments segment_table_words && leb (length (file_segments file)) 64) ≡ true

@@ -11,7 +11,7 @@ use Rattle.reads.specs.declared.answer.Missing.TheVariants.{Absent, Refused}
 use Rattle.reads.proofs.Outcomes.{missed_then}
 use Rattle.pointers.specs.ImageInfo.{info_outcome}
 use Rattle.pointers.specs.Index.{indexed}
-use Rattle.pointers.specs.Open.{opening, left_by_lem, opened_index}
+use Rattle.pointers.specs.Open.{opening, left_by, opened_index}
 use Rattle.pointers.specs.declared.imageinfo.ImageInfo.{ImageInfo}
 use Rattle.pointers.specs.declared.imageinfo.ImageInfoAnswer.{ImageInfoAnswer}
 use Rattle.pointers.specs.declared.imageinfo.ImageInfoAnswer.TheVariants as info
@@ -24,11 +24,11 @@ use Rattle.macho.specs.FileTables.{segment_table, section_table, over_file, file
 use Rattle.macho.specs.OpenFile.{asked_file, opened_file, opening_file, segments_left, sections_left, index_left}
 use Rattle.macho.specs.declared.section.Section.{Section}
 
-left_missing : (A : Type 0) (m : Missing) (new old : List ℕ) → old ≡ left_by_lem (missed {A = A} m) new old
+left_missing : (A : Type 0) (m : Missing) (new old : List ℕ) → old ≡ left_by (missed {A = A} m) new old
 left_missing A (Absent r) new old = refl
 left_missing A (Refused k) new old = refl
 
-left_then : {A B : Type 0} (o : Outcome A) (f : A → B) (new old : List ℕ) → left_by_lem (and_then o (λ a. value (f a))) new old ≡ left_by_lem o new old
+left_then : {A B : Type 0} (o : Outcome A) (f : A → B) (new old : List ℕ) → left_by (and_then o (λ a. value (f a))) new old ≡ left_by o new old
 left_then (value a) f new old = refl
 left_then (absent r) f new old = refl
 left_then (number k) f new old = refl
@@ -38,7 +38,7 @@ module _ (file segments sections rebases binds index : List ℕ) (asked : asked_
   unfolding opening_file
   opening_by = rw asked
 
-  left_by_lem : (new old : List ℕ) → left_by_lem (opening_file file segments sections rebases binds index) new old ≡ left_by_lem (opening (file_tables file rebases binds index)) new old
+  left_by_lem : (new old : List ℕ) → left_by (opening_file file segments sections rebases binds index) new old ≡ left_by (opening (file_tables file rebases binds index)) new old
   left_by_lem new old = rw opening_by (left_then (opening (file_tables file rebases binds index)) (opened_file file) new old)
 
   -- What the code read of the file, and what opening over that answered.
@@ -81,7 +81,7 @@ module _ (file segments sections rebases binds index : List ℕ) (asked : asked_
       gone : opening (file_tables file rebases binds index) ≡ missed m
       gone = sym answered ∙ ap info_outcome g
 
-      kept : (new old : List ℕ) → old ≡ left_by_lem (opening_file file segments sections rebases binds index) new old
+      kept : (new old : List ℕ) → old ≡ left_by (opening_file file segments sections rebases binds index) new old
       kept new old = left_missing ImageInfo m new old ∙ sym (left_by_lem new old ∙ rw gone)
 
       pub refused : (xs : List ℕ) → xs ≡ opened_index (over_file file (segment_table_of cmds count) (section_table_of cmds count) body rebases binds index)

@@ -1,7 +1,7 @@
 -- A prefix and a list, a byte at a time, and the first of the prefixes that fits.
 use Prim.Native.Nat.{ℕ, zero, suc, ◌+◌, ◌-◌, ◌<◌, ◌≤◌, min}
 use mathlib.Core.Path.{◌≡◌, refl, ap, sym, ◌∙◌}
-use mathlib.Core.Bool.{Bool, true, false, ◌&&◌, and_false}
+use mathlib.Core.Bool.{Bool, true, false, ◌&&◌, and-false}
 use mathlib.Core.List.{List, [], ◌∷◌}
 use native.Mathlib.Numerals.{add-one}
 use native.Mathlib.Omega.{arith}
@@ -19,7 +19,7 @@ pub starts_short : (p s : List ℕ) → length s < length p → starts p s ≡ f
 unfolding starts
 starts_short [] s h = absurd (omega arith)
 starts_short (a ∷ p) [] h = refl
-starts_short (a ∷ p) (b ∷ s) h = simp (starts_short p s (omega arith), and_false)
+starts_short (a ∷ p) (b ∷ s) h = simp (starts_short p s (omega arith), and-false)
 
 -- What starts with p is as long.
 pub starts_length : (p s : List ℕ) → starts p s ≡ true → length p ≤ length s

@@ -1,7 +1,7 @@
 -- Laws of the questions: what the code's tests come to, and tests of every row.
 use Prim.Native.Nat.{ℕ, zero, suc, ◌+◌, ◌-◌, ◌*◌, ◌/◌, ◌%◌, ◌≤◌, ◌<◌}
 use mathlib.Core.Path.{◌≡◌, refl, ap, sym, ◌∙◌}
-use mathlib.Core.Bool.{Bool, true, false, and_false}
+use mathlib.Core.Bool.{Bool, true, false, and-false}
 use mathlib.Core.List.{List}
 use mathlib.Core.Logic.{⊎_elim}
 use native.Mathlib.Omega.{arith}
@@ -97,7 +97,7 @@ module _ (test : ℕ → Bool) where
   every_fails zero i h e = absurd (omega arith)
   every_fails (suc n) i h e =
       ⊎_elim
-      (λ same. rw (← same, e, and_false))
+      (λ same. rw (← same, e, and-false))
       (λ less. rw (← every_fails n i less e))
       (eq-or-lt_of_le (le_of_suc-le-suc h))
 

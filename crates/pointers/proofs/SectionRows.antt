@@ -2,7 +2,7 @@
 use Prim.Native.Nat.{ℕ, ◌*◌, ◌/◌, ◌<◌, ◌≤◌}
 use mathlib.Core.Path.{◌≡◌, sym}
 use mathlib.Core.List.{List}
-use mathlib.Core.Bool.{and_false}
+use mathlib.Core.Bool.{and-false}
 use native.Mathlib.Nat.{add-zero}
 use lib.Dec.{ltb, eqb}
 use lib.ListN.{get_or}
@@ -20,7 +20,7 @@ module _ (ws : List ℕ) (i : ℕ) where
 
   pub section_absent : (get_or ws (i * section_words) 0 ≡ 1 → ⊥) → section_of 0 0 ≡ section_at ws i
   unfolding section_at
-  section_absent n = sym (choose_false _ _ (simp (add-zero, ne_eqb (get_or ws (i * section_words) 0) 1 n, and_false)))
+  section_absent n = sym (choose_false _ _ (simp (add-zero, ne_eqb (get_or ws (i * section_words) 0) 1 n, and-false)))
 
   pub section_present : i < records section_words ws → get_or ws (i * section_words) 0 ≡ 1
       → section_of (word_of section_words ws i 1) (word_of section_words ws i 2 / 8) ≡ section_at ws i

@@ -1,7 +1,7 @@
 -- Between two breakpoints it is the same at every address whether k bytes can be read, and past the last nothing can be.
 -- The segments may overlap, and may stand in any order.
 use Rattle.std.proofs.Common.{◌≡◌, ℕ, suc, ◌+◌, ◌-◌, ◌*◌, ◌^◌, ◌<◌, ◌≤◌, Bool, true, false, ltb, leb, ◌⊎◌, List, [], ◌∷◌, length, sym, refl, ◌∙◌, inl, inr, ⊎_elim, arith, ltb-false, ltb-true, le-ltb, lt-ltb, leb-false, leb-true}
-use mathlib.Core.Bool.{and_false}
+use mathlib.Core.Bool.{and-false}
 use mathlib.Core.List.Memᴰ
 use mathlib.Core.List.{Memᴰ}
 use native.Mathlib.Decide.{dec_le}
@@ -61,7 +61,7 @@ holds_same s va x l p q =
 
 pub holds_not_past : (s : Segment) (va : ℕ) → s.vmaddr + s.vmsize ≤ va → holds s va ≡ false
 unfolding holds
-holds_not_past s va h = simp (le-ltb va (s.vmaddr + s.vmsize) h, and_false)
+holds_not_past s va h = simp (le-ltb va (s.vmaddr + s.vmsize) h, and-false)
 
 module _ (fs : List (List ℕ)) (k : ℕ) where
   -- Of a segment that holds the address, a first part can be read.

@@ -1,7 +1,7 @@
 -- Laws of the files that are lent, and of the longest of them.
 use Rattle.std.proofs.Common.{◌≡◌, ℕ, zero, suc, ◌+◌, ◌<◌, ◌≤◌, min, max, Bool, true, false, not, ltb, List, [], ◌∷◌, map, length, get_or, take, drop, sym, refl, ap, ◌∙◌, subst, arith, length-drop, length-take, get_or-take, Bor, ltb-false, ltb-true, le-ltb, lt-ltb}
 use native.Mathlib.Decide.{dec_le}
-use borrow.Author.Tests.{not_true, not_false}
+use borrow.Author.Tests.{not-true, not-false}
 use lib.ListN.{length-map, get_or-map, get_or-eq_default}
 use Rattle.reads.specs.Files.{files_lent, is_lent, file_of, longest}
 
@@ -38,10 +38,10 @@ module _ (fs : List (Bor (List ℕ))) where
     -- What the code's test says, negated as it stands there.
     module _ (b : Bool) (e : b ≡ is_lent (files_lent fs) f) where
       pub said_lent : not b ≡ false → f < length (files_lent fs)
-      said_lent y = ltb-true f (length (files_lent fs)) (sym e ∙ not_false b y)
+      said_lent y = ltb-true f (length (files_lent fs)) (sym e ∙ not-false b y)
 
       pub said_not : not b ≡ true → length (files_lent fs) ≤ f
-      said_not y = ltb-false f (length (files_lent fs)) (sym e ∙ not_true b y)
+      said_not y = ltb-false f (length (files_lent fs)) (sym e ∙ not-true b y)
 
     -- How the code finds it out.
     pub past_fourth : 4 ≤ f → false ≡ is_lent (files_lent fs) f

@@ -1,6 +1,6 @@
 -- What a segment answers, by the tests that the code makes, and the walk over the rows from row i on.
 use Rattle.std.proofs.Common.{◌≡◌, ℕ, suc, ◌+◌, ◌-◌, ◌^◌, ◌<◌, ◌≤◌, true, false, ◌&&◌, eqb, ltb, leb, List, arith, ltb-true, le-ltb, lt-ltb, eq-eqb, ne_eqb, le-leb, leb-false, leb-true}
-use mathlib.Core.Bool.{and_false}
+use mathlib.Core.Bool.{and-false}
 use borrow.Author.Tests.{lt-leb}
 use Rattle.reads.specs.Outcome.{value, absent, because, choose, sum64}
 use Rattle.reads.specs.declared.answer.Reason.TheVariants.{Unmapped}
@@ -35,7 +35,7 @@ module _ (s : Segment) where
 
   pub holds_before : (va : ℕ) → va < s.vmaddr → false ≡ holds s va
   unfolding holds
-  holds_before va l = simp (lt-leb s.vmaddr va l, and_false)
+  holds_before va l = simp (lt-leb s.vmaddr va l, and-false)
 
   pub holds_by : (va : ℕ) → (s.filesize ≡ 0 → ⊥) → s.vmaddr ≤ va → ltb (va - s.vmaddr) s.vmsize ≡ holds s va
   unfolding holds
@@ -76,7 +76,7 @@ module _ (s : Segment) where
 
   pub carries_before : (file offset : ℕ) → offset < s.fileoff → false ≡ carries s file offset
   unfolding carries
-  carries_before file offset l = simp (lt-leb s.fileoff offset l, and_false)
+  carries_before file offset l = simp (lt-leb s.fileoff offset l, and-false)
 
   pub carries_by : (file offset m : ℕ) → m ≡ mapped_size s → s.file ≡ file → s.fileoff ≤ offset → ltb (offset - s.fileoff) m ≡ carries s file offset
   unfolding carries

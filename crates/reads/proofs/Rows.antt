@@ -1,6 +1,6 @@
 -- Where a byte lies in a range, and which row of the grammar it begins: at most one, since the rows' first ranges ascend.
 use Rattle.std.proofs.Common.{◌≡◌, ℕ, zero, suc, ◌<◌, ◌≤◌, Bool, true, false, ◌&&◌, ltb, leb, List, [], ◌∷◌, get_or, sym, refl, ap, ◌∙◌, subst, ⊎_elim, arith, ltb-true, le-leb, leb-true}
-use mathlib.Core.Bool.{and_false}
+use mathlib.Core.Bool.{and-false}
 use mathlib.Core.List.Memᴰ
 use mathlib.Core.List.{Memᴰ}
 use mathlib.Core.Option.{none, some, none-ne-some}
@@ -18,7 +18,7 @@ module _ (lo hi b : ℕ) where
   inside_under h = simp (lt-leb lo b h)
 
   pub inside_over : hi < b → inside (lo to hi) b ≡ false
-  inside_over h = simp (lt-leb b hi h, and_false)
+  inside_over h = simp (lt-leb b hi h, and-false)
 
 -- A byte and the rows
 -- Each row's first range lies above n.

@@ -1,6 +1,6 @@
 -- Spots, by the tests that the code makes; and what is read near one is what a lookup gives.
 use Rattle.std.proofs.Common.{◌≡◌, ℕ, ◌+◌, ◌-◌, ◌^◌, ◌<◌, ◌≤◌, min, max, Bool, true, false, ◌&&◌, ◌||◌, eqb, ltb, leb, List, [], ◌∷◌, length, sym, refl, ap, ◌∙◌, subst, true≢false, arith, ltb-false, lt-ltb, eq-eqb, ne_eqb, eqb-true, le-leb, leb-false, leb-true}
-use mathlib.Core.Bool.{and-true, or_true}
+use mathlib.Core.Bool.{and-true, or-true}
 use borrow.Author.Tests.{lt-leb, eqb-false}
 use Rattle.reads.specs.Outcome.{Outcome, value, absent, and_then, because, choose}
 use Rattle.reads.specs.declared.answer.Reason.TheVariants.{Unmapped, Unreadable}
@@ -126,7 +126,7 @@ module _ (s : Segment) (far va d : ℕ) (h : holds s va ≡ true) (e : d ≡ dis
 
   pub spot_over : d < s.filesize → 2 ^ 64 ≤ s.fileoff + d → nowhere ≡ spot_at s far va
   unfolding spot_at
-  spot_over l o = sym (choose_true _ _ (rw (← held_distance, le-leb (2 ^ 64) (s.fileoff + d) o) (or_true (leb s.filesize d))))
+  spot_over l o = sym (choose_true _ _ (rw (← held_distance, le-leb (2 ^ 64) (s.fileoff + d) o) (or-true (leb s.filesize d))))
 
   pub spot_there : (last most : ℕ) → d < s.filesize → s.fileoff + d < 2 ^ 64 → far < 2 ^ 64 → last ≡ min s.filesize s.vmsize - d - 1
       → most ≡ max far (s.fileoff + d) → spot s.file (s.fileoff + d) (min last (2 ^ 64 - 1 - most) + 1) ≡ spot_at s far va

@@ -1,7 +1,7 @@
 -- Why the search may go from one breakpoint to the next, and why its budget suffices. Nothing is assumed of the segments' order.
 use Prim.Native.Nat.{ℕ, ◌+◌, ◌-◌, ◌*◌, ◌/◌, ◌^◌, ◌≤◌, ◌<◌}
 use mathlib.Core.Path.{◌≡◌, sym, ◌∙◌}
-use mathlib.Core.Bool.{true, false, and_false}
+use mathlib.Core.Bool.{true, false, and-false}
 use mathlib.Core.Option.{none, some}
 use native.Mathlib.Nat.{mul-zero, mul-le-mul, le_dest, mul-le-mul_right, div-mul-le_self, lt-div-mul-add}
 use native.Mathlib.Omega.{arith}
@@ -39,7 +39,7 @@ module _ (m : Image) (h : Layout) (i : ℕ) where
 
   pub entry_unreadable : can_read m (least h.kind) (entry_address h i) ≡ false → entry m h i ≡ false
   unfolding entry
-  entry_unreadable e = rw (e, and_false)
+  entry_unreadable e = rw (e, and-false)
 
   pub entry_readable : entry_address h i < 2 ^ 64 → can_read m (least h.kind) (entry_address h i) ≡ true → entry m h i ≡ true
   unfolding entry

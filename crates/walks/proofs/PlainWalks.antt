@@ -1,7 +1,7 @@
 -- A section walk gives exactly the records of the plain definition, where that gives records and no number, whatever the ledger held.
 use Prim.Native.Nat.{ℕ, zero, suc, ◌+◌, ◌*◌, ◌≤◌, ◌<◌, max}
 use mathlib.Core.Path.{◌≡◌, refl, sym, ap, ◌∙◌}
-use mathlib.Core.Bool.{Bool, true, false, or_true, or_false}
+use mathlib.Core.Bool.{Bool, true, false, or-true, or-false}
 use mathlib.Core.List.{List, [], ◌∷◌, ◌++◌}
 use native.Mathlib.Omega.{arith}
 use native.Mathlib.Numerals.{add-one}
@@ -58,8 +58,8 @@ unseen_more seen a (b ∷ bs) = go (eqb b a) refl (unseen_more seen a bs)
   where
     go : (x : Bool) → eqb b a ≡ x → unseen seen (without a bs) ≡ unseen (seen ++ (a ∷ [])) bs
         → unseen seen (unless x b (without a bs)) ≡ unless (among b (seen ++ (a ∷ []))) b (unseen (seen ++ (a ∷ [])) bs)
-    go true g h = rw (among_end b seen a, eq-eqb a b (sym (eqb-true b a g)), or_true (among b seen)) h
-    go false g h = unfold unseen in rw (among_end b seen a, ne_eqb a b (λ (u : a ≡ b). eqb-false b a g (sym u)), or_false (among b seen), h)
+    go true g h = rw (among_end b seen a, eq-eqb a b (sym (eqb-true b a g)), or-true (among b seen)) h
+    go false g h = unfold unseen in rw (among_end b seen a, ne_eqb a b (λ (u : a ≡ b). eqb-false b a g (sym u)), or-false (among b seen), h)
 
 pub once_none : (seen : List ℕ) → unseen seen (once []) ≡ []
 unfolding unseen once

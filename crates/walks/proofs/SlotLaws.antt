@@ -1,7 +1,7 @@
 -- Laws of the slots of the section lists, by the tests and the answers that the code goes by.
 use Prim.Native.Nat.{ℕ, zero, suc, ◌+◌, ◌-◌, ◌*◌, ◌^◌, ◌≤◌, ◌<◌, max}
 use mathlib.Core.Path.{◌≡◌, refl, sym, ap, ◌∙◌}
-use mathlib.Core.Bool.{Bool, true, false, ◌&&◌, ◌||◌, or_true, or_false, true≢false}
+use mathlib.Core.Bool.{Bool, true, false, ◌&&◌, ◌||◌, or-true, or-false, true≢false}
 use mathlib.Core.List.{List, [], ◌∷◌, ◌++◌}
 use native.Mathlib.Omega.{arith}
 use native.Mathlib.Numerals.{add-one}
@@ -122,10 +122,10 @@ among_end a (x ∷ bs) b = go (eqb x a) (among_end a bs b)
 -- One word more is looked at.
 module _ (a : ℕ) (l : List ℕ) (i : ℕ) (h : i < length l) where
   pub among_other : (get_or l i 0 ≡ a → ⊥) → among a (take i l) ≡ among a (take (i + 1) l)
-  among_other n = sym (rw (add-one, take-suc l i 0 h, among_end a (take i l) (get_or l i 0), ne_eqb (get_or l i 0) a n) (or_false (among a (take i l))))
+  among_other n = sym (rw (add-one, take-suc l i 0 h, among_end a (take i l) (get_or l i 0), ne_eqb (get_or l i 0) a n) (or-false (among a (take i l))))
 
   pub among_here : get_or l i 0 ≡ a → true ≡ among a (take (i + 1) l)
-  among_here e = sym (rw (add-one, take-suc l i 0 h, among_end a (take i l) (get_or l i 0), eq-eqb (get_or l i 0) a e) (or_true (among a (take i l))))
+  among_here e = sym (rw (add-one, take-suc l i 0 h, among_end a (take i l) (get_or l i 0), eq-eqb (get_or l i 0) a e) (or-true (among a (take i l))))
 
 -- A word in use.
 pub among_word : (a : ℕ) (l : List ℕ) (i n : ℕ) → i < n → i < length l → get_or l i 0 ≡ a → among a (take n l) ≡ true
@@ -133,7 +133,7 @@ unfolding among
 among_word a [] i n p q e = absurd (omega arith)
 among_word a (b ∷ l) i zero p q e = absurd (omega arith)
 among_word a (b ∷ l) zero (suc n) p q e = rw (eq-eqb b a e)
-among_word a (b ∷ l) (suc i) (suc n) p q e = rw (among_word a l i n (omega arith) (omega arith) e) (or_true (eqb b a))
+among_word a (b ∷ l) (suc i) (suc n) p q e = rw (among_word a l i n (omega arith) (omega arith) e) (or-true (eqb b a))
 
 -- The greatest of some addresses, one by one, and what lies above it.
 pub greatest_end : (bs : List ℕ) (b : ℕ) → greatest (bs ++ (b ∷ [])) ≡ max (greatest bs) b

@@ -2,14 +2,14 @@ use Prim.Native.Nat.{◌-◌, ◌≤◌}
 use mathlib.Core.Path.{◌≡◌, refl, sym, ◌∙◌}
 use native.Mathlib.Omega.{arith}
 use lib.ListN.{length, drop}
-use Rattle.dispatch.specs.Dispatch.{same_bytes_lem}
+use Rattle.dispatch.specs.Dispatch.{same_bytes}
 use Rattle.dispatch.proofs.Bytes.{same_length, same_differ, same_agree, same_end}
 use borrow.Author.Rules.{rules}
 use Rattle.dispatch.proofs.selectors.same_bytes.Statement.{statement}
 use Rattle.dispatch.proofs.selectors.same_bytes.Tie as tie
 
 abbrev invariant-loop : tie.invariant-loop
-invariant-loop a b i₀ i = (i ≤ length a) × (same_bytes_lem (drop i a) (drop i b) ≡ same_bytes_lem a b)
+invariant-loop a b i₀ i = (i ≤ length a) × (same_bytes (drop i a) (drop i b) ≡ same_bytes a b)
 
 abbrev decreases-loop : tie.decreases-loop
 decreases-loop a b i₀ i = length a - i

@@ -1,5 +1,5 @@
 use mathlib.Core.Path.{◌≡◌, refl, sym, ◌∙◌}
-use borrow.Author.Tests.{not_true, not_false}
+use borrow.Author.Tests.{not-true, not-false}
 use Rattle.macho.specs.Commands.{of_kind}
 use Rattle.macho.proofs.Commands.{finds_by}
 use Rattle.filetables.specs.Kind.{all_read, kind_read}
@@ -22,27 +22,27 @@ returns c =
     let a = c.before.before.before.before.before.args in
     let l = c.before.before.before.loop in
     let f = finds_by a.kind a.cmds.now l.left l.at _ c.before.before.find.ensures in
-    laws.read_none a.n a.cmds.now a.kind _ _ _ f (not_true _ c.if1.true) ∙ sym l.invariant
+    laws.read_none a.n a.cmds.now a.kind _ _ _ f (not-true _ c.if1.true) ∙ sym l.invariant
 
 returns-2 : tie.Need-returns-2 invariant-loop decreases-loop
 returns-2 c =
     let a = c.before.before.before.before.before.before.before.args in
     let l = c.before.before.before.before.before.loop in
     let f = finds_by a.kind a.cmds.now l.left l.at _ c.before.before.before.before.find.ensures in
-    laws.read_not a.n a.cmds.now a.kind _ _ _ f (not_false _ c.before.before.if1.false) (sym c.before.command-read.ensures ∙ not_true _ c.if2.true) ∙ sym l.invariant
+    laws.read_not a.n a.cmds.now a.kind _ _ _ f (not-false _ c.before.before.if1.false) (sym c.before.command-read.ensures ∙ not-true _ c.if2.true) ∙ sym l.invariant
 
 loop-less : tie.Need-loop-smaller invariant-loop decreases-loop
 loop-less c =
     let a = c.before.before.before.before.before.before.before.args in
     let l = c.before.before.before.before.before.loop in
-    (finds_by a.kind a.cmds.now l.left l.at _ c.before.before.before.before.find.ensures).fewer (not_false _ c.before.before.if1.false)
+    (finds_by a.kind a.cmds.now l.left l.at _ c.before.before.before.before.find.ensures).fewer (not-false _ c.before.before.if1.false)
 
 loop-again : tie.Need-loop-preserved invariant-loop decreases-loop
 loop-again c =
     let a = c.before.before.before.before.before.before.before.args in
     let l = c.before.before.before.before.before.loop in
     let f = finds_by a.kind a.cmds.now l.left l.at _ c.before.before.before.before.find.ensures in
-    l.invariant ∙ laws.read_next a.n a.cmds.now a.kind _ _ _ f (not_false _ c.before.before.if1.false) (sym c.before.command-read.ensures ∙ not_false _ c.if2.false)
+    l.invariant ∙ laws.read_next a.n a.cmds.now a.kind _ _ _ f (not-false _ c.before.before.if1.false) (sym c.before.command-read.ensures ∙ not-false _ c.if2.false)
 
 pub kind-read-spec : {M : Type 1} → statement M
 kind-read-spec =

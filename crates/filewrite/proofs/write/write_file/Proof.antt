@@ -1,7 +1,7 @@
 use Prim.Native.Nat.{ℕ}
 use mathlib.Core.Path.{ap}
 use mathlib.Core.List.{List}
-use borrow.Author.Tests.{not_false}
+use borrow.Author.Tests.{not-false}
 use Rattle.printing.specs.Pieces.{Standing}
 use Rattle.filewrite.proofs.Handing as laws
 use borrow.Author.Rules.{rules}
@@ -50,7 +50,7 @@ returns-2 c =
     let h = c.before.before.before.before.before.before.write-pieces.ensures in
     let begins = ap (λ (f : List ℕ → Standing). f a.ledger.now) e.1.0 in (
       laws.write_ends a.ranges a.file.now a.segments.now a.sections.now a.rebases.now a.binds.now a.index.now _ _ _ _
-          e.0 e.1.1.0 e.1.1.1.0 e.1.1.1.1 _ _ _ _ _ begins h.0 (h.1 (not_false _ c.before.before.if1.false)) _ c.ended.ensures,
+          e.0 e.1.1.0 e.1.1.1.0 e.1.1.1.1 _ _ _ _ _ begins h.0 (h.1 (not-false _ c.before.before.if1.false)) _ c.ended.ensures,
       e.1.1,
     )
 

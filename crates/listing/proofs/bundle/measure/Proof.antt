@@ -1,5 +1,5 @@
 use Rattle.std.proofs.Common.{sym, ap, ◌∙◌, arith, rules}
-use borrow.Author.Tests.{not_true, not_false}
+use borrow.Author.Tests.{not-true, not-false}
 use Rattle.listing.specs.Bundle.{said_length}
 use Rattle.listing.proofs.Measured.{too_long, other_counts, other_said, exact_length}
 use Rattle.listing.proofs.bundle.measure.Statement.{statement}
@@ -9,10 +9,10 @@ returns : tie.Need-returns
 returns c = too_long _ (omega arith)
 
 returns-2 : tie.Need-returns-2
-returns-2 c = other_counts _ (omega arith) (sym c.before.counts-fit.ensures ∙ not_true _ c.if2.true)
+returns-2 c = other_counts _ (omega arith) (sym c.before.counts-fit.ensures ∙ not-true _ c.if2.true)
 
 counts-of-requires : tie.Need-counts-of-requires
-counts-of-requires c κs = sym c.before.counts-fit.ensures ∙ not_false _ c.if2.false
+counts-of-requires c κs = sym c.before.counts-fit.ensures ∙ not-false _ c.if2.false
 
 returns-3 : tie.Need-returns-3
 returns-3 c = other_said _ _ _ c.before.said_length_lem.ensures c.if3.true c.before.before.Counts-of.ensures

@@ -1,7 +1,7 @@
 use Rattle.macho.proofs.Commands as laws
 use native.Mathlib.Omega.{arith}
 use mathlib.Core.Path.{◌≡◌, ap}
-use borrow.Author.Tests.{not_true, not_false}
+use borrow.Author.Tests.{not-true, not-false}
 use Prim.Native.Nat.{ℕ, ◌+◌, ◌≤◌}
 use mathlib.Core.List.{List}
 use lib.ListN.{length}
@@ -21,18 +21,18 @@ loop-holds : tie.Need-loop-init invariant-loop decreases-loop
 loop-holds c = (omega arith, omega arith)
 
 returns : tie.Need-returns invariant-loop decreases-loop
-returns c = let F = laws.finds_by segment_kind c.before.before.before.before.before.args.cmds.now c.before.before.before.loop.left c.before.before.before.loop.at c.before.before.find.result c.before.before.find.ensures in let e = ap (λ (l : List ℕ). length l) (F.none (not_true _ c.if1.true)) in omega arith
+returns c = let F = laws.finds_by segment_kind c.before.before.before.before.before.args.cmds.now c.before.before.before.loop.left c.before.before.before.loop.at c.before.before.find.result c.before.before.find.ensures in let e = ap (λ (l : List ℕ). length l) (F.none (not-true _ c.if1.true)) in omega arith
 
 add-n : tie.Need-overflow-add-n invariant-loop decreases-loop
-add-n c = let F = laws.finds_by segment_kind c.before.before.before.before.before.args.cmds.now c.before.before.before.loop.left c.before.before.before.loop.at c.before.before.find.result c.before.before.find.ensures in omega (arith, F.fewer (not_false _ c.if1.false))
+add-n c = let F = laws.finds_by segment_kind c.before.before.before.before.before.args.cmds.now c.before.before.before.loop.left c.before.before.before.loop.at c.before.before.find.result c.before.before.find.ensures in omega (arith, F.fewer (not-false _ c.if1.false))
 
 loop-less : tie.Need-loop-smaller invariant-loop decreases-loop
-loop-less c = let F = laws.finds_by segment_kind c.before.before.before.before.before.args.cmds.now c.before.before.before.loop.left c.before.before.before.loop.at c.before.before.find.result c.before.before.find.ensures in F.fewer (not_false _ c.if1.false)
+loop-less c = let F = laws.finds_by segment_kind c.before.before.before.before.before.args.cmds.now c.before.before.before.loop.left c.before.before.before.loop.at c.before.before.find.result c.before.before.find.ensures in F.fewer (not-false _ c.if1.false)
 
 loop-again : tie.Need-loop-preserved invariant-loop decreases-loop
 loop-again c = let F = laws.finds_by segment_kind c.before.before.before.before.before.args.cmds.now c.before.before.before.loop.left c.before.before.before.loop.at c.before.before.find.result c.before.before.find.ensures in
-    let e = ap (λ (l : List ℕ). length l) (F.more (not_false _ c.if1.false)) in
-    let h = F.fewer (not_false _ c.if1.false) in
+    let e = ap (λ (l : List ℕ). length l) (F.more (not-false _ c.if1.false)) in
+    let h = F.fewer (not-false _ c.if1.false) in
     (omega arith, omega arith)
 
 pub segment-count-spec : {M : Type 1} → statement M

@@ -1,5 +1,5 @@
 use Rattle.std.proofs.Common.{◌≡◌, sym, refl, ◌∙◌, arith, rules}
-use borrow.Author.Tests.{not_true, not_false}
+use borrow.Author.Tests.{not-true, not-false}
 use Rattle.macho.specs.Loader.{segment_kind}
 use Rattle.macho.specs.Commands.{of_kind, segments_of}
 use Rattle.macho.proofs.Commands.{finds_by}
@@ -19,18 +19,18 @@ loop-holds c = refl
 
 returns : tie.Need-returns invariant-loop decreases-loop
 returns c = let l = c.before.before.before.loop in let a = c.before.before.before.before.before.args in
-    laws.segment_none a.cmds.now l.left l.at l.i a.offset a.s c.before.before.find.result (finds_by segment_kind a.cmds.now l.left l.at c.before.before.find.result c.before.before.find.ensures) (not_true _ c.if1.true) ∙ sym l.invariant
+    laws.segment_none a.cmds.now l.left l.at l.i a.offset a.s c.before.before.find.result (finds_by segment_kind a.cmds.now l.left l.at c.before.before.find.result c.before.before.find.ensures) (not-true _ c.if1.true) ∙ sym l.invariant
 
 returns-2 : tie.Need-returns-2 invariant-loop decreases-loop
 returns-2 c = let l = c.before.before.before.before.before.loop in let a = c.before.before.before.before.before.before.before.args in
-    laws.segment_here a.cmds.now l.left l.at l.i a.offset a.s c.before.before.before.before.find.result (finds_by segment_kind a.cmds.now l.left l.at c.before.before.before.before.find.result c.before.before.before.before.find.ensures) (not_false _ c.before.before.if1.false) c.before.if2.true c.with-segment.result c.with-segment.ensures ∙ sym l.invariant
+    laws.segment_here a.cmds.now l.left l.at l.i a.offset a.s c.before.before.before.before.find.result (finds_by segment_kind a.cmds.now l.left l.at c.before.before.before.before.find.result c.before.before.before.before.find.ensures) (not-false _ c.before.before.if1.false) c.before.if2.true c.with-segment.result c.with-segment.ensures ∙ sym l.invariant
 
 loop-less : tie.Need-loop-smaller invariant-loop decreases-loop
-loop-less c = let l = c.before.before.before.before.loop in (finds_by segment_kind c.before.before.before.before.before.before.args.cmds.now l.left l.at c.before.before.before.find.result c.before.before.before.find.ensures).fewer (not_false _ c.before.if1.false)
+loop-less c = let l = c.before.before.before.before.loop in (finds_by segment_kind c.before.before.before.before.before.before.args.cmds.now l.left l.at c.before.before.before.find.result c.before.before.before.find.ensures).fewer (not-false _ c.before.if1.false)
 
 loop-again : tie.Need-loop-preserved invariant-loop decreases-loop
 loop-again c = let l = c.before.before.before.before.loop in let a = c.before.before.before.before.before.before.args in
-    l.invariant ∙ laws.segment_next a.cmds.now l.left l.at l.i a.offset a.s c.before.before.before.find.result (finds_by segment_kind a.cmds.now l.left l.at c.before.before.before.find.result c.before.before.before.find.ensures) (not_false _ c.before.if1.false) c.if2.false
+    l.invariant ∙ laws.segment_next a.cmds.now l.left l.at l.i a.offset a.s c.before.before.before.find.result (finds_by segment_kind a.cmds.now l.left l.at c.before.before.before.find.result c.before.before.before.find.ensures) (not-false _ c.before.if1.false) c.if2.false
 
 pub in-segment-spec : {M : Type 1} → statement M
 in-segment-spec =

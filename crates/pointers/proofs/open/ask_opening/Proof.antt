@@ -1,5 +1,5 @@
 use mathlib.Core.Path.{sym, ◌∙◌}
-use borrow.Author.Tests.{not_true, not_false}
+use borrow.Author.Tests.{not-true, not-false}
 use Rattle.pointers.specs.Question.{asked_index}
 use Rattle.pointers.specs.Open.{asked_opening}
 use Rattle.pointers.proofs.Questions as laws
@@ -11,15 +11,15 @@ returns : tie.Need-returns
 unfolding asked_opening
 returns c =
     laws.asked_on _ _ _ _ (c.before.before.before.before.ask-tables.ensures ∙ laws.asked_any_index _ _ _ _ _ _ _ _) c.before.before.enum_told.given.1
-    (laws.after_no 18 _ _ (sym c.before.bind-files.ensures ∙ not_true _ c.if1.true))
+    (laws.after_no 18 _ _ (sym c.before.bind-files.ensures ∙ not-true _ c.if1.true))
 
 returns-2 : tie.Need-returns-2
 unfolding asked_opening
 returns-2 c =
     let d = c.before.before in
     laws.asked_on _ _ _ _ (d.before.before.before.before.ask-tables.ensures ∙ laws.asked_any_index _ _ _ _ _ _ _ _) d.before.before.enum_told.given.1
-    (laws.after_yes 18 _ _ (sym d.before.bind-files.ensures ∙ not_false _ d.if1.false)
-    (laws.after_no 7 _ _ (sym c.before.names_inside_lem.ensures ∙ not_true _ c.if2.true)))
+    (laws.after_yes 18 _ _ (sym d.before.bind-files.ensures ∙ not-false _ d.if1.false)
+    (laws.after_no 7 _ _ (sym c.before.names_inside_lem.ensures ∙ not-true _ c.if2.true)))
 
 returns-3 : tie.Need-returns-3
 unfolding asked_opening
@@ -27,9 +27,9 @@ returns-3 c =
     let e = c.before.before in
     let d = e.before.before in
     laws.asked_on _ _ _ _ (d.before.before.before.before.ask-tables.ensures ∙ laws.asked_any_index _ _ _ _ _ _ _ _) d.before.before.enum_told.given.1
-    (laws.after_yes 18 _ _ (sym d.before.bind-files.ensures ∙ not_false _ d.if1.false)
-    (laws.after_yes 7 _ _ (sym e.before.names_inside_lem.ensures ∙ not_false _ e.if2.false)
-    (laws.after_no 14 _ _ (sym c.before.names-utf8.ensures ∙ not_true _ c.if3.true))))
+    (laws.after_yes 18 _ _ (sym d.before.bind-files.ensures ∙ not-false _ d.if1.false)
+    (laws.after_yes 7 _ _ (sym e.before.names_inside_lem.ensures ∙ not-false _ e.if2.false)
+    (laws.after_no 14 _ _ (sym c.before.names-utf8.ensures ∙ not-true _ c.if3.true))))
 
 returns-4 : tie.Need-returns-4
 unfolding asked_opening asked_index
@@ -38,9 +38,9 @@ returns-4 c =
     let e = f.before.before in
     let d = e.before.before in
     laws.asked_on _ _ _ _ (d.before.before.before.before.ask-tables.ensures ∙ laws.asked_any_index _ _ _ _ _ _ _ _) d.before.before.enum_told.given.1
-    (laws.after_yes 18 _ _ (sym d.before.bind-files.ensures ∙ not_false _ d.if1.false)
-    (laws.after_yes 7 _ _ (sym e.before.names_inside_lem.ensures ∙ not_false _ e.if2.false)
-    (laws.after_yes 14 _ _ (sym f.before.names-utf8.ensures ∙ not_false _ f.if3.false) c.ask-index.ensures)))
+    (laws.after_yes 18 _ _ (sym d.before.bind-files.ensures ∙ not-false _ d.if1.false)
+    (laws.after_yes 7 _ _ (sym e.before.names_inside_lem.ensures ∙ not-false _ e.if2.false)
+    (laws.after_yes 14 _ _ (sym f.before.names-utf8.ensures ∙ not-false _ f.if3.false) c.ask-index.ensures)))
 
 returns-5 : tie.Need-returns-5
 unfolding asked_opening

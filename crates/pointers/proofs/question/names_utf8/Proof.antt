@@ -3,7 +3,7 @@ use mathlib.Core.Path.{◌≡◌, refl, sym, ◌∙◌}
 use mathlib.Core.Bool.{true}
 use native.Mathlib.Omega.{arith}
 use borrow.Author.Rules.{rules}
-use borrow.Author.Tests.{not_true, not_false}
+use borrow.Author.Tests.{not-true, not-false}
 use Rattle.reads.specs.Files.{files_lent}
 use Rattle.reads.specs.Table.{records}
 use Rattle.pointers.specs.Tables.{bind_words}
@@ -29,13 +29,13 @@ returns c =
     let a = c.before.before.before.before.before.before.args in
     let good = bind_utf8_by (files_lent a.files.now) a.binds.now _ _ c.before.before.at.ensures c.before.name-utf8.ensures in
     every_fails _ _ _ c.before.before.before.loop-test.true
-    (sym good ∙ not_true _ c.if1.true)
+    (sym good ∙ not-true _ c.if1.true)
 
 loop-again : tie.Need-loop-preserved invariant-loop decreases-loop
 loop-again c =
     let a = c.before.before.before.before.before.before.args in
     let good = bind_utf8_by (files_lent a.files.now) a.binds.now _ _ c.before.before.at.ensures c.before.name-utf8.ensures in
-    (omega arith, every_more _ _ c.before.before.before.before.loop.invariant.1 (sym good ∙ not_false _ c.if1.false))
+    (omega arith, every_more _ _ c.before.before.before.before.loop.invariant.1 (sym good ∙ not-false _ c.if1.false))
 
 returns-2 : tie.Need-returns-2 invariant-loop decreases-loop
 unfolding names_utf8

@@ -5,7 +5,7 @@ use native.Mathlib.Nat.{add-zero}
 use native.Mathlib.Omega.{arith}
 use lib.ListN.{length}
 use borrow.Author.Rules.{rules}
-use borrow.Author.Tests.{eq-eqb, ne_eqb, not_true, not_false}
+use borrow.Author.Tests.{eq-eqb, ne_eqb, not-true, not-false}
 use Rattle.reads.specs.Table.{records}
 use Rattle.pointers.specs.Tables.{section_words, section_table_words}
 use Rattle.pointers.specs.Question.{every, section_row_fits, section_table}
@@ -33,10 +33,10 @@ unfolding section_table
 returns-2 c =
     let start = c.before.before.before.before.before.before.before.before in
     rw (eq-eqb (length start.args.sections.now) section_table_words c.before.before.before.before.before.before.if1.false)
-    (every_fails _ _ _ c.before.before.before.before.loop-test.true (rw add-zero (sym c.before.section-fits.ensures ∙ not_true _ c.if2.true)))
+    (every_fails _ _ _ c.before.before.before.before.loop-test.true (rw add-zero (sym c.before.section-fits.ensures ∙ not-true _ c.if2.true)))
 
 loop-again : tie.Need-loop-preserved invariant-loop decreases-loop
-loop-again c = (omega arith, every_more _ _ c.before.before.before.before.before.loop.invariant.1 (rw add-zero (sym c.before.section-fits.ensures ∙ not_false _ c.if2.false)))
+loop-again c = (omega arith, every_more _ _ c.before.before.before.before.before.loop.invariant.1 (rw add-zero (sym c.before.section-fits.ensures ∙ not-false _ c.if2.false)))
 
 returns-3 : tie.Need-returns-3 invariant-loop decreases-loop
 unfolding section_table

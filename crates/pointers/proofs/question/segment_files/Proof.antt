@@ -3,7 +3,7 @@ use mathlib.Core.Path.{◌≡◌, refl, sym, ◌∙◌}
 use mathlib.Core.Bool.{true}
 use native.Mathlib.Omega.{arith}
 use borrow.Author.Rules.{rules}
-use borrow.Author.Tests.{not_true, not_false}
+use borrow.Author.Tests.{not-true, not-false}
 use Rattle.reads.specs.Files.{files_lent}
 use Rattle.reads.specs.Table.{records}
 use Rattle.reads.specs.Segment.{segment_words}
@@ -25,10 +25,10 @@ loop-holds c = (omega arith, refl)
 
 returns : tie.Need-returns invariant-loop decreases-loop
 unfolding segment_files
-returns c = every_fails _ _ _ c.before.before.before.loop-test.true (sym c.before.is-lent.ensures ∙ not_true _ c.if1.true)
+returns c = every_fails _ _ _ c.before.before.before.loop-test.true (sym c.before.is-lent.ensures ∙ not-true _ c.if1.true)
 
 loop-again : tie.Need-loop-preserved invariant-loop decreases-loop
-loop-again c = (omega arith, every_more _ _ c.before.before.before.before.loop.invariant.1 (sym c.before.is-lent.ensures ∙ not_false _ c.if1.false))
+loop-again c = (omega arith, every_more _ _ c.before.before.before.before.loop.invariant.1 (sym c.before.is-lent.ensures ∙ not-false _ c.if1.false))
 
 returns-2 : tie.Need-returns-2 invariant-loop decreases-loop
 unfolding segment_files

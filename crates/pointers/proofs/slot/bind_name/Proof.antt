@@ -1,6 +1,6 @@
 use mathlib.Core.Path.{sym, ap, ◌∙◌}
 use borrow.Author.Rules.{rules}
-use borrow.Author.Tests.{not_true, not_false}
+use borrow.Author.Tests.{not-true, not-false}
 use Rattle.reads.specs.Outcome.{value}
 use Rattle.reads.specs.Files.{files_lent}
 use Rattle.pointers.specs.Slot.{bind_name}
@@ -15,7 +15,7 @@ unfolding bind_name
 returns c =
     let d = c.before.before.before in
     let a = d.before.before.args in
-    after_no 18 _ _ (sym (lent_by (files_lent a.files.now) a.binds.now a.i _ d.at.ensures c.before.is-lent.ensures) ∙ not_true _ c.if1.true)
+    after_no 18 _ _ (sym (lent_by (files_lent a.files.now) a.binds.now a.i _ d.at.ensures c.before.is-lent.ensures) ∙ not-true _ c.if1.true)
 
 returns-2 : tie.Need-returns-2
 unfolding bind_name
@@ -23,8 +23,8 @@ returns-2 c =
     let u = c.before.before in
     let d = u.before.before.before in
     let a = d.before.before.args in
-    after_yes 18 _ _ (sym (lent_by (files_lent a.files.now) a.binds.now a.i _ d.at.ensures u.before.is-lent.ensures) ∙ not_false _ u.if1.false)
-    (after_no 7 _ _ (sym (inside_by (files_lent a.files.now) a.binds.now a.i _ d.at.ensures c.before.name-inside.ensures) ∙ not_true _ c.if2.true))
+    after_yes 18 _ _ (sym (lent_by (files_lent a.files.now) a.binds.now a.i _ d.at.ensures u.before.is-lent.ensures) ∙ not-false _ u.if1.false)
+    (after_no 7 _ _ (sym (inside_by (files_lent a.files.now) a.binds.now a.i _ d.at.ensures c.before.name-inside.ensures) ∙ not-true _ c.if2.true))
 
 returns-3 : tie.Need-returns-3
 unfolding bind_name
@@ -33,9 +33,9 @@ returns-3 c =
     let u = w.before.before in
     let d = u.before.before.before in
     let a = d.before.before.args in
-    after_yes 18 _ _ (sym (lent_by (files_lent a.files.now) a.binds.now a.i _ d.at.ensures u.before.is-lent.ensures) ∙ not_false _ u.if1.false)
-    (after_yes 7 _ _ (sym (inside_by (files_lent a.files.now) a.binds.now a.i _ d.at.ensures w.before.name-inside.ensures) ∙ not_false _ w.if2.false)
-    (after_no 14 _ _ (sym (bind_utf8_by (files_lent a.files.now) a.binds.now a.i _ d.at.ensures c.before.name-utf8.ensures) ∙ not_true _ c.if3.true)))
+    after_yes 18 _ _ (sym (lent_by (files_lent a.files.now) a.binds.now a.i _ d.at.ensures u.before.is-lent.ensures) ∙ not-false _ u.if1.false)
+    (after_yes 7 _ _ (sym (inside_by (files_lent a.files.now) a.binds.now a.i _ d.at.ensures w.before.name-inside.ensures) ∙ not-false _ w.if2.false)
+    (after_no 14 _ _ (sym (bind_utf8_by (files_lent a.files.now) a.binds.now a.i _ d.at.ensures c.before.name-utf8.ensures) ∙ not-true _ c.if3.true)))
 
 returns-4 : tie.Need-returns-4
 unfolding bind_name
@@ -44,9 +44,9 @@ returns-4 c =
     let u = w.before.before in
     let d = u.before.before.before in
     let a = d.before.before.args in
-    after_yes 18 _ _ (sym (lent_by (files_lent a.files.now) a.binds.now a.i _ d.at.ensures u.before.is-lent.ensures) ∙ not_false _ u.if1.false)
-    (after_yes 7 _ _ (sym (inside_by (files_lent a.files.now) a.binds.now a.i _ d.at.ensures w.before.name-inside.ensures) ∙ not_false _ w.if2.false)
-    (after_yes 14 _ _ (sym (bind_utf8_by (files_lent a.files.now) a.binds.now a.i _ d.at.ensures c.before.name-utf8.ensures) ∙ not_false _ c.if3.false)
+    after_yes 18 _ _ (sym (lent_by (files_lent a.files.now) a.binds.now a.i _ d.at.ensures u.before.is-lent.ensures) ∙ not-false _ u.if1.false)
+    (after_yes 7 _ _ (sym (inside_by (files_lent a.files.now) a.binds.now a.i _ d.at.ensures w.before.name-inside.ensures) ∙ not-false _ w.if2.false)
+    (after_yes 14 _ _ (sym (bind_utf8_by (files_lent a.files.now) a.binds.now a.i _ d.at.ensures c.before.name-utf8.ensures) ∙ not-false _ c.if3.false)
     (ap (λ (b : Bind). value b.name) d.at.ensures)))
 
 pub bind-name-spec : {M : Type 1} → statement M

@@ -1,7 +1,7 @@
 -- `reads::text::scan_text` meets its contract. The invariant: what is left of the text decides the verdict, and is as long less what was
 -- read.
 use Rattle.std.proofs.Common.{◌-◌, ◌≤◌, true, [], length, ap, ◌∙◌, ⊎_elim, arith, rules}
-use borrow.Author.Tests.{not_true, not_false}
+use borrow.Author.Tests.{not-true, not-false}
 use Rattle.reads.proofs.Passes.{Left, Stands, left_start, byte_inside, read_there, left_ascii, left_character, stands_ahead}
 use Rattle.reads.proofs.Texts.{scan_good, scan_broken}
 use Rattle.reads.proofs.text.scan_text.Statement.{statement}
@@ -51,7 +51,7 @@ broken-requires c κs = let t = stands c.before.before.before in (t.within, t.is
 returns-2 : tie.Need-returns-2 invariant-loop decreases-loop
 returns-2 c =
     let t = stands c.before.before.before.before in
-    c.broken.ensures ∙ scan_broken (t.bad (not_true _ c.before.if4.true))
+    c.broken.ensures ∙ scan_broken (t.bad (not-true _ c.before.if4.true))
 
 loop-less-2 : tie.Need-loop-smaller-2 invariant-loop decreases-loop
 loop-less-2 c =
@@ -62,7 +62,7 @@ loop-less-2 c =
     omega (arith, ahead.0, ahead.1)
 
 loop-again-2 : tie.Need-loop-preserved-2 invariant-loop decreases-loop
-loop-again-2 c = (stands c.before.before.before).on (not_false _ c.if4.false)
+loop-again-2 c = (stands c.before.before.before).on (not-false _ c.if4.false)
 
 pub scan-text-spec : {M : Type 1} → statement M
 scan-text-spec =

@@ -1,6 +1,6 @@
 use Rattle.std.proofs.Common.{sym, ◌∙◌, rules}
 use Rattle.reads.proofs.Texts.{scan_old, scan_ended, scan_endless}
-use borrow.Author.Tests.{not_true, not_false}
+use borrow.Author.Tests.{not-true, not-false}
 use Rattle.reads.proofs.text.text_of_scan.Statement.{statement}
 use Rattle.reads.proofs.text.text_of_scan.Tie as tie
 
@@ -8,7 +8,7 @@ returns : tie.Need-returns
 returns c =
     let d = c.before.before in
     let a = d.before.before.args in
-    scan_endless a.p a.scan d.enum-told2.given.1 (sym c.before.ended.ensures ∙ not_true _ c.if1.true)
+    scan_endless a.p a.scan d.enum-told2.given.1 (sym c.before.ended.ensures ∙ not-true _ c.if1.true)
 
 returns-2 : tie.Need-returns-2
 returns-2 c =
@@ -19,7 +19,7 @@ returns-3 : tie.Need-returns-3
 returns-3 c =
     let d = c.before.before.before in
     let a = d.before.before.args in
-    c.good-text2.ensures ∙ scan_ended a.p a.scan d.enum-told2.given.1 (sym c.before.before.ended.ensures ∙ not_false _ c.before.if1.false)
+    c.good-text2.ensures ∙ scan_ended a.p a.scan d.enum-told2.given.1 (sym c.before.before.ended.ensures ∙ not-false _ c.before.if1.false)
 
 pub text-of-scan-spec : {M : Type 1} → statement M
 text-of-scan-spec =

@@ -1,6 +1,6 @@
 -- `reads::text::utf8_verdict` meets its contract. The invariant: what is left decides the verdict.
 use Rattle.std.proofs.Common.{◌-◌, false, [], length, sym, ap, ◌∙◌, arith, drop_of_length-le, rules}
-use borrow.Author.Tests.{not_true, not_false}
+use borrow.Author.Tests.{not-true, not-false}
 use Rattle.reads.specs.Utf8.{judge, verdict}
 use Rattle.reads.proofs.Passes.{Left, Stands, left_start, left_ascii, left_character, read_there, stands_ahead}
 use Rattle.reads.proofs.text.utf8_verdict.Statement.{statement}
@@ -36,7 +36,7 @@ stands c =
     left_character d.before.before.loop.invariant d.read_byte.ensures c.before.if1.false c.character.ensures
 
 returns : tie.Need-returns invariant-loop decreases-loop
-returns c = ((stands c.before.before.before).bad (not_true _ c.if2.true)).judged
+returns c = ((stands c.before.before.before).bad (not-true _ c.if2.true)).judged
 
 loop-less-2 : tie.Need-loop-smaller-2 invariant-loop decreases-loop
 loop-less-2 c =
@@ -45,7 +45,7 @@ loop-less-2 c =
     omega (arith, ahead.0, ahead.1)
 
 loop-again-2 : tie.Need-loop-preserved-2 invariant-loop decreases-loop
-loop-again-2 c = (stands c.before.before.before).on (not_false _ c.if2.false)
+loop-again-2 c = (stands c.before.before.before).on (not-false _ c.if2.false)
 
 returns-2 : tie.Need-returns-2 invariant-loop decreases-loop
 unfolding judge

@@ -1,4 +1,4 @@
-use mathlib.Core.Bool.{or_true}
+use mathlib.Core.Bool.{or-true}
 use native.Mathlib.Omega.{arith}
 use lib.Count.{count_trailing_zeros}
 use borrow.Author.Rules.{rules}
@@ -49,7 +49,7 @@ returns-5 c =
       at_offset.offset.given.1,
       at-alignment.alignment.given.1,
       le-leb at-alignment.alignment.given.0.0 (count_trailing_zeros 32 n) (omega arith),
-      or_true,
+      or-true,
     )
 
 pub aligned-of-spec : {M : Type 1} → statement M

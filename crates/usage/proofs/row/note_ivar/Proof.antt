@@ -1,6 +1,6 @@
 use mathlib.Core.Path.{refl}
 use borrow.Author.Rules.{rules}
-use borrow.Author.Tests.{not_true, not_false}
+use borrow.Author.Tests.{not-true, not-false}
 use Rattle.reads.specs.Answer.{word_outcome, place_outcome}
 use Rattle.usage.proofs.Noting as noting
 use Rattle.records.specs.Ask as asks
@@ -44,7 +44,7 @@ returns-5 c =
     (noting.word_next _ (asks.pointer_or0 c.before.before.before.before.before.before.before.before.before.before.before.before.before.before.before.before.before.before.before.before.before.before.before.before.before.before.before.before.before.before.before.before.args.va 16) _ word_outcome c.before.before.before.before.before.before.before.before.encoding.given.1 _ _ c.before.before.before.before.before.before.before.before.before.before.note-pointer-value.ensures refl
     (noting.field_next _ (asks.u32_in c.before.before.before.before.before.before.before.before.before.before.before.before.before.before.before.before.before.before.before.before.before.before.before.place.given.0.0 24) _ _ _ c.before.before.before.before.before.note-field.ensures refl
     (noting.field_next _ (asks.u32_in c.before.before.before.before.before.before.before.before.before.before.before.before.before.before.before.before.before.before.before.before.before.before.before.place.given.0.0 28) _ _ _ c.before.before.before.note-field2.ensures refl
-    (noting.asked_ends _ (asks.string c.before.before.before.before.before.before.before.before.before.before.before.before.before.name.given.0.0) _ _ c.before.note-string.ensures (not_true _ c.if1.true)))))))
+    (noting.asked_ends _ (asks.string c.before.before.before.before.before.before.before.before.before.before.before.before.before.name.given.0.0) _ _ c.before.note-string.ensures (not-true _ c.if1.true)))))))
 
 returns-6 : tie.Need-returns-6
 unfolding decode_ivar
@@ -55,7 +55,7 @@ returns-6 c =
     (noting.word_next _ (asks.pointer_or0 c.before.before.before.before.before.before.before.before.before.before.before.before.before.before.before.before.before.before.before.before.before.before.before.before.before.before.before.before.before.before.before.before.before.before.before.before.args.va 16) _ word_outcome c.before.before.before.before.before.before.before.before.before.before.before.before.encoding.given.1 _ _ c.before.before.before.before.before.before.before.before.before.before.before.before.before.before.note-pointer-value.ensures refl
     (noting.field_next _ (asks.u32_in c.before.before.before.before.before.before.before.before.before.before.before.before.before.before.before.before.before.before.before.before.before.before.before.before.before.before.before.place.given.0.0 24) _ _ _ c.before.before.before.before.before.before.before.before.before.note-field.ensures refl
     (noting.field_next _ (asks.u32_in c.before.before.before.before.before.before.before.before.before.before.before.before.before.before.before.before.before.before.before.before.before.before.before.before.before.before.before.place.given.0.0 28) _ _ _ c.before.before.before.before.before.before.before.note-field2.ensures refl
-    (noting.asked_going _ (asks.string c.before.before.before.before.before.before.before.before.before.before.before.before.before.before.before.before.before.name.given.0.0) _ _ c.before.before.before.before.before.note-string.ensures (not_false _ c.before.before.before.before.if1.false) (λ _.
+    (noting.asked_going _ (asks.string c.before.before.before.before.before.before.before.before.before.before.before.before.before.before.before.before.before.name.given.0.0) _ _ c.before.before.before.before.before.note-string.ensures (not-false _ c.before.before.before.before.if1.false) (λ _.
     noting.text_next _ c.before.before.before.before.before.before.before.before.before.before.before.before.encoding.given.0.0 _ _ c.before.before.note-text.ensures (λ _.
     noting.noted_last _ (decode_offset c.before.before.before.before.before.before.before.before.before.before.before.before.before.before.before.before.before.before.before.before.before.before.cell.given.0.0) _ _ c.note-offset.ensures (λ _. used_done _ _)))))))))
 

@@ -1,6 +1,6 @@
 use mathlib.Core.Path.{refl}
 use borrow.Author.Rules.{rules}
-use borrow.Author.Tests.{not_true, not_false}
+use borrow.Author.Tests.{not-true, not-false}
 use Rattle.reads.specs.Answer.{word_outcome, place_outcome}
 use Rattle.usage.proofs.Noting as noting
 use Rattle.records.specs.Ask as asks
@@ -33,7 +33,7 @@ returns-4 c =
     noting.test_next _ (asks.readable c.before.before.before.before.before.before.before.before.before.before.before.before.before.before.before.before.before.before.before.before.before.before.before.args.va 16) _ place_outcome c.before.before.before.before.before.before.before.before.before.before.before.before.before.before.place.given.1 _ _ c.before.before.before.before.before.before.before.before.before.before.before.before.before.before.before.before.readable.ensures refl refl
     (noting.word_next _ (asks.slot c.before.before.before.before.before.before.before.before.before.before.before.before.before.before.before.before.before.before.before.before.before.before.before.args.va) _ word_outcome c.before.before.before.before.before.before.before.before.before.name.given.1 _ _ c.before.before.before.before.before.before.before.before.before.before.before.note-slot.ensures refl
     (noting.word_next _ (asks.pointer_or0 c.before.before.before.before.before.before.before.before.before.before.before.before.before.before.before.before.before.before.before.before.before.before.before.args.va 8) _ word_outcome c.before.before.before.before.attributes.given.1 _ _ c.before.before.before.before.before.before.note-pointer-value.ensures refl
-    (noting.asked_ends _ (asks.string c.before.before.before.before.before.before.before.before.before.name.given.0.0) _ _ c.before.note-string.ensures (not_true _ c.if1.true))))
+    (noting.asked_ends _ (asks.string c.before.before.before.before.before.before.before.before.before.name.given.0.0) _ _ c.before.note-string.ensures (not-true _ c.if1.true))))
 
 returns-5 : tie.Need-returns-5
 unfolding decode_property
@@ -41,7 +41,7 @@ returns-5 c =
     noting.test_next _ (asks.readable c.before.before.before.before.before.before.before.before.before.before.before.before.before.before.before.before.before.before.before.before.before.before.before.before.before.args.va 16) _ place_outcome c.before.before.before.before.before.before.before.before.before.before.before.before.before.before.before.before.place.given.1 _ _ c.before.before.before.before.before.before.before.before.before.before.before.before.before.before.before.before.before.before.readable.ensures refl refl
     (noting.word_next _ (asks.slot c.before.before.before.before.before.before.before.before.before.before.before.before.before.before.before.before.before.before.before.before.before.before.before.before.before.args.va) _ word_outcome c.before.before.before.before.before.before.before.before.before.before.before.name.given.1 _ _ c.before.before.before.before.before.before.before.before.before.before.before.before.before.note-slot.ensures refl
     (noting.word_next _ (asks.pointer_or0 c.before.before.before.before.before.before.before.before.before.before.before.before.before.before.before.before.before.before.before.before.before.before.before.before.before.args.va 8) _ word_outcome c.before.before.before.before.before.before.attributes.given.1 _ _ c.before.before.before.before.before.before.before.before.note-pointer-value.ensures refl
-    (noting.asked_going _ (asks.string c.before.before.before.before.before.before.before.before.before.before.before.name.given.0.0) _ _ c.before.before.before.note-string.ensures (not_false _ c.before.before.if1.false) (λ _.
+    (noting.asked_going _ (asks.string c.before.before.before.before.before.before.before.before.before.before.before.name.given.0.0) _ _ c.before.before.before.note-string.ensures (not-false _ c.before.before.if1.false) (λ _.
     noting.noted_text _ c.before.before.before.before.before.before.attributes.given.0.0 _ _ c.note-text.ensures (λ _. used_done _ _)))))
 
 pub note-property-spec : {M : Type 1} → statement M

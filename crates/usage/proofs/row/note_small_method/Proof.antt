@@ -1,6 +1,6 @@
 use mathlib.Core.Path.{refl}
 use borrow.Author.Rules.{rules}
-use borrow.Author.Tests.{not_true, not_false}
+use borrow.Author.Tests.{not-true, not-false}
 use Rattle.reads.specs.Answer.{word_outcome, place_outcome}
 use Rattle.usage.proofs.Noting as noting
 use Rattle.records.specs.Ask as asks
@@ -54,7 +54,7 @@ returns-5 c =
     (noting.test_next _ (asks.sum64 c.before.before.before.before.before.before.before.before.before.before.before.before.before.before.before.before.before.before.before.before.before.before.before.before.before.before.before.before.before.before.before.before.args.va 4) _ word_outcome c.before.before.before.before.before.before.before.before.before.before.before.before.before.types-field.given.1 _ _ c.before.before.before.before.before.before.before.before.before.before.before.before.before.before.before.checked-add.ensures refl refl
     (noting.test_next _ (asks.sum64 c.before.before.before.before.before.before.before.before.before.before.before.before.before.before.before.before.before.before.before.before.before.before.before.before.before.before.before.before.before.before.before.before.args.va 8) _ word_outcome c.before.before.before.before.before.before.before.before.before.imp-field.given.1 _ _ c.before.before.before.before.before.before.before.before.before.before.before.checked-add2.ensures refl refl
     (noting.part_next _ (decode_selector c.before.before.before.before.before.before.before.before.before.before.before.before.before.before.before.before.before.before.before.before.before.before.before.before.before.before.before.before.before.before.before.before.args.direct c.before.before.before.before.before.before.before.before.before.before.before.before.before.before.before.before.before.before.before.before.before.before.before.before.before.before.before.before.before.before.before.before.args.va c.before.before.before.before.before.before.before.before.before.before.before.before.before.before.before.before.before.before.before.before.before.before.before.place.given.0.0) _ word_outcome c.before.before.before.before.name.given.1 _ _ c.before.before.before.before.before.before.note-selector.ensures refl
-    (noting.asked_ends _ (asks.string c.before.before.before.before.name.given.0.0) _ _ c.before.note-string.ensures (not_true _ c.if1.true))))))))
+    (noting.asked_ends _ (asks.string c.before.before.before.before.name.given.0.0) _ _ c.before.note-string.ensures (not-true _ c.if1.true))))))))
 
 returns-6 : tie.Need-returns-6
 unfolding decode_small_method
@@ -66,7 +66,7 @@ returns-6 c =
     (noting.test_next _ (asks.sum64 c.before.before.before.before.before.before.before.before.before.before.before.before.before.before.before.before.before.before.before.before.before.before.before.before.before.before.before.before.before.before.before.before.before.before.args.va 4) _ word_outcome c.before.before.before.before.before.before.before.before.before.before.before.before.before.before.before.types-field.given.1 _ _ c.before.before.before.before.before.before.before.before.before.before.before.before.before.before.before.before.before.checked-add.ensures refl refl
     (noting.test_next _ (asks.sum64 c.before.before.before.before.before.before.before.before.before.before.before.before.before.before.before.before.before.before.before.before.before.before.before.before.before.before.before.before.before.before.before.before.before.before.args.va 8) _ word_outcome c.before.before.before.before.before.before.before.before.before.before.before.imp-field.given.1 _ _ c.before.before.before.before.before.before.before.before.before.before.before.before.before.checked-add2.ensures refl refl
     (noting.part_next _ (decode_selector c.before.before.before.before.before.before.before.before.before.before.before.before.before.before.before.before.before.before.before.before.before.before.before.before.before.before.before.before.before.before.before.before.before.before.args.direct c.before.before.before.before.before.before.before.before.before.before.before.before.before.before.before.before.before.before.before.before.before.before.before.before.before.before.before.before.before.before.before.before.before.before.args.va c.before.before.before.before.before.before.before.before.before.before.before.before.before.before.before.before.before.before.before.before.before.before.before.before.before.place.given.0.0) _ word_outcome c.before.before.before.before.before.before.name.given.1 _ _ c.before.before.before.before.before.before.before.before.note-selector.ensures refl
-    (noting.asked_going _ (asks.string c.before.before.before.before.before.before.name.given.0.0) _ _ c.before.before.before.note-string.ensures (not_false _ c.before.before.if1.false) (λ _.
+    (noting.asked_going _ (asks.string c.before.before.before.before.before.before.name.given.0.0) _ _ c.before.before.before.note-string.ensures (not-false _ c.before.before.if1.false) (λ _.
     noting.noted_last _ (decode_types c.before.before.before.before.before.before.before.before.before.before.before.before.before.before.before.types-field.given.0.0 c.before.before.before.before.before.before.before.before.before.before.before.before.before.before.before.before.before.before.before.before.before.before.before.before.before.place.given.0.0) _ _ c.note-types.ensures (λ _. used_done _ _)))))))))
 
 pub note-small-method-spec : {M : Type 1} → statement M

@@ -7,7 +7,7 @@ use Rattle.printing.proofs.Comes.{left_in}
 use Rattle.printing.proofs.Fills.{Filling, filling_start, piece_full, piece_over, piece_on, piece_less, piece_rest}
 use Rattle.printing.proofs.ProgressWords.{progress_sound}
 use borrow.Author.Rules.{rules}
-use borrow.Author.Tests.{not_true, not_false}
+use borrow.Author.Tests.{not-true, not-false}
 use Rattle.printing.proofs.pieces.Progress.fill.Statement.{statement}
 use Rattle.printing.proofs.pieces.Progress.fill.Tie as tie
 
@@ -41,7 +41,7 @@ returns-2 c =
     let at-loop = at-hand-out.before.before in
     let entry = at-loop.before.before.before.before.before.before.before.before.before in
     let e = piece_over _ _ _ at-loop.loop.progress _ _ _ at-loop.loop.invariant.1 at-hand-out.hand-out.result
-    at-hand-out.hand-out.ensures.0 _ at-hand-out.hand-out.ensures.1 (search rules) (sym at-goes-on.goes_on.ensures ∙ not_true _ c.if2.true) in
+    at-hand-out.hand-out.ensures.0 _ at-hand-out.hand-out.ensures.1 (search rules) (sym at-goes-on.goes_on.ensures ∙ not-true _ c.if2.true) in
     (e, piece_rest _ _ _ _ at-hand-out.hand-out.result _ _ (progress_sound entry.args.self _ _ entry.well-formed.0) e)
 
 loop-less : tie.Need-loop-smaller invariant-loop decreases-loop
@@ -51,7 +51,7 @@ loop-less c =
     let at-hand-out = at-goes-on.before.before.before.before.before in
     let at-loop = at-hand-out.before.before in
     piece_less _ _ _ at-loop.loop.progress _ _ _ at-loop.loop.invariant.1 at-hand-out.hand-out.result
-    at-hand-out.hand-out.ensures.0 _ at-hand-out.hand-out.ensures.1 (search rules) (sym at-goes-on.goes_on.ensures ∙ not_false _ at-step.before.before.if2.false) at-step.step.result _ at-step.step.ensures
+    at-hand-out.hand-out.ensures.0 _ at-hand-out.hand-out.ensures.1 (search rules) (sym at-goes-on.goes_on.ensures ∙ not-false _ at-step.before.before.if2.false) at-step.step.result _ at-step.step.ensures
 
 loop-again : tie.Need-loop-preserved invariant-loop decreases-loop
 loop-again c =
@@ -61,7 +61,7 @@ loop-again c =
     let at-loop = at-hand-out.before.before in (
       search rules,
       piece_on _ _ _ at-loop.loop.progress _ _ _ at-loop.loop.invariant.1 at-hand-out.hand-out.result
-          at-hand-out.hand-out.ensures.0 _ at-hand-out.hand-out.ensures.1 (search rules) (sym at-goes-on.goes_on.ensures ∙ not_false _ at-step.before.before.if2.false) at-step.step.result _ at-step.step.ensures,
+          at-hand-out.hand-out.ensures.0 _ at-hand-out.hand-out.ensures.1 (search rules) (sym at-goes-on.goes_on.ensures ∙ not-false _ at-step.before.before.if2.false) at-step.step.result _ at-step.step.ensures,
     )
 
 pub fill_spec : {M : Type 1} → statement M

@@ -1,7 +1,7 @@
 use mathlib.Core.Path.{sym, ap, ◌∙◌}
 use native.Mathlib.Omega.{arith}
 use borrow.Author.Rules.{rules}
-use borrow.Author.Tests.{not_true, not_false}
+use borrow.Author.Tests.{not-true, not-false}
 use Rattle.reads.specs.Files.{files_lent, longest}
 use Rattle.pointers.specs.Question.{image_fits}
 use Rattle.pointers.specs.Tables.{tables_of}
@@ -22,7 +22,7 @@ returns c =
     let at-image-fits = at-if.before in
     let at-longest = at-image-fits.before in
     let entry = at-longest.before.before.before.before.before.before.before.before.before in
-    let long = ap image_fits (sym at-longest.longest.ensures) ∙ sym at-image-fits.image-fits.ensures ∙ not_true _ at-if.if1.true in
+    let long = ap image_fits (sym at-longest.longest.ensures) ∙ sym at-image-fits.image-fits.ensures ∙ not-true _ at-if.if1.true in
     piece_same _ _ _ _ _ _ _
     (sym (listable_long (tables_of (files_lent entry.args.files.now) entry.args.segments.now entry.args.sections.now entry.args.info.now
     entry.args.rebases.now entry.args.binds.now entry.args.index.now) long))
@@ -33,7 +33,7 @@ fill-requires-2 c κs =
     let at-if = c.before.before in
     let at-image-fits = at-if.before in
     let at-longest = at-image-fits.before in
-    fits_short _ (ap image_fits (sym at-longest.longest.ensures) ∙ sym at-image-fits.image-fits.ensures ∙ not_false _ at-if.if1.false)
+    fits_short _ (ap image_fits (sym at-longest.longest.ensures) ∙ sym at-image-fits.image-fits.ensures ∙ not-false _ at-if.if1.false)
 
 returns-2 : tie.Need-returns-2
 returns-2 c =
@@ -42,7 +42,7 @@ returns-2 c =
     let at-image-fits = at-if.before in
     let at-longest = at-image-fits.before in
     let entry = at-longest.before.before.before.before.before.before.before.before.before in
-    let short = ap image_fits (sym at-longest.longest.ensures) ∙ sym at-image-fits.image-fits.ensures ∙ not_false _ at-if.if1.false in
+    let short = ap image_fits (sym at-longest.longest.ensures) ∙ sym at-image-fits.image-fits.ensures ∙ not-false _ at-if.if1.false in
     piece_same _ _ _ _ _ _ _
     (sym (listable_short (tables_of (files_lent entry.args.files.now) entry.args.segments.now entry.args.sections.now entry.args.info.now
     entry.args.rebases.now entry.args.binds.now entry.args.index.now) (fits_short _ short)))
