@@ -1,0 +1,15 @@
+use Rattle.std.proofs.Common.{◌-◌, ◌≤◌, length, sym, arith, rules}
+use Rattle.reads.proofs.LebLaws.{Counted, counted_start, counted_last, counted_more, counted_end}
+use Rattle.reads.proofs.leb128.digit_count.Goals as goal
+
+pub loop-i-init : goal.loop-i-init
+loop-i-init c = (search rules, counted_start _)
+
+pub returns-then-bytes-i-lt128 : goal.returns-then-bytes-i-lt128
+returns-then-bytes-i-lt128 c = sym (counted_last _ _ c.loop-i.invariant.1 (search rules) (search rules))
+
+pub loop-i-preserved : goal.loop-i-preserved
+loop-i-preserved c = (search rules, counted_more _ _ c.loop-i.invariant.1 (search rules) (search rules))
+
+pub returns : goal.returns
+returns c = sym (counted_end _ _ c.loop-i.invariant.1 (omega arith))

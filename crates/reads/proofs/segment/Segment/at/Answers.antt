@@ -1,0 +1,5 @@
+use Rattle.std.proofs.Common.{add-zero, rules}
+use Rattle.reads.proofs.segment.Segment.at.Goals as goal
+
+pub returns : goal.returns
+returns c = rw add-zero

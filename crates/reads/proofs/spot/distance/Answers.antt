@@ -1,0 +1,6 @@
+use Rattle.reads.proofs.Spots.{distance_wraps}
+use Rattle.std.proofs.Common.{arith, rules}
+use Rattle.reads.proofs.spot.distance.Goals as goal
+
+pub returns : goal.returns
+returns c = distance_wraps _ _ _ (omega arith) (omega arith) (omega arith) c.wrapping_sub_u64.ensures.value

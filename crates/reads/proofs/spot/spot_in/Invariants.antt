@@ -1,0 +1,13 @@
+use Rattle.std.proofs.Common.{◌≡◌, ◌-◌, ◌≤◌, sym, ◌∙◌, arith, rules}
+use Rattle.reads.specs.Table.{records}
+use Rattle.reads.specs.Segment.{segment_words, rows}
+use Rattle.reads.specs.Spot.{spot_from}
+use Rattle.reads.proofs.SegmentRows.{rows_from, rows_all}
+use Rattle.reads.proofs.Spots.{spot_ends, spot_holds, spot_on, spot_out}
+use Rattle.reads.proofs.spot.spot_in.Given as goal
+
+abbrev pub invariant-loop-i : goal.invariant-loop-i
+invariant-loop-i l = (l.i ≤ records segment_words l.segments) × (spot_from l.far (rows_from l.segments l.i) l.va ≡ spot_from 0 (rows l.segments) l.va)
+
+abbrev pub decreases-loop-i : goal.decreases-loop-i
+decreases-loop-i l = records segment_words l.segments - l.i

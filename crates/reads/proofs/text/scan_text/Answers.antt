@@ -1,0 +1,50 @@
+use Rattle.std.proofs.Common.{◌-◌, ◌≤◌, true, [], length, ap, ◌∙◌, ⊎_elim, arith, rules}
+use borrow.Author.Tests.{not-true, not-false}
+use Rattle.reads.proofs.Passes.{Left, Stands, left_start, byte_inside, read_there, left_ascii, left_character, stands_ahead}
+use Rattle.reads.proofs.Texts.{scan_good, scan_broken}
+use Rattle.reads.proofs.text.scan_text.Goals.{else-b-gt0, then-b-gt0+else-b-lt128}
+use Rattle.reads.proofs.text.scan_text.Goals as goal
+
+pub loop-read-init : goal.loop-read-init
+loop-read-init c = left_start true c.args.s.now
+
+pub loop-read-smaller-then-b-lt128 : goal.loop-read-smaller-then-b-lt128
+loop-read-smaller-then-b-lt128 c = 
+    let l = c.loop-read in
+    let h = byte_inside l.invariant c.read_byte-b.ensures c.if-b-gt0.true in
+    omega (arith, h, ap (λ b. b.read) c.read_byte-b.ensures ∙ read_there c.args.s.now l.read h)
+
+pub loop-read-preserved-then-b-lt128 : goal.loop-read-preserved-then-b-lt128
+loop-read-preserved-then-b-lt128 c = 
+    let l = c.loop-read.invariant in
+    left_ascii l c.read_byte-b.ensures (byte_inside l c.read_byte-b.ensures c.if-b-gt0.true) (λ z. omega arith) c.if-b-lt128.true
+
+pub returns-then-b-eq0 : goal.returns-then-b-eq0
+returns-then-b-eq0 c = scan_good c.loop-read.invariant c.read_byte-b.ensures c.if-b-eq0.true
+
+pub broken-requires : goal.broken-requires
+broken-requires c =
+    let high : 0x80 ≤ c.read_byte-b.result.byte = elim c.if-b-gt0.branch [ then-b-gt0+else-b-lt128 w ↦ omega arith | else-b-gt0 w ↦ omega arith ] in
+    let stands : Stands true c.args.s.now c.loop-read.read [] c.character-step.result = left_character c.loop-read.invariant c.read_byte-b.ensures (high) c.character-step.ensures in
+    let t = stands in (t.within, t.is)
+
+pub returns-then-not-step : goal.returns-then-not-step
+returns-then-not-step c =
+    let high : 0x80 ≤ c.read_byte-b.result.byte = elim c.if-b-gt0.branch [ then-b-gt0+else-b-lt128 w ↦ omega arith | else-b-gt0 w ↦ omega arith ] in
+    let stands : Stands true c.args.s.now c.loop-read.read [] c.character-step.result = left_character c.loop-read.invariant c.read_byte-b.ensures (high) c.character-step.ensures in
+    let t = stands in
+    c.broken.ensures ∙ scan_broken (t.bad (not-true _ c.if-not-step.true))
+
+pub loop-read-smaller : goal.loop-read-smaller
+loop-read-smaller c =
+    let high : 0x80 ≤ c.read_byte-b.result.byte = elim c.if-b-gt0.branch [ then-b-gt0+else-b-lt128 w ↦ omega arith | else-b-gt0 w ↦ omega arith ] in
+    let stands : Stands true c.args.s.now c.loop-read.read [] c.character-step.result = left_character c.loop-read.invariant c.read_byte-b.ensures (high) c.character-step.ensures in
+    let h = byte_inside c.loop-read.invariant c.read_byte-b.ensures (omega (arith, high)) in
+    let ahead = stands_ahead h (stands) in
+    omega (arith, ahead.0, ahead.1)
+
+pub loop-read-preserved : goal.loop-read-preserved
+loop-read-preserved c =
+    let high : 0x80 ≤ c.read_byte-b.result.byte = elim c.if-b-gt0.branch [ then-b-gt0+else-b-lt128 w ↦ omega arith | else-b-gt0 w ↦ omega arith ] in
+    let stands : Stands true c.args.s.now c.loop-read.read [] c.character-step.result = left_character c.loop-read.invariant c.read_byte-b.ensures (high) c.character-step.ensures in
+    (stands).on (not-false _ c.if-not-step.false)

@@ -1,0 +1,36 @@
+use Rattle.std.proofs.Common.{◌-◌, false, [], length, sym, ap, ◌∙◌, arith, drop_of_length-le, rules}
+use borrow.Author.Tests.{not-true, not-false}
+use Rattle.reads.specs.Utf8.{judge, verdict}
+use Rattle.reads.proofs.Passes.{Left, Stands, left_start, left_ascii, left_character, read_there, stands_ahead}
+use Rattle.reads.proofs.text.utf8_verdict.Goals as goal
+
+pub loop-read-init : goal.loop-read-init
+loop-read-init c = left_start false c.args.s.now
+
+pub loop-read-smaller-then-b-lt128 : goal.loop-read-smaller-then-b-lt128
+loop-read-smaller-then-b-lt128 c = 
+    let n = ap (λ b. b.read) c.read_byte-b.ensures ∙ read_there c.args.s.now c.loop-read.read c.loop-read-test.true in
+    omega (arith, n)
+
+pub loop-read-preserved-then-b-lt128 : goal.loop-read-preserved-then-b-lt128
+loop-read-preserved-then-b-lt128 c = left_ascii c.loop-read.invariant c.read_byte-b.ensures c.loop-read-test.true tt c.if-b-lt128.true
+
+pub returns-then-not-step : goal.returns-then-not-step
+returns-then-not-step c =
+    let stands : Stands false c.args.s.now c.loop-read.read [] c.character-step.result = left_character c.loop-read.invariant c.read_byte-b.ensures c.if-b-lt128.false c.character-step.ensures in
+    ((stands).bad (not-true _ c.if-not-step.true)).judged
+
+pub loop-read-smaller : goal.loop-read-smaller
+loop-read-smaller c =
+    let stands : Stands false c.args.s.now c.loop-read.read [] c.character-step.result = left_character c.loop-read.invariant c.read_byte-b.ensures c.if-b-lt128.false c.character-step.ensures in
+    let ahead = stands_ahead c.loop-read-test.true (stands) in
+    omega (arith, ahead.0, ahead.1)
+
+pub loop-read-preserved : goal.loop-read-preserved
+loop-read-preserved c =
+    let stands : Stands false c.args.s.now c.loop-read.read [] c.character-step.result = left_character c.loop-read.invariant c.read_byte-b.ensures c.if-b-lt128.false c.character-step.ensures in
+    (stands).on (not-false _ c.if-not-step.false)
+
+pub returns : goal.returns
+unfolding judge
+returns c = ap (judge c.loop-read.read []) (sym (drop_of_length-le c.args.s.now c.loop-read-test.false)) ∙ c.loop-read.invariant.judged
