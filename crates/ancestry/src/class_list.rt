@@ -128,7 +128,7 @@ fn count_all(
 // The three words of a record.
 fn put_record(res: &mut [u64], at: usize, a: Ancestry)
     requires { at + 3 ≤ length res.old }
-    ensures { after res ≡ put (before res) at a }
+    ensures { res.new ≡ put res.old at a }
 {
     res[at] = a.count;
     res[at + 1] = a.last;
@@ -152,7 +152,7 @@ fn write_all(
     requires { let t = lent_now files.now segments.now sections.now info.now rebases.now binds.now index.now setting in
         (asked t ≡ value tt) × Fits (told_of t together) classes.now res.old }
     ensures { let t = under setting (lent files segments sections info rebases binds index) in
-        after res ≡ (written_by (through (told_of t together) (before classes)) (before res)).result }
+        res.new ≡ (written_by (through (told_of t together) (before classes)) res.old).result }
 {
     let mut at = 0;
     let mut i = 0;
@@ -190,7 +190,7 @@ fn fill(
     requires { let t = lent_now files.now segments.now sections.now info.now rebases.now binds.now index.now setting in
         Counted t together count classes.now res.old }
     ensures { let t = under setting (lent files segments sections info rebases binds index) in
-        after res ≡ (written_by (ancestries t (before classes)) (before res)).result }
+        res.new ≡ (written_by (ancestries t (before classes)) res.old).result }
 {
     write_all(
         files, segments, sections, info, rebases, binds, index, setting, together, classes, res,
@@ -229,7 +229,7 @@ fn write_asked(
     requires { let t = lent_now files.now segments.now sections.now info.now rebases.now binds.now index.now setting in
         asked t ≡ value tt }
     ensures { let t = under setting (lent files segments sections info rebases binds index) in
-        written (count_outcome result) (after res) ≡ ancestries_left t (before classes) (before res) }
+        written (count_outcome result) res.new ≡ ancestries_left t (before classes) res.old }
 {
     let together = chains_fall(rebases, index);
     let count = match count_all(
@@ -264,7 +264,7 @@ pub fn ancestries(
     res: &mut [u64],
 ) -> AncestriesAnswer
     ensures { let t = under setting (lent files segments sections info rebases binds index) in
-        written (count_outcome result) (after res) ≡ ancestries_left t (before classes) (before res) }
+        written (count_outcome result) res.new ≡ ancestries_left t (before classes) res.old }
 {
     match ask(files, segments, sections, info, rebases, binds, index) {
         Asked::Yes => write_asked(

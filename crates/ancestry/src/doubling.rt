@@ -26,7 +26,7 @@ pub(crate) fn state_at(out: &[u64], i: usize) -> State
 
 pub(crate) fn put_state(out: &mut [u64], i: usize, s: State)
     requires { (i * 3 + 2 < length out.old) × (s.count < 2 ^ 60) × (s.mark < 4) }
-    ensures { after out ≡ put_at (before out) i s }
+    ensures { out.new ≡ put_at out.old i s }
 {
     out[i * 3] = s.count * 4 + s.mark;
     out[i * 3 + 1] = s.place;
@@ -68,7 +68,7 @@ fn joined(limit: u64, count: u64, address: u64, next: State) -> State
 // The chain of the class in row i is followed on from where the class that it has come to was followed to.
 fn jump(limit: u64, listed: usize, out: &mut [u64], i: usize)
     requires { (i < listed) × (listed * 3 ≤ length out.old) × (limit ≤ 2 ^ 40) }
-    ensures { after out ≡ jumped_at listed limit (before out) i }
+    ensures { out.new ≡ jumped_at listed limit out.old i }
 {
     let s = state_at(out, i);
     if s.mark != 2 {
@@ -86,7 +86,7 @@ fn jump(limit: u64, listed: usize, out: &mut [u64], i: usize)
 // One round: every chain is followed at least twice as far.
 fn jump_all(limit: u64, listed: usize, out: &mut [u64])
     requires { (listed * 3 ≤ length out.old) × (limit ≤ 2 ^ 40) }
-    ensures { after out ≡ jumped_to listed limit (before out) listed }
+    ensures { out.new ≡ jumped_to listed limit out.old listed }
 {
     let mut i = 0;
     while i < listed {
@@ -98,9 +98,9 @@ fn jump_all(limit: u64, listed: usize, out: &mut [u64])
 // Follows every chain, of which one step is known, as far as can be.
 pub(crate) fn follow(limit: u64, listed: usize, out: &mut [u64])
     requires { (listed * 3 ≤ length out.old) × (limit ≤ 2 ^ 40) }
-    ensures size { length (after out) ≡ length (before out) }
-    ensures followed { (g : Ground) (out₀ : List ℕ) → g.limit ≡ limit → g.listed ≡ listed → Following g 1 out₀ (before out)
-        → Following g limit out₀ (after out) }
+    ensures size { length out.new ≡ length out.old }
+    ensures followed { (g : Ground) (out₀ : List ℕ) → g.limit ≡ limit → g.listed ≡ listed → Following g 1 out₀ out.old
+        → Following g limit out₀ out.new }
 {
     let mut reach = 1;
     while reach < limit {
@@ -112,7 +112,7 @@ pub(crate) fn follow(limit: u64, listed: usize, out: &mut [u64])
 // The record of the class in row i, once its chain is followed.
 fn finish(out: &mut [u64], i: usize)
     requires { i * 3 + 2 < length out.old }
-    ensures { after out ≡ finished_at (before out) i }
+    ensures { out.new ≡ finished_at out.old i }
 {
     let first = out[i * 3];
     out[i * 3] = first / 4;
@@ -121,7 +121,7 @@ fn finish(out: &mut [u64], i: usize)
 
 pub(crate) fn finish_all(listed: usize, out: &mut [u64])
     requires { listed * 3 ≤ length out.old }
-    ensures { after out ≡ finished_to (before out) listed }
+    ensures { out.new ≡ finished_to out.old listed }
 {
     let mut i = 0;
     while i < listed {

@@ -221,7 +221,7 @@ fn first_all(
     requires { let t = lent_now files.now segments.now sections.now info.now rebases.now binds.now index.now setting in
         (asked t ≡ value tt) × (chains_fall rebases.now index.now ≡ true) × Unfollowed t listed res.old }
     ensures { let t = under setting (lent files segments sections info rebases binds index) in
-        Following (ground_of t (before res) listed) 1 (before res) (after res) }
+        Following (ground_of t res.old listed) 1 res.old res.new }
 {
     let mut i = 0;
     while i < listed {
@@ -249,7 +249,7 @@ pub(crate) fn follow_all(
     requires { let t = lent_now files.now segments.now sections.now info.now rebases.now binds.now index.now setting in
         (asked t ≡ value tt) × (chains_fall rebases.now index.now ≡ true) × Unfollowed t listed res.old }
     ensures { let t = under setting (lent files segments sections info rebases binds index) in
-        ((s : Unfollowed t listed (before res)) → after res ≡ flat_map words_of s.told ++ drop (listed * 3) (before res)) }
+        ((s : Unfollowed t listed res.old) → res.new ≡ flat_map words_of s.told ++ drop (listed * 3) res.old) }
 {
     let most = limit_of(files, segments);
     let sorted = ascending(res, listed);

@@ -48,8 +48,8 @@ fn type_encoding(text: &[u8]) -> Value
 
 // The items of a text, three words each, into the lent buffer.
 pub fn parse_attributes(text: &[u8], buffer: &mut [u64]) -> AttributesAnswer
-    ensures outcome { attributes_outcome result ≡ attributes_of (before text) (length (before buffer)) }
-    ensures contents { after buffer ≡ items_left (before text) (before buffer) }
+    ensures outcome { attributes_outcome result ≡ attributes_of (before text) (length buffer.old) }
+    ensures contents { buffer.new ≡ items_left (before text) buffer.old }
 {
     match utf8_verdict(text) {
         Verdict::Good => {}

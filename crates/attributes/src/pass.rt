@@ -135,7 +135,7 @@ pub fn items_fit(count: u64, room: usize) -> bool
 // Writes three words for each item that is handed out.
 pub fn write_items(text: &[u8], which: Which, buffer: &mut [u64])
     requires { 3 * length (chosen which (items text.now)) ≤ length buffer.old }
-    ensures { after buffer ≡ filled (chosen which (items (before text))) (before buffer) }
+    ensures { buffer.new ≡ filled (chosen which (items (before text))) buffer.old }
 {
     let mut k = 0;
     let mut i = 0;

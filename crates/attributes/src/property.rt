@@ -75,8 +75,8 @@ fn declared_by(text: &[u8]) -> Declared
 
 // The property that a text declares; the items of unknown letters, three words each, into the lent buffer.
 pub fn decode_attributes(text: &[u8], buffer: &mut [u64]) -> DeclaredAnswer
-    ensures outcome { declared_outcome result ≡ declared_of (before text) (length (before buffer)) }
-    ensures contents { after buffer ≡ unknown_left (before text) (before buffer) }
+    ensures outcome { declared_outcome result ≡ declared_of (before text) (length buffer.old) }
+    ensures contents { buffer.new ≡ unknown_left (before text) buffer.old }
 {
     match utf8_verdict(text) {
         Verdict::Good => {}

@@ -40,7 +40,7 @@ fn end_of(at: usize, len: usize) -> usize
 
 // Puts a byte at `at`, if it fits. The answer of this and what follows is where the next byte goes.
 fn put_byte(b: u8, out: &mut [u8], at: usize) -> usize
-    ensures { Put (b ∷ []) at (before out) result (after out) }
+    ensures { Put (b ∷ []) at out.old result out.new }
 {
     let end = end_of(at, 1);
     if out.len() < end {
@@ -52,7 +52,7 @@ fn put_byte(b: u8, out: &mut [u8], at: usize) -> usize
 
 // Puts a value at `at`, if it fits.
 fn put_value(text: &[u8], value: Value, out: &mut [u8], at: usize) -> usize
-    ensures { Put (bytes_of (before text) value) at (before out) result (after out) }
+    ensures { Put (bytes_of (before text) value) at out.old result out.new }
 {
     let bytes = inside(text, value);
     let start = bytes.start as usize;
@@ -71,7 +71,7 @@ fn put_value(text: &[u8], value: Value, out: &mut [u8], at: usize) -> usize
 
 // Puts a comma at `at`, but none in front of the first item.
 fn put_comma(out: &mut [u8], at: usize) -> usize
-    ensures { Put (comma_at at) at (before out) result (after out) }
+    ensures { Put (comma_at at) at out.old result out.new }
 {
     if at == 0 {
         return at;
@@ -81,7 +81,7 @@ fn put_comma(out: &mut [u8], at: usize) -> usize
 
 // Puts an item behind `at` bytes.
 fn put_item(text: &[u8], item: Item, out: &mut [u8], at: usize) -> usize
-    ensures { Put (behind at (part_of (before text) item ∷ [])) at (before out) result (after out) }
+    ensures { Put (behind at (part_of (before text) item ∷ [])) at out.old result out.new }
 {
     let value = item.value;
     let key_at = put_comma(out, at);
@@ -91,7 +91,7 @@ fn put_item(text: &[u8], item: Item, out: &mut [u8], at: usize) -> usize
 
 // Puts a letter behind `at` bytes, if it is given.
 fn put_attribute(text: &[u8], letter: u8, attribute: Attribute, out: &mut [u8], at: usize) -> usize
-    ensures { Put (behind at (given (letter ∷ []) (bytes_given (before text) attribute ∷ []))) at (before out) result (after out) }
+    ensures { Put (behind at (given (letter ∷ []) (bytes_given (before text) attribute ∷ []))) at out.old result out.new }
 {
     match attribute {
         Attribute::Given(value) => put_item(text, Item { key: letter, value }, out, at),
@@ -121,7 +121,7 @@ fn attribute_at(declared: Declared, k: usize) -> Attribute
 
 // Puts the letters that come before the unknown ones.
 fn put_front(text: &[u8], declared: Declared, out: &mut [u8]) -> usize
-    ensures { Put (joined (given front_letters (map (bytes_given (before text)) (front_of declared)))) 0 (before out) result (after out) }
+    ensures { Put (joined (given front_letters (map (bytes_given (before text)) (front_of declared)))) 0 out.old result out.new }
 {
     let mut at = 0;
     let mut k = 0;
@@ -159,7 +159,7 @@ fn rows_in(rows: &[u64], count: u64) -> usize
 
 // Puts the items of `count` rows behind `start` bytes.
 fn put_unknown(text: &[u8], count: u64, rows: &[u64], out: &mut [u8], start: usize) -> usize
-    ensures { Put (behind start (map (part_of (before text)) (items_in count (before rows)))) start (before out) result (after out) }
+    ensures { Put (behind start (map (part_of (before text)) (items_in count (before rows)))) start out.old result out.new }
 {
     let many = rows_in(rows, count);
     let mut at = start;
@@ -173,7 +173,7 @@ fn put_unknown(text: &[u8], count: u64, rows: &[u64], out: &mut [u8], start: usi
 
 // Puts all letters of a property.
 fn put_all(text: &[u8], declared: Declared, unknown: &[u64], out: &mut [u8]) -> usize
-    ensures { Put (written_text (before text) declared (before unknown)) 0 (before out) result (after out) }
+    ensures { Put (written_text (before text) declared (before unknown)) 0 out.old result out.new }
 {
     let variable = declared.variable;
     let front = put_front(text, declared, out);
@@ -184,8 +184,8 @@ fn put_all(text: &[u8], declared: Declared, unknown: &[u64], out: &mut [u8]) -> 
 // The text of a declared property, whose values stand in `text` and whose unknown letters are the rows of `unknown`, into the
 // lent buffer; its length.
 pub fn write_attributes(text: &[u8], declared: Declared, unknown: &[u64], out: &mut [u8]) -> Word
-    ensures outcome { word_outcome result ≡ written_of (before text) declared (before unknown) (length (before out)) }
-    ensures contents { after out ≡ written_left (before text) declared (before unknown) (before out) }
+    ensures outcome { word_outcome result ≡ written_of (before text) declared (before unknown) (length out.old) }
+    ensures contents { out.new ≡ written_left (before text) declared (before unknown) out.old }
 {
     let len = put_all(text, declared, unknown, &mut out[0..0]);
     if out.len() < len {

@@ -296,7 +296,7 @@ fn note_rows(
 ) -> usize
     requires { 4 * length (firsts (files_lent files.now) (ahead (under setting (tables_of (files_lent files.now) segments.now sections.now info.now rebases.now binds.now index.now)) side class start).rows (ahead (under setting (tables_of (files_lent files.now) segments.now sections.now info.now rebases.now binds.now index.now)) side class start).rows) ≤ length res.old }
     ensures { let t = under setting (lent files segments sections info rebases binds index) in
-        Tabled (files_of files) (ahead t side class start).rows (before res) result (after res) }
+        Tabled (files_of files) (ahead t side class start).rows res.old result res.new }
 {
     let mut p = start;
     let mut count = 0;
@@ -339,7 +339,7 @@ fn write_selectors(
 ) -> u64
     requires { (start.source ≡ 0) × (4 * length (firsts (files_lent files.now) (ahead (under setting (tables_of (files_lent files.now) segments.now sections.now info.now rebases.now binds.now index.now)) side class start).rows (ahead (under setting (tables_of (files_lent files.now) segments.now sections.now info.now rebases.now binds.now index.now)) side class start).rows) ≤ length res.old) }
     ensures { let t = under setting (lent files segments sections info rebases binds index) in
-        WroteAll (files_of files) (ahead t side class start).rows (before res) result (after res) }
+        WroteAll (files_of files) (ahead t side class start).rows res.old result res.new }
 {
     let count = note_rows(
         files, segments, sections, info, rebases, binds, index, setting, side, class, start, res,
@@ -438,7 +438,7 @@ fn effective_from(
 ) -> MethodsAnswer
     requires { start.source ≡ 0 }
     ensures { let t = under setting (lent files segments sections info rebases binds index) in
-        leaves (methods_outcome result) (after res) ≡ left (effective_among (files_of files) (ahead t side class start)) (before res) }
+        leaves (methods_outcome result) res.new ≡ left (effective_among (files_of files) (ahead t side class start)) res.old }
 {
     let room = (res.len() / 4) as u64;
     match has_room(
@@ -473,7 +473,7 @@ fn effective_by_slots(
     res: &mut [u64],
 ) -> MethodsAnswer
     ensures { let t = under setting (lent files segments sections info rebases binds index) in
-        leaves (methods_outcome result) (after res) ≡ left (effective_among (files_of files) (slot_appearances t side class)) (before res) }
+        leaves (methods_outcome result) res.new ≡ left (effective_among (files_of files) (slot_appearances t side class)) res.old }
 {
     let own = own_source(
         files, segments, sections, info, rebases, binds, index, setting, side, class,
@@ -514,7 +514,7 @@ fn effective_of(
     res: &mut [u64],
 ) -> MethodsAnswer
     ensures { let t = under setting (lent files segments sections info rebases binds index) in
-        leaves (methods_outcome result) (after res) ≡ left (and_then (plain_categories t) (λ categories. effective_among (files_of files) (appearances t side categories class))) (before res) }
+        leaves (methods_outcome result) res.new ≡ left (and_then (plain_categories t) (λ categories. effective_among (files_of files) (appearances t side categories class))) res.old }
 {
     match ask_categories(
         files, segments, sections, info, rebases, binds, index, setting,
@@ -542,7 +542,7 @@ pub fn effective_methods(
     res: &mut [u64],
 ) -> MethodsAnswer
     ensures { let t = under setting (lent files segments sections info rebases binds index) in
-        leaves (methods_outcome result) (after res) ≡ left (effective t side class) (before res) }
+        leaves (methods_outcome result) res.new ≡ left (effective t side class) res.old }
 {
     match ask(files, segments, sections, info, rebases, binds, index) {
         Asked::Yes => {}

@@ -36,7 +36,7 @@ fn find(files: &[&[u8]], res: &[u64], count: usize, s: Text) -> usize
 // The entry of a row: its selector, and the number of its source.
 fn mark(res: &mut [u64], at: usize, b: Appearance)
     requires { at + 4 ≤ length res.old }
-    ensures { after res ≡ sets (before res) at (marks (b ∷ [])) }
+    ensures { res.new ≡ sets res.old at (marks (b ∷ [])) }
 {
     let selector = b.selector;
     res[at] = selector.file;
@@ -48,7 +48,7 @@ fn mark(res: &mut [u64], at: usize, b: Appearance)
 // Notes a row: it takes the place of one of an earlier source, or comes last if there is room.
 pub(crate) fn note_row(files: &[&[u8]], res: &mut [u64], count: usize, b: Appearance) -> usize
     requires { 4 * count ≤ length res.old }
-    ensures { Noted (files_of files) (before res) count b result (after res) }
+    ensures { Noted (files_of files) res.old count b result res.new }
 {
     let s = b.selector;
     let j = find(files, res, count, s);
@@ -116,7 +116,7 @@ pub(crate) fn name_records(
 )
     requires { 4 * count ≤ length res.old }
     ensures { let t = under setting (lent files segments sections info rebases binds index) in
-        Named own t (before res) count (after res) }
+        Named own t res.old count res.new }
 {
     let mut j = 0;
     while j < count {

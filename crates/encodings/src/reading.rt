@@ -20,7 +20,7 @@ fn type_end(offset: usize, end: usize) -> usize
 // Puts the words of a parser's type, which ends at `end`, if they fit.
 fn put_row(p: Parser, end: usize, buffer: &mut [u64])
     requires { Ordered p.start p.offset end }
-    ensures { RowPut p.types p.start p.offset end (before buffer) (after buffer) }
+    ensures { RowPut p.types p.start p.offset end buffer.old buffer.new }
 {
     if buffer.len() / 4 <= p.types {
         return;
@@ -36,7 +36,7 @@ fn put_row(p: Parser, end: usize, buffer: &mut [u64])
 // Puts the words of a parser's type where the next one begins.
 fn put_before(p: Parser, next: Parser, at: usize, buffer: &mut [u64])
     requires { Ordered p.start p.offset at }
-    ensures { Turned p next at (before buffer) (after buffer) }
+    ensures { Turned p next at buffer.old buffer.new }
 {
     if next.types == p.types {
         return;
@@ -46,7 +46,7 @@ fn put_before(p: Parser, next: Parser, at: usize, buffer: &mut [u64])
 
 // How many outermost types a text has; the words of those that fit are put into the buffer. It stops at the byte that decides.
 pub fn read_types(text: &[u8], buffer: &mut [u64]) -> Word
-    ensures { Read (before text) (before buffer) (word_outcome result) (after buffer) }
+    ensures { Read (before text) buffer.old (word_outcome result) buffer.new }
 {
     let mut mode = Mode::Wanted;
     let mut p = first();

@@ -23,8 +23,8 @@ fn words_fit(count: u64, room: usize) -> bool
 // The outermost types of a text, four words each, into the lent buffer: start and length of the type, qualifiers included, then of
 // its frame offset, 0 and 0 if it has none.
 pub fn type_words(text: &[u8], buffer: &mut [u64]) -> TypesAnswer
-    ensures outcome { types_outcome result ≡ types_of (before text) (length (before buffer)) }
-    ensures contents { after buffer ≡ types_left (before text) (before buffer) }
+    ensures outcome { types_outcome result ≡ types_of (before text) (length buffer.old) }
+    ensures contents { buffer.new ≡ types_left (before text) buffer.old }
 {
     match read_types(text, &mut buffer[0..0]) {
         Word::Value(count) => {

@@ -168,9 +168,9 @@ fn tables_words(answer: FileTables) -> Counts
 // The rebases, 2 words each, and the binds, 4 words each, of a file.
 #[unsafe(no_mangle)]
 pub extern "C" fn objclist_tables(file: &[u8], rebases: &mut [u64], binds: &mut [u64]) -> Counts
-    ensures counts { result ≡ tables_words (settled (file_records (before file)) (before rebases) (before binds)).counts }
-    ensures rebases { after rebases ≡ (settled (file_records (before file)) (before rebases) (before binds)).rebases }
-    ensures binds { after binds ≡ (settled (file_records (before file)) (before rebases) (before binds)).binds }
+    ensures counts { result ≡ tables_words (settled (file_records (before file)) rebases.old binds.old).counts }
+    ensures rebases { rebases.new ≡ (settled (file_records (before file)) rebases.old binds.old).rebases }
+    ensures binds { binds.new ≡ (settled (file_records (before file)) rebases.old binds.old).binds }
 {
     tables_words(file_tables(file, rebases, binds))
 }
@@ -193,12 +193,12 @@ pub extern "C" fn objclist_write(
     out: &mut [u8; 65536],
 ) -> Wrote
     ensures written { let x = ranges_of first_frame last_frame first_slide last_slide in
-        let t = tables_read x (before file) (before segments) (before sections) (before rebases) (before binds) (before index) in
-        let opened = framed_file x (before file) (before segments) (before sections) (before rebases) (before binds) (index_used (before rebases) (before binds) (before index)) in
-        Written t (begun (file_setting New (before rebases)) opened (before ledger)) (before out) result (after ledger) (after out) }
-    ensures segments { after segments ≡ segments_after (ranges_of first_frame last_frame first_slide last_slide) (before file) (before segments) (before sections) (before rebases) (before binds) (before index) }
-    ensures sections { after sections ≡ sections_after (ranges_of first_frame last_frame first_slide last_slide) (before file) (before segments) (before sections) (before rebases) (before binds) (before index) }
-    ensures index { after index ≡ index_after (ranges_of first_frame last_frame first_slide last_slide) (before file) (before segments) (before sections) (before rebases) (before binds) (before index) }
+        let t = tables_read x (before file) segments.old sections.old (before rebases) (before binds) index.old in
+        let opened = framed_file x (before file) segments.old sections.old (before rebases) (before binds) (index_used (before rebases) (before binds) index.old) in
+        Written t (begun (file_setting New (before rebases)) opened ledger.old) out.old result ledger.new out.new }
+    ensures segments { segments.new ≡ segments_after (ranges_of first_frame last_frame first_slide last_slide) (before file) segments.old sections.old (before rebases) (before binds) index.old }
+    ensures sections { sections.new ≡ sections_after (ranges_of first_frame last_frame first_slide last_slide) (before file) segments.old sections.old (before rebases) (before binds) index.old }
+    ensures index { index.new ≡ index_after (ranges_of first_frame last_frame first_slide last_slide) (before file) segments.old sections.old (before rebases) (before binds) index.old }
 {
     let ranges = Ranges {
         first_frame,

@@ -117,7 +117,7 @@ pub extern "C" fn objclist_open(
     ensures answer { let t = lent files segments sections info rebases binds index in
         result ≡ opened_words (given (opening t)) }
     ensures contents { let t = lent files segments sections info rebases binds index in
-        after index ≡ opened_index t }
+        index.new ≡ opened_index t }
 {
     let answer = open(files, segments, sections, info, rebases, binds, index);
     InfoTold::of(answer)
@@ -133,10 +133,10 @@ pub extern "C" fn objclist_open_file(
     binds: &[u64],
     index: &mut [u32],
 ) -> FileTold
-    ensures answer { result ≡ file_told (given (opening_file (before file) (before segments) (before sections) (before rebases) (before binds) (before index))) }
-    ensures segments { after segments ≡ segments_left (before file) (before segments) (before sections) (before rebases) (before binds) (before index) }
-    ensures sections { after sections ≡ sections_left (before file) (before segments) (before sections) (before rebases) (before binds) (before index) }
-    ensures index { after index ≡ index_left (before file) (before segments) (before sections) (before rebases) (before binds) (before index) }
+    ensures answer { result ≡ file_told (given (opening_file (before file) segments.old sections.old (before rebases) (before binds) index.old)) }
+    ensures segments { segments.new ≡ segments_left (before file) segments.old sections.old (before rebases) (before binds) index.old }
+    ensures sections { sections.new ≡ sections_left (before file) segments.old sections.old (before rebases) (before binds) index.old }
+    ensures index { index.new ≡ index_left (before file) segments.old sections.old (before rebases) (before binds) index.old }
 {
     let answer = open_file(file, segments, sections, rebases, binds, index);
     FileTold::of(answer)

@@ -185,7 +185,7 @@ impl RowsTold {
 // Writes words into a table from word `from` on.
 fn put(table: &mut [u64], from: usize, words: &[u64])
     requires { from + length words.now ≤ length table.old }
-    ensures { after table ≡ sets (before table) from (before words) }
+    ensures { table.new ≡ sets table.old from (before words) }
 {
     let mut i = 0;
     while i < words.len() {
@@ -197,7 +197,7 @@ fn put(table: &mut [u64], from: usize, words: &[u64])
 // The same, of a row.
 fn put_row(table: &mut [u64], from: usize, words: [u64; ROW_WORDS])
     requires { from + 15 ≤ length table.old }
-    ensures { after table ≡ sets (before table) from words }
+    ensures { table.new ≡ sets table.old from words }
 {
     put(table, from, &words);
 }
@@ -217,7 +217,7 @@ fn gather_rows(
 ) -> RowsTold
     requires { (15 * room ≤ length table.old) × (15 * room < 2 ^ 64) }
     ensures { let t = lent files segments sections info rebases binds index in
-        record { told = result; table = after table } ≡ gather (turn_over t) room walk 0 (before table) }
+        record { told = result; table = table.new } ≡ gather (turn_over t) room walk 0 table.old }
 {
     let mut at = walk;
     let mut n: usize = 0;
@@ -258,7 +258,7 @@ pub extern "C" fn objclist_rows(
     table: &mut [u64],
 ) -> RowsTold
     ensures { let t = lent files segments sections info rebases binds index in
-        record { told = result; table = after table } ≡ gather (row_turn t) (length (before table) / 15) walk 0 (before table) }
+        record { told = result; table = table.new } ≡ gather (row_turn t) (length table.old / 15) walk 0 table.old }
 {
     let room = table.len() / ROW_WORDS;
     match ask(files, segments, sections, info, rebases, binds, index) {

@@ -108,9 +108,9 @@ pub extern "C" fn objclist_next_class(
     ledger: &mut [u64],
 ) -> ClassWalked
     ensures answer { let t = under (setting_in walk.old_reading) (lent files segments sections info rebases binds index) in
-        result ≡ class_walked walk.old_reading (step_of classes t (class_state walk) (before ledger)) }
+        result ≡ class_walked walk.old_reading (step_of classes t (class_state walk) ledger.old) }
     ensures contents { let t = under (setting_in walk.old_reading) (lent files segments sections info rebases binds index) in
-        after ledger ≡ (step_of classes t (class_state walk) (before ledger)).ledger }
+        ledger.new ≡ (step_of classes t (class_state walk) ledger.old).ledger }
 {
     let setting = setting_in(walk.old_reading);
     let at = ClassWalk {
@@ -155,9 +155,9 @@ pub extern "C" fn objclist_next_category(
     ledger: &mut [u64],
 ) -> CategoryWalked
     ensures answer { let t = under (setting_in walk.old_reading) (lent files segments sections info rebases binds index) in
-        result ≡ category_walked walk.old_reading (step_of categories t (category_state walk) (before ledger)) }
+        result ≡ category_walked walk.old_reading (step_of categories t (category_state walk) ledger.old) }
     ensures contents { let t = under (setting_in walk.old_reading) (lent files segments sections info rebases binds index) in
-        after ledger ≡ (step_of categories t (category_state walk) (before ledger)).ledger }
+        ledger.new ≡ (step_of categories t (category_state walk) ledger.old).ledger }
 {
     let setting = setting_in(walk.old_reading);
     let at = CategoryWalk {

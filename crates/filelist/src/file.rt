@@ -83,11 +83,11 @@ fn begin(
     binds: &[u64],
     index: &mut [u32],
 ) -> FileListing
-    ensures answer { file_outcome result.answer ≡ opening_file (before file) (before segments) (before sections) (before rebases) (before binds) (before index) }
+    ensures answer { file_outcome result.answer ≡ opening_file (before file) segments.old sections.old (before rebases) (before binds) index.old }
     ensures progress { standing_of result.progress ≡ begun setting (with_frames frames (info_in (file_outcome result.answer))) }
-    ensures segments { after segments ≡ segments_left (before file) (before segments) (before sections) (before rebases) (before binds) (before index) }
-    ensures sections { after sections ≡ sections_left (before file) (before segments) (before sections) (before rebases) (before binds) (before index) }
-    ensures index { after index ≡ index_left (before file) (before segments) (before sections) (before rebases) (before binds) (before index) }
+    ensures segments { segments.new ≡ segments_left (before file) segments.old sections.old (before rebases) (before binds) index.old }
+    ensures sections { sections.new ≡ sections_left (before file) segments.old sections.old (before rebases) (before binds) index.old }
+    ensures index { index.new ≡ index_left (before file) segments.old sections.old (before rebases) (before binds) index.old }
 {
     let answer = open_file(file, segments, sections, rebases, binds, index);
     FileListing {
@@ -106,10 +106,10 @@ fn ranges_refused(
     index: &mut [u32],
     k: u8,
 ) -> Missing
-    ensures outcome { missed result ≡ refused_file k (before file) (before segments) (before sections) (before rebases) (before binds) (before index) }
-    ensures segments { after segments ≡ before segments }
-    ensures sections { after sections ≡ before sections }
-    ensures index { after index ≡ before index }
+    ensures outcome { missed result ≡ refused_file k (before file) segments.old sections.old (before rebases) (before binds) index.old }
+    ensures segments { segments.new ≡ segments.old }
+    ensures sections { sections.new ≡ sections.old }
+    ensures index { index.new ≡ index.old }
 {
     let fits = index_fits(
         rebases.len() / Rebase::WORDS,
@@ -146,11 +146,11 @@ fn list_by(
     binds: &[u64],
     index: &mut [u32],
 ) -> FileListing
-    ensures answer { file_outcome result.answer ≡ opened_by (before file) (framed_file ranges (before file) (before segments) (before sections) (before rebases) (before binds) (index_used (before rebases) (before binds) (before index))) }
-    ensures progress { standing_of result.progress ≡ begun setting (framed_file ranges (before file) (before segments) (before sections) (before rebases) (before binds) (index_used (before rebases) (before binds) (before index))) }
-    ensures segments { after segments ≡ segments_after ranges (before file) (before segments) (before sections) (before rebases) (before binds) (before index) }
-    ensures sections { after sections ≡ sections_after ranges (before file) (before segments) (before sections) (before rebases) (before binds) (before index) }
-    ensures index { after index ≡ index_after ranges (before file) (before segments) (before sections) (before rebases) (before binds) (before index) }
+    ensures answer { file_outcome result.answer ≡ opened_by (before file) (framed_file ranges (before file) segments.old sections.old (before rebases) (before binds) (index_used (before rebases) (before binds) index.old)) }
+    ensures progress { standing_of result.progress ≡ begun setting (framed_file ranges (before file) segments.old sections.old (before rebases) (before binds) (index_used (before rebases) (before binds) index.old)) }
+    ensures segments { segments.new ≡ segments_after ranges (before file) segments.old sections.old (before rebases) (before binds) index.old }
+    ensures sections { sections.new ≡ sections_after ranges (before file) segments.old sections.old (before rebases) (before binds) index.old }
+    ensures index { index.new ≡ index_after ranges (before file) segments.old sections.old (before rebases) (before binds) index.old }
 {
     let entries = index_words(rebases, binds, index.len());
     match Frames::new(ranges) {
@@ -191,11 +191,11 @@ pub fn list_file(
     binds: &[u64],
     index: &mut [u32],
 ) -> FileListing
-    ensures answer { file_outcome result.answer ≡ opened_by (before file) (framed_file no_ranges (before file) (before segments) (before sections) (before rebases) (before binds) (index_used (before rebases) (before binds) (before index))) }
-    ensures progress { standing_of result.progress ≡ begun (file_setting New (before rebases)) (framed_file no_ranges (before file) (before segments) (before sections) (before rebases) (before binds) (index_used (before rebases) (before binds) (before index))) }
-    ensures segments { after segments ≡ segments_after no_ranges (before file) (before segments) (before sections) (before rebases) (before binds) (before index) }
-    ensures sections { after sections ≡ sections_after no_ranges (before file) (before segments) (before sections) (before rebases) (before binds) (before index) }
-    ensures index { after index ≡ index_after no_ranges (before file) (before segments) (before sections) (before rebases) (before binds) (before index) }
+    ensures answer { file_outcome result.answer ≡ opened_by (before file) (framed_file no_ranges (before file) segments.old sections.old (before rebases) (before binds) (index_used (before rebases) (before binds) index.old)) }
+    ensures progress { standing_of result.progress ≡ begun (file_setting New (before rebases)) (framed_file no_ranges (before file) segments.old sections.old (before rebases) (before binds) (index_used (before rebases) (before binds) index.old)) }
+    ensures segments { segments.new ≡ segments_after no_ranges (before file) segments.old sections.old (before rebases) (before binds) index.old }
+    ensures sections { sections.new ≡ sections_after no_ranges (before file) segments.old sections.old (before rebases) (before binds) index.old }
+    ensures index { index.new ≡ index_after no_ranges (before file) segments.old sections.old (before rebases) (before binds) index.old }
 {
     list_file_under(
         Reading::New,
@@ -220,11 +220,11 @@ pub fn list_file_under(
     binds: &[u64],
     index: &mut [u32],
 ) -> FileListing
-    ensures answer { file_outcome result.answer ≡ opened_by (before file) (framed_file ranges (before file) (before segments) (before sections) (before rebases) (before binds) (index_used (before rebases) (before binds) (before index))) }
-    ensures progress { standing_of result.progress ≡ begun (file_setting reading (before rebases)) (framed_file ranges (before file) (before segments) (before sections) (before rebases) (before binds) (index_used (before rebases) (before binds) (before index))) }
-    ensures segments { after segments ≡ segments_after ranges (before file) (before segments) (before sections) (before rebases) (before binds) (before index) }
-    ensures sections { after sections ≡ sections_after ranges (before file) (before segments) (before sections) (before rebases) (before binds) (before index) }
-    ensures index { after index ≡ index_after ranges (before file) (before segments) (before sections) (before rebases) (before binds) (before index) }
+    ensures answer { file_outcome result.answer ≡ opened_by (before file) (framed_file ranges (before file) segments.old sections.old (before rebases) (before binds) (index_used (before rebases) (before binds) index.old)) }
+    ensures progress { standing_of result.progress ≡ begun (file_setting reading (before rebases)) (framed_file ranges (before file) segments.old sections.old (before rebases) (before binds) (index_used (before rebases) (before binds) index.old)) }
+    ensures segments { segments.new ≡ segments_after ranges (before file) segments.old sections.old (before rebases) (before binds) index.old }
+    ensures sections { sections.new ≡ sections_after ranges (before file) segments.old sections.old (before rebases) (before binds) index.old }
+    ensures index { index.new ≡ index_after ranges (before file) segments.old sections.old (before rebases) (before binds) index.old }
 {
     list_by(
         file_setting(reading, rebases),
@@ -253,9 +253,9 @@ fn piece_over(
     out: &mut [u8],
 ) -> Piece
     ensures piece { let t = listable (over_file (before file) (take (segment_words * count) (before segments)) (before sections) (before info) (before rebases) (before binds) (index_used (before rebases) (before binds) (before index))) in
-        handed_of result (after ledger) (after out) ≡ piece_of t (standing_of progress (before ledger)) (length (before out)) (before out) }
+        handed_of result ledger.new out.new ≡ piece_of t (standing_of progress ledger.old) (length out.old) out.old }
     ensures rest { let t = listable (over_file (before file) (take (segment_words * count) (before segments)) (before sections) (before info) (before rebases) (before binds) (index_used (before rebases) (before binds) (before index))) in
-        to_come t (standing_of result.progress (after ledger)) ≡ drop (length (before out)) (to_come t (standing_of progress (before ledger))) }
+        to_come t (standing_of result.progress ledger.new) ≡ drop (length out.old) (to_come t (standing_of progress ledger.old)) }
 {
     let words = segment_words(count, segments.len());
     let entries = index_words(rebases, binds, index.len());
@@ -287,9 +287,9 @@ pub fn next_piece(
     out: &mut [u8],
 ) -> Piece
     ensures piece { let t = tables_lent (file_outcome answer) (before file) (before segments) (before sections) (before rebases) (before binds) (before index) in
-        handed_of result (after ledger) (after out) ≡ piece_of t (standing_of progress (before ledger)) (length (before out)) (before out) }
+        handed_of result ledger.new out.new ≡ piece_of t (standing_of progress ledger.old) (length out.old) out.old }
     ensures rest { let t = tables_lent (file_outcome answer) (before file) (before segments) (before sections) (before rebases) (before binds) (before index) in
-        to_come t (standing_of result.progress (after ledger)) ≡ drop (length (before out)) (to_come t (standing_of progress (before ledger))) }
+        to_come t (standing_of result.progress ledger.new) ≡ drop (length out.old) (to_come t (standing_of progress ledger.old)) }
 {
     match answer {
         FileAnswer::File(opened) => {

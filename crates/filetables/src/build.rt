@@ -23,7 +23,7 @@ pub enum FileTables {
 
 // From the bind opcodes: such a file's words are the addresses, so that it needs no rebases.
 fn from_opcodes(file: &[u8], rebases: &mut [u64], binds: &mut [u64]) -> FileTables
-    ensures* { λ r. ⌜ result (tables_outcome r) (after rebases) (after binds) ≡ settled (bound_records (binds_found (before file))) (before rebases) (before binds) ⌝ }
+    ensures* { λ r. ⌜ result (tables_outcome r) rebases.new binds.new ≡ settled (bound_records (binds_found (before file))) rebases.old binds.old ⌝ }
 {
     match bind_table(file, binds) {
         BindsBuilt::Binds(n) => FileTables::Tables(0, n),
@@ -33,7 +33,7 @@ fn from_opcodes(file: &[u8], rebases: &mut [u64], binds: &mut [u64]) -> FileTabl
 
 // From what the file has.
 fn from_either(file: &[u8], rebases: &mut [u64], binds: &mut [u64]) -> FileTables
-    ensures* { λ r. ⌜ result (tables_outcome r) (after rebases) (after binds) ≡ settled (records_in (before file)) (before rebases) (before binds) ⌝ }
+    ensures* { λ r. ⌜ result (tables_outcome r) rebases.new binds.new ≡ settled (records_in (before file)) rebases.old binds.old ⌝ }
 {
     let found = find(
         command_bytes(file),
@@ -52,7 +52,7 @@ fn from_either(file: &[u8], rebases: &mut [u64], binds: &mut [u64]) -> FileTable
 
 // Builds the rebase and bind tables of a file: both counts, or the number of the first question that says no, with nothing written.
 pub fn file_tables(file: &[u8], rebases: &mut [u64], binds: &mut [u64]) -> FileTables
-    ensures* { λ r. ⌜ result (tables_outcome r) (after rebases) (after binds) ≡ settled (file_records (before file)) (before rebases) (before binds) ⌝ }
+    ensures* { λ r. ⌜ result (tables_outcome r) rebases.new binds.new ≡ settled (file_records (before file)) rebases.old binds.old ⌝ }
 {
     match ask_kind(file) {
         Asked::Yes => from_either(file, rebases, binds),

@@ -54,9 +54,9 @@ fn whole_piece(
     out: &mut [u8; 65536],
 ) -> Piece
     ensures piece { let t = tables_lent (file_outcome answer) (before file) (before segments) (before sections) (before rebases) (before binds) (before index) in
-        handed_of result (after ledger) (after out) ≡ piece_of t (standing_of progress (before ledger)) piece_bytes (before out) }
+        handed_of result ledger.new out.new ≡ piece_of t (standing_of progress ledger.old) piece_bytes out.old }
     ensures rest { let t = tables_lent (file_outcome answer) (before file) (before segments) (before sections) (before rebases) (before binds) (before index) in
-        to_come t (standing_of result.progress (after ledger)) ≡ drop piece_bytes (to_come t (standing_of progress (before ledger))) }
+        to_come t (standing_of result.progress ledger.new) ≡ drop piece_bytes (to_come t (standing_of progress ledger.old)) }
 {
     next_piece(
         progress, answer, file, segments, sections, rebases, binds, index, ledger, out,
@@ -78,9 +78,9 @@ fn write_pieces(
     out: &mut [u8; 65536],
 ) -> Pieces
     ensures handed { let t = tables_lent (file_outcome answer) (before file) (before segments) (before sections) (before rebases) (before binds) (before index) in
-        HandedOver t (standing_of start (before ledger)) (before out) (standing_of result.progress (after ledger)) (after out) }
+        HandedOver t (standing_of start ledger.old) out.old (standing_of result.progress ledger.new) out.new }
     ensures whole { let t = tables_lent (file_outcome answer) (before file) (before segments) (before sections) (before rebases) (before binds) (before index) in
-        (result.whole ≡ true → to_come t (standing_of result.progress (after ledger)) ≡ []) }
+        (result.whole ≡ true → to_come t (standing_of result.progress ledger.new) ≡ []) }
 {
     let mut progress = start;
     loop {
@@ -147,12 +147,12 @@ pub fn write_file(
     ledger: &mut [u64],
     out: &mut [u8; 65536],
 ) -> Wrote
-    ensures written { let t = tables_read ranges (before file) (before segments) (before sections) (before rebases) (before binds) (before index) in
-        let opened = framed_file ranges (before file) (before segments) (before sections) (before rebases) (before binds) (index_used (before rebases) (before binds) (before index)) in
-        Written t (begun (file_setting New (before rebases)) opened (before ledger)) (before out) result (after ledger) (after out) }
-    ensures segments { after segments ≡ segments_after ranges (before file) (before segments) (before sections) (before rebases) (before binds) (before index) }
-    ensures sections { after sections ≡ sections_after ranges (before file) (before segments) (before sections) (before rebases) (before binds) (before index) }
-    ensures index { after index ≡ index_after ranges (before file) (before segments) (before sections) (before rebases) (before binds) (before index) }
+    ensures written { let t = tables_read ranges (before file) segments.old sections.old (before rebases) (before binds) index.old in
+        let opened = framed_file ranges (before file) segments.old sections.old (before rebases) (before binds) (index_used (before rebases) (before binds) index.old) in
+        Written t (begun (file_setting New (before rebases)) opened ledger.old) out.old result ledger.new out.new }
+    ensures segments { segments.new ≡ segments_after ranges (before file) segments.old sections.old (before rebases) (before binds) index.old }
+    ensures sections { sections.new ≡ sections_after ranges (before file) segments.old sections.old (before rebases) (before binds) index.old }
+    ensures index { index.new ≡ index_after ranges (before file) segments.old sections.old (before rebases) (before binds) index.old }
 {
     let listing = list_file_under(
         Reading::New,

@@ -71,8 +71,8 @@ fn fill(
     rebases: &mut [u64],
     binds: &mut [u64],
 ) -> Built
-    ensures* { λ b. ⌜ result (built_outcome b) (after rebases) (after binds)
-        ≡ settled (walk_of (before file) (before body) (before cmds) at base (segments_of (before cmds) count)) (before rebases) (before binds) ⌝ }
+    ensures* { λ b. ⌜ result (built_outcome b) rebases.new binds.new
+        ≡ settled (walk_of (before file) (before body) (before cmds) at base (segments_of (before cmds) count)) rebases.old binds.old ⌝ }
 {
     match count_records(file, body, cmds, count, at, base) {
         Walked::Counts(r, b) => {
@@ -98,8 +98,8 @@ fn fixups_at(
     rebases: &mut [u64],
     binds: &mut [u64],
 ) -> Built
-    ensures* { λ b. ⌜ result (built_outcome b) (after rebases) (after binds)
-        ≡ settled (fixups_from (before file) (before cmds) count command) (before rebases) (before binds) ⌝ }
+    ensures* { λ b. ⌜ result (built_outcome b) rebases.new binds.new
+        ≡ settled (fixups_from (before file) (before cmds) count command) rebases.old binds.old ⌝ }
 {
     if field32(cmds, command, CMDSIZE) < SIZEOF_LINKEDIT_DATA_COMMAND {
         return Built::Refused(19);
@@ -113,7 +113,7 @@ fn fixups_at(
 // The tables from the first LC_DYLD_CHAINED_FIXUPS of a file, no records without one; or a number, with nothing written.
 fn build_from(file: &[u8], rebases: &mut [u64], binds: &mut [u64]) -> Built
     requires { asked_commands file.now ≡ value tt }
-    ensures* { λ b. ⌜ result (built_outcome b) (after rebases) (after binds) ≡ settled (fixups_found (before file)) (before rebases) (before binds) ⌝ }
+    ensures* { λ b. ⌜ result (built_outcome b) rebases.new binds.new ≡ settled (fixups_found (before file)) rebases.old binds.old ⌝ }
 {
     let cmds = command_bytes(file);
     let count = command_count(file);
@@ -126,7 +126,7 @@ fn build_from(file: &[u8], rebases: &mut [u64], binds: &mut [u64]) -> Built
 
 // Builds the rebase and bind tables of a file: both counts, or the number of the first question that says no, with nothing written.
 pub fn build_tables(file: &[u8], rebases: &mut [u64], binds: &mut [u64]) -> Built
-    ensures* { λ b. ⌜ result (built_outcome b) (after rebases) (after binds) ≡ settled (fixups_found (before file)) (before rebases) (before binds) ⌝ }
+    ensures* { λ b. ⌜ result (built_outcome b) rebases.new binds.new ≡ settled (fixups_found (before file)) rebases.old binds.old ⌝ }
 {
     match ask_commands(file) {
         Asked::Yes => build_from(file, rebases, binds),

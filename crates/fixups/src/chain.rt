@@ -85,7 +85,7 @@ fn entry_at(body: &[u8], f: Fixups, s: Starts, at: u64, word: u64) -> Entry
 
 // Puts a record into its table, where there is room for it.
 fn put_fixup(x: Fixup, step: u64, r: u64, b: u64, rebases: &mut [u64], binds: &mut [u64]) -> Visit
-    ensures { stepped_of result (after rebases) (after binds) ≡ value (stepped step (put x (state r b (before rebases) (before binds)))) }
+    ensures { stepped_of result rebases.new binds.new ≡ value (stepped step (put x (state r b rebases.old binds.old))) }
 {
     match x {
         Fixup::Rebase(slot, target) => {
@@ -120,8 +120,8 @@ fn visit_slot(
     binds: &mut [u64],
 ) -> Visit
     requires { at < 17179869184 }
-    ensures { stepped_of result (after rebases) (after binds) ≡ and_then (visit_of (before file) (before body) f s at)
-        (λ m. value (stepped m.step (put m.fixup (state r b (before rebases) (before binds))))) }
+    ensures { stepped_of result rebases.new binds.new ≡ and_then (visit_of (before file) (before body) f s at)
+        (λ m. value (stepped m.step (put m.fixup (state r b rebases.old binds.old)))) }
 {
     let n = file.len() as u64;
     if n < s.fileoff {
@@ -152,8 +152,8 @@ pub(crate) fn chain(
     binds: &mut [u64],
 ) -> Walked
     requires { page < 8589934592 }
-    ensures { state_of result (after rebases) (after binds)
-        ≡ told (chain_at (before file) (before body) f s page start) (state r b (before rebases) (before binds)) }
+    ensures { state_of result rebases.new binds.new
+        ≡ told (chain_at (before file) (before body) f s page start) (state r b rebases.old binds.old) }
 {
     let size = wide16(s.size);
     let mut o = start;

@@ -34,8 +34,8 @@ fn page(
     binds: &mut [u64],
 ) -> Walked
     requires { at < 17179869184 }
-    ensures { state_of result (after rebases) (after binds)
-        ≡ told (page_at (before file) (before body) f s at p) (state r b (before rebases) (before binds)) }
+    ensures { state_of result rebases.new binds.new
+        ≡ told (page_at (before file) (before body) f s at p) (state r b rebases.old binds.old) }
 {
     let first = at + PAGE_START;
     let i = 2 * wide16(p);
@@ -78,8 +78,8 @@ fn pages(
     binds: &mut [u64],
 ) -> Walked
     requires { at < 17179869184 }
-    ensures { state_of result (after rebases) (after binds)
-        ≡ told (pages_from (before file) (before body) f s at count 0) (state r b (before rebases) (before binds)) }
+    ensures { state_of result rebases.new binds.new
+        ≡ told (pages_from (before file) (before body) f s at count 0) (state r b rebases.old binds.old) }
 {
     let mut p = 0;
     let mut rebased = r;
@@ -113,8 +113,8 @@ fn segment_starts(
     binds: &mut [u64],
 ) -> Walked
     requires { at < 17179869184 }
-    ensures { state_of result (after rebases) (after binds)
-        ≡ told (segment_starts (before file) (before body) (before cmds) f at command) (state r b (before rebases) (before binds)) }
+    ensures { state_of result rebases.new binds.new
+        ≡ told (segment_starts (before file) (before body) (before cmds) f at command) (state r b rebases.old binds.old) }
 {
     if (body.len() as u64) < at + PAGE_START {
         return Walked::Refused(19);
@@ -158,9 +158,9 @@ fn segment_info(
     rebases: &mut [u64],
     binds: &mut [u64],
 ) -> Walked
-    ensures { state_of result (after rebases) (after binds)
+    ensures { state_of result rebases.new binds.new
         ≡ told (choose (offset == 0) (value []) (choose found.here (segment_starts (before file) (before body) (before cmds) f (f.starts + offset) found.at) (number 19)))
-        (state r b (before rebases) (before binds)) }
+        (state r b rebases.old binds.old) }
 {
     if offset == 0 {
         return Walked::Counts(r, b);
@@ -182,8 +182,8 @@ fn image_starts(
     rebases: &mut [u64],
     binds: &mut [u64],
 ) -> Walked
-    ensures { state_of result (after rebases) (after binds)
-        ≡ told (image_starts (before file) (before body) (before cmds) f (segments_of (before cmds) count)) (state 0 0 (before rebases) (before binds)) }
+    ensures { state_of result rebases.new binds.new
+        ≡ told (image_starts (before file) (before body) (before cmds) f (segments_of (before cmds) count)) (state 0 0 rebases.old binds.old) }
 {
     let starts = wide32(f.starts);
     if (body.len() as u64) < starts + SEG_INFO_OFFSET {
@@ -232,8 +232,8 @@ pub(crate) fn walk(
     rebases: &mut [u64],
     binds: &mut [u64],
 ) -> Walked
-    ensures { state_of result (after rebases) (after binds)
-        ≡ told (walk_of (before file) (before body) (before cmds) at base (segments_of (before cmds) count)) (state 0 0 (before rebases) (before binds)) }
+    ensures { state_of result rebases.new binds.new
+        ≡ told (walk_of (before file) (before body) (before cmds) at base (segments_of (before cmds) count)) (state 0 0 rebases.old binds.old) }
 {
     if (body.len() as u64) < SIZEOF_CHAINED_FIXUPS_HEADER {
         return Walked::Refused(19);

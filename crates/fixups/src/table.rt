@@ -17,7 +17,7 @@ fn up(n: u64) -> u64
 
 // Puts rebase n into the table, if it has room.
 pub(crate) fn put_rebase(table: &mut [u64], n: u64, slot: u64, target: u64) -> u64
-    ensures { part result (after table) ≡ put_row (slot ∷ target ∷ []) (part n (before table)) }
+    ensures { part result table.new ≡ put_row (slot ∷ target ∷ []) (part n table.old) }
 {
     if n < (table.len() / Rebase::WORDS) as u64 {
         let i = Rebase::WORDS * (n as usize);
@@ -30,7 +30,7 @@ pub(crate) fn put_rebase(table: &mut [u64], n: u64, slot: u64, target: u64) -> u
 
 // Puts bind n into the table, if it has room; its name lies in file 0.
 pub fn put_bind(table: &mut [u64], n: u64, slot: u64, name: u64, len: u64) -> u64
-    ensures { part result (after table) ≡ put_row (slot ∷ name ∷ len ∷ 0 ∷ []) (part n (before table)) }
+    ensures { part result table.new ≡ put_row (slot ∷ name ∷ len ∷ 0 ∷ []) (part n table.old) }
 {
     if n < (table.len() / Bind::WORDS) as u64 {
         let i = Bind::WORDS * (n as usize);

@@ -149,7 +149,7 @@ pub fn ranges_of(bundle: &[u8]) -> Ranges
 
 // As many words as `to` has, from an offset on.
 pub fn words_at(bundle: &[u8], offset: usize, to: &mut [u64])
-    ensures { after to ≡ words_from (before bundle) offset (length (before to)) }
+    ensures { to.new ≡ words_from (before bundle) offset (length to.old) }
 {
     let from = offset as u64;
     let mut i = 0;

@@ -360,7 +360,7 @@ impl Listing {
         ledger: &mut [u64],
     ) -> Listed
         ensures { let t = lent files segments sections info rebases binds index in
-            left_of result (after ledger) ≡ step_at t (state_of self) (before ledger) place.Section }
+            left_of result ledger.new ≡ step_at t (state_of self) ledger.old place.Section }
     {
         let section = self.section;
         let stepped = section.next(
@@ -609,7 +609,7 @@ impl Listing {
         ledger: &mut [u64],
     ) -> Listed
         ensures { let t = lent files segments sections info rebases binds index in
-            left_of result (after ledger) ≡ listing_step t (state_of self) (before ledger) }
+            left_of result ledger.new ≡ listing_step t (state_of self) ledger.old }
     {
         let at = self.at;
         match at {

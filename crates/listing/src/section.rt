@@ -156,7 +156,7 @@ impl Section {
         ledger: &mut [u64],
     ) -> SectionStepped
         ensures { let t = lent files segments sections info rebases binds index in
-            section_left_of result (after ledger) ≡ classes_step t (before ledger) (section_walk_of self) }
+            section_left_of result ledger.new ≡ classes_step t ledger.old (section_walk_of self) }
     {
         let walk = self.classes;
         let stepped = walk.next(
@@ -207,7 +207,7 @@ impl Section {
         ledger: &mut [u64],
     ) -> SectionStepped
         ensures { let t = lent files segments sections info rebases binds index in
-            section_left_of result (after ledger) ≡ categories_step t (before ledger) (section_walk_of self) }
+            section_left_of result ledger.new ≡ categories_step t ledger.old (section_walk_of self) }
     {
         let walk = self.categories;
         let stepped = walk.next(
@@ -234,7 +234,7 @@ impl Section {
         ledger: &mut [u64],
     ) -> SectionStepped
         ensures { let t = lent files segments sections info rebases binds index in
-            section_left_of result (after ledger) ≡ section_step t (before ledger) (section_walk_of self) }
+            section_left_of result ledger.new ≡ section_step t ledger.old (section_walk_of self) }
     {
         let stage = self.stage;
         match stage {

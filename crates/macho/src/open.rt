@@ -85,10 +85,10 @@ fn open_part(
     index: &mut [u32],
 ) -> ImageInfoAnswer
     requires { words ≤ length segments.now }
-    ensures outcome { let t = over_file (before file) (take words (before segments)) (before sections) (before info) (before rebases) (before binds) (before index) in
+    ensures outcome { let t = over_file (before file) (take words (before segments)) (before sections) (before info) (before rebases) (before binds) index.old in
         info_outcome result ≡ opening t }
-    ensures contents { let t = over_file (before file) (take words (before segments)) (before sections) (before info) (before rebases) (before binds) (before index) in
-        after index ≡ opened_index t }
+    ensures contents { let t = over_file (before file) (take words (before segments)) (before sections) (before info) (before rebases) (before binds) index.old in
+        index.new ≡ opened_index t }
 {
     let files = [file];
     open(
@@ -113,10 +113,10 @@ fn open_tables(
     index: &mut [u32],
 ) -> ImageInfoAnswer
     requires { length (segments_of cmds.now count) ≤ 64 }
-    ensures outcome { let t = over_file (before file) (segment_table_of (before cmds) count) (section_table_of (before cmds) count) (before info) (before rebases) (before binds) (before index) in
+    ensures outcome { let t = over_file (before file) (segment_table_of (before cmds) count) (section_table_of (before cmds) count) (before info) (before rebases) (before binds) index.old in
         info_outcome result ≡ opening t }
-    ensures contents { let t = over_file (before file) (segment_table_of (before cmds) count) (section_table_of (before cmds) count) (before info) (before rebases) (before binds) (before index) in
-        after index ≡ opened_index t }
+    ensures contents { let t = over_file (before file) (segment_table_of (before cmds) count) (section_table_of (before cmds) count) (before info) (before rebases) (before binds) index.old in
+        index.new ≡ opened_index t }
 {
     let mut segments = [0u64; SEGMENT_TABLE_WORDS];
     write_segments(cmds, count, &mut segments);
@@ -138,10 +138,10 @@ fn fill_file(
     index: &mut [u32],
 ) -> FileAnswer
     requires { asked_file file.now (length segments.old) (length sections.old) ≡ value tt }
-    ensures outcome { file_outcome result ≡ opening_file (before file) (before segments) (before sections) (before rebases) (before binds) (before index) }
-    ensures segments { after segments ≡ segments_left (before file) (before segments) (before sections) (before rebases) (before binds) (before index) }
-    ensures sections { after sections ≡ sections_left (before file) (before segments) (before sections) (before rebases) (before binds) (before index) }
-    ensures index { after index ≡ index_left (before file) (before segments) (before sections) (before rebases) (before binds) (before index) }
+    ensures outcome { file_outcome result ≡ opening_file (before file) segments.old sections.old (before rebases) (before binds) index.old }
+    ensures segments { segments.new ≡ segments_left (before file) segments.old sections.old (before rebases) (before binds) index.old }
+    ensures sections { sections.new ≡ sections_left (before file) segments.old sections.old (before rebases) (before binds) index.old }
+    ensures index { index.new ≡ index_left (before file) segments.old sections.old (before rebases) (before binds) index.old }
 {
     let cmds = command_bytes(file);
     let count = command_count(file);
@@ -172,10 +172,10 @@ pub fn open_file(
     binds: &[u64],
     index: &mut [u32],
 ) -> FileAnswer
-    ensures outcome { file_outcome result ≡ opening_file (before file) (before segments) (before sections) (before rebases) (before binds) (before index) }
-    ensures segments { after segments ≡ segments_left (before file) (before segments) (before sections) (before rebases) (before binds) (before index) }
-    ensures sections { after sections ≡ sections_left (before file) (before segments) (before sections) (before rebases) (before binds) (before index) }
-    ensures index { after index ≡ index_left (before file) (before segments) (before sections) (before rebases) (before binds) (before index) }
+    ensures outcome { file_outcome result ≡ opening_file (before file) segments.old sections.old (before rebases) (before binds) index.old }
+    ensures segments { segments.new ≡ segments_left (before file) segments.old sections.old (before rebases) (before binds) index.old }
+    ensures sections { sections.new ≡ sections_left (before file) segments.old sections.old (before rebases) (before binds) index.old }
+    ensures index { index.new ≡ index_left (before file) segments.old sections.old (before rebases) (before binds) index.old }
 {
     match ask_file(file, segments.len(), sections.len()) {
         Asked::Yes => fill_file(file, segments, sections, rebases, binds, index),

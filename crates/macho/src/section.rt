@@ -110,7 +110,7 @@ pub(crate) fn section_named(cmds: &[u8], count: u64, name: &[u8]) -> Section
 // Writes the row of a section, from word i on.
 fn put_section(s: Section, table: &mut [u64], i: usize)
     requires { i + section_words ≤ length table.old }
-    ensures { after table ≡ sets (before table) i (section_row s) }
+    ensures { table.new ≡ sets table.old i (section_row s) }
 {
     table[i] = s.present;
     table[i + 1] = s.addr;
@@ -120,7 +120,7 @@ fn put_section(s: Section, table: &mut [u64], i: usize)
 // Writes the rows of the five sections.
 pub(crate) fn write_sections(cmds: &[u8], count: u64, table: &mut [u64])
     requires { length table.old ≡ section_table_words }
-    ensures { after table ≡ section_table_of (before cmds) count }
+    ensures { table.new ≡ section_table_of (before cmds) count }
 {
     let mut k = 0;
     while k < 5 {

@@ -35,7 +35,7 @@ pub(crate) fn segment_count(cmds: &[u8], count: u64) -> u64
 // Writes the row of the segment command at an offset, from word i on.
 fn put_segment(cmds: &[u8], at: u64, table: &mut [u64], i: usize)
     requires { i + segment_words ≤ length table.old }
-    ensures { after table ≡ sets (before table) i (segment_row (before cmds) at) }
+    ensures { table.new ≡ sets table.old i (segment_row (before cmds) at) }
 {
     table[i] = u64_from(cmds, at, VMADDR);
     table[i + 1] = u64_from(cmds, at, VMSIZE);
@@ -47,7 +47,7 @@ fn put_segment(cmds: &[u8], at: u64, table: &mut [u64], i: usize)
 // Writes the row of each segment, in command order.
 pub(crate) fn write_segments(cmds: &[u8], count: u64, table: &mut [u64])
     requires { segment_words * length (segments_of cmds.now count) ≤ length table.old }
-    ensures { after table ≡ written (segment_table_of (before cmds) count) (before table) }
+    ensures { table.new ≡ written (segment_table_of (before cmds) count) table.old }
 {
     let mut i = 0;
     let mut left = count;

@@ -69,7 +69,7 @@ fn ranges_refused(
 ) -> FramedAnswer
     ensures outcome { let t = lent files segments sections info rebases binds index in
         framed_outcome result ≡ and_then (asked_opening t) (λ _. number k) }
-    ensures contents { after index ≡ before index }
+    ensures contents { index.new ≡ index.old }
 {
     let fits = index_fits(
         rebases.len() / Rebase::WORDS,
@@ -104,7 +104,7 @@ pub fn open_framed(
     ensures outcome { let t = lent files segments sections info rebases binds index in
         framed_outcome result ≡ framed_opening ranges t }
     ensures contents { let t = lent files segments sections info rebases binds index in
-        after index ≡ framed_index ranges t }
+        index.new ≡ framed_index ranges t }
 {
     match Frames::new(ranges) {
         FramesAnswer::Frames(frames) => with_frames(

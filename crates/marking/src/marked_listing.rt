@@ -122,7 +122,7 @@ impl MarkedListing {
         ledger: &mut [u64],
     ) -> MarkedListed
         ensures { let t = lent files segments sections info rebases binds index in
-            marked_left_of result (after ledger) ≡ marked_step t (marking_of self) (before ledger) }
+            marked_left_of result ledger.new ≡ marked_step t (marking_of self) ledger.old }
     {
         let frames = self.frames;
         let listing = self.listing;

@@ -89,7 +89,7 @@ fn bound_by(end: u64, s: State) -> Entry
 
 // Puts `count` binds, each `stride` bytes after the one before, after the n that are in the table.
 pub(crate) fn run(end: u64, count: u64, stride: u64, s: State, n: u64, binds: &mut [u64]) -> Ran
-    ensures { ran_of result (after binds) ≡ told_by (run end count stride s) (part n (before binds)) }
+    ensures { ran_of result binds.new ≡ told_by (run end count stride s) (part n binds.old) }
 {
     let mut left = count;
     let mut here = s;

@@ -35,8 +35,8 @@ fn count_binds(file: &[u8], cmds: &[u8], count: u64, command: u64) -> Walked
 
 // Counts first, then writes, if the table has room.
 fn fill(file: &[u8], cmds: &[u8], count: u64, command: u64, binds: &mut [u64]) -> BindsBuilt
-    ensures* { λ b. ⌜ result (built_outcome b) (after binds)
-        ≡ settled (streams_at (before file) (before cmds) (segments_of (before cmds) count) command) (before binds) ⌝ }
+    ensures* { λ b. ⌜ result (built_outcome b) binds.new
+        ≡ settled (streams_at (before file) (before cmds) (segments_of (before cmds) count) command) binds.old ⌝ }
 {
     match count_binds(file, cmds, count, command) {
         Walked::Count(n) => {
@@ -53,7 +53,7 @@ fn fill(file: &[u8], cmds: &[u8], count: u64, command: u64, binds: &mut [u64]) -
 // The table from the first LC_DYLD_INFO or LC_DYLD_INFO_ONLY of a file, no binds without one; or a number, with nothing written.
 fn build_from(file: &[u8], binds: &mut [u64]) -> BindsBuilt
     requires { asked_commands file.now ≡ value tt }
-    ensures* { λ b. ⌜ result (built_outcome b) (after binds) ≡ settled (binds_found (before file)) (before binds) ⌝ }
+    ensures* { λ b. ⌜ result (built_outcome b) binds.new ≡ settled (binds_found (before file)) binds.old ⌝ }
 {
     let cmds = command_bytes(file);
     let count = command_count(file);
@@ -72,7 +72,7 @@ fn build_from(file: &[u8], binds: &mut [u64]) -> BindsBuilt
 // Builds the bind table of a file from its bind opcodes: how many binds, or the number of the first question that says no, with nothing
 // written.
 pub fn bind_table(file: &[u8], binds: &mut [u64]) -> BindsBuilt
-    ensures* { λ b. ⌜ result (built_outcome b) (after binds) ≡ settled (binds_found (before file)) (before binds) ⌝ }
+    ensures* { λ b. ⌜ result (built_outcome b) binds.new ≡ settled (binds_found (before file)) binds.old ⌝ }
 {
     match ask_commands(file) {
         Asked::Yes => build_from(file, binds),

@@ -71,7 +71,7 @@ fn perform(
     n: u64,
     binds: &mut [u64],
 ) -> Ran
-    ensures { ran_of result (after binds) ≡ told_by (perform end (before cmds) (segments_of (before cmds) count) x s) (part n (before binds)) }
+    ensures { ran_of result binds.new ≡ told_by (perform end (before cmds) (segments_of (before cmds) count) x s) (part n binds.old) }
 {
     match x {
         Instruction::Pass => Ran::On(s, n),
@@ -98,8 +98,8 @@ fn step(
     n: u64,
     binds: &mut [u64],
 ) -> Stepped
-    ensures { next_of result (after binds) ≡ and_then (decode parts place b (before rest))
-        (λ d. and_then (told_by (perform end (before cmds) (segments_of (before cmds) count) d.says s) (part n (before binds))) (λ t. value (next t d.size))) }
+    ensures { next_of result binds.new ≡ and_then (decode parts place b (before rest))
+        (λ d. and_then (told_by (perform end (before cmds) (segments_of (before cmds) count) d.says s) (part n binds.old)) (λ t. value (next t d.size))) }
 {
     match decode(parts, place, b, rest) {
         Decoded::Read(x, size) => match perform(end, cmds, count, x, s, n, binds) {
@@ -122,7 +122,7 @@ fn walk(
     binds: &mut [u64],
 ) -> Walked
     requires { at + length body.now < 2 ^ 64 }
-    ensures { part_of result (after binds) ≡ told (walk end (before cmds) (segments_of (before cmds) count) parts at (before body) 0 unset) (part n (before binds)) }
+    ensures { part_of result binds.new ≡ told (walk end (before cmds) (segments_of (before cmds) count) parts at (before body) 0 unset) (part n binds.old) }
 {
     let mut s = unset();
     let mut records = n;
@@ -167,8 +167,8 @@ fn stream_at(
     binds: &mut [u64],
 ) -> Walked
     requires { field < 2 ^ 32 }
-    ensures { part_of result (after binds)
-        ≡ told (stream_at (before file) (before cmds) (segments_of (before cmds) count) command field parts) (part n (before binds)) }
+    ensures { part_of result binds.new
+        ≡ told (stream_at (before file) (before cmds) (segments_of (before cmds) count) command field parts) (part n binds.old) }
 {
     let at = field32(cmds, command, field);
     let size = field32(cmds, command, field + 4);
@@ -184,8 +184,8 @@ fn weak_and_lazy(
     n: u64,
     binds: &mut [u64],
 ) -> Walked
-    ensures { part_of result (after binds)
-        ≡ told (joined (stream_at (before file) (before cmds) (segments_of (before cmds) count) command weak_bind_off false) (stream_at (before file) (before cmds) (segments_of (before cmds) count) command lazy_bind_off true)) (part n (before binds)) }
+    ensures { part_of result binds.new
+        ≡ told (joined (stream_at (before file) (before cmds) (segments_of (before cmds) count) command weak_bind_off false) (stream_at (before file) (before cmds) (segments_of (before cmds) count) command lazy_bind_off true)) (part n binds.old) }
 {
     match stream_at(file, cmds, count, command, WEAK_BIND_OFF, false, n, binds) {
         Walked::Count(m) => stream_at(file, cmds, count, command, LAZY_BIND_OFF, true, m, binds),
@@ -201,8 +201,8 @@ pub(crate) fn streams_at(
     command: u64,
     binds: &mut [u64],
 ) -> Walked
-    ensures { part_of result (after binds)
-        ≡ told (streams_at (before file) (before cmds) (segments_of (before cmds) count) command) (part 0 (before binds)) }
+    ensures { part_of result binds.new
+        ≡ told (streams_at (before file) (before cmds) (segments_of (before cmds) count) command) (part 0 binds.old) }
 {
     match stream_at(file, cmds, count, command, BIND_OFF, false, 0, binds) {
         Walked::Count(n) => weak_and_lazy(file, cmds, count, command, n, binds),

@@ -25,7 +25,7 @@ pub fn chain(slot: u64) -> usize
 // Empties every chain.
 fn clear_heads(index: &mut [u32])
     requires { 2 * chains ≤ length index.old }
-    ensures { after index ≡ cleared (2 * chains) (before index) }
+    ensures { index.new ≡ cleared (2 * chains) index.old }
 {
     let mut i = 0;
     while i < HEADS {
@@ -37,7 +37,7 @@ fn clear_heads(index: &mut [u32])
 // Puts the record `number` at the front of the chain of its slot.
 fn link(index: &mut [u32], heads: usize, next: usize, number: u32, slot: u64)
     requires { (heads + chains ≤ next) × (next < length index.old) }
-    ensures { after index ≡ linked heads next number slot (before index) }
+    ensures { index.new ≡ linked heads next number slot index.old }
 {
     let head = heads + chain(slot);
     index[next] = index[head];
@@ -48,7 +48,7 @@ fn link(index: &mut [u32], heads: usize, next: usize, number: u32, slot: u64)
 fn link_all(table: &[u64], width: usize, index: &mut [u32], heads: usize, nexts: usize)
     requires { (0 < width) × (records width table.now ≤ 16777215) × (heads + chains ≤ nexts)
         × (nexts + records width table.now ≤ length index.old) }
-    ensures { after index ≡ chained width (before table) heads nexts (records width (before table)) (before index) }
+    ensures { index.new ≡ chained width (before table) heads nexts (records width (before table)) index.old }
 {
     let count = table.len() / width;
     let mut i = 0;
@@ -62,7 +62,7 @@ fn link_all(table: &[u64], width: usize, index: &mut [u32], heads: usize, nexts:
 pub(crate) fn fill_index(rebases: &[u64], binds: &[u64], index: &mut [u32])
     requires { (records rebase_words rebases.now ≤ 16777215) × (records bind_words binds.now ≤ 16777215)
         × (index_length rebases.now binds.now ≤ length index.old) }
-    ensures { after index ≡ indexed (before rebases) (before binds) (before index) }
+    ensures { index.new ≡ indexed (before rebases) (before binds) index.old }
 {
     clear_heads(index);
     link_all(rebases, Rebase::WORDS, index, 0, HEADS);

@@ -1,7 +1,8 @@
 // Opening: asks the questions 1 to 7, 18, 14 and 8, then writes the index.
 ghost use Rattle.std.specs.Prelude.{◌≡◌};
-ghost use Rattle.reads.specs.Reference.{after};
-ghost use Rattle.pointers.specs.Tables.{lent};
+ghost use Rattle.reads.specs.Files.{files_of};
+ghost use Rattle.reads.specs.Reference.{before};
+ghost use Rattle.pointers.specs.Tables.{lent, tables_of};
 ghost use Rattle.pointers.specs.Question.{asked_outcome};
 ghost use Rattle.pointers.specs.ImageInfo.{info_outcome};
 ghost use Rattle.pointers.specs.Open.{asked_opening, opening, opened_index};
@@ -51,10 +52,10 @@ pub fn open(
     binds: &[u64],
     index: &mut [u32],
 ) -> ImageInfoAnswer
-    ensures outcome { let t = lent files segments sections info rebases binds index in
+    ensures outcome { let t = tables_of (files_of files) (before segments) (before sections) (before info) (before rebases) (before binds) index.old in
         info_outcome result ≡ opening t }
-    ensures contents { let t = lent files segments sections info rebases binds index in
-        after index ≡ opened_index t }
+    ensures contents { let t = tables_of (files_of files) (before segments) (before sections) (before info) (before rebases) (before binds) index.old in
+        index.new ≡ opened_index t }
 {
     match ask_opening(files, segments, sections, info, rebases, binds, index) {
         Asked::Yes => {

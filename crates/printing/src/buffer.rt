@@ -25,7 +25,7 @@ pub(crate) fn least(a: usize, b: usize) -> usize
 fn copy(src: &[u8], from: usize, dst: &mut [u8], to: usize, n: usize)
     requires n_in_bounds { from + n ≤ length src.now }
     requires n_in_bounds_2 { to + n ≤ length dst.old }
-    ensures { after dst ≡ paste (before dst) to (drop from (before src)) n }
+    ensures { dst.new ≡ paste dst.old to (drop from (before src)) n }
 {
     let mut i = 0;
     while i < n {
@@ -36,7 +36,7 @@ fn copy(src: &[u8], from: usize, dst: &mut [u8], to: usize, n: usize)
 
 // The part of these bytes that the window leaves.
 pub(crate) fn bytes(s: &[u8], out: &mut [u8], w: Window) -> Window
-    ensures { buffer (after out) result ≡ put_all (buffer (before out) w) (before s) }
+    ensures { buffer out.new result ≡ put_all (buffer out.old w) (before s) }
 {
     let skip = w.skip;
     let at = w.at;
@@ -59,7 +59,7 @@ pub(crate) fn bytes(s: &[u8], out: &mut [u8], w: Window) -> Window
 
 // A byte.
 pub(crate) fn byte(b: u8, out: &mut [u8], w: Window) -> Window
-    ensures { buffer (after out) result ≡ put_all (buffer (before out) w) (b ∷ []) }
+    ensures { buffer out.new result ≡ put_all (buffer out.old w) (b ∷ []) }
 {
     let one = [b];
     bytes(&one, out, w)
@@ -67,7 +67,7 @@ pub(crate) fn byte(b: u8, out: &mut [u8], w: Window) -> Window
 
 // A number in lower-case hex.
 pub(crate) fn hex(n: u64, out: &mut [u8], w: Window) -> Window
-    ensures { buffer (after out) result ≡ put_all (buffer (before out) w) (hex_text n) }
+    ensures { buffer out.new result ≡ put_all (buffer out.old w) (hex_text n) }
 {
     let mut text = [0u8; 16];
     let k = io::hex(n, 1, &mut text);
@@ -76,7 +76,7 @@ pub(crate) fn hex(n: u64, out: &mut [u8], w: Window) -> Window
 
 // A word's sixteen digits in lower-case hex, zeros in front.
 fn hex_word(n: u64, out: &mut [u8], w: Window) -> Window
-    ensures { buffer (after out) result ≡ put_all (buffer (before out) w) (hex_word n) }
+    ensures { buffer out.new result ≡ put_all (buffer out.old w) (hex_word n) }
 {
     let mut text = [0u8; 16];
     let k = io::hex(n, 16, &mut text);
@@ -85,7 +85,7 @@ fn hex_word(n: u64, out: &mut [u8], w: Window) -> Window
 
 // A number of two words, high x 2^64 + low, in lower-case hex.
 pub(crate) fn hex_of_two(high: u64, low: u64, out: &mut [u8], w: Window) -> Window
-    ensures { buffer (after out) result ≡ put_all (buffer (before out) w) (hex_text (high * 2 ^ 64 + low)) }
+    ensures { buffer out.new result ≡ put_all (buffer out.old w) (hex_text (high * 2 ^ 64 + low)) }
 {
     if high == 0 {
         return hex(low, out, w);
@@ -96,7 +96,7 @@ pub(crate) fn hex_of_two(high: u64, low: u64, out: &mut [u8], w: Window) -> Wind
 
 // A number in decimal.
 pub(crate) fn decimal(n: u64, out: &mut [u8], w: Window) -> Window
-    ensures { buffer (after out) result ≡ put_all (buffer (before out) w) (decimal_text n) }
+    ensures { buffer out.new result ≡ put_all (buffer out.old w) (decimal_text n) }
 {
     let mut text = [0u8; 20];
     let k = io::decimal(n, &mut text);

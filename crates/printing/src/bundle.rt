@@ -21,7 +21,7 @@ use pointers::section::ObjcSection;
 fn decode_counted(bytes: &[u8], counts: Counts, words: &mut [u64])
     requires accepted { Accepted bytes.now counts }
     requires in_bounds { 4096 ≤ length words.old }
-    ensures { after words ≡ words_from (before bytes) segments_at (table_words counts) ++ drop (table_words counts) (before words) }
+    ensures { words.new ≡ words_from (before bytes) segments_at (table_words counts) ++ drop (table_words counts) words.old }
 {
     let end = counts.segment_words()
         + ObjcSection::TABLE_WORDS
@@ -33,7 +33,7 @@ fn decode_counted(bytes: &[u8], counts: Counts, words: &mut [u64])
 fn decode_bytes(bytes: &[u8], words: &mut [u64]) -> CountsAnswer
     requires { 4096 ≤ length words.old }
     ensures outcome { counts_outcome result ≡ bundle_counts (before bytes) }
-    ensures contents { after words ≡ words_after (before bytes) (before words) }
+    ensures contents { words.new ≡ words_after (before bytes) words.old }
 {
     match measure(bytes) {
         CountsAnswer::Counts(counts) => {
@@ -47,7 +47,7 @@ fn decode_bytes(bytes: &[u8], words: &mut [u64]) -> CountsAnswer
 // Question 13; then the words of the bundle's tables.
 pub fn decode(input: &[u8; 32769], n: usize, words: &mut [u64; 4096]) -> CountsAnswer
     ensures outcome { counts_outcome result ≡ bundle_counts (take n (before input)) }
-    ensures contents { after words ≡ words_after (take n (before input)) (before words) }
+    ensures contents { words.new ≡ words_after (take n (before input)) words.old }
 {
     let all: &[u8] = input;
     let end = least(n, all.len());
@@ -72,8 +72,8 @@ fn open_files(
     requires accepted { Accepted bytes.now counts }
     requires in_bounds { 4096 ≤ length words.now }
     requires in_bounds_2 { 10240 ≤ length index.old }
-    ensures outcome { framed_outcome result ≡ framed_opening (ranges_of (before bytes)) (tables_over (files_of files) (before bytes) counts (before words) (before index)) }
-    ensures contents { after index ≡ framed_index (ranges_of (before bytes)) (tables_over (files_of files) (before bytes) counts (before words) (before index)) ++ drop (index_words counts) (before index) }
+    ensures outcome { framed_outcome result ≡ framed_opening (ranges_of (before bytes)) (tables_over (files_of files) (before bytes) counts (before words) index.old) }
+    ensures contents { index.new ≡ framed_index (ranges_of (before bytes)) (tables_over (files_of files) (before bytes) counts (before words) index.old) ++ drop (index_words counts) index.old }
 {
     let first = counts.segment_words();
     let second = first + ObjcSection::TABLE_WORDS;
@@ -98,8 +98,8 @@ fn open_counted(bytes: &[u8], counts: Counts, words: &[u64], index: &mut [u32]) 
     requires accepted { Accepted bytes.now counts }
     requires in_bounds { 4096 ≤ length words.now }
     requires in_bounds_2 { 10240 ≤ length index.old }
-    ensures outcome { framed_outcome result ≡ framed_opening (ranges_of (before bytes)) (tables_in (before bytes) counts (before words) (before index)) }
-    ensures contents { after index ≡ framed_index (ranges_of (before bytes)) (tables_in (before bytes) counts (before words) (before index)) ++ drop (index_words counts) (before index) }
+    ensures outcome { framed_outcome result ≡ framed_opening (ranges_of (before bytes)) (tables_in (before bytes) counts (before words) index.old) }
+    ensures contents { index.new ≡ framed_index (ranges_of (before bytes)) (tables_in (before bytes) counts (before words) index.old) ++ drop (index_words counts) index.old }
 {
     let at1 = counts.image1_at();
     let at2 = counts.image2_at();
@@ -115,8 +115,8 @@ fn open_counted(bytes: &[u8], counts: Counts, words: &[u64], index: &mut [u32]) 
 fn open_bytes(bytes: &[u8], words: &[u64], index: &mut [u32]) -> FramedAnswer
     requires in_bounds { 4096 ≤ length words.now }
     requires in_bounds_2 { 10240 ≤ length index.old }
-    ensures outcome { framed_outcome result ≡ opening_in (before bytes) (before words) (before index) }
-    ensures contents { after index ≡ index_after (before bytes) (before words) (before index) }
+    ensures outcome { framed_outcome result ≡ opening_in (before bytes) (before words) index.old }
+    ensures contents { index.new ≡ index_after (before bytes) (before words) index.old }
 {
     match measure(bytes) {
         CountsAnswer::Counts(counts) => open_counted(bytes, counts, words, index),
@@ -131,8 +131,8 @@ pub fn open(
     words: &[u64; 4096],
     index: &mut [u32; 10240],
 ) -> FramedAnswer
-    ensures outcome { framed_outcome result ≡ opening_in (take n (before input)) (before words) (before index) }
-    ensures contents { after index ≡ index_after (take n (before input)) (before words) (before index) }
+    ensures outcome { framed_outcome result ≡ opening_in (take n (before input)) (before words) index.old }
+    ensures contents { index.new ≡ index_after (take n (before input)) (before words) index.old }
 {
     let all: &[u8] = input;
     let end = least(n, all.len());
@@ -155,9 +155,9 @@ fn piece_files(
     requires in_bounds_2 { 10240 ≤ length index.now }
     requires files_bound { longest (files_lent files.now) < 2 ^ 32 }
     ensures piece { let t = tables_over (files_of files) (before bytes) counts (before words) (before index) in
-        handed_of result (after ledger) (after out) ≡ piece_of t (standing_of progress (before ledger)) (length (before out)) (before out) }
+        handed_of result ledger.new out.new ≡ piece_of t (standing_of progress ledger.old) (length out.old) out.old }
     ensures rest { let t = tables_over (files_of files) (before bytes) counts (before words) (before index) in
-        to_come t (standing_of result.progress (after ledger)) ≡ drop (length (before out)) (to_come t (standing_of progress (before ledger))) }
+        to_come t (standing_of result.progress ledger.new) ≡ drop (length out.old) (to_come t (standing_of progress ledger.old)) }
 {
     let first = counts.segment_words();
     let second = first + ObjcSection::TABLE_WORDS;
@@ -191,9 +191,9 @@ fn piece_counted(
     requires in_bounds { 4096 ≤ length words.now }
     requires in_bounds_2 { 10240 ≤ length index.now }
     ensures piece { let t = tables_in (before bytes) counts (before words) (before index) in
-        handed_of result (after ledger) (after out) ≡ piece_of t (standing_of progress (before ledger)) (length (before out)) (before out) }
+        handed_of result ledger.new out.new ≡ piece_of t (standing_of progress ledger.old) (length out.old) out.old }
     ensures rest { let t = tables_in (before bytes) counts (before words) (before index) in
-        to_come t (standing_of result.progress (after ledger)) ≡ drop (length (before out)) (to_come t (standing_of progress (before ledger))) }
+        to_come t (standing_of result.progress ledger.new) ≡ drop (length out.old) (to_come t (standing_of progress ledger.old)) }
 {
     let at1 = counts.image1_at();
     let at2 = counts.image2_at();
@@ -218,9 +218,9 @@ fn piece_bytes(
     requires in_bounds { 4096 ≤ length words.now }
     requires in_bounds_2 { 10240 ≤ length index.now }
     ensures piece { let t = tables_lent (before bytes) (before words) (before index) in
-        handed_of result (after ledger) (after out) ≡ piece_of t (standing_of progress (before ledger)) (length (before out)) (before out) }
+        handed_of result ledger.new out.new ≡ piece_of t (standing_of progress ledger.old) (length out.old) out.old }
     ensures rest { let t = tables_lent (before bytes) (before words) (before index) in
-        to_come t (standing_of result.progress (after ledger)) ≡ drop (length (before out)) (to_come t (standing_of progress (before ledger))) }
+        to_come t (standing_of result.progress ledger.new) ≡ drop (length out.old) (to_come t (standing_of progress ledger.old)) }
 {
     match measure(bytes) {
         CountsAnswer::Counts(counts) => piece_counted(
@@ -255,9 +255,9 @@ pub fn next_piece(
     out: &mut [u8; 4096],
 ) -> Piece
     ensures piece { let t = tables_lent (take n (before input)) (before words) (before index) in
-        handed_of result (after ledger) (after out) ≡ piece_of t (standing_of progress (before ledger)) 4096 (before out) }
+        handed_of result ledger.new out.new ≡ piece_of t (standing_of progress ledger.old) 4096 out.old }
     ensures rest { let t = tables_lent (take n (before input)) (before words) (before index) in
-        to_come t (standing_of result.progress (after ledger)) ≡ drop 4096 (to_come t (standing_of progress (before ledger))) }
+        to_come t (standing_of result.progress ledger.new) ≡ drop 4096 (to_come t (standing_of progress ledger.old)) }
 {
     let all: &[u8] = input;
     let end = least(n, all.len());

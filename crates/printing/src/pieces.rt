@@ -40,7 +40,7 @@ pub struct Piece {
 
 // The text of what a step said.
 fn said_text(files: &[&[u8]], said: Said, out: &mut [u8], w: Window) -> Window
-    ensures { buffer (after out) result ≡ put_all (buffer (before out) w) (said_text (files_of files) (said_of said)) }
+    ensures { buffer out.new result ≡ put_all (buffer out.old w) (said_text (files_of files) (said_of said)) }
 {
     match said {
         Said::Line(line) => print::line(files, line, out, w),
@@ -142,7 +142,7 @@ impl Progress {
         ledger: &mut [u64],
     ) -> Progress
         ensures { let t = lent files segments sections info rebases binds index in
-            standing_of result (after ledger) ≡ stepped t (standing_of self (before ledger)) }
+            standing_of result ledger.new ≡ stepped t (standing_of self ledger.old) }
     {
         let listing = self.listing;
         let listed = listing.next(
@@ -160,8 +160,8 @@ impl Progress {
     // What waits, as far as the buffer has room after its first `at` bytes.
     fn hand_out(self, files: &[&[u8]], out: &mut [u8], at: usize) -> Piece
         requires { longest (files_lent files.now) < 2 ^ 32 }
-        ensures piece { result ≡ further self at (fits (files_of files) self (before out) at) }
-        ensures bytes { after out ≡ paste (before out) at (drop self.out (said_text (files_of files) (said_of self.said))) (fits (files_of files) self (before out) at) }
+        ensures piece { result ≡ further self at (fits (files_of files) self out.old at) }
+        ensures bytes { out.new ≡ paste out.old at (drop self.out (said_text (files_of files) (said_of self.said))) (fits (files_of files) self out.old at) }
     {
         let said = self.said;
         let skip = self.out;
@@ -193,9 +193,9 @@ impl Progress {
     ) -> Piece
         requires { longest (files_lent files.now) < 2 ^ 32 }
         ensures piece { let t = lent files segments sections info rebases binds index in
-            handed_of result (after ledger) (after out) ≡ piece_of t (standing_of self (before ledger)) (length (before out)) (before out) }
+            handed_of result ledger.new out.new ≡ piece_of t (standing_of self ledger.old) (length out.old) out.old }
         ensures rest { let t = lent files segments sections info rebases binds index in
-            to_come t (standing_of result.progress (after ledger)) ≡ drop (length (before out)) (to_come t (standing_of self (before ledger))) }
+            to_come t (standing_of result.progress ledger.new) ≡ drop (length out.old) (to_come t (standing_of self ledger.old)) }
     {
         let mut progress = self;
         let mut at = 0;
@@ -231,9 +231,9 @@ impl Progress {
         out: &mut [u8],
     ) -> Piece
         ensures piece { let t = listable (lent files segments sections info rebases binds index) in
-            handed_of result (after ledger) (after out) ≡ piece_of t (standing_of self (before ledger)) (length (before out)) (before out) }
+            handed_of result ledger.new out.new ≡ piece_of t (standing_of self ledger.old) (length out.old) out.old }
         ensures rest { let t = listable (lent files segments sections info rebases binds index) in
-            to_come t (standing_of result.progress (after ledger)) ≡ drop (length (before out)) (to_come t (standing_of self (before ledger))) }
+            to_come t (standing_of result.progress ledger.new) ≡ drop (length out.old) (to_come t (standing_of self ledger.old)) }
     {
         if !image_fits(longest(files)) {
             let empty = &info[0..0];

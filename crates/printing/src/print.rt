@@ -19,14 +19,14 @@ use records::row::Row;
 
 // A field that is none.
 fn none(out: &mut [u8], w: Window) -> Window
-    ensures { buffer (after out) result ≡ put_all (buffer (before out) w) none_field }
+    ensures { buffer out.new result ≡ put_all (buffer out.old w) none_field }
 {
     bytes(b" -", out, w)
 }
 
 // A field that is a number.
 fn number(n: u64, out: &mut [u8], w: Window) -> Window
-    ensures { buffer (after out) result ≡ put_all (buffer (before out) w) (number_field n) }
+    ensures { buffer out.new result ≡ put_all (buffer out.old w) (number_field n) }
 {
     let next = byte(b' ', out, w);
     hex(n, out, next)
@@ -34,7 +34,7 @@ fn number(n: u64, out: &mut [u8], w: Window) -> Window
 
 // A line's letter and its first field, a number.
 fn start(letter: u8, n: u64, out: &mut [u8], w: Window) -> Window
-    ensures { buffer (after out) result ≡ put_all (buffer (before out) w) (letter ∷ number_field n) }
+    ensures { buffer out.new result ≡ put_all (buffer out.old w) (letter ∷ number_field n) }
 {
     let next = byte(letter, out, w);
     number(n, out, next)
@@ -42,7 +42,7 @@ fn start(letter: u8, n: u64, out: &mut [u8], w: Window) -> Window
 
 // A field that is these bytes.
 fn string(s: &[u8], out: &mut [u8], w: Window) -> Window
-    ensures { buffer (after out) result ≡ put_all (buffer (before out) w) (string_field (before s)) }
+    ensures { buffer out.new result ≡ put_all (buffer out.old w) (string_field (before s)) }
 {
     let next = number(s.len() as u64, out, w);
     let then = byte(b':', out, next);
@@ -51,7 +51,7 @@ fn string(s: &[u8], out: &mut [u8], w: Window) -> Window
 
 // A field that is a text of a file that has these bytes; none where it does not lie in them.
 fn part(bytes: &[u8], t: Text, out: &mut [u8], w: Window) -> Window
-    ensures { buffer (after out) result ≡ put_all (buffer (before out) w) (part_field (before bytes) t) }
+    ensures { buffer out.new result ≡ put_all (buffer out.old w) (part_field (before bytes) t) }
 {
     let n = bytes.len() as u64;
     if t.offset > n {
@@ -67,7 +67,7 @@ fn part(bytes: &[u8], t: Text, out: &mut [u8], w: Window) -> Window
 
 // A field that is a text; a file that is not lent has no bytes.
 fn text(files: &[&[u8]], t: Text, out: &mut [u8], w: Window) -> Window
-    ensures { buffer (after out) result ≡ put_all (buffer (before out) w) (text_field (files_of files) t) }
+    ensures { buffer out.new result ≡ put_all (buffer out.old w) (text_field (files_of files) t) }
 {
     if !is_lent(files, t.file) {
         return part(b"", t, out, w);
@@ -79,7 +79,7 @@ fn text(files: &[&[u8]], t: Text, out: &mut [u8], w: Window) -> Window
 
 // Two fields that are texts.
 fn texts(files: &[&[u8]], first: Text, second: Text, out: &mut [u8], w: Window) -> Window
-    ensures { buffer (after out) result ≡ put_all (buffer (before out) w) (text_fields (files_of files) first second) }
+    ensures { buffer out.new result ≡ put_all (buffer out.old w) (text_fields (files_of files) first second) }
 {
     let next = text(files, first, out, w);
     text(files, second, out, next)
@@ -87,7 +87,7 @@ fn texts(files: &[&[u8]], first: Text, second: Text, out: &mut [u8], w: Window) 
 
 // A field that is a name or none.
 fn named(files: &[&[u8]], name: Named, out: &mut [u8], w: Window) -> Window
-    ensures { buffer (after out) result ≡ put_all (buffer (before out) w) (named_field (files_of files) name) }
+    ensures { buffer out.new result ≡ put_all (buffer out.old w) (named_field (files_of files) name) }
 {
     match name {
         Named::Text(t) => text(files, t, out, w),
@@ -97,7 +97,7 @@ fn named(files: &[&[u8]], name: Named, out: &mut [u8], w: Window) -> Window
 
 // An implementation's address, or none.
 fn imp(imp: Imp, out: &mut [u8], w: Window) -> Window
-    ensures { buffer (after out) result ≡ put_all (buffer (before out) w) (imp_field imp) }
+    ensures { buffer out.new result ≡ put_all (buffer out.old w) (imp_field imp) }
 {
     match imp {
         Imp::At(va) => number(va, out, w),
@@ -107,7 +107,7 @@ fn imp(imp: Imp, out: &mut [u8], w: Window) -> Window
 
 // An ivar's offset, or none.
 fn offset(offset: IvarOffset, out: &mut [u8], w: Window) -> Window
-    ensures { buffer (after out) result ≡ put_all (buffer (before out) w) (offset_field offset) }
+    ensures { buffer out.new result ≡ put_all (buffer out.old w) (offset_field offset) }
 {
     match offset {
         IvarOffset::At(n) => number(n as u64, out, w),
@@ -117,7 +117,7 @@ fn offset(offset: IvarOffset, out: &mut [u8], w: Window) -> Window
 
 // An ivar's alignment, or none.
 fn alignment(alignment: Alignment, out: &mut [u8], w: Window) -> Window
-    ensures { buffer (after out) result ≡ put_all (buffer (before out) w) (alignment_field alignment) }
+    ensures { buffer out.new result ≡ put_all (buffer out.old w) (alignment_field alignment) }
 {
     match alignment {
         Alignment::Log2(n) => number(n as u64, out, w),
@@ -127,7 +127,7 @@ fn alignment(alignment: Alignment, out: &mut [u8], w: Window) -> Window
 
 // 1 where an ivar's offset is aligned, 0 where it is not, none where that is unknown.
 fn aligned(aligned: Aligned, out: &mut [u8], w: Window) -> Window
-    ensures { buffer (after out) result ≡ put_all (buffer (before out) w) (aligned_field aligned) }
+    ensures { buffer out.new result ≡ put_all (buffer out.old w) (aligned_field aligned) }
 {
     match aligned {
         Aligned::Yes => number(1, out, w),
@@ -159,7 +159,7 @@ fn reading_number(reading: Reading) -> u64
 
 // I: version, flags.
 fn info(i: InfoLine, out: &mut [u8], w: Window) -> Window
-    ensures { buffer (after out) result ≡ put_all (buffer (before out) w) (info_text i) }
+    ensures { buffer out.new result ≡ put_all (buffer out.old w) (info_text i) }
 {
     let info = i.info;
     let reading = i.reading;
@@ -180,7 +180,7 @@ fn class_letter(meta: bool) -> u8
 
 // C or M: address, isa, superclass, bits, superclass name.
 fn class(files: &[&[u8]], line: ClassLine, out: &mut [u8], w: Window) -> Window
-    ensures { buffer (after out) result ≡ put_all (buffer (before out) w) (class_text (files_of files) line) }
+    ensures { buffer out.new result ≡ put_all (buffer out.old w) (class_text (files_of files) line) }
 {
     let class = line.class;
     let name = line.superclass_name;
@@ -194,7 +194,7 @@ fn class(files: &[&[u8]], line: ClassLine, out: &mut [u8], w: Window) -> Window
 
 // R: address, flags, start, size, name.
 fn ro(files: &[&[u8]], ro: ClassRo, out: &mut [u8], w: Window) -> Window
-    ensures { buffer (after out) result ≡ put_all (buffer (before out) w) (ro_text (files_of files) ro) }
+    ensures { buffer out.new result ≡ put_all (buffer out.old w) (ro_text (files_of files) ro) }
 {
     let name = ro.name;
     let a = start(b'R', ro.address, out, w);
@@ -206,7 +206,7 @@ fn ro(files: &[&[u8]], ro: ClassRo, out: &mut [u8], w: Window) -> Window
 
 // P: address, size, flags, name.
 fn protocol(files: &[&[u8]], protocol: ObjcProtocol, out: &mut [u8], w: Window) -> Window
-    ensures { buffer (after out) result ≡ put_all (buffer (before out) w) (protocol_text (files_of files) protocol) }
+    ensures { buffer out.new result ≡ put_all (buffer out.old w) (protocol_text (files_of files) protocol) }
 {
     let name = protocol.name;
     let a = start(b'P', protocol.address, out, w);
@@ -217,7 +217,7 @@ fn protocol(files: &[&[u8]], protocol: ObjcProtocol, out: &mut [u8], w: Window) 
 
 // K: address, class address, name, class name.
 fn category(files: &[&[u8]], line: CategoryLine, out: &mut [u8], w: Window) -> Window
-    ensures { buffer (after out) result ≡ put_all (buffer (before out) w) (category_text (files_of files) line) }
+    ensures { buffer out.new result ≡ put_all (buffer out.old w) (category_text (files_of files) line) }
 {
     let category = line.category;
     let class_name = line.class_name;
@@ -230,7 +230,7 @@ fn category(files: &[&[u8]], line: CategoryLine, out: &mut [u8], w: Window) -> W
 
 // m: list number, selector, types, imp, kind, mark.
 fn method(files: &[&[u8]], list: u16, m: Method, mark: u8, out: &mut [u8], w: Window) -> Window
-    ensures { buffer (after out) result ≡ put_all (buffer (before out) w) (method_text (files_of files) list m mark) }
+    ensures { buffer out.new result ≡ put_all (buffer out.old w) (method_text (files_of files) list m mark) }
 {
     let selector = m.selector;
     let types = m.types;
@@ -245,7 +245,7 @@ fn method(files: &[&[u8]], list: u16, m: Method, mark: u8, out: &mut [u8], w: Wi
 
 // v: list number, name, type, offset, size, alignment, aligned.
 fn ivar(files: &[&[u8]], list: u16, v: Ivar, out: &mut [u8], w: Window) -> Window
-    ensures { buffer (after out) result ≡ put_all (buffer (before out) w) (ivar_text (files_of files) list v) }
+    ensures { buffer out.new result ≡ put_all (buffer out.old w) (ivar_text (files_of files) list v) }
 {
     let name = v.name;
     let encoding = v.type_encoding;
@@ -262,7 +262,7 @@ fn ivar(files: &[&[u8]], list: u16, v: Ivar, out: &mut [u8], w: Window) -> Windo
 
 // p: list number, name, attributes.
 fn property(files: &[&[u8]], list: u16, p: Property, out: &mut [u8], w: Window) -> Window
-    ensures { buffer (after out) result ≡ put_all (buffer (before out) w) (property_text (files_of files) list p) }
+    ensures { buffer out.new result ≡ put_all (buffer out.old w) (property_text (files_of files) list p) }
 {
     let name = p.name;
     let attributes = p.attributes;
@@ -272,7 +272,7 @@ fn property(files: &[&[u8]], list: u16, p: Property, out: &mut [u8], w: Window) 
 
 // m, v or p.
 fn row(files: &[&[u8]], line: RowLine, out: &mut [u8], w: Window) -> Window
-    ensures { buffer (after out) result ≡ put_all (buffer (before out) w) (row_text (files_of files) line.list line.row line.mark) }
+    ensures { buffer out.new result ≡ put_all (buffer out.old w) (row_text (files_of files) line.list line.row line.mark) }
 {
     let row = line.row;
     match row {
@@ -284,7 +284,7 @@ fn row(files: &[&[u8]], line: RowLine, out: &mut [u8], w: Window) -> Window
 
 // q: list number, protocol name.
 fn protocol_name(files: &[&[u8]], line: NameLine, out: &mut [u8], w: Window) -> Window
-    ensures { buffer (after out) result ≡ put_all (buffer (before out) w) (name_text (files_of files) line) }
+    ensures { buffer out.new result ≡ put_all (buffer out.old w) (name_text (files_of files) line) }
 {
     let name = line.name;
     let a = start(b'q', line.list as u64, out, w);
@@ -293,7 +293,7 @@ fn protocol_name(files: &[&[u8]], line: NameLine, out: &mut [u8], w: Window) -> 
 
 // E: records, settled.
 fn end(line: EndLine, out: &mut [u8], w: Window) -> Window
-    ensures { buffer (after out) result ≡ put_all (buffer (before out) w) (end_text line) }
+    ensures { buffer out.new result ≡ put_all (buffer out.old w) (end_text line) }
 {
     let a = start(b'E', line.records, out, w);
     let b = byte(b' ', out, a);
@@ -302,7 +302,7 @@ fn end(line: EndLine, out: &mut [u8], w: Window) -> Window
 
 // A line without its newline.
 fn fields(files: &[&[u8]], line: Line, out: &mut [u8], w: Window) -> Window
-    ensures { buffer (after out) result ≡ put_all (buffer (before out) w) (fields_text (files_of files) line) }
+    ensures { buffer out.new result ≡ put_all (buffer out.old w) (fields_text (files_of files) line) }
 {
     match line {
         Line::Info(i) => info(i, out, w),
@@ -318,7 +318,7 @@ fn fields(files: &[&[u8]], line: Line, out: &mut [u8], w: Window) -> Window
 
 // A line.
 pub(crate) fn line(files: &[&[u8]], line: Line, out: &mut [u8], w: Window) -> Window
-    ensures { buffer (after out) result ≡ put_all (buffer (before out) w) (line_text (files_of files) line) }
+    ensures { buffer out.new result ≡ put_all (buffer out.old w) (line_text (files_of files) line) }
 {
     let end = fields(files, line, out, w);
     byte(b'\n', out, end)
@@ -326,7 +326,7 @@ pub(crate) fn line(files: &[&[u8]], line: Line, out: &mut [u8], w: Window) -> Wi
 
 // `refused` and the number of the question, in decimal.
 pub(crate) fn refused(k: u8, out: &mut [u8], w: Window) -> Window
-    ensures { buffer (after out) result ≡ put_all (buffer (before out) w) (refused_text k) }
+    ensures { buffer out.new result ≡ put_all (buffer out.old w) (refused_text k) }
 {
     let a = bytes(b"refused ", out, w);
     let b = decimal(k as u64, out, a);

@@ -26,7 +26,7 @@ pub fn write_pieces(
     out: &mut [u8; 4096],
 ) -> Written
     ensures { let t = tables_lent (take n (before input)) (before words) (before index) in
-        (result.whole ≡ true → to_come t (standing_of result.progress (after ledger)) ≡ []) }
+        (result.whole ≡ true → to_come t (standing_of result.progress ledger.new) ≡ []) }
 {
     let mut progress = start;
     loop {

@@ -32,7 +32,7 @@ pub(crate) fn marked(sheet: &[u64; WORDS], k: u64) -> bool
 
 fn set_bit(sheet: &mut [u64; WORDS], k: u64)
     requires { k < window }
-    ensures { after sheet ≡ with_bit (before sheet) k }
+    ensures { sheet.new ≡ with_bit sheet.old k }
 {
     let i = word_of(k);
     sheet[i] = sheet[i] | 1 << (k % 64);
@@ -40,7 +40,7 @@ fn set_bit(sheet: &mut [u64; WORDS], k: u64)
 
 fn set_bits(sheet: &mut [u64; WORDS], k: u64, n: u64)
     requires { n ≤ window - k }
-    ensures { after sheet ≡ with_bits (before sheet) k n }
+    ensures { sheet.new ≡ with_bits sheet.old k n }
 {
     let mut i = 0;
     while i < n {
@@ -51,14 +51,14 @@ fn set_bits(sheet: &mut [u64; WORDS], k: u64, n: u64)
 
 // The least byte past the window is at most x.
 fn lower(sheet: &mut [u64; WORDS], x: u64)
-    ensures { after sheet ≡ lowered_to (before sheet) x }
+    ensures { sheet.new ≡ lowered_to sheet.old x }
 {
     sheet[2] = least(x, sheet[2]);
 }
 
 // `left` bytes are used, from `first` bytes after the window's first on.
 fn note_from(sheet: &mut [u64; WORDS], first: u64, left: u64)
-    ensures { after sheet ≡ noted_from first left (before sheet) }
+    ensures { sheet.new ≡ noted_from first left sheet.old }
 {
     let room = less(WINDOW, first);
     if left <= room {
@@ -71,7 +71,7 @@ fn note_from(sheet: &mut [u64; WORDS], first: u64, left: u64)
 
 // Notes that `len` bytes of a file are used, from `offset` on.
 pub fn note(sheet: &mut [u64; WORDS], file: u64, offset: u64, len: u64)
-    ensures { after sheet ≡ noted (range file offset len) (before sheet) }
+    ensures { sheet.new ≡ noted (range file offset len) sheet.old }
 {
     if file != sheet[0] {
         return;

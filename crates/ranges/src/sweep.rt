@@ -26,7 +26,7 @@ pub struct Sweep {
 
 // Puts a range out as number i, three words, if there is room.
 fn put(out: &mut [u64], i: u64, file: u64, offset: u64, len: u64)
-    ensures { after out ≡ put_at (before out) i (range file offset len) }
+    ensures { out.new ≡ put_at out.old i (range file offset len) }
 {
     let room = (out.len() / 3) as u64;
     if i < room {
@@ -39,7 +39,7 @@ fn put(out: &mut [u64], i: u64, file: u64, offset: u64, len: u64)
 
 // The run that ends before byte b is put out, if it has a byte; how many are.
 fn close(out: &mut [u64], file: u64, run: Open, b: u64) -> u64
-    ensures { output result (after out) ≡ closed_at file b (progress run (before out)) }
+    ensures { output result out.new ≡ closed_at file b (progress run out.old) }
 {
     if run.start < b {
         put(out, run.count, file, run.start, b - run.start);
@@ -51,7 +51,7 @@ fn close(out: &mut [u64], file: u64, run: Open, b: u64) -> u64
 // Byte b is passed.
 fn pass(out: &mut [u64], file: u64, run: Open, b: u64, used: bool) -> Open
     requires { b + 1 < 2 ^ 64 }
-    ensures { progress result (after out) ≡ passed file used b (progress run (before out)) }
+    ensures { progress result out.new ≡ passed file used b (progress run out.old) }
 {
     if used {
         return run;
@@ -66,7 +66,7 @@ fn pass(out: &mut [u64], file: u64, run: Open, b: u64, used: bool) -> Open
 // The first n bytes of the window at `from` are passed.
 fn scan(sheet: &[u64; WORDS], file: u64, from: u64, n: u64, run: Open, out: &mut [u64]) -> Open
     requires { (n ≤ window) × (from + n < 2 ^ 64) }
-    ensures { progress result (after out) ≡ swept file (shown from (before sheet)) n from (progress run (before out)) }
+    ensures { progress result out.new ≡ swept file (shown from (before sheet)) n from (progress run out.old) }
 {
     let mut run = run;
     let mut k = 0;
@@ -80,7 +80,7 @@ fn scan(sheet: &[u64; WORDS], file: u64, from: u64, n: u64, run: Open, out: &mut
 // From byte at + n to at + next, where none is used.
 fn leap(out: &mut [u64], file: u64, run: Open, at: u64, n: u64, next: u64) -> Open
     requires { at + next < 2 ^ 64 }
-    ensures { progress result (after out) ≡ leapt file at n next (progress run (before out)) }
+    ensures { progress result out.new ≡ leapt file at n next (progress run out.old) }
 {
     if next <= n {
         return run;
@@ -107,7 +107,7 @@ impl Sweep {
 
     // Begins the sheet of the window that comes next, of a file of `size` bytes.
     pub fn begin(self, size: u64, sheet: &mut [u64; WORDS])
-        ensures { after sheet ≡ headed self.file self.at (size - self.at) (before sheet) }
+        ensures { sheet.new ≡ headed self.file self.at (size - self.at) sheet.old }
     {
         sheet[0] = self.file;
         sheet[1] = self.at;
@@ -116,7 +116,7 @@ impl Sweep {
 
     // Passes that window, and the bytes past it to the next that the sheet knows to be used.
     pub fn over_window(self, size: u64, sheet: &[u64; WORDS], out: &mut [u64]) -> Sweep
-        ensures { reached result (after out) ≡ over_window size (before sheet) (reached self (before out)) }
+        ensures { reached result out.new ≡ over_window size (before sheet) (reached self out.old) }
     {
         let file = self.file;
         let at = self.at;
@@ -131,7 +131,7 @@ impl Sweep {
 
     // Passes the end of a file of `size` bytes: a run ends with its file.
     pub fn over_end(self, size: u64, out: &mut [u64]) -> Sweep
-        ensures { reached result (after out) ≡ over_end size (reached self (before out)) }
+        ensures { reached result out.new ≡ over_end size (reached self out.old) }
     {
         let count = close(out, self.file, self.run, size);
         let run = Open { start: 0, count };

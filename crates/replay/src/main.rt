@@ -39,7 +39,7 @@ fn read_word(fd: i32) -> Word {
 
 // The next n bytes of the file.
 fn fill(fd: i32, n: u64, to: &mut [u8]) -> Part
-    ensures { size_of result ≤ length (after to) }
+    ensures { size_of result ≤ length to.new }
 {
     if n > to.len() as u64 {
         return Part::Cut;
@@ -54,7 +54,7 @@ fn fill(fd: i32, n: u64, to: &mut [u8]) -> Part
 
 // The next title or bundle of the file.
 fn read_part(fd: i32, to: &mut [u8]) -> Part
-    ensures { size_of result ≤ length (after to) }
+    ensures { size_of result ≤ length to.new }
 {
     match read_word(fd) {
         Word::Value(n) => fill(fd, n, to),

@@ -41,7 +41,7 @@ fn note_category_lists(
     sheet: &mut [u64; WORDS],
 ) -> bool
     ensures { let t = under setting (lent files segments sections info rebases binds index) in
-        going result (after sheet) ≡ going_after t (decode_category_lists va) (before sheet) }
+        going result sheet.new ≡ going_after t (decode_category_lists va) sheet.old }
 {
     if !note_pointer_or_0(files, segments, rebases, index, setting, va, 16, sheet) {
         return false;
@@ -70,7 +70,7 @@ fn note_category_properties(
     sheet: &mut [u64; WORDS],
 ) -> bool
     ensures { let t = under setting (lent files segments sections info rebases binds index) in
-        going result (after sheet) ≡ going_after t (decode_category_properties va wide) (before sheet) }
+        going result sheet.new ≡ going_after t (decode_category_properties va wide) sheet.old }
 {
     if wide {
         return note_pointer_or_0(files, segments, rebases, index, setting, va, 48, sheet);
@@ -93,7 +93,7 @@ fn note_category_of(
     sheet: &mut [u64; WORDS],
 )
     ensures { let t = under setting (lent files segments sections info rebases binds index) in
-        after sheet ≡ noted_all (used t (decode_category_of va wide)) (before sheet) }
+        sheet.new ≡ noted_all (used t (decode_category_of va wide)) sheet.old }
 {
     let Placed::At(_p) = whole_category(files, segments, va, wide) else {
         return;
@@ -131,7 +131,7 @@ pub fn note_category(
     sheet: &mut [u64; WORDS],
 )
     ensures { let t = under setting (lent files segments sections info rebases binds index) in
-        after sheet ≡ noted_all (used t (decode_category va)) (before sheet) }
+        sheet.new ≡ noted_all (used t (decode_category va)) sheet.old }
 {
     match ImageInfo::parse(info) {
         ImageInfoAnswer::Info(i) => {

@@ -30,7 +30,7 @@ pub fn note_class(
     sheet: &mut [u64; WORDS],
 )
     ensures { let t = under setting (lent files segments sections info rebases binds index) in
-        after sheet ≡ noted_all (used t (decode_class va is_meta)) (before sheet) }
+        sheet.new ≡ noted_all (used t (decode_class va is_meta)) sheet.old }
 {
     let Placed::At(_p) = readable(files, segments, va, 40) else {
         return;
@@ -64,7 +64,7 @@ fn note_ro_lists(
     sheet: &mut [u64; WORDS],
 ) -> bool
     ensures { let t = under setting (lent files segments sections info rebases binds index) in
-        going result (after sheet) ≡ going_after t (decode_ro_lists va) (before sheet) }
+        going result sheet.new ≡ going_after t (decode_ro_lists va) sheet.old }
 {
     if !note_pointer_or_0(files, segments, rebases, index, setting, va, 32, sheet) {
         return false;
@@ -95,7 +95,7 @@ pub fn note_class_ro(
     sheet: &mut [u64; WORDS],
 )
     ensures { let t = under setting (lent files segments sections info rebases binds index) in
-        after sheet ≡ noted_all (used t (decode_class_ro va)) (before sheet) }
+        sheet.new ≡ noted_all (used t (decode_class_ro va)) sheet.old }
 {
     let Placed::At(p) = readable(files, segments, va, 72) else {
         return;

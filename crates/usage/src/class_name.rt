@@ -46,7 +46,7 @@ fn note_ro_data(
     sheet: &mut [u64; WORDS],
 ) -> Word
     ensures { let t = under setting (lent files segments sections info rebases binds index) in
-        traced (word_outcome result) (after sheet) ≡ trace t (decode_ro_data slot) (before sheet) }
+        traced (word_outcome result) sheet.new ≡ trace t (decode_ro_data slot) sheet.old }
 {
     let target = rebase_at(rebases, index, setting, slot);
     if is_absent(target) {
@@ -70,7 +70,7 @@ fn note_class_name(
     sheet: &mut [u64; WORDS],
 )
     ensures { let t = under setting (lent files segments sections info rebases binds index) in
-        after sheet ≡ noted_all (used t (decode_class_name va)) (before sheet) }
+        sheet.new ≡ noted_all (used t (decode_class_name va)) sheet.old }
 {
     let Placed::At(_p) = readable(files, segments, va, 40) else {
         return;
@@ -117,7 +117,7 @@ fn note_decoded_name(
     sheet: &mut [u64; WORDS],
 ) -> bool
     ensures { let t = under setting (lent files segments sections info rebases binds index) in
-        going result (after sheet) ≡ going (is_absent (run t (decode_nonzero_class_name class_va))) (noted_all (used t (decode_nonzero_class_name class_va)) (before sheet)) }
+        going result sheet.new ≡ going (is_absent (run t (decode_nonzero_class_name class_va))) (noted_all (used t (decode_nonzero_class_name class_va)) sheet.old) }
 {
     if class_va == 0 {
         return true;
@@ -144,7 +144,7 @@ fn note_bound_name(
     sheet: &mut [u64; WORDS],
 )
     ensures { let t = under setting (lent files segments sections info rebases binds index) in
-        after sheet ≡ noted_all (used t (decode_bound_name address)) (before sheet) }
+        sheet.new ≡ noted_all (used t (decode_bound_name address)) sheet.old }
 {
     match checked_add(address, 8) {
         Word::Value(slot) => note_symbol(files, rebases, binds, index, slot, sheet),
@@ -167,7 +167,7 @@ pub fn note_class_name_of(
     sheet: &mut [u64; WORDS],
 )
     ensures { let t = under setting (lent files segments sections info rebases binds index) in
-        after sheet ≡ noted_all (used t (decode_class_name_of address class_va)) (before sheet) }
+        sheet.new ≡ noted_all (used t (decode_class_name_of address class_va)) sheet.old }
 {
     if note_decoded_name(
         files, segments, sections, info, rebases, binds, index, setting, class_va, sheet,

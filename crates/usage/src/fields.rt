@@ -29,7 +29,7 @@ pub fn note_ro_fields(
     sheet: &mut [u64; WORDS],
 )
     ensures { let t = under setting (lent files segments sections info rebases binds index) in
-        after sheet ≡ noted_all (fields_use t (ro_fields ro)) (before sheet) }
+        sheet.new ≡ noted_all (fields_use t (ro_fields ro)) sheet.old }
 {
     note_list_rows(
         files,
@@ -98,7 +98,7 @@ pub fn note_protocol_fields(
     sheet: &mut [u64; WORDS],
 )
     ensures { let t = under setting (lent files segments sections info rebases binds index) in
-        after sheet ≡ noted_all (fields_use t (protocol_fields protocol)) (before sheet) }
+        sheet.new ≡ noted_all (fields_use t (protocol_fields protocol)) sheet.old }
 {
     note_list_rows(
         files,
@@ -206,7 +206,7 @@ pub fn note_category_fields(
     sheet: &mut [u64; WORDS],
 )
     ensures { let t = under setting (lent files segments sections info rebases binds index) in
-        after sheet ≡ noted_all (fields_use t (category_fields category)) (before sheet) }
+        sheet.new ≡ noted_all (fields_use t (category_fields category)) sheet.old }
 {
     note_list_rows(
         files,

@@ -21,7 +21,7 @@ use reads::text::{Reading, TextAnswer, read_cstr_at};
 
 // The word of 8 bytes at an address.
 pub fn note_word(files: &[&[u8]], segments: &[u64], va: u64, sheet: &mut [u64; WORDS])
-    ensures { after sheet ≡ noted_all (uses_word (lent_image files segments) va) (before sheet) }
+    ensures { sheet.new ≡ noted_all (uses_word (lent_image files segments) va) sheet.old }
 {
     match readable(files, segments, va, 8) {
         Placed::At(p) => note(sheet, p.file, p.offset, 8),
@@ -31,7 +31,7 @@ pub fn note_word(files: &[&[u8]], segments: &[u64], va: u64, sheet: &mut [u64; W
 
 // k bytes at i bytes from a place, where they lie in its file.
 pub fn note_field(files: &[&[u8]], p: Place, i: u64, k: u64, sheet: &mut [u64; WORDS])
-    ensures { after sheet ≡ noted_all (uses_field (files_of files) k p i) (before sheet) }
+    ensures { sheet.new ≡ noted_all (uses_field (files_of files) k p i) sheet.old }
 {
     let n = file_len(files, p.file);
     if n < p.offset {
@@ -56,7 +56,7 @@ pub fn note_stored(
     slot: u64,
     sheet: &mut [u64; WORDS],
 )
-    ensures { after sheet ≡ noted_all (uses_slot_in (lent_image files segments) (before rebases) (before index) setting slot) (before sheet) }
+    ensures { sheet.new ≡ noted_all (uses_slot_in (lent_image files segments) (before rebases) (before index) setting slot) sheet.old }
 {
     if is_absent(rebase_at(rebases, index, setting, slot)) {
         note_word(files, segments, slot, sheet);
@@ -73,9 +73,9 @@ pub fn note_slot(
     slot: u64,
     sheet: &mut [u64; WORDS],
 ) -> Word
-    ensures { traced (word_outcome result) (after sheet)
+    ensures { traced (word_outcome result) sheet.new
         ≡ traced (resolve (lent_image files segments) (before rebases) (before index) setting slot)
-        (noted_all (uses_slot_in (lent_image files segments) (before rebases) (before index) setting slot) (before sheet)) }
+        (noted_all (uses_slot_in (lent_image files segments) (before rebases) (before index) setting slot) sheet.old) }
 {
     note_stored(files, segments, rebases, index, setting, slot, sheet);
     resolve_pointer(files, segments, rebases, index, setting, slot)
@@ -91,9 +91,9 @@ pub fn note_slot_or_0(
     slot: u64,
     sheet: &mut [u64; WORDS],
 ) -> bool
-    ensures { going result (after sheet)
+    ensures { going result sheet.new
         ≡ going_on (or_zero (resolve (lent_image files segments) (before rebases) (before index) setting slot))
-        (noted_all (uses_slot_in (lent_image files segments) (before rebases) (before index) setting slot) (before sheet)) }
+        (noted_all (uses_slot_in (lent_image files segments) (before rebases) (before index) setting slot) sheet.old) }
 {
     note_stored(files, segments, rebases, index, setting, slot, sheet);
     match slot_or_0(files, segments, rebases, index, setting, slot) {
@@ -113,9 +113,9 @@ pub fn note_pointer(
     k: u64,
     sheet: &mut [u64; WORDS],
 ) -> Word
-    ensures { traced (word_outcome result) (after sheet)
+    ensures { traced (word_outcome result) sheet.new
         ≡ traced (pointer_at (lent_image files segments) (before rebases) (before index) setting va k)
-        (noted_all (uses_pointer_in (lent_image files segments) (before rebases) (before index) setting va k) (before sheet)) }
+        (noted_all (uses_pointer_in (lent_image files segments) (before rebases) (before index) setting va k) sheet.old) }
 {
     match checked_add(va, k) {
         Word::Value(slot) => note_slot(files, segments, rebases, index, setting, slot, sheet),
@@ -134,9 +134,9 @@ pub fn note_pointer_or_0(
     k: u64,
     sheet: &mut [u64; WORDS],
 ) -> bool
-    ensures { going result (after sheet)
+    ensures { going result sheet.new
         ≡ going_on (pointer_or0_at (lent_image files segments) (before rebases) (before index) setting va k)
-        (noted_all (uses_pointer_in (lent_image files segments) (before rebases) (before index) setting va k) (before sheet)) }
+        (noted_all (uses_pointer_in (lent_image files segments) (before rebases) (before index) setting va k) sheet.old) }
 {
     match checked_add(va, k) {
         Word::Value(slot) => note_slot_or_0(files, segments, rebases, index, setting, slot, sheet),
@@ -146,7 +146,7 @@ pub fn note_pointer_or_0(
 
 // The text at an address, with the zero byte that ends it.
 pub fn note_text(files: &[&[u8]], segments: &[u64], va: u64, sheet: &mut [u64; WORDS])
-    ensures { after sheet ≡ noted_all (uses_text (lent_image files segments) va) (before sheet) }
+    ensures { sheet.new ≡ noted_all (uses_text (lent_image files segments) va) sheet.old }
 {
     match nonzero(va) {
         Word::Value(a) => match vm_to_file_offset_in(segments, a) {
@@ -169,7 +169,7 @@ pub fn note_symbol(
     slot: u64,
     sheet: &mut [u64; WORDS],
 )
-    ensures { after sheet ≡ noted_all (uses_symbol_in (files_of files) (before rebases) (before binds) (before index) slot) (before sheet) }
+    ensures { sheet.new ≡ noted_all (uses_symbol_in (files_of files) (before rebases) (before binds) (before index) slot) sheet.old }
 {
     match bind_at(files, rebases, binds, index, slot) {
         TextAnswer::Found(name) => note(sheet, name.file, name.offset, name.len),

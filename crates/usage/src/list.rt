@@ -43,7 +43,7 @@ pub fn note_list(
     sheet: &mut [u64; WORDS],
 )
     ensures { let t = under setting (lent files segments sections info rebases binds index) in
-        after sheet ≡ noted_all (used t (decode_list kind va)) (before sheet) }
+        sheet.new ≡ noted_all (used t (decode_list kind va)) sheet.old }
 {
     let Word::Value(address) = nonzero(va) else {
         return;
@@ -72,7 +72,7 @@ pub fn note_protocol_list(
     sheet: &mut [u64; WORDS],
 )
     ensures { let t = under setting (lent files segments sections info rebases binds index) in
-        after sheet ≡ noted_all (used t (decode_protocol_list va)) (before sheet) }
+        sheet.new ≡ noted_all (used t (decode_protocol_list va)) sheet.old }
 {
     let Word::Value(address) = nonzero(va) else {
         return;

@@ -77,7 +77,7 @@ fn note_slot_names(
     sheet: &mut [u64; WORDS],
 )
     ensures { let t = under setting (lent files segments sections info rebases binds index) in
-        after sheet ≡ noted_all (slots_use t list 0 list.count) (before sheet) }
+        sheet.new ≡ noted_all (slots_use t list 0 list.count) sheet.old }
 {
     let mut i = 0;
     while has_slot(list, i) {
@@ -111,7 +111,7 @@ pub fn note_protocol_names(
     sheet: &mut [u64; WORDS],
 )
     ensures { let t = under setting (lent files segments sections info rebases binds index) in
-        after sheet ≡ noted_all (names_use t va) (before sheet) }
+        sheet.new ≡ noted_all (names_use t va) sheet.old }
 {
     note_protocol_list(
         files, segments, sections, info, rebases, binds, index, setting, va, sheet,

@@ -28,7 +28,7 @@ fn note_trailing(
     sheet: &mut [u64; WORDS],
 )
     ensures { let t = under setting (lent files segments sections info rebases binds index) in
-        after sheet ≡ noted_all (used t (decode_trailing va)) (before sheet) }
+        sheet.new ≡ noted_all (used t (decode_trailing va)) sheet.old }
 {
     let Word::Value(slot) = checked_add(va, 88) else {
         return;
@@ -54,7 +54,7 @@ fn note_class_properties(
     sheet: &mut [u64; WORDS],
 )
     ensures { let t = under setting (lent files segments sections info rebases binds index) in
-        after sheet ≡ noted_all (used t (decode_class_properties va p)) (before sheet) }
+        sheet.new ≡ noted_all (used t (decode_class_properties va p)) sheet.old }
 {
     note_field(files, p, 64, 4, sheet);
     if 96 <= u32_in(files, p, 64) {
@@ -78,7 +78,7 @@ fn note_protocol_lists(
     sheet: &mut [u64; WORDS],
 ) -> bool
     ensures { let t = under setting (lent files segments sections info rebases binds index) in
-        going result (after sheet) ≡ going_after t (decode_protocol_lists va) (before sheet) }
+        going result sheet.new ≡ going_after t (decode_protocol_lists va) sheet.old }
 {
     if !note_pointer_or_0(files, segments, rebases, index, setting, va, 16, sheet) {
         return false;
@@ -112,7 +112,7 @@ pub fn note_protocol(
     sheet: &mut [u64; WORDS],
 )
     ensures { let t = under setting (lent files segments sections info rebases binds index) in
-        after sheet ≡ noted_all (used t (decode_protocol va)) (before sheet) }
+        sheet.new ≡ noted_all (used t (decode_protocol va)) sheet.old }
 {
     let Placed::At(p) = readable(files, segments, va, 72) else {
         return;

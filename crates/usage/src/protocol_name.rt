@@ -44,7 +44,7 @@ fn note_protocol_name(
     sheet: &mut [u64; WORDS],
 ) -> bool
     ensures { let t = under setting (lent files segments sections info rebases binds index) in
-        going result (after sheet) ≡ lacks_after t (decode_protocol_name va) (before sheet) }
+        going result sheet.new ≡ lacks_after t (decode_protocol_name va) sheet.old }
 {
     if va == 0 {
         return true;
@@ -71,7 +71,7 @@ fn note_protocol_name_in(
     sheet: &mut [u64; WORDS],
 ) -> bool
     ensures { let t = under setting (lent files segments sections info rebases binds index) in
-        going result (after sheet) ≡ lacks_after t (decode_protocol_name_in slot) (before sheet) }
+        going result sheet.new ≡ lacks_after t (decode_protocol_name_in slot) sheet.old }
 {
     match note_slot(files, segments, rebases, index, setting, slot, sheet) {
         Word::Value(va) => note_protocol_name(
@@ -98,7 +98,7 @@ pub fn note_name_in(
     sheet: &mut [u64; WORDS],
 )
     ensures { let t = under setting (lent files segments sections info rebases binds index) in
-        after sheet ≡ noted_all (used t (decode_name_in slot)) (before sheet) }
+        sheet.new ≡ noted_all (used t (decode_name_in slot)) sheet.old }
 {
     if note_protocol_name_in(
         files, segments, sections, info, rebases, binds, index, setting, slot, sheet,

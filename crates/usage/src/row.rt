@@ -34,7 +34,7 @@ fn note_legacy_method(
     sheet: &mut [u64; WORDS],
 )
     ensures { let t = under setting (lent files segments sections info rebases binds index) in
-        after sheet ≡ noted_all (used t (decode_legacy_method va)) (before sheet) }
+        sheet.new ≡ noted_all (used t (decode_legacy_method va)) sheet.old }
 {
     let Placed::At(place) = readable(files, segments, va, 24) else {
         return;
@@ -78,7 +78,7 @@ fn note_selector(
     sheet: &mut [u64; WORDS],
 ) -> Word
     ensures { let t = under setting (lent files segments sections info rebases binds index) in
-        traced (word_outcome result) (after sheet) ≡ trace t (decode_selector direct field p) (before sheet) }
+        traced (word_outcome result) sheet.new ≡ trace t (decode_selector direct field p) sheet.old }
 {
     note_field(files, p, 0, 4, sheet);
     let target = target_of(files, p, 0, field);
@@ -103,7 +103,7 @@ fn note_types(
     sheet: &mut [u64; WORDS],
 )
     ensures { let t = under setting (lent files segments sections info rebases binds index) in
-        after sheet ≡ noted_all (used t (decode_types field p)) (before sheet) }
+        sheet.new ≡ noted_all (used t (decode_types field p)) sheet.old }
 {
     note_field(files, p, 4, 4, sheet);
     note_text(files, segments, target_of(files, p, 4, field), sheet);
@@ -124,7 +124,7 @@ fn note_small_method(
     sheet: &mut [u64; WORDS],
 )
     ensures { let t = under setting (lent files segments sections info rebases binds index) in
-        after sheet ≡ noted_all (used t (decode_small_method va direct)) (before sheet) }
+        sheet.new ≡ noted_all (used t (decode_small_method va direct)) sheet.old }
 {
     let Placed::At(place) = readable(files, segments, va, 12) else {
         return;
@@ -175,7 +175,7 @@ fn note_offset(
     sheet: &mut [u64; WORDS],
 )
     ensures { let t = under setting (lent files segments sections info rebases binds index) in
-        after sheet ≡ noted_all (used t (decode_offset cell)) (before sheet) }
+        sheet.new ≡ noted_all (used t (decode_offset cell)) sheet.old }
 {
     let Word::Value(va) = nonzero(cell) else {
         return;
@@ -200,7 +200,7 @@ fn note_ivar(
     sheet: &mut [u64; WORDS],
 )
     ensures { let t = under setting (lent files segments sections info rebases binds index) in
-        after sheet ≡ noted_all (used t (decode_ivar va)) (before sheet) }
+        sheet.new ≡ noted_all (used t (decode_ivar va)) sheet.old }
 {
     let Placed::At(place) = readable(files, segments, va, 32) else {
         return;
@@ -243,7 +243,7 @@ fn note_property(
     sheet: &mut [u64; WORDS],
 )
     ensures { let t = under setting (lent files segments sections info rebases binds index) in
-        after sheet ≡ noted_all (used t (decode_property va)) (before sheet) }
+        sheet.new ≡ noted_all (used t (decode_property va)) sheet.old }
 {
     let Placed::At(place) = readable(files, segments, va, 16) else {
         return;
@@ -277,7 +277,7 @@ pub fn note_row(
     sheet: &mut [u64; WORDS],
 )
     ensures { let t = under setting (lent files segments sections info rebases binds index) in
-        after sheet ≡ noted_all (used t (decode_row kind va)) (before sheet) }
+        sheet.new ≡ noted_all (used t (decode_row kind va)) sheet.old }
 {
     match kind {
         RowKind::Legacy => note_legacy_method(

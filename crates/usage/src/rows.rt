@@ -32,7 +32,7 @@ fn note_entry(
 )
     requires { (j < h.count) × (entry_address h j < 2 ^ 64) }
     ensures { let t = under setting (lent files segments sections info rebases binds index) in
-        after sheet ≡ noted_all (used t (decode_row h.kind (entry_address h j))) (before sheet) }
+        sheet.new ≡ noted_all (used t (decode_row h.kind (entry_address h j))) sheet.old }
 {
     let kind = h.kind;
     let va = h.base + j * (h.size as u64);
@@ -55,7 +55,7 @@ fn note_rows(
     sheet: &mut [u64; WORDS],
 )
     ensures { let t = under setting (lent files segments sections info rebases binds index) in
-        after sheet ≡ noted_all (rows_use t h (readables (lent_image files segments) h)) (before sheet) }
+        sheet.new ≡ noted_all (rows_use t h (readables (lent_image files segments) h)) sheet.old }
 {
     let mut i = 0;
     loop {
@@ -88,7 +88,7 @@ pub fn note_list_rows(
     sheet: &mut [u64; WORDS],
 )
     ensures { let t = under setting (lent files segments sections info rebases binds index) in
-        after sheet ≡ noted_all (list_uses t kind va) (before sheet) }
+        sheet.new ≡ noted_all (list_uses t kind va) sheet.old }
 {
     note_list(
         files, segments, sections, info, rebases, binds, index, setting, kind, va, sheet,

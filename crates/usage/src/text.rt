@@ -34,7 +34,7 @@ pub fn note_string(
     sheet: &mut [u64; WORDS],
 ) -> bool
     ensures { let m = lent_image files segments in
-        going result (after sheet) ≡ going_on (text_in setting.reading m va) (noted_all (uses_text m va) (before sheet)) }
+        going result sheet.new ≡ going_on (text_in setting.reading m va) (noted_all (uses_text m va) sheet.old) }
 {
     let reading = setting.reading;
     match nonzero(va) {

@@ -24,9 +24,9 @@ pub fn note_slot_value(
     slot: u64,
     sheet: &mut [u64; WORDS],
 ) -> Word
-    ensures { traced (word_outcome result) (after sheet)
+    ensures { traced (word_outcome result) sheet.new
         ≡ traced (or_zero (resolve (lent_image files segments) (before rebases) (before index) setting slot))
-        (noted_all (uses_slot_in (lent_image files segments) (before rebases) (before index) setting slot) (before sheet)) }
+        (noted_all (uses_slot_in (lent_image files segments) (before rebases) (before index) setting slot) sheet.old) }
 {
     or_zero(note_slot(files, segments, rebases, index, setting, slot, sheet))
 }
@@ -42,9 +42,9 @@ pub fn note_pointer_value(
     k: u64,
     sheet: &mut [u64; WORDS],
 ) -> Word
-    ensures { traced (word_outcome result) (after sheet)
+    ensures { traced (word_outcome result) sheet.new
         ≡ traced (pointer_or0_at (lent_image files segments) (before rebases) (before index) setting va k)
-        (noted_all (uses_pointer_in (lent_image files segments) (before rebases) (before index) setting va k) (before sheet)) }
+        (noted_all (uses_pointer_in (lent_image files segments) (before rebases) (before index) setting va k) sheet.old) }
 {
     match checked_add(va, k) {
         Word::Value(slot) => note_slot_value(files, segments, rebases, index, setting, slot, sheet),

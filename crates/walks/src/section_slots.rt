@@ -153,7 +153,7 @@ impl ClassSlots {
     ) -> ClassTaken
         requires { Room self.slots (length ledger.old) }
         ensures { let t = under setting (lent files segments sections info rebases binds index) in
-            class_taken result (after ledger) ≡ take_new classes t (class_slots self) (before ledger) va }
+            class_taken result ledger.new ≡ take_new classes t (class_slots self) ledger.old va }
     {
         let slots = self.slots;
         match class_at(
@@ -226,7 +226,7 @@ impl ClassSlots {
         ledger: &mut [u64],
     ) -> ClassTaken
         ensures { let t = under setting (lent files segments sections info rebases binds index) in
-            class_taken result (after ledger) ≡ step_of classes t (class_slots self) (before ledger) }
+            class_taken result ledger.new ≡ step_of classes t (class_slots self) ledger.old }
     {
         if self.meta != 0 {
             let len = ledger.len();
@@ -316,7 +316,7 @@ impl CategorySlots {
     ) -> CategoryTaken
         requires { Room self.slots (length ledger.old) }
         ensures { let t = under setting (lent files segments sections info rebases binds index) in
-            category_taken result (after ledger) ≡ take_new categories t (category_slots self) (before ledger) va }
+            category_taken result ledger.new ≡ take_new categories t (category_slots self) ledger.old va }
     {
         let slots = self.slots;
         match category_at(
@@ -349,7 +349,7 @@ impl CategorySlots {
         ledger: &mut [u64],
     ) -> CategoryTaken
         ensures { let t = under setting (lent files segments sections info rebases binds index) in
-            category_taken result (after ledger) ≡ step_of categories t (category_slots self) (before ledger) }
+            category_taken result ledger.new ≡ step_of categories t (category_slots self) ledger.old }
     {
         let slots = self.slots;
         match slots.next_new(

@@ -132,7 +132,7 @@ impl ClassWalk {
         ledger: &mut [u64],
     ) -> ClassStepped
         ensures { let t = under self.setting (lent files segments sections info rebases binds index) in
-            (class_left result (after ledger) ≡ step_of classes t (class_walk self) (before ledger)) × (result.walk.setting ≡ self.setting) }
+            (class_left result ledger.new ≡ step_of classes t (class_walk self) ledger.old) × (result.walk.setting ≡ self.setting) }
     {
         let slots = self.slots;
         let setting = self.setting;
@@ -186,7 +186,7 @@ impl CategoryWalk {
         ledger: &mut [u64],
     ) -> CategoryStepped
         ensures { let t = under self.setting (lent files segments sections info rebases binds index) in
-            (category_left result (after ledger) ≡ step_of categories t (category_walk self) (before ledger)) × (result.walk.setting ≡ self.setting) }
+            (category_left result ledger.new ≡ step_of categories t (category_walk self) ledger.old) × (result.walk.setting ≡ self.setting) }
     {
         let slots = self.slots;
         let setting = self.setting;

@@ -361,7 +361,7 @@ impl SlotWalk {
     // Past a slot whose address was first met: it becomes the next word of the ledger.
     pub(crate) fn note(self, va: u64, ledger: &mut [u64]) -> SlotWalk
         requires { Room self (length ledger.old) }
-        ensures { (result ≡ slot_walk (self.slot + 1) (self.used + 1) (max self.highest va)) × (after ledger ≡ set (before ledger) self.used va) }
+        ensures { (result ≡ slot_walk (self.slot + 1) (self.used + 1) (max self.highest va)) × (ledger.new ≡ set ledger.old self.used va) }
     {
         let used = self.used as usize;
         ledger[used] = va;

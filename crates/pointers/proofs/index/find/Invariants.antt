@@ -1,0 +1,18 @@
+use Prim.Native.Nat.{◌-◌, ◌≤◌}
+use mathlib.Core.Path.{◌≡◌, sym, ◌∙◌}
+use native.Mathlib.Omega.{arith}
+use lib.ListN.{length}
+use Rattle.pointers.specs.Chain.{follow_from, follow}
+use Rattle.pointers.proofs.RecordWords.{slot_within}
+use Rattle.pointers.proofs.Chains.{follow_end, follow_above, follow_found, follow_on}
+use borrow.Author.Rules.{rules}
+use Rattle.reads.specs.Table.{records}
+use Rattle.pointers.proofs.index.find.Given as goal
+
+-- What is left of the chain, below the limit, leads where the whole chain leads.
+abbrev pub invariant-loop-number : goal.invariant-loop-number
+invariant-loop-number l = (l.limit ≤ records l.width l.table)
+    × (follow_from l.width l.table l.nexts l.slot l.index l.limit l.number ≡ follow l.width l.table l.heads l.nexts l.slot l.index)
+
+abbrev pub decreases-loop-number : goal.decreases-loop-number
+decreases-loop-number l = l.limit

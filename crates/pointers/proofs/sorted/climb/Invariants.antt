@@ -1,0 +1,19 @@
+use Prim.Native.Nat.{◌^◌, ◌≤◌}
+use mathlib.Core.Path.{◌≡◌, refl, sym, ◌∙◌}
+use native.Mathlib.Omega.{arith}
+use Rattle.reads.specs.Table.{records}
+use Rattle.pointers.specs.Tables.{rebase_words}
+use Rattle.pointers.specs.Sorted.{climb, halvings}
+use Rattle.pointers.proofs.SortedLookups.{half_power, at_most_below, climb_taken, climb_left}
+use borrow.Author.Rules.{rules}
+use Rattle.pointers.proofs.sorted.climb.Given as goal
+
+-- The climb from here ends where the whole climb ends.
+abbrev pub invariant-loop-k : goal.invariant-loop-k
+invariant-loop-k l = (l.step ≤ 16777216)
+    × (l.step ≡ 2 ^ l.k)
+    × (l.b ≤ records rebase_words l.rebases)
+    × (climb l.rebases l.slot l.k l.b ≡ climb l.rebases l.slot halvings 0)
+
+abbrev pub decreases-loop-k : goal.decreases-loop-k
+decreases-loop-k l = l.k

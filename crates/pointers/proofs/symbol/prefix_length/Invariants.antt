@@ -1,0 +1,16 @@
+-- The invariant: of the prefixes from k on, the first that fits is the first of all.
+use Prim.Native.Nat.{◌-◌, ◌≤◌}
+use mathlib.Core.Path.{◌≡◌, refl, sym, ◌∙◌}
+use mathlib.Core.List.{[]}
+use native.Mathlib.Omega.{arith}
+use borrow.Author.Rules.{rules}
+use lib.ListN.{get_or, drop}
+use Rattle.pointers.specs.Symbol.{starts, fitting, prefixes}
+use Rattle.pointers.proofs.Prefixes.{fitting_here, fitting_next, fitting_end, below_five}
+use Rattle.pointers.proofs.symbol.prefix_length.Given as goal
+
+abbrev pub invariant-loop-k : goal.invariant-loop-k
+invariant-loop-k l = (l.k ≤ 5) × (fitting (drop l.k prefixes) l.s ≡ fitting prefixes l.s)
+
+abbrev pub decreases-loop-k : goal.decreases-loop-k
+decreases-loop-k l = 5 - l.k
