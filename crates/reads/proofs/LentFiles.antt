@@ -1,5 +1,5 @@
 -- Laws of the files that are lent, and of the longest of them.
-use Rattle.std.proofs.Common.{◌≡◌, ℕ, zero, suc, ◌+◌, ◌<◌, ◌≤◌, min, max, Bool, true, false, not, ltb, List, [], ◌∷◌, map, length, get_or, take, drop, sym, refl, ap, ◌∙◌, subst, arith, length-drop, length-take, get_or-take, Bor, ltb-false, ltb-true, le-ltb, lt-ltb}
+use Rattle.std.proofs.Common.{◌≡◌, ℕ, zero, suc, ◌+◌, ◌<◌, ◌≤◌, min, max, Bool, true, false, not, ltb, List, [], ◌∷◌, map, length, get_or, drop, sym, refl, ap, ◌∙◌, subst, arith, length-drop, length-take, get_or-take, Bor, ltb-false, ltb-true, le-ltb, lt-ltb}
 use native.Mathlib.Decide.{dec_le}
 use borrow.Author.Tests.{not-true, not-false}
 use lib.ListN.{length-map, get_or-map, get_or-eq_default}

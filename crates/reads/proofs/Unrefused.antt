@@ -4,7 +4,6 @@ use Rattle.reads.specs.Outcome.{Outcome, value, Unrefused, a_value, an_absence, 
 use Rattle.reads.specs.Files.{file_of}
 use Rattle.reads.specs.Segment.{rows, place_at, placed, lookup}
 use Rattle.reads.specs.Place.{Image, le, part, readable_at, readable, word}
-use Rattle.reads.specs.Utf8.{verdict}
 use Rattle.reads.specs.Text.{scan_of, if_good, good_text, ended, if_ended, text_from, text_at, text_in}
 use Rattle.reads.specs.Address.{data_arm64e, data64, mapped, picked_wide, picked}
 use Rattle.reads.specs.declared.answer.Reason.{Reason}

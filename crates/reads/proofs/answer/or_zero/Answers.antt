@@ -1,4 +1,4 @@
-use Rattle.std.proofs.Common.{refl, rules}
+use Rattle.std.proofs.Common.{refl}
 use Rattle.reads.specs.Answer.{word_outcome}
 use Rattle.reads.proofs.Outcomes.{when_absent, when_present}
 use Rattle.reads.proofs.answer.or_zero.Goals as goal

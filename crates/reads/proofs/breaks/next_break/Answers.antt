@@ -1,11 +1,8 @@
-use Rattle.reads.proofs.BreakSteps.{lowest, lowest_is_next_break, lowest_out, lowest_ends, lowest_more, readable_part_size}
+use Rattle.reads.proofs.BreakSteps.{lowest_is_next_break, lowest_out, lowest_ends, lowest_more, readable_part_size}
 use Rattle.reads.proofs.Lookups.{ends_not}
-use Rattle.std.proofs.Common.{◌≡◌, ℕ, ◌-◌, ◌≤◌, ap, ◌∙◌, arith, rules}
-use Rattle.reads.specs.Files.{files_lent}
-use Rattle.reads.specs.Table.{records}
-use Rattle.reads.specs.Segment.{segment_words, rows}
-use Rattle.reads.proofs.SegmentRows.{rows_from, rows_all}
-use Rattle.reads.specs.Breaks.{readable_part, next_break, breaks}
+use Rattle.std.proofs.Common.{ℕ, ap, ◌∙◌, arith}
+use Rattle.reads.proofs.SegmentRows.{rows_all}
+use Rattle.reads.specs.Breaks.{readable_part}
 use Rattle.reads.proofs.breaks.next_break.Goals as goal
 
 pub loop-i-init : goal.loop-i-init
@@ -21,7 +18,7 @@ pub overflow_add-s-in-loop-i : goal.overflow_add-s-in-loop-i
 overflow_add-s-in-loop-i c = omega (arith, ends_not c.at-s.result (cc))
 
 pub loop-i-preserved : goal.loop-i-preserved
-loop-i-preserved c = 
+loop-i-preserved c =
     let a = c.args in
     let at = c.at-s in (
       omega arith,

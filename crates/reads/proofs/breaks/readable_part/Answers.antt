@@ -1,5 +1,5 @@
 -- Each return is one outcome of the comparisons; `size` is the lesser of vmsize and filesize by either way.
-use Rattle.std.proofs.Common.{⊎_elim, arith, rules}
+use Rattle.std.proofs.Common.{arith, rules}
 use Rattle.reads.proofs.BreakSteps.{part_by}
 use Rattle.reads.proofs.breaks.readable_part.Goals.{else-s-size, then-s-size}
 use Rattle.reads.proofs.breaks.readable_part.Goals as goal

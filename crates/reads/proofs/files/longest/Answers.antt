@@ -1,4 +1,4 @@
-use Rattle.std.proofs.Common.{◌≡◌, ℕ, ◌-◌, ◌≤◌, max, drop, ap, arith, rules}
+use Rattle.std.proofs.Common.{◌≡◌, ℕ, drop, ap, arith}
 use Rattle.reads.specs.Files.{files_lent, longest}
 use Rattle.reads.proofs.LentFiles.{longest_past, longest_step}
 use Rattle.reads.proofs.files.longest.Goals as goal
@@ -7,15 +7,14 @@ pub loop-f-init : goal.loop-f-init
 loop-f-init c = (omega arith, omega arith)
 
 pub loop-f-preserved : goal.loop-f-preserved
-loop-f-preserved c = 
-    (
+loop-f-preserved c = (
   omega arith,
   longest_step (files_lent c.args.files.now) c.loop-f.f c.loop-f.n _ _ _
       c.loop-f.invariant.1 c.file_len.ensures c.greatest-n.ensures,
 )
 
 pub returns : goal.returns
-returns c = 
+returns c =
     let files = c.args.files.now in
     let e : c.loop-f.f ≡ 4 = omega arith in
     let p = ap (λ (x : ℕ). longest (drop x (files_lent files))) e in

@@ -1,7 +1,6 @@
 -- The invariant: the longest so far and the longest of the files from f on are the longest of all.
-use Rattle.std.proofs.Common.{◌≡◌, ℕ, ◌-◌, ◌≤◌, max, drop, ap, arith, rules}
+use Rattle.std.proofs.Common.{◌≡◌, ◌-◌, ◌≤◌, max, drop}
 use Rattle.reads.specs.Files.{files_lent, longest}
-use Rattle.reads.proofs.LentFiles.{longest_past, longest_step}
 use Rattle.reads.proofs.files.longest.Given as goal
 
 abbrev pub invariant-loop-f : goal.invariant-loop-f

@@ -1,5 +1,5 @@
-use Rattle.std.proofs.Common.{◌-◌, ◌≤◌, length, sym, arith, rules}
-use Rattle.reads.proofs.LebLaws.{Counted, counted_start, counted_last, counted_more, counted_end}
+use Rattle.std.proofs.Common.{sym, arith, rules}
+use Rattle.reads.proofs.LebLaws.{counted_start, counted_last, counted_more, counted_end}
 use Rattle.reads.proofs.leb128.digit_count.Goals as goal
 
 pub loop-i-init : goal.loop-i-init

@@ -1,5 +1,5 @@
-use Rattle.std.proofs.Common.{◌-◌, ◌≤◌, length, sym, arith, rules}
-use Rattle.reads.proofs.LebLaws.{Counted, counted_start, counted_last, counted_more, counted_end}
+use Rattle.std.proofs.Common.{◌-◌, ◌≤◌, length}
+use Rattle.reads.proofs.LebLaws.{Counted}
 use Rattle.reads.proofs.leb128.digit_count.Given as goal
 
 abbrev pub invariant-loop-i : goal.invariant-loop-i

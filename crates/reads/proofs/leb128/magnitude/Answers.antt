@@ -1,6 +1,5 @@
-use Rattle.std.proofs.Common.{◌≡◌, ℕ, ◌^◌, ◌<◌, ◌≤◌, length, drop, sym, arith, rules}
+use Rattle.std.proofs.Common.{ℕ, sym, arith, rules}
 use lib.Seq.{drop-length}
-use Rattle.reads.specs.Leb128.{magnitude}
 use Rattle.reads.proofs.LebLaws.{digit_below, magnitude_nil, magnitude_before, magnitude_over, magnitude_all}
 use Rattle.reads.proofs.leb128.magnitude.Goals as goal
 
@@ -14,7 +13,7 @@ pub overflow_add-n : goal.overflow_add-n
 overflow_add-n c = omega (arith, digit_below _ _ _ c.digit.ensures)
 
 pub loop-i-preserved : goal.loop-i-preserved
-loop-i-preserved c = 
+loop-i-preserved c =
     let i : ℕ = c.loop-i.i in (
       search rules,
       omega (arith, digit_below _ _ _ c.digit.ensures),

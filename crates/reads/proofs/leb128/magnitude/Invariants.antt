@@ -1,7 +1,5 @@
-use Rattle.std.proofs.Common.{◌≡◌, ℕ, ◌^◌, ◌<◌, ◌≤◌, length, drop, sym, arith, rules}
-use lib.Seq.{drop-length}
+use Rattle.std.proofs.Common.{◌≡◌, ◌^◌, ◌<◌, ◌≤◌, length, drop}
 use Rattle.reads.specs.Leb128.{magnitude}
-use Rattle.reads.proofs.LebLaws.{digit_below, magnitude_nil, magnitude_before, magnitude_over, magnitude_all}
 use Rattle.reads.proofs.leb128.magnitude.Given as goal
 
 abbrev pub invariant-loop-i : goal.invariant-loop-i

@@ -1,4 +1,4 @@
-use Rattle.std.proofs.Common.{arith, length-take, rules}
+use Rattle.std.proofs.Common.{arith, length-take}
 use native.Mathlib.Nat.{sub-zero}
 use Rattle.reads.proofs.Outcomes.{word_value, word_missing}
 use Rattle.reads.specs.Leb128.{sleb128}
@@ -9,7 +9,7 @@ pub slice_bounds-sleb_of-end : goal.slice_bounds-sleb_of-end
 slice_bounds-sleb_of-end c = omega (arith, digit_count_bounds _ _ _ c.digit_count.ensures c.in-Value.is)
 
 pub sleb_of-requires : goal.sleb_of-requires
-sleb_of-requires c = 
+sleb_of-requires c =
     let b = digit_count_bounds _ _ _ c.digit_count.ensures c.in-Value.is in
     simp (sub-zero, length-take) (omega arith)
 

@@ -1,5 +1,5 @@
 use native.Mathlib.Nat.{sub-zero}
-use Rattle.std.proofs.Common.{arith, rules}
+use Rattle.std.proofs.Common.{arith}
 use Rattle.reads.proofs.Outcomes.{word_value, word_missing}
 use Rattle.reads.specs.Leb128.{uleb128}
 use Rattle.reads.proofs.LebLaws.{digit_count_bounds}

@@ -1,6 +1,5 @@
 use Rattle.reads.specs.Leb128.{negative}
 use Rattle.reads.proofs.LebLaws.{code_by_sign, sleb_fits, sleb_over, sleb_missing}
-use Rattle.std.proofs.Common.{rules}
 use Rattle.reads.proofs.leb128.sleb_of.Goals as goal
 
 pub returns-then-m-ge9223372036854775808 : goal.returns-then-m-ge9223372036854775808
@@ -9,7 +8,7 @@ returns-then-m-ge9223372036854775808 c = sleb_over _ _ c.magnitude.ensures _ c.i
 
 pub returns-else-m-ge9223372036854775808 : goal.returns-else-m-ge9223372036854775808
 unfolding negative
-returns-else-m-ge9223372036854775808 c = 
+returns-else-m-ge9223372036854775808 c =
     rw (code_by_sign _ _ _ c.by_sign-value.ensures c.if-m-ge9223372036854775808.false)
     (sleb_fits _ _ c.magnitude.ensures _ c.in-Value.is
     c.if-m-ge9223372036854775808.false)

@@ -1,4 +1,4 @@
-use Rattle.std.proofs.Common.{refl, rules}
+use Rattle.std.proofs.Common.{refl}
 use Rattle.reads.proofs.Outcomes.{word_value, word_missing}
 use Rattle.reads.specs.Leb128.{uleb_of, magnitude}
 use Rattle.reads.proofs.leb128.uleb_of.Goals as goal

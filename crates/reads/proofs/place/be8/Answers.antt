@@ -1,4 +1,4 @@
-use Rattle.std.proofs.Common.{arith, rules}
+use Rattle.std.proofs.Common.{arith}
 use Rattle.reads.proofs.Numbers.{be_part}
 use Rattle.reads.proofs.place.be8.Goals as goal
 

@@ -1,4 +1,4 @@
-use Rattle.std.proofs.Common.{◌+◌, arith, rules}
+use Rattle.std.proofs.Common.{◌+◌, arith}
 use Rattle.reads.proofs.Numbers.{le_part, le_one}
 use Rattle.reads.proofs.place.le2.Goals as goal
 

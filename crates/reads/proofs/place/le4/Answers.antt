@@ -1,4 +1,4 @@
-use Rattle.std.proofs.Common.{arith, rules}
+use Rattle.std.proofs.Common.{arith}
 use Rattle.reads.proofs.Numbers.{le_part}
 use Rattle.reads.proofs.place.le4.Goals as goal
 

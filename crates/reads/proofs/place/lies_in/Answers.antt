@@ -1,4 +1,4 @@
-use Rattle.std.proofs.Common.{◌+◌, ◌-◌, sym, arith, rules}
+use Rattle.std.proofs.Common.{◌+◌, ◌-◌, sym, arith}
 use borrow.Author.Tests.{lt-leb}
 use Rattle.reads.proofs.Tests.{le_same}
 use Rattle.reads.proofs.place.lies_in.Goals as goal

@@ -6,27 +6,27 @@ use Rattle.reads.proofs.Outcomes.{place_value, place_missing}
 use Rattle.reads.proofs.place.read_u16.Goals as goal
 
 pub offset_bounds-files-f : goal.offset_bounds-files-f
-offset_bounds-files-f c = 
+offset_bounds-files-f c =
     let a = c.args in
     let h =
     found_lent _ a.files.now a.segments.now a.va 2 _ c.readable.ensures c.in-At.is (omega arith) in
     search rules
 
 pub bounds-files-f : goal.bounds-files-f
-bounds-files-f c = 
+bounds-files-f c =
     let a = c.args in
     let h =
     found_lent _ a.files.now a.segments.now a.va 2 _ c.readable.ensures c.in-At.is (omega arith) in
     search rules
 
 pub le2-requires : goal.le2-requires
-le2-requires c = 
+le2-requires c =
     let a = c.args in
     found_holds _ a.files.now a.segments.now a.va 2 _ c.readable.ensures c.in-At.is (omega arith) _
 
 pub returns-in-At : goal.returns-in-At
 unfolding word
-returns-in-At c = 
+returns-in-At c =
     let a = c.args in
     let r = c.readable.ensures in
     let e = found_file c.readable.result a.files.now a.segments.now a.va 2 c.in-At.p r c.in-At.is (omega arith) _ in

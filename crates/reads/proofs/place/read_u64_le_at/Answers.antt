@@ -1,4 +1,4 @@
-use Rattle.std.proofs.Common.{ap, rules}
+use Rattle.std.proofs.Common.{ap}
 use Rattle.reads.specs.Outcome.{value}
 use Rattle.reads.specs.Place.{le_at}
 use Rattle.reads.proofs.Numbers.{answer_at_room}

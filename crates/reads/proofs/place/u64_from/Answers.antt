@@ -1,9 +1,9 @@
-use Rattle.std.proofs.Common.{◌+◌, length, sym, ◌∙◌, arith, rules, leb-false, leb-true}
+use Rattle.std.proofs.Common.{◌+◌, length, sym, ◌∙◌, arith, leb-false, leb-true}
 use Rattle.reads.proofs.Numbers.{le_inside, le_outside}
 use Rattle.reads.proofs.place.u64_from.Goals as goal
 
 pub overflow_add-at : goal.overflow_add-at
-overflow_add-at c = 
+overflow_add-at c =
     let a = c.args in
     omega (arith, leb-true (a.offset + a.i + 8) (length a.bytes.now) (sym c.lies_in.ensures ∙ c.if-lies_in.true))
 

@@ -1,4 +1,4 @@
-use Rattle.std.proofs.Common.{ap, ◌∙◌, to_z-of_z, w32, rules}
+use Rattle.std.proofs.Common.{ap, ◌∙◌, to_z-of_z, w32}
 use Rattle.reads.specs.Relative.{signed32, signed_in}
 use Rattle.reads.proofs.relative.i32_in.Goals as goal
 

@@ -1,4 +1,4 @@
-use Rattle.std.proofs.Common.{ap, ◌∙◌, to_z-of_z, w32, rules}
+use Rattle.std.proofs.Common.{ap, ◌∙◌, to_z-of_z, w32}
 use Rattle.reads.specs.Outcome.{value}
 use Rattle.reads.specs.Relative.{signed32, signed_at}
 use Rattle.reads.proofs.Numbers.{answer_at_room}
@@ -10,7 +10,7 @@ le4-requires c = answer_at_room c.readable_at.result _ _ _ _ c.readable_at.ensur
 
 pub returns-in-At : goal.returns-in-At
 unfolding signed_at
-returns-in-At c = 
+returns-in-At c =
     place_value _ _ _ _ _ c.readable_at.ensures c.in-At.is
     (ap value (to_z-of_z {w = w32} {z = c.signed.result} (record { sfits = c.signed.type_inv }) ∙ c.signed.ensures ∙ ap signed32 c.le4.ensures.0))
 

@@ -1,4 +1,4 @@
-use Rattle.std.proofs.Common.{◌∙◌, rules}
+use Rattle.std.proofs.Common.{◌∙◌}
 use Rattle.reads.proofs.Modulo.{slot_modulo}
 use Rattle.reads.proofs.relative.slot_address.Goals as goal
 

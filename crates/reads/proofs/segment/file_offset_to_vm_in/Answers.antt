@@ -1,9 +1,7 @@
-use Rattle.std.proofs.Common.{◌≡◌, ◌-◌, ◌≤◌, sym, ◌∙◌, arith, rules}
-use Rattle.reads.specs.Table.{records}
-use Rattle.reads.specs.Segment.{segment_words, rows, address_of}
+use Rattle.std.proofs.Common.{sym, ◌∙◌, arith}
 use Rattle.reads.specs.declared.answer.Reason.TheVariants.{Unmapped}
 use Rattle.reads.proofs.Outcomes.{because_of}
-use Rattle.reads.proofs.SegmentRows.{rows_from, rows_all}
+use Rattle.reads.proofs.SegmentRows.{rows_all}
 use Rattle.reads.proofs.Lookups.{carries_is, address_ends, address_carries, address_on, address_out}
 use Rattle.reads.proofs.segment.file_offset_to_vm_in.Goals as goal
 
@@ -17,7 +15,7 @@ pub overflow_sub-offset : goal.overflow_sub-offset
 overflow_sub-offset c = carries_is c.at-s.result c.args.file c.args.offset (cc)
 
 pub returns-then-carries : goal.returns-then-carries
-returns-then-carries c = 
+returns-then-carries c =
     let a = c.args in
     because_of c.because.result c.checked_add.result Unmapped _ c.because.ensures c.checked_add.ensures
     ∙ sym (address_carries a.segments.now c.loop-i.i (omega arith) c.at-s.result c.at-s.ensures a.file a.offset (cc) (cc))

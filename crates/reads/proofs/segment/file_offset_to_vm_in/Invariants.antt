@@ -1,10 +1,7 @@
-use Rattle.std.proofs.Common.{◌≡◌, ◌-◌, ◌≤◌, sym, ◌∙◌, arith, rules}
+use Rattle.std.proofs.Common.{◌≡◌, ◌-◌, ◌≤◌}
 use Rattle.reads.specs.Table.{records}
 use Rattle.reads.specs.Segment.{segment_words, rows, address_of}
-use Rattle.reads.specs.declared.answer.Reason.TheVariants.{Unmapped}
-use Rattle.reads.proofs.Outcomes.{because_of}
-use Rattle.reads.proofs.SegmentRows.{rows_from, rows_all}
-use Rattle.reads.proofs.Lookups.{carries_is, address_ends, address_carries, address_on, address_out}
+use Rattle.reads.proofs.SegmentRows.{rows_from}
 use Rattle.reads.proofs.segment.file_offset_to_vm_in.Given as goal
 
 abbrev pub invariant-loop-i : goal.invariant-loop-i

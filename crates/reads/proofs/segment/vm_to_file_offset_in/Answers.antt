@@ -1,7 +1,5 @@
-use Rattle.std.proofs.Common.{◌≡◌, ◌-◌, ◌≤◌, arith, rules}
-use Rattle.reads.specs.Table.{records}
-use Rattle.reads.specs.Segment.{segment_words, rows, lookup}
-use Rattle.reads.proofs.SegmentRows.{rows_from, rows_all}
+use Rattle.std.proofs.Common.{arith}
+use Rattle.reads.proofs.SegmentRows.{rows_all}
 use Rattle.reads.proofs.Lookups.{holds_is, lookup_ends, lookup_holds, lookup_on, lookup_out}
 use Rattle.reads.proofs.segment.vm_to_file_offset_in.Goals as goal
 

@@ -1,8 +1,7 @@
-use Rattle.std.proofs.Common.{◌≡◌, ◌-◌, ◌≤◌, arith, rules}
+use Rattle.std.proofs.Common.{◌≡◌, ◌-◌, ◌≤◌}
 use Rattle.reads.specs.Table.{records}
 use Rattle.reads.specs.Segment.{segment_words, rows, lookup}
-use Rattle.reads.proofs.SegmentRows.{rows_from, rows_all}
-use Rattle.reads.proofs.Lookups.{holds_is, lookup_ends, lookup_holds, lookup_on, lookup_out}
+use Rattle.reads.proofs.SegmentRows.{rows_from}
 use Rattle.reads.proofs.segment.vm_to_file_offset_in.Given as goal
 
 abbrev pub invariant-loop-i : goal.invariant-loop-i

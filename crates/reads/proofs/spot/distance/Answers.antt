@@ -1,5 +1,5 @@
 use Rattle.reads.proofs.Spots.{distance_wraps}
-use Rattle.std.proofs.Common.{arith, rules}
+use Rattle.std.proofs.Common.{arith}
 use Rattle.reads.proofs.spot.distance.Goals as goal
 
 pub returns : goal.returns

@@ -1,4 +1,4 @@
-use Rattle.std.proofs.Common.{◌∙◌, ⊎_elim, arith, rules}
+use Rattle.std.proofs.Common.{◌∙◌, arith}
 use Rattle.reads.proofs.Spots.{spot_read, spot_unread}
 use Rattle.reads.proofs.spot.readable_spot.Goals.{else-s-n, then-s-n+else-k-n}
 use Rattle.reads.proofs.spot.readable_spot.Goals as goal

@@ -15,12 +15,12 @@ pub overflow_sub-last-2 : goal.overflow_sub-last-2
 overflow_sub-last-2 c = omega (arith, c.least.ensures, held_inside _ 0 _ _ c.requires.va_value c.requires.d_value)
 
 pub overflow_add-result : goal.overflow_add-result
-overflow_add-result c = 
+overflow_add-result c =
     let h = room_fits c.least-2.result c.least.result _ _ (search rules) c.least-2.ensures in
     search rules
 
 pub returns : goal.returns
-returns c = 
+returns c =
     let d = c.args.d in
     rw c.least-2.ensures
     (spot_there _ _ _ d (search rules) (search rules) _ _ (search rules) (sum_within _ _ (search rules) c.if-s-d-2.false) (search rules)

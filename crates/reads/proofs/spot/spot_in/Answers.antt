@@ -1,8 +1,5 @@
-use Rattle.std.proofs.Common.{◌≡◌, ◌-◌, ◌≤◌, sym, ◌∙◌, arith, rules}
-use Rattle.reads.specs.Table.{records}
-use Rattle.reads.specs.Segment.{segment_words, rows}
-use Rattle.reads.specs.Spot.{spot_from}
-use Rattle.reads.proofs.SegmentRows.{rows_from, rows_all}
+use Rattle.std.proofs.Common.{sym, ◌∙◌, arith}
+use Rattle.reads.proofs.SegmentRows.{rows_all}
 use Rattle.reads.proofs.Spots.{spot_ends, spot_holds, spot_on, spot_out}
 use Rattle.reads.proofs.spot.spot_in.Goals as goal
 
@@ -10,28 +7,28 @@ pub loop-i-init : goal.loop-i-init
 loop-i-init c = (omega arith, rw rows_all)
 
 pub returns-then-ends : goal.returns-then-ends
-returns-then-ends c = 
+returns-then-ends c =
     let e = sym c.ends.ensures ∙ c.if-ends.true in
     c.nowhere.ensures
     ∙ sym (spot_ends c.args.segments.now c.loop-i.i (omega arith) _ c.at-s.ensures c.loop-i.far c.args.va e)
     ∙ c.loop-i.invariant.1
 
 pub holds_at-requires : goal.holds_at-requires
-holds_at-requires c = 
+holds_at-requires c =
     record {
       s_value = sym c.ends.ensures ∙ c.if-ends.false;
       d_value = c.distance-d.ensures;
     }
 
 pub spot_at-requires : goal.spot_at-requires
-spot_at-requires c = 
+spot_at-requires c =
     record {
       va_value = sym c.holds_at.ensures ∙ c.if-holds_at.true;
       d_value = c.distance-d.ensures;
     }
 
 pub returns-then-holds_at : goal.returns-then-holds_at
-returns-then-holds_at c = 
+returns-then-holds_at c =
     let e = sym c.ends.ensures ∙ c.if-ends.false in
     let h = sym c.holds_at.ensures ∙ c.if-holds_at.true in
     c.spot_at.ensures
@@ -39,7 +36,7 @@ returns-then-holds_at c =
     ∙ c.loop-i.invariant.1
 
 pub loop-i-preserved : goal.loop-i-preserved
-loop-i-preserved c = 
+loop-i-preserved c =
     let e = sym c.ends.ensures ∙ c.if-ends.false in
     let h = sym c.holds_at.ensures ∙ c.if-holds_at.false in (
       omega arith,

@@ -1,9 +1,8 @@
-use Rattle.std.proofs.Common.{◌≡◌, ◌-◌, ◌≤◌, sym, ◌∙◌, arith, rules}
+use Rattle.std.proofs.Common.{◌≡◌, ◌-◌, ◌≤◌}
 use Rattle.reads.specs.Table.{records}
 use Rattle.reads.specs.Segment.{segment_words, rows}
 use Rattle.reads.specs.Spot.{spot_from}
-use Rattle.reads.proofs.SegmentRows.{rows_from, rows_all}
-use Rattle.reads.proofs.Spots.{spot_ends, spot_holds, spot_on, spot_out}
+use Rattle.reads.proofs.SegmentRows.{rows_from}
 use Rattle.reads.proofs.spot.spot_in.Given as goal
 
 abbrev pub invariant-loop-i : goal.invariant-loop-i

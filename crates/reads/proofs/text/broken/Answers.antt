@@ -1,12 +1,12 @@
-use Rattle.std.proofs.Common.{◌-◌, length, ap, arith, rules}
-use Rattle.reads.proofs.Texts.{Ahead, ahead_start, ahead_on, ahead_ends, read_next}
+use Rattle.std.proofs.Common.{ap, arith}
+use Rattle.reads.proofs.Texts.{ahead_start, ahead_on, ahead_ends, read_next}
 use Rattle.reads.proofs.text.broken.Goals as goal
 
 pub loop-b-init : goal.loop-b-init
 loop-b-init c = ahead_start c.requires.0 c.requires.1
 
 pub loop-b-smaller : goal.loop-b-smaller
-loop-b-smaller c = 
+loop-b-smaller c =
     let l = c.loop-b.invariant in
     let next = ahead_on l (omega arith) c.read_byte-b.ensures in
     omega (arith, ap (λ b. b.at) c.read_byte-b.ensures, read_next l (omega arith), next.within)

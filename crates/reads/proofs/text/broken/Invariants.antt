@@ -1,7 +1,7 @@
 -- `reads::text::broken` meets its contract. The invariant: b is the byte at its offset, and what is left of the text there is as long less
 -- what was read.
-use Rattle.std.proofs.Common.{◌-◌, length, ap, arith, rules}
-use Rattle.reads.proofs.Texts.{Ahead, ahead_start, ahead_on, ahead_ends, read_next}
+use Rattle.std.proofs.Common.{◌-◌, length}
+use Rattle.reads.proofs.Texts.{Ahead}
 use Rattle.reads.proofs.text.broken.Given as goal
 
 abbrev pub invariant-loop-b : goal.invariant-loop-b

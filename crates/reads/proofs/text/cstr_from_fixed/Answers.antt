@@ -1,6 +1,5 @@
 -- `reads::text::cstr_from_fixed` meets its contract, by the scan of the field.
 use Rattle.reads.proofs.Texts.{fixed_good, fixed_bad}
-use Rattle.std.proofs.Common.{rules}
 use Rattle.reads.proofs.text.cstr_from_fixed.Goals as goal
 
 pub returns-in-Good : goal.returns-in-Good

@@ -1,5 +1,4 @@
 use Rattle.reads.proofs.Texts.{scan_found, scan_missed}
-use Rattle.std.proofs.Common.{rules}
 use Rattle.reads.proofs.text.good_text.Goals as goal
 
 pub returns-in-Good : goal.returns-in-Good

@@ -1,4 +1,3 @@
-use Rattle.std.proofs.Common.{rules}
 use Rattle.reads.proofs.text.or_empty.Goals as goal
 
 pub returns-in-Found : goal.returns-in-Found

@@ -1,6 +1,5 @@
 -- `reads::text::read_byte` meets its contract: the count is raised exactly where a byte is read.
 use Rattle.reads.proofs.Passes.{byte_end, byte_there}
-use Rattle.std.proofs.Common.{rules}
 use Rattle.reads.proofs.text.read_byte.Goals as goal
 
 pub returns-then-s-read : goal.returns-then-s-read

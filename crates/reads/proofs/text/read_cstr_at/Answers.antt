@@ -6,7 +6,7 @@ use Rattle.std.proofs.Common.{not}
 use Rattle.reads.proofs.text.read_cstr_at.Goals as goal
 
 pub returns-then-not-is_lent : goal.returns-then-not-is_lent
-returns-then-not-is_lent c = 
+returns-then-not-is_lent c =
     let a = c.args in
     let f = a.p.file in
     let e = file_not_lent a.files.now f (said_not a.files.now f _ c.is_lent.ensures (ap not c.if-not-is_lent.true)) in (
@@ -15,19 +15,19 @@ returns-then-not-is_lent c =
     )
 
 pub offset_bounds-files-f : goal.offset_bounds-files-f
-offset_bounds-files-f c = 
+offset_bounds-files-f c =
     let a = c.args in
     let h = lent_below a.files.now a.p.file (said_lent a.files.now a.p.file _ c.is_lent.ensures (ap not c.if-not-is_lent.false)) in
     search rules
 
 pub bounds-files-f : goal.bounds-files-f
-bounds-files-f c = 
+bounds-files-f c =
     let a = c.args in
     let h = lent_below a.files.now a.p.file (said_lent a.files.now a.p.file _ c.is_lent.ensures (ap not c.if-not-is_lent.false)) in
     search rules
 
 pub returns : goal.returns
-returns c = 
+returns c =
     let a = c.args in
     let f = a.p.file in
     let e = file_lent a.files.now f _ (said_lent a.files.now f _ c.is_lent.ensures (ap not c.if-not-is_lent.false)) in (

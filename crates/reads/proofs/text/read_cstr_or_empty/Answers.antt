@@ -1,4 +1,4 @@
-use Rattle.std.proofs.Common.{ap, ◌∙◌, rules}
+use Rattle.std.proofs.Common.{ap, ◌∙◌}
 use Rattle.reads.specs.Outcome.{or_empty}
 use Rattle.reads.proofs.text.read_cstr_or_empty.Goals as goal
 

@@ -1,5 +1,5 @@
 -- `reads::text::reads_cstr_length_plus_one` meets its contract; the sum fits since the text lies in the file.
-use Rattle.std.proofs.Common.{sym, ap, ◌∙◌, arith, rules}
+use Rattle.std.proofs.Common.{sym, ap, ◌∙◌, arith}
 use Rattle.reads.specs.Answer.{text_outcome}
 use Rattle.reads.specs.Segment.{place_at}
 use Rattle.reads.specs.Text.{length_plus_one}
@@ -8,7 +8,7 @@ use Rattle.reads.proofs.Texts.{length_plus_one_missed, text_inside}
 use Rattle.reads.proofs.text.reads_cstr_length_plus_one.Goals as goal
 
 pub overflow_add-result : goal.overflow_add-result
-overflow_add-result c = 
+overflow_add-result c =
     let a = c.args in
     omega (arith, (text_inside Old a.bytes.now (place_at 0 a.offset) c.in-Found.t (sym (ap text_outcome c.in-Found.is) ∙ c.read_cstr_in-r.ensures.0)).1, c.well_formed.0)
 

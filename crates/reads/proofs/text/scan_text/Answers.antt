@@ -1,6 +1,6 @@
-use Rattle.std.proofs.Common.{◌-◌, ◌≤◌, true, [], length, ap, ◌∙◌, ⊎_elim, arith, rules}
+use Rattle.std.proofs.Common.{◌≤◌, true, [], ap, ◌∙◌, arith}
 use borrow.Author.Tests.{not-true, not-false}
-use Rattle.reads.proofs.Passes.{Left, Stands, left_start, byte_inside, read_there, left_ascii, left_character, stands_ahead}
+use Rattle.reads.proofs.Passes.{Stands, left_start, byte_inside, read_there, left_ascii, left_character, stands_ahead}
 use Rattle.reads.proofs.Texts.{scan_good, scan_broken}
 use Rattle.reads.proofs.text.scan_text.Goals.{else-b-gt0, then-b-gt0+else-b-lt128}
 use Rattle.reads.proofs.text.scan_text.Goals as goal
@@ -9,13 +9,13 @@ pub loop-read-init : goal.loop-read-init
 loop-read-init c = left_start true c.args.s.now
 
 pub loop-read-smaller-then-b-lt128 : goal.loop-read-smaller-then-b-lt128
-loop-read-smaller-then-b-lt128 c = 
+loop-read-smaller-then-b-lt128 c =
     let l = c.loop-read in
     let h = byte_inside l.invariant c.read_byte-b.ensures c.if-b-gt0.true in
     omega (arith, h, ap (λ b. b.read) c.read_byte-b.ensures ∙ read_there c.args.s.now l.read h)
 
 pub loop-read-preserved-then-b-lt128 : goal.loop-read-preserved-then-b-lt128
-loop-read-preserved-then-b-lt128 c = 
+loop-read-preserved-then-b-lt128 c =
     let l = c.loop-read.invariant in
     left_ascii l c.read_byte-b.ensures (byte_inside l c.read_byte-b.ensures c.if-b-gt0.true) (λ z. omega arith) c.if-b-lt128.true
 

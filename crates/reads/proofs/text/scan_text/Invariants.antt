@@ -1,9 +1,7 @@
 -- `reads::text::scan_text` meets its contract. The invariant: what is left of the text decides the verdict, and is as long less what was
 -- read.
-use Rattle.std.proofs.Common.{◌-◌, ◌≤◌, true, [], length, ap, ◌∙◌, ⊎_elim, arith, rules}
-use borrow.Author.Tests.{not-true, not-false}
-use Rattle.reads.proofs.Passes.{Left, Stands, left_start, byte_inside, read_there, left_ascii, left_character, stands_ahead}
-use Rattle.reads.proofs.Texts.{scan_good, scan_broken}
+use Rattle.std.proofs.Common.{◌-◌, true, [], length}
+use Rattle.reads.proofs.Passes.{Left}
 use Rattle.reads.proofs.text.scan_text.Given as goal
 
 abbrev pub invariant-loop-read : goal.invariant-loop-read

@@ -1,4 +1,4 @@
-use Rattle.std.proofs.Common.{sym, ap, ◌∙◌, rules}
+use Rattle.std.proofs.Common.{sym, ap, ◌∙◌}
 use Rattle.reads.specs.Utf8.{is_good, utf8}
 use Rattle.reads.proofs.text.utf8.Goals as goal
 

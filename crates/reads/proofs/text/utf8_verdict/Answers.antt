@@ -1,14 +1,14 @@
-use Rattle.std.proofs.Common.{◌-◌, false, [], length, sym, ap, ◌∙◌, arith, drop_of_length-le, rules}
+use Rattle.std.proofs.Common.{false, [], sym, ap, ◌∙◌, arith, drop_of_length-le}
 use borrow.Author.Tests.{not-true, not-false}
-use Rattle.reads.specs.Utf8.{judge, verdict}
-use Rattle.reads.proofs.Passes.{Left, Stands, left_start, left_ascii, left_character, read_there, stands_ahead}
+use Rattle.reads.specs.Utf8.{judge}
+use Rattle.reads.proofs.Passes.{Stands, left_start, left_ascii, left_character, read_there, stands_ahead}
 use Rattle.reads.proofs.text.utf8_verdict.Goals as goal
 
 pub loop-read-init : goal.loop-read-init
 loop-read-init c = left_start false c.args.s.now
 
 pub loop-read-smaller-then-b-lt128 : goal.loop-read-smaller-then-b-lt128
-loop-read-smaller-then-b-lt128 c = 
+loop-read-smaller-then-b-lt128 c =
     let n = ap (λ b. b.read) c.read_byte-b.ensures ∙ read_there c.args.s.now c.loop-read.read c.loop-read-test.true in
     omega (arith, n)
 

@@ -1,8 +1,6 @@
 -- `reads::text::utf8_verdict` meets its contract. The invariant: what is left decides the verdict.
-use Rattle.std.proofs.Common.{◌-◌, false, [], length, sym, ap, ◌∙◌, arith, drop_of_length-le, rules}
-use borrow.Author.Tests.{not-true, not-false}
-use Rattle.reads.specs.Utf8.{judge, verdict}
-use Rattle.reads.proofs.Passes.{Left, Stands, left_start, left_ascii, left_character, read_there, stands_ahead}
+use Rattle.std.proofs.Common.{◌-◌, false, [], length}
+use Rattle.reads.proofs.Passes.{Left}
 use Rattle.reads.proofs.text.utf8_verdict.Given as goal
 
 abbrev pub invariant-loop-read : goal.invariant-loop-read

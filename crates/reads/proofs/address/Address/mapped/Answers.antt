@@ -1,6 +1,5 @@
 use Rattle.reads.specs.Address.{mapped}
 use Rattle.reads.proofs.Outcomes.{outcomes, place_missing}
-use Rattle.std.proofs.Common.{rules}
 use Rattle.reads.proofs.address.Address.mapped.Goals as goal
 
 pub returns-in-At : goal.returns-in-At

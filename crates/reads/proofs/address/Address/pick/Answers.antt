@@ -1,4 +1,3 @@
-use Rattle.std.proofs.Common.{rules}
 use Rattle.reads.specs.Address.{picked}
 use Rattle.reads.specs.declared.answer.Reason.TheVariants.{NoData}
 use Rattle.reads.proofs.Outcomes.{because_of}

@@ -1,7 +1,6 @@
 use Rattle.reads.specs.Address.{picked_wide}
 use Rattle.reads.proofs.Masks.{fast_data_mask_arm64e}
 use Rattle.reads.proofs.Outcomes.{word_value, word_missing}
-use Rattle.std.proofs.Common.{rules}
 use Rattle.reads.proofs.address.Address.pick_wide.Goals as goal
 
 pub returns-in-Value : goal.returns-in-Value

@@ -1,4 +1,3 @@
-use Rattle.std.proofs.Common.{rules}
 use Rattle.reads.proofs.answer.Missing.because.Goals as goal
 
 pub returns-in-Absent : goal.returns-in-Absent

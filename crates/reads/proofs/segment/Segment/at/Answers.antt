@@ -1,4 +1,4 @@
-use Rattle.std.proofs.Common.{add-zero, rules}
+use Rattle.std.proofs.Common.{add-zero}
 use Rattle.reads.proofs.segment.Segment.at.Goals as goal
 
 pub returns : goal.returns
