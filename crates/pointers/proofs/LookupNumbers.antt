@@ -3,7 +3,7 @@ use Prim.Native.Nat.{ℕ, ◌-◌, ◌*◌}
 use mathlib.Core.Bool.{Bool}
 use mathlib.Core.List.{List, [], ◌∷◌}
 use lib.Dec.{eqb}
-use Rattle.reads.specs.Outcome.{Outcome, value, number, Unrefused, a_value, an_absence, and_then, because, or_else, or_first, or_zero, choose}
+use Rattle.reads.specs.Outcome.{Outcome, value, Unrefused, a_value, an_absence, and_then, because, or_else, or_first, or_zero, choose}
 use Rattle.reads.specs.Table.{records}
 use Rattle.reads.specs.declared.answer.Reason.{Reason}
 use Rattle.reads.specs.declared.answer.Reason.TheVariants.{Unresolved, Unreadable, NoRecord}

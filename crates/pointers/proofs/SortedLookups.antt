@@ -9,7 +9,7 @@ use native.Mathlib.Decide.{ℕ_discrete}
 use native.Mathlib.Nat.{eq-or-lt_of_le, le_of_suc-le-suc, pow-suc}
 use lib.Dec.{eqb, leb, ltb}
 use borrow.Author.Tests.{eq-eqb, ne_eqb, eqb-true, ltb-true, ltb-false, lt-ltb, le-ltb, leb-true, leb-false}
-use Rattle.reads.specs.Outcome.{Outcome, value, absent, Unrefused, a_value, an_absence, choose}
+use Rattle.reads.specs.Outcome.{Outcome, value, absent, Unrefused, a_value, an_absence}
 use Rattle.reads.specs.Table.{records}
 use Rattle.reads.specs.declared.answer.Reason.TheVariants.{NoRecord}
 use Rattle.reads.proofs.Tests.{by_choose, choose_true, choose_false, both_true}

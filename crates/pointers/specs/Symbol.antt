@@ -2,7 +2,6 @@
 use Rattle.std.specs.Prelude.{ℕ, ◌+◌, ◌-◌, Bool, true, false, ◌&&◌, List, [], ◌∷◌, eqb, length}
 use Prim.Native.Char.{code}
 use Prim.Native.String.{String}
-use Prim.Native.String
 use Rattle.reads.specs.Outcome.{choose, text_of}
 use Rattle.reads.specs.Files.{file_of}
 use Rattle.reads.specs.Place.{part}

@@ -1,8 +1,8 @@
-use Prim.Native.Nat.{ℕ, ◌-◌, ◌*◌, ◌≤◌}
+use Prim.Native.Nat.{ℕ, ◌*◌}
 use mathlib.Core.Path.{◌≡◌, refl, ap, ◌∙◌}
 use native.Mathlib.Omega.{arith}
 use native.Mathlib.Numerals.{add-one}
-use lib.ListN.{length, length-set}
+use lib.ListN.{length-set}
 use Rattle.pointers.specs.Tables.{chains}
 use Rattle.pointers.specs.IndexFold.{cleared}
 use Rattle.pointers.proofs.IndexFolds.{cleared_more}
@@ -25,7 +25,7 @@ pub loop-i-smaller : goal.loop-i-smaller
 loop-i-smaller c = omega arith
 
 pub loop-i-preserved : goal.loop-i-preserved
-loop-i-preserved c = 
+loop-i-preserved c =
     let at = c.loop-i in
     let start = c.args.index.now in (
       omega arith,
@@ -37,6 +37,6 @@ pub shape_of-index : goal.shape_of-index
 shape_of-index c = c.loop-i.invariant.2
 
 pub returns : goal.returns
-returns c = 
+returns c =
     let past : c.loop-i.i ≡ 2 * chains = omega arith in
     c.loop-i.invariant.1 ∙ ap (λ (k : ℕ). cleared k c.args.index.now) past

@@ -1,11 +1,8 @@
-use Prim.Native.Nat.{ℕ, ◌-◌, ◌*◌, ◌≤◌}
-use mathlib.Core.Path.{◌≡◌, refl, ap, ◌∙◌}
-use native.Mathlib.Omega.{arith}
-use native.Mathlib.Numerals.{add-one}
-use lib.ListN.{length, length-set}
+use Prim.Native.Nat.{◌-◌, ◌*◌, ◌≤◌}
+use mathlib.Core.Path.{◌≡◌}
+use lib.ListN.{length}
 use Rattle.pointers.specs.Tables.{chains}
 use Rattle.pointers.specs.IndexFold.{cleared}
-use Rattle.pointers.proofs.IndexFolds.{cleared_more}
 use Rattle.pointers.proofs.index.clear_heads.Given as goal
 
 -- The first i words are zero, and the others as they were.

@@ -1,11 +1,6 @@
-use Prim.Native.Nat.{◌-◌, ◌≤◌}
-use mathlib.Core.Path.{◌≡◌, sym, ◌∙◌}
-use native.Mathlib.Omega.{arith}
-use lib.ListN.{length}
+use Prim.Native.Nat.{◌≤◌}
+use mathlib.Core.Path.{◌≡◌}
 use Rattle.pointers.specs.Chain.{follow_from, follow}
-use Rattle.pointers.proofs.RecordWords.{slot_within}
-use Rattle.pointers.proofs.Chains.{follow_end, follow_above, follow_found, follow_on}
-use borrow.Author.Rules.{rules}
 use Rattle.reads.specs.Table.{records}
 use Rattle.pointers.proofs.index.find.Given as goal
 

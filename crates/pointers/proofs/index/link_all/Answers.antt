@@ -1,4 +1,4 @@
-use Prim.Native.Nat.{◌/◌, ◌-◌, ◌≤◌}
+use Prim.Native.Nat.{◌/◌}
 use mathlib.Core.Path.{◌≡◌, refl, ◌∙◌}
 use native.Mathlib.Omega.{arith}
 use lib.ListN.{length}
@@ -24,17 +24,17 @@ pub overflow_cast-i : goal.overflow_cast-i
 overflow_cast-i c = omega arith
 
 pub overflow_mul-i : goal.overflow_mul-i
-overflow_mul-i c = 
+overflow_mul-i c =
     let a = c.args in
     omega (arith, slot_within a.width (length a.table.now) c.loop-i.i (omega arith) (omega arith))
 
 pub offset_bounds-table-i : goal.offset_bounds-table-i
-offset_bounds-table-i c = 
+offset_bounds-table-i c =
     let a = c.args in
     omega (arith, slot_within a.width (length a.table.now) c.loop-i.i (omega arith) (omega arith))
 
 pub bounds-table-i : goal.bounds-table-i
-bounds-table-i c = 
+bounds-table-i c =
     let a = c.args in
     omega (arith, slot_within a.width (length a.table.now) c.loop-i.i (omega arith) (omega arith))
 
@@ -48,7 +48,7 @@ pub loop-i-smaller : goal.loop-i-smaller
 loop-i-smaller c = omega arith
 
 pub loop-i-preserved : goal.loop-i-preserved
-loop-i-preserved c = 
+loop-i-preserved c =
     let called = c.link in
     let at = c.loop-i in
     let a = c.args in (
@@ -62,7 +62,7 @@ pub shape_of-index : goal.shape_of-index
 shape_of-index c = c.loop-i.invariant.2
 
 pub returns : goal.returns
-returns c = 
+returns c =
     let a = c.args in
     let past : c.loop-i.i ≡ length a.table.now / a.width = omega arith in
     rw past at c.loop-i.invariant.1

@@ -1,10 +1,7 @@
-use Prim.Native.Nat.{◌/◌, ◌-◌, ◌≤◌}
-use mathlib.Core.Path.{◌≡◌, refl, ◌∙◌}
-use native.Mathlib.Omega.{arith}
+use Prim.Native.Nat.{◌-◌, ◌≤◌}
+use mathlib.Core.Path.{◌≡◌}
 use lib.ListN.{length}
 use Rattle.pointers.specs.IndexFold.{chained}
-use Rattle.pointers.proofs.RecordWords.{slot_within}
-use Rattle.pointers.proofs.IndexFolds.{chained_more}
 use Rattle.pointers.proofs.index.link_all.Given as goal
 
 -- The index is what the first i records make of it.

@@ -1,5 +1,4 @@
 use Rattle.pointers.specs.Chain.{no_rebase}
-use borrow.Author.Rules.{rules}
 use Rattle.pointers.proofs.index.no_rebase.Goals as goal
 
 pub returns : goal.returns

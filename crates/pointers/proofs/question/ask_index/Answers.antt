@@ -1,5 +1,4 @@
 use mathlib.Core.Path.{sym, ◌∙◌}
-use borrow.Author.Rules.{rules}
 use Rattle.pointers.proofs.Questions.{question_yes, question_no}
 use Rattle.pointers.proofs.question.ask_index.Goals as goal
 

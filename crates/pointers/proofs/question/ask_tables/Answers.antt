@@ -4,7 +4,6 @@ use Prim.Native.Nat.{ℕ}
 use borrow.Author.Tests.{not-true, not-false}
 use Rattle.pointers.specs.Question.{image_fits, section_table, asked_tables}
 use Rattle.pointers.proofs.Questions as laws
-use borrow.Author.Rules.{rules}
 use Rattle.std.proofs.Common.{not}
 use Rattle.pointers.proofs.question.ask_tables.Goals as goal
 
@@ -14,20 +13,20 @@ returns-then-not-image_fits c = laws.after_no 1 _ _ (sym (c.image_fits.ensures �
 
 pub returns-then-not-segments_whole : goal.returns-then-not-segments_whole
 unfolding asked_tables
-returns-then-not-segments_whole c = 
+returns-then-not-segments_whole c =
     laws.after_yes 1 _ _ (sym (c.image_fits.ensures ∙ ap image_fits c.longest-n.ensures) ∙ not-false _ (ap not c.if-not-image_fits.false))
     (laws.after_no 2 _ _ (sym c.segments_whole.ensures ∙ not-true _ (ap not c.if-not-segments_whole.true)))
 
 pub returns-then-not-segment_files : goal.returns-then-not-segment_files
 unfolding asked_tables
-returns-then-not-segment_files c = 
+returns-then-not-segment_files c =
     laws.after_yes 1 _ _ (sym (c.image_fits.ensures ∙ ap image_fits c.longest-n.ensures) ∙ not-false _ (ap not c.if-not-image_fits.false))
     (laws.after_yes 2 _ _ (sym c.segments_whole.ensures ∙ not-false _ (ap not c.if-not-segments_whole.false))
     (laws.after_no 18 _ _ (sym c.segment_files.ensures ∙ not-true _ (ap not c.if-not-segment_files.true))))
 
 pub returns-then-not-section_table : goal.returns-then-not-section_table
 unfolding asked_tables
-returns-then-not-section_table c = 
+returns-then-not-section_table c =
     laws.after_yes 1 _ _ (sym (c.image_fits.ensures ∙ ap image_fits c.longest-n.ensures) ∙ not-false _ (ap not c.if-not-image_fits.false))
     (laws.after_yes 2 _ _ (sym c.segments_whole.ensures ∙ not-false _ (ap not c.if-not-segments_whole.false))
     (laws.after_yes 18 _ _ (sym c.segment_files.ensures ∙ not-false _ (ap not c.if-not-segment_files.false))
@@ -35,7 +34,7 @@ returns-then-not-section_table c =
 
 pub returns-then-not-info_whole : goal.returns-then-not-info_whole
 unfolding asked_tables
-returns-then-not-info_whole c = 
+returns-then-not-info_whole c =
     laws.after_yes 1 _ _ (sym (c.image_fits.ensures ∙ ap image_fits c.longest-n.ensures) ∙ not-false _ (ap not c.if-not-image_fits.false))
     (laws.after_yes 2 _ _ (sym c.segments_whole.ensures ∙ not-false _ (ap not c.if-not-segments_whole.false))
     (laws.after_yes 18 _ _ (sym c.segment_files.ensures ∙ not-false _ (ap not c.if-not-segment_files.false))
@@ -44,7 +43,7 @@ returns-then-not-info_whole c =
 
 pub returns-then-not-rebases_whole : goal.returns-then-not-rebases_whole
 unfolding asked_tables
-returns-then-not-rebases_whole c = 
+returns-then-not-rebases_whole c =
     laws.after_yes 1 _ _ (sym (c.image_fits.ensures ∙ ap image_fits c.longest-n.ensures) ∙ not-false _ (ap not c.if-not-image_fits.false))
     (laws.after_yes 2 _ _ (sym c.segments_whole.ensures ∙ not-false _ (ap not c.if-not-segments_whole.false))
     (laws.after_yes 18 _ _ (sym c.segment_files.ensures ∙ not-false _ (ap not c.if-not-segment_files.false))
@@ -54,7 +53,7 @@ returns-then-not-rebases_whole c =
 
 pub returns-then-not-binds_whole : goal.returns-then-not-binds_whole
 unfolding asked_tables
-returns-then-not-binds_whole c = 
+returns-then-not-binds_whole c =
     laws.after_yes 1 _ _ (sym (c.image_fits.ensures ∙ ap image_fits c.longest-n.ensures) ∙ not-false _ (ap not c.if-not-image_fits.false))
     (laws.after_yes 2 _ _ (sym c.segments_whole.ensures ∙ not-false _ (ap not c.if-not-segments_whole.false))
     (laws.after_yes 18 _ _ (sym c.segment_files.ensures ∙ not-false _ (ap not c.if-not-segment_files.false))
@@ -65,7 +64,7 @@ returns-then-not-binds_whole c =
 
 pub returns : goal.returns
 unfolding asked_tables
-returns c = 
+returns c =
     laws.after_yes 1 _ _ (sym (c.image_fits.ensures ∙ ap image_fits c.longest-n.ensures) ∙ not-false _ (ap not c.if-not-image_fits.false))
     (laws.after_yes 2 _ _ (sym c.segments_whole.ensures ∙ not-false _ (ap not c.if-not-segments_whole.false))
     (laws.after_yes 18 _ _ (sym c.segment_files.ensures ∙ not-false _ (ap not c.if-not-segment_files.false))

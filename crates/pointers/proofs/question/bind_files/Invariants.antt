@@ -1,14 +1,10 @@
 use Prim.Native.Nat.{◌≤◌, ◌-◌}
-use mathlib.Core.Path.{◌≡◌, refl, sym, ◌∙◌}
+use mathlib.Core.Path.{◌≡◌}
 use mathlib.Core.Bool.{true}
-use native.Mathlib.Omega.{arith}
-use borrow.Author.Rules.{rules}
-use borrow.Author.Tests.{not-true, not-false}
 use Rattle.reads.specs.Files.{files_lent}
 use Rattle.reads.specs.Table.{records}
 use Rattle.pointers.specs.Tables.{bind_words}
-use Rattle.pointers.specs.Question.{every, bind_lent, bind_files}
-use Rattle.pointers.proofs.Questions.{every_more, every_fails, lent_by}
+use Rattle.pointers.specs.Question.{every, bind_lent}
 use Rattle.pointers.proofs.question.bind_files.Given as goal
 
 -- The files of the first i names are lent.

@@ -1,5 +1,4 @@
 use Rattle.pointers.proofs.Questions as laws
-use borrow.Author.Rules.{rules}
 use Rattle.pointers.proofs.question.name_inside.Goals as goal
 
 pub returns-then-n-name : goal.returns-then-n-name

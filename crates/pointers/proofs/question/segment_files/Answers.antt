@@ -1,13 +1,9 @@
-use Prim.Native.Nat.{◌≤◌, ◌-◌}
 use mathlib.Core.Path.{◌≡◌, refl, sym, ◌∙◌}
-use mathlib.Core.Bool.{true}
 use native.Mathlib.Omega.{arith}
-use borrow.Author.Rules.{rules}
 use borrow.Author.Tests.{not-true, not-false}
-use Rattle.reads.specs.Files.{files_lent}
 use Rattle.reads.specs.Table.{records}
 use Rattle.reads.specs.Segment.{segment_words}
-use Rattle.pointers.specs.Question.{every, segment_lent, segment_files}
+use Rattle.pointers.specs.Question.{every, segment_files}
 use Rattle.pointers.proofs.Questions.{every_more, every_fails}
 use Rattle.std.proofs.Common.{ap, not}
 use Rattle.pointers.proofs.question.segment_files.Goals as goal
@@ -25,6 +21,6 @@ loop-i-preserved c = (omega arith, every_more _ _ c.loop-i.invariant.1 (sym c.is
 
 pub returns : goal.returns
 unfolding segment_files
-returns c = 
+returns c =
     let past : c.loop-i.i ≡ records segment_words c.args.segments.now = omega arith in
     sym (rw past at c.loop-i.invariant.1)

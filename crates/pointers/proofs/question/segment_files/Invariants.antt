@@ -1,14 +1,10 @@
 use Prim.Native.Nat.{◌≤◌, ◌-◌}
-use mathlib.Core.Path.{◌≡◌, refl, sym, ◌∙◌}
+use mathlib.Core.Path.{◌≡◌}
 use mathlib.Core.Bool.{true}
-use native.Mathlib.Omega.{arith}
-use borrow.Author.Rules.{rules}
-use borrow.Author.Tests.{not-true, not-false}
 use Rattle.reads.specs.Files.{files_lent}
 use Rattle.reads.specs.Table.{records}
 use Rattle.reads.specs.Segment.{segment_words}
-use Rattle.pointers.specs.Question.{every, segment_lent, segment_files}
-use Rattle.pointers.proofs.Questions.{every_more, every_fails}
+use Rattle.pointers.specs.Question.{every, segment_lent}
 use Rattle.pointers.proofs.question.segment_files.Given as goal
 
 -- The files of the first i segments are lent.

@@ -1,5 +1,4 @@
 use native.Mathlib.Omega.{arith}
-use borrow.Author.Rules.{rules}
 use Rattle.reads.proofs.Outcomes.{word_value, word_missing}
 use Rattle.pointers.specs.Slot.{bind_at}
 use Rattle.pointers.proofs.Chains.{found_record}
@@ -9,7 +8,7 @@ pub overflow_sub-number : goal.overflow_sub-number
 overflow_sub-number c = omega (arith, (found_record _ _ _ _ _ _ c.find.ensures c.in-Value.is).0)
 
 pub bind_name-requires : goal.bind_name-requires
-bind_name-requires c = 
+bind_name-requires c =
     let found = found_record _ _ _ _ _ _ c.find.ensures c.in-Value.is in
     omega (arith, found.0, found.1)
 

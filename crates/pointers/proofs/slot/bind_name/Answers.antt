@@ -1,5 +1,4 @@
 use mathlib.Core.Path.{sym, ap, ◌∙◌}
-use borrow.Author.Rules.{rules}
 use borrow.Author.Tests.{not-true, not-false}
 use Rattle.reads.specs.Outcome.{value}
 use Rattle.reads.specs.Files.{files_lent}
@@ -12,20 +11,20 @@ use Rattle.pointers.proofs.slot.bind_name.Goals as goal
 -- What is asked of the name, by the code's answer.
 pub returns-then-not-is_lent : goal.returns-then-not-is_lent
 unfolding bind_name
-returns-then-not-is_lent c = 
+returns-then-not-is_lent c =
     let a = c.args in
     after_no 18 _ _ (sym (lent_by (files_lent a.files.now) a.binds.now a.i _ c.at-bind.ensures c.is_lent.ensures) ∙ not-true _ (ap not c.if-not-is_lent.true))
 
 pub returns-then-not-name_inside : goal.returns-then-not-name_inside
 unfolding bind_name
-returns-then-not-name_inside c = 
+returns-then-not-name_inside c =
     let a = c.args in
     after_yes 18 _ _ (sym (lent_by (files_lent a.files.now) a.binds.now a.i _ c.at-bind.ensures c.is_lent.ensures) ∙ not-false _ (ap not c.if-not-is_lent.false))
     (after_no 7 _ _ (sym (inside_by (files_lent a.files.now) a.binds.now a.i _ c.at-bind.ensures c.name_inside.ensures) ∙ not-true _ (ap not c.if-not-name_inside.true)))
 
 pub returns-then-not-name_utf8 : goal.returns-then-not-name_utf8
 unfolding bind_name
-returns-then-not-name_utf8 c = 
+returns-then-not-name_utf8 c =
     let a = c.args in
     after_yes 18 _ _ (sym (lent_by (files_lent a.files.now) a.binds.now a.i _ c.at-bind.ensures c.is_lent.ensures) ∙ not-false _ (ap not c.if-not-is_lent.false))
     (after_yes 7 _ _ (sym (inside_by (files_lent a.files.now) a.binds.now a.i _ c.at-bind.ensures c.name_inside.ensures) ∙ not-false _ (ap not c.if-not-name_inside.false))
@@ -33,7 +32,7 @@ returns-then-not-name_utf8 c =
 
 pub returns : goal.returns
 unfolding bind_name
-returns c = 
+returns c =
     let a = c.args in
     after_yes 18 _ _ (sym (lent_by (files_lent a.files.now) a.binds.now a.i _ c.at-bind.ensures c.is_lent.ensures) ∙ not-false _ (ap not c.if-not-is_lent.false))
     (after_yes 7 _ _ (sym (inside_by (files_lent a.files.now) a.binds.now a.i _ c.at-bind.ensures c.name_inside.ensures) ∙ not-false _ (ap not c.if-not-name_inside.false))

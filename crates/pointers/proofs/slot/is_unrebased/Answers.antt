@@ -1,5 +1,4 @@
 use mathlib.Core.Path.{refl}
-use borrow.Author.Rules.{rules}
 use Rattle.pointers.proofs.slot.is_unrebased.Goals as goal
 
 pub returns-in-Chained : goal.returns-in-Chained

@@ -1,6 +1,5 @@
 use Rattle.reads.proofs.Outcomes.{word_value, word_missing}
 use Rattle.pointers.specs.Slot.{pointer_at}
-use borrow.Author.Rules.{rules}
 use Rattle.pointers.proofs.slot.pointer.Goals as goal
 
 pub returns-in-Value : goal.returns-in-Value

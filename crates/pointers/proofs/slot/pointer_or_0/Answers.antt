@@ -2,7 +2,6 @@ use mathlib.Core.Path.{◌∙◌, ap}
 use Rattle.reads.specs.Outcome.{or_zero}
 use Rattle.reads.proofs.Outcomes.{word_value, word_missing}
 use Rattle.pointers.specs.Slot.{pointer_or0_at}
-use borrow.Author.Rules.{rules}
 use Rattle.pointers.proofs.slot.pointer_or_0.Goals as goal
 
 pub returns-in-Value : goal.returns-in-Value

@@ -1,4 +1,3 @@
-use borrow.Author.Rules.{rules}
 use Rattle.pointers.proofs.slot.rebase_number.Goals as goal
 
 pub returns-in-Chained : goal.returns-in-Chained

@@ -1,7 +1,6 @@
 use mathlib.Core.Path.{sym, ap, ◌∙◌}
 use Rattle.reads.specs.Outcome.{value}
 use Rattle.pointers.proofs.NearSlots.{near_there, near_else}
-use borrow.Author.Rules.{rules}
 use Rattle.pointers.proofs.slot.resolve_near.Goals as goal
 
 pub returns-then-is_near : goal.returns-then-is_near

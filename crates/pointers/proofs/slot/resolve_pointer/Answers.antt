@@ -1,4 +1,3 @@
-use borrow.Author.Rules.{rules}
 use Rattle.reads.specs.declared.answer.Reason.TheVariants.{Unresolved}
 use Rattle.reads.proofs.Outcomes.{because_of}
 use Rattle.pointers.specs.Slot.{resolve}

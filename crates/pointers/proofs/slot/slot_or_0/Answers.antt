@@ -1,6 +1,5 @@
 use mathlib.Core.Path.{◌∙◌, ap}
 use Rattle.reads.specs.Outcome.{or_zero}
-use borrow.Author.Rules.{rules}
 use Rattle.pointers.proofs.slot.slot_or_0.Goals as goal
 
 pub returns : goal.returns

@@ -2,7 +2,6 @@ use Rattle.reads.proofs.Outcomes.{word_value, word_missing}
 use mathlib.Core.Path.{ap}
 use Rattle.reads.specs.Outcome.{value}
 use Rattle.pointers.specs.Slot.{stored}
-use borrow.Author.Rules.{rules}
 use Rattle.pointers.proofs.slot.stored.Goals as goal
 
 pub returns-in-Value : goal.returns-in-Value

@@ -2,7 +2,6 @@ use Rattle.reads.proofs.Outcomes.{text_value, text_missing}
 use mathlib.Core.Path.{ap}
 use Rattle.reads.specs.Outcome.{value}
 use Rattle.pointers.specs.Slot.{symbol_of}
-use borrow.Author.Rules.{rules}
 use Rattle.pointers.proofs.slot.symbol_at.Goals as goal
 
 pub returns-in-Found : goal.returns-in-Found

@@ -1,5 +1,4 @@
 use Rattle.pointers.specs.Slot.{word_there}
-use borrow.Author.Rules.{rules}
 use Rattle.pointers.proofs.slot.word_there.Goals as goal
 
 pub returns : goal.returns

@@ -1,13 +1,10 @@
 use Prim.Native.Nat.{◌-◌, ◌≤◌}
-use mathlib.Core.Path.{◌≡◌, refl}
+use mathlib.Core.Path.{◌≡◌}
 use mathlib.Core.Bool.{true}
-use native.Mathlib.Omega.{arith}
 use Rattle.reads.specs.Table.{records}
 use Rattle.pointers.specs.Tables.{rebase_words}
 use Rattle.pointers.specs.Question.{every}
 use Rattle.pointers.specs.Sorted.{rises}
-use Rattle.pointers.proofs.SortedLookups.{ascends_not, ascends_on, ascends_all}
-use borrow.Author.Rules.{rules}
 use Rattle.pointers.proofs.sorted.ascends.Given as goal
 
 -- The slots before record i rise.

@@ -1,11 +1,7 @@
-use Prim.Native.Nat.{◌^◌, ◌≤◌}
 use mathlib.Core.Path.{◌≡◌, refl, sym, ◌∙◌}
 use native.Mathlib.Omega.{arith}
-use Rattle.reads.specs.Table.{records}
-use Rattle.pointers.specs.Tables.{rebase_words}
-use Rattle.pointers.specs.Sorted.{climb, halvings}
+use Rattle.pointers.specs.Sorted.{climb}
 use Rattle.pointers.proofs.SortedLookups.{half_power, at_most_below, climb_taken, climb_left}
-use borrow.Author.Rules.{rules}
 use Rattle.pointers.proofs.sorted.climb.Goals as goal
 
 pub loop-k-init : goal.loop-k-init
@@ -18,7 +14,7 @@ pub overflow_add-b-then-at_most : goal.overflow_add-b-then-at_most
 overflow_add-b-then-at_most c = let inv = c.loop-k.invariant in omega (arith, inv.0, inv.2)
 
 pub loop-k-preserved-then-at_most : goal.loop-k-preserved-then-at_most
-loop-k-preserved-then-at_most c = 
+loop-k-preserved-then-at_most c =
     let a = c.args in
     let at = c.loop-k in
     let some = c.loop-k-test.true in
@@ -31,7 +27,7 @@ loop-k-preserved-then-at_most c =
     )
 
 pub loop-k-preserved : goal.loop-k-preserved
-loop-k-preserved c = 
+loop-k-preserved c =
     let a = c.args in
     let at = c.loop-k in
     let some = c.loop-k-test.true in
@@ -44,7 +40,7 @@ loop-k-preserved c =
 
 pub returns : goal.returns
 unfolding climb
-returns c = 
+returns c =
     let at = c.loop-k in
     let none : at.k ≡ 0 = omega (arith, c.loop-k-test.false) in
     rw none at at.invariant.3

@@ -1,11 +1,8 @@
 use Prim.Native.Nat.{◌^◌, ◌≤◌}
-use mathlib.Core.Path.{◌≡◌, refl, sym, ◌∙◌}
-use native.Mathlib.Omega.{arith}
+use mathlib.Core.Path.{◌≡◌}
 use Rattle.reads.specs.Table.{records}
 use Rattle.pointers.specs.Tables.{rebase_words}
 use Rattle.pointers.specs.Sorted.{climb, halvings}
-use Rattle.pointers.proofs.SortedLookups.{half_power, at_most_below, climb_taken, climb_left}
-use borrow.Author.Rules.{rules}
 use Rattle.pointers.proofs.sorted.climb.Given as goal
 
 -- The climb from here ends where the whole climb ends.

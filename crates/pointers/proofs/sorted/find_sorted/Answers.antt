@@ -1,6 +1,5 @@
 use mathlib.Core.Path.{◌∙◌, ap}
 use Rattle.pointers.specs.Sorted.{sorted_at}
-use borrow.Author.Rules.{rules}
 use Rattle.pointers.proofs.sorted.find_sorted.Goals as goal
 
 pub returns : goal.returns

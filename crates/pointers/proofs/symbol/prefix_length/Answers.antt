@@ -1,10 +1,8 @@
-use Prim.Native.Nat.{◌-◌, ◌≤◌}
 use mathlib.Core.Path.{◌≡◌, refl, sym, ◌∙◌}
 use mathlib.Core.List.{[]}
 use native.Mathlib.Omega.{arith}
-use borrow.Author.Rules.{rules}
-use lib.ListN.{get_or, drop}
-use Rattle.pointers.specs.Symbol.{starts, fitting, prefixes}
+use lib.ListN.{get_or}
+use Rattle.pointers.specs.Symbol.{starts, prefixes}
 use Rattle.pointers.proofs.Prefixes.{fitting_here, fitting_next, fitting_end, below_five}
 use Rattle.pointers.proofs.symbol.prefix_length.Goals as goal
 
@@ -12,7 +10,7 @@ pub loop-k-init : goal.loop-k-init
 loop-k-init c = (omega arith, refl)
 
 pub slice_bounds-starts_with-end : goal.slice_bounds-starts_with-end
-slice_bounds-starts_with-end c = 
+slice_bounds-starts_with-end c =
     below_five c.loop-k.k c.loop-k-test.true
     (λ e. rw e (omega arith)) (λ e. rw e (omega arith)) (λ e. rw e (omega arith)) (λ e. rw e (omega arith)) (λ e. rw e (omega arith))
 

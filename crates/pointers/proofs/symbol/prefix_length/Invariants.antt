@@ -1,12 +1,8 @@
 -- The invariant: of the prefixes from k on, the first that fits is the first of all.
 use Prim.Native.Nat.{◌-◌, ◌≤◌}
-use mathlib.Core.Path.{◌≡◌, refl, sym, ◌∙◌}
-use mathlib.Core.List.{[]}
-use native.Mathlib.Omega.{arith}
-use borrow.Author.Rules.{rules}
-use lib.ListN.{get_or, drop}
-use Rattle.pointers.specs.Symbol.{starts, fitting, prefixes}
-use Rattle.pointers.proofs.Prefixes.{fitting_here, fitting_next, fitting_end, below_five}
+use mathlib.Core.Path.{◌≡◌}
+use lib.ListN.{drop}
+use Rattle.pointers.specs.Symbol.{fitting, prefixes}
 use Rattle.pointers.proofs.symbol.prefix_length.Given as goal
 
 abbrev pub invariant-loop-k : goal.invariant-loop-k

@@ -1,11 +1,8 @@
 -- The invariant: what is left of s starts with what is left of p exactly if the whole does.
 use Prim.Native.Nat.{◌-◌, ◌≤◌}
-use mathlib.Core.Path.{◌≡◌, refl, sym, ◌∙◌}
-use native.Mathlib.Omega.{arith}
-use borrow.Author.Rules.{rules}
+use mathlib.Core.Path.{◌≡◌}
 use lib.ListN.{length, drop}
 use Rattle.pointers.specs.Symbol.{starts}
-use Rattle.pointers.proofs.Prefixes.{starts_short, starts_differ, starts_agree, starts_end}
 use Rattle.pointers.proofs.symbol.starts_with.Given as goal
 
 abbrev pub invariant-loop-j : goal.invariant-loop-j

@@ -1,6 +1,5 @@
 use Prim.Native.Nat.{◌+◌, ◌-◌, ◌≤◌}
 use native.Mathlib.Omega.{arith}
-use borrow.Author.Rules.{rules}
 use Rattle.pointers.specs.Symbol.{prefixes}
 use Rattle.pointers.proofs.Prefixes.{fitting_part, stripped_by, stripped_past}
 use Rattle.pointers.proofs.symbol.strip_in.Goals as goal
@@ -21,6 +20,6 @@ overflow_sub-result c =
     omega (arith, short)
 
 pub returns : goal.returns
-returns c = 
+returns c =
     let a = c.args in
     stripped_by a.bytes.now a.name (a.name.offset + c.least-there.result - a.name.offset) _ (omega arith) c.prefix_length-n.ensures

@@ -1,5 +1,4 @@
 use Rattle.pointers.proofs.Infos.{info_short, info_by}
-use borrow.Author.Rules.{rules}
 use Rattle.pointers.proofs.imageinfo.ImageInfo.parse.Goals as goal
 
 pub returns-then-body-lt8 : goal.returns-then-body-lt8

@@ -1,5 +1,4 @@
 use native.Mathlib.Omega.{arith}
-use borrow.Author.Rules.{rules}
 use Rattle.pointers.proofs.SectionRows.{section_past, section_absent, section_present}
 use Rattle.pointers.proofs.section.ObjcSection.at.Goals as goal
 
