@@ -102,7 +102,7 @@ module _ (t : Tables) (P : Ask → Type 0) where
   after_absent : {B : Type 0} {o : Outcome B} {r : Reason} (us : List Ask) → o ≡ absent r → Each P (if_absent o us) → Each P us
   after_absent us q h = rw q at h
 
-  pub within_asks : {A B : Type 0} {d : Decode A} {e : Decode B} → Within t d B e → Each P (asks t e) → Each P (asks t d)
+  pub within_asks : {A : Type 0} {d : Decode A} {B : Type 0} {e : Decode B} → Within t d B e → Each P (asks t e) → Each P (asks t d)
   unfolding asks choose
   within_asks itself h = h
   within_asks (in_first {e = e} f w) h = within_asks w (each_left P (asks t e) _ h)

@@ -6,7 +6,7 @@ use mathlib.Core.Option.{none, some}
 use native.Mathlib.Nat.{mul-zero, mul-le-mul, le_dest, mul-le-mul_right, div-mul-le_self, lt-div-mul-add}
 use native.Mathlib.Omega.{arith}
 use borrow.Author.Tests.{lt-ltb, le-ltb}
-use Rattle.reads.specs.Breaks.{can_read, breaks_of, next_break, above}
+use Rattle.reads.specs.Breaks.{can_read, breaks_of, next_break}
 use Rattle.reads.specs.Place.{Image}
 use Rattle.reads.specs.declared.breaks.Break.TheVariants.{At, Nothing}
 use Rattle.reads.proofs.Breakpoints.{can_read_until_break, unreadable_past_breaks, above_few}

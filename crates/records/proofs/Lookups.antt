@@ -6,14 +6,13 @@ use mathlib.Core.Bool.{true}
 use mathlib.Core.List.{List, [], ◌∷◌}
 use Rattle.reads.specs.Outcome as outcomes
 use Rattle.reads.specs.Outcome.{Outcome, value, absent, number, and_then, or_zero}
-use Rattle.reads.specs.declared.text.Reading.{Reading}
 use Rattle.pointers.specs.Open.{Opened}
 use Rattle.pointers.specs.Slot.{rebase_at, resolve, pointer_at, pointer_or0_at}
 use Rattle.pointers.specs.Sorted.{ascending}
 use Rattle.pointers.specs.Tables.{Tables, image_in, under}
 use Rattle.pointers.specs.declared.setting.Setting.{Setting}
 use Rattle.pointers.proofs.OpenedTables.{rebase_by_either}
-use Rattle.records.specs.Ask.{Ask, answer, sum64, nonzero, even, at_least, readable, u32_in, u64_in, i32_in, u64_at, picked, picked_at, slot, rebase, pointer, pointer_or0, string, symbol, info}
+use Rattle.records.specs.Ask.{Ask, sum64, nonzero, even, at_least, readable, u32_in, u64_in, i32_in, u64_at, picked, picked_at, slot, rebase, pointer, pointer_or0, string, symbol, info}
 use Rattle.records.specs.Asks.{asks, Each}
 use Rattle.records.specs.Decode.{Decode, run}
 use Rattle.records.proofs.Asks.{AnswerAlike, asks_decide}

@@ -1,6 +1,6 @@
 -- How many addresses, size bytes apart, can be read: at most floor(n / 12) for each segment, n the longest file, since those in one
 -- segment's room lie in n bytes (reads/proofs/SegmentRooms.antt). Nothing is assumed of the segments' order, and they may overlap.
-use Prim.Native.Nat.{ℕ, zero, suc, ◌+◌, ◌-◌, ◌*◌, ◌/◌, ◌≤◌}
+use Prim.Native.Nat.{ℕ, zero, suc, ◌+◌, ◌*◌, ◌/◌, ◌≤◌}
 use mathlib.Core.Path.{◌≡◌, refl, sym, ◌∙◌}
 use mathlib.Core.Bool.{Bool, true, false, true≢false}
 use mathlib.Core.List.{List, [], ◌∷◌}

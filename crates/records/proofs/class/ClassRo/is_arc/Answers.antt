@@ -1,0 +1,5 @@
+use Rattle.pointers.proofs.Flags.{bit_by}
+use Rattle.records.proofs.class.ClassRo.is_arc.Goals as goal
+
+pub returns : goal.returns
+returns c = bit_by 7 _

@@ -1,0 +1,5 @@
+use Rattle.pointers.proofs.Flags.{bit_by}
+use Rattle.records.proofs.class.ClassRo.is_exception.Goals as goal
+
+pub returns : goal.returns
+returns c = bit_by 5 _
