@@ -7,7 +7,7 @@ use mathlib.Core.List.{List, [], ◌∷◌, ◌++◌, append_assoc, append-nil}
 use native.Mathlib.Omega.{arith}
 use native.Mathlib.Numerals.{add-one}
 use lib.Dec.{eqb}
-use lib.ListN.{length, get_or, take, drop, set, drop_of_length-le}
+use lib.ListN.{length, get_or, drop, set, drop_of_length-le}
 use lib.Seq.{take-suc-set}
 use borrow.Author.Tests.{eqb-true, eqb-false}
 use Rattle.reads.specs.Outcome.{Outcome, value, absent, number, and_then, choose}
@@ -15,7 +15,7 @@ use Rattle.reads.proofs.Tests.{by_choose}
 use Rattle.pointers.specs.Tables.{Tables}
 use Rattle.walks.specs.Gather.{joined, gather, present}
 use Rattle.walks.specs.Handed.{unless_refused}
-use Rattle.walks.specs.Slots.{address_in, among, asked_ledger, TakenSlot, address, taken_by, slot_taken, first_met}
+use Rattle.walks.specs.Slots.{address_in, among, asked_ledger, TakenSlot, taken_by, slot_taken, first_met}
 use Rattle.walks.specs.Sections.{Walk, walk, at_start, met_in, Highest, Step, dropped, finished, Left, leaves, stays, Kind, slots_in, classes, categories, by_record, by_slot, take_waiting, take_new, take_slot, step_by, ledger_step_of, step_of}
 use Rattle.walks.specs.PlainSections.{addresses_in, once, listed, left_after, Met}
 use Rattle.walks.specs.declared.slots.Lists.TheVariants.{Classes, Categories}

@@ -119,6 +119,7 @@ module _ (t : Tables) (o : Opened t) where
           (λ f. rw (named_on w (name_in_unrefused (slot_in l w.cursor))) (answer_unrefused (name_in_unrefused (slot_in l w.cursor))))
           (λ f. a_value names_finished))
       go (absent r) e u = rw (next_absent w r e (rw e at h)) (an_absence r)
+      go (number _) e u = elim u [ ]
 
   -- The steps over a list that is there.
   module _ (list : ℕ) (l : ProtocolList) (there : protocol_list_at t list ≡ value l) where

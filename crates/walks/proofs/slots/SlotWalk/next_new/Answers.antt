@@ -1,0 +1,19 @@
+use Rattle.pointers.specs.Question.{asked_outcome}
+use Rattle.walks.proofs.Steps.{outcome_told}
+use mathlib.Core.Path.{ap, ◌∙◌}
+use native.Mathlib.Omega.{arith}
+use Rattle.walks.specs.Slots.{first_met}
+use Rattle.walks.proofs.SlotLaws.{ledger_room, new_on, new_no}
+use Rattle.walks.proofs.slots.SlotWalk.next_new.Goals as goal
+
+pub take_slot-step-requires : goal.take_slot-step-requires
+take_slot-step-requires c = (ledger_room _ _ _ _ _ (outcome_told asked_outcome c.ask_ledger.ensures c.in-Yes.is)).0
+
+pub first_met-requires : goal.first_met-requires
+first_met-requires c = let h = ledger_room _ _ _ _ _ (outcome_told asked_outcome c.ask_ledger.ensures c.in-Yes.is) in omega (arith, h.0, h.1, h.2)
+
+pub returns-in-Yes : goal.returns-in-Yes
+returns-in-Yes c = new_on _ _ _ _ _ _ (outcome_told asked_outcome c.ask_ledger.ensures c.in-Yes.is) (c.first_met.ensures ∙ ap (first_met _) c.take_slot-step.ensures)
+
+pub returns-in-Refused : goal.returns-in-Refused
+returns-in-Refused c = new_no _ _ _ _ _ _ (outcome_told asked_outcome c.ask_ledger.ensures c.in-Refused.is)

@@ -1,0 +1,5 @@
+use borrow.Author.Rules.{rules}
+use Rattle.walks.proofs.slots.SlotWalk.note.Goals as goal
+
+pub returns : goal.returns
+returns c = (rw c.greatest.ensures, search rules)
