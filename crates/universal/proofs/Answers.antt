@@ -81,9 +81,9 @@ module _ (file : List ℕ) (wide : Bool) where
 
 -- By the kind of the file.
 module _ (file : List ℕ) (k l : Kind) (e : k ≡ kind_of file) (g : k ≡ l) where
-  pub wanted_by : (w : Wanted) → wanted_by l file w ≡ part_wanted file w
+  pub wanted-by : (w : Wanted) → wanted_by l file w ≡ part_wanted file w
   unfolding part_wanted
-  wanted_by w = rw (← e, ← g)
+  wanted-by w = rw (← e, ← g)
 
   pub at-by : (i : ℕ) → at_by l file i ≡ part_at file i
   unfolding part_at
