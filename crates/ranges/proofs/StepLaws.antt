@@ -11,7 +11,7 @@ use borrow.Author.Tests.{le-leb, lt-leb, leb-true, leb-false, ltb-true, ltb-fals
 use Rattle.reads.specs.Outcome.{choose}
 use Rattle.reads.proofs.Tests.{by_choose}
 use Rattle.ranges.specs.Range.{Range, covers}
-use Rattle.ranges.specs.Runs.{run, ended, begun, runs, runs_from, merged}
+use Rattle.ranges.specs.Runs.{ended, begun, runs, runs_from, merged}
 use Rattle.ranges.specs.Sheet.{window, sheet_next, shown, headed, blank, noted_all}
 use Rattle.ranges.specs.Sweep.{more, Output, tell, Progress, progress_of, closed_at, passed, swept, leapt, Reached, reached_at, over_window, over_end, stepped, finished}
 use Rattle.ranges.proofs.RunLaws.{run_none}

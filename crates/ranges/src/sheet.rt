@@ -1,7 +1,7 @@
 // A sheet: which bytes of a window of a file are used. Word 0 is the file, word 1 the window's first byte; word 2 counts from there to the
 // least byte past the window that is known to be used; from word 3 on each bit stands for a byte.
 ghost use Rattle.std.specs.Prelude.{◌≡◌, ◌+◌, ◌-◌, ◌/◌, ◌<◌, ◌≤◌};
-ghost use Rattle.reads.specs.Reference.{before, after};
+ghost use Rattle.reads.specs.Reference.{before};
 ghost use Rattle.ranges.specs.Range.{range};
 ghost use Rattle.ranges.specs.Sheet.{window, marked_at, with_bit, with_bits, lowered_to, noted_from, noted};
 

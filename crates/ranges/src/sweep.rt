@@ -1,6 +1,6 @@
 // A sweep over the bytes of the files in order, window by window: each run of used bytes is counted, and put out where there is room.
 ghost use Rattle.std.specs.Prelude.{◌≡◌, ◌+◌, ◌-◌, ◌≤◌, ◌<◌, ◌^◌};
-ghost use Rattle.reads.specs.Reference.{before, after};
+ghost use Rattle.reads.specs.Reference.{before};
 ghost use Rattle.ranges.specs.Range.{range};
 ghost use Rattle.ranges.specs.Sheet.{window, shown, headed};
 ghost use Rattle.ranges.specs.Sweep.{output, progress, put_at, closed_at, passed, swept, leapt, first_byte, reached, over_window, over_end};

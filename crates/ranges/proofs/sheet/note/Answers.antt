@@ -1,0 +1,10 @@
+use Rattle.ranges.proofs.SheetLaws as laws
+use native.Mathlib.Omega.{arith}
+use borrow.Author.Rules.{rules}
+use Rattle.ranges.proofs.sheet.note.Goals as goal
+
+pub returns-then-file-sheet : goal.returns-then-file-sheet
+returns-then-file-sheet c = laws.note_other _ _ _ _ (search rules)
+
+pub returns : goal.returns
+returns c = laws.note_here _ _ _ _ _ _ _ _ (omega arith) c.less.ensures c.less-2.ensures c.less-3.ensures c.note_from.ensures

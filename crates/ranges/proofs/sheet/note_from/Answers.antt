@@ -1,0 +1,15 @@
+use Rattle.ranges.proofs.SheetLaws as laws
+use native.Mathlib.Omega.{arith}
+use Rattle.ranges.proofs.sheet.note_from.Goals as goal
+
+pub set_bits-requires : goal.set_bits-requires
+set_bits-requires c = let room = c.less-room.ensures in omega arith
+
+pub returns-then-left-room : goal.returns-then-left-room
+returns-then-left-room c = laws.from_inside _ _ _ _ _ c.less-room.ensures (omega arith) c.set_bits.ensures
+
+pub set_bits-requires-2 : goal.set_bits-requires-2
+set_bits-requires-2 c = let room = c.less-room.ensures in omega arith
+
+pub returns : goal.returns
+returns c = laws.from_beyond _ _ _ _ _ _ _ c.less-room.ensures (omega arith) c.set_bits-2.ensures c.greatest.ensures c.lower.ensures
