@@ -1,6 +1,6 @@
 // The items of an attribute string, as `T@"NSString",C,N,V_name`: property.rs, parse_attributes.
 ghost use Rattle.std.specs.Prelude.{◌≡◌, length};
-ghost use Rattle.reads.specs.Reference.{before, after};
+ghost use Rattle.reads.specs.Reference.{before};
 ghost use Rattle.attributes.specs.Attributes.{attributes_outcome, items, type_among, attributes_of, items_left};
 
 use crate::pass::{Which, count_items, first_value, items_fit, write_items};

@@ -1,6 +1,6 @@
 // Passes over the items of a text, which parsing and decoding share.
 ghost use Rattle.std.specs.Prelude.{◌≡◌, not, ◌+◌, ◌*◌, ◌-◌, ◌≤◌, ◌<◌, length, drop};
-ghost use Rattle.reads.specs.Reference.{before, after};
+ghost use Rattle.reads.specs.Reference.{before};
 ghost use Rattle.attributes.specs.Attributes.{value_length, item_of, items, items_fit, filled};
 ghost use Rattle.attributes.specs.Property.{letters, among, first_value};
 ghost use Rattle.attributes.specs.Pass.{Stepped, wanted, chosen};

@@ -1,6 +1,6 @@
 // The property that an attribute string declares, by the letters of Apple's "Declared Properties".
 ghost use Rattle.std.specs.Prelude.{◌≡◌, length};
-ghost use Rattle.reads.specs.Reference.{before, after};
+ghost use Rattle.reads.specs.Reference.{before};
 ghost use Rattle.attributes.specs.Property.{declared_outcome, declared, declared_of, unknown_left};
 
 use crate::items::Value;
