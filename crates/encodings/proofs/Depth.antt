@@ -1,6 +1,6 @@
 -- What the machine says of a text in the grammar's words: a reading; a level beyond the limit, opened by a text that with it still
 -- begins one of the grammar; or a text outside the grammar.
-use Prim.Native.Nat.{ℕ, suc, ◌+◌, ◌≤◌, ◌<◌}
+use Prim.Native.Nat.{ℕ, suc, ◌≤◌, ◌<◌}
 use Prim.Native.Char.{code}
 use mathlib.Core.Path.{◌≡◌, refl, ap, sym, subst, ◌∙◌}
 use mathlib.Core.Bool.{Bool, true, false}

@@ -1,6 +1,6 @@
 -- A machine that reads a text byte by byte and builds its reading. proofs/Sound.antt, Complete.antt and Depth.antt tie it to the
 -- grammar.
-use Rattle.std.specs.Prelude.{ℕ, ◌+◌, List, [], ◌∷◌, ◌++◌, length, eqb, ltb}
+use Rattle.std.specs.Prelude.{ℕ, List, [], ◌∷◌, ◌++◌, length, eqb, ltb}
 use Prim.Native.Char.{code}
 use Rattle.reads.specs.Outcome.{Outcome, value, absent, number, and_then, choose}
 use Rattle.reads.specs.declared.answer.Reason.TheVariants.{Malformed}

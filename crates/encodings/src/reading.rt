@@ -1,6 +1,6 @@
 // A text read to its end, and the words of its outermost types.
 ghost use Rattle.std.specs.Prelude.{◌≡◌};
-ghost use Rattle.reads.specs.Reference.{before, after};
+ghost use Rattle.reads.specs.Reference.{before};
 ghost use Rattle.reads.specs.Answer.{word_outcome};
 ghost use Rattle.encodings.specs.Parser.{type_end, Ordered, RowPut, Turned, Read};
 

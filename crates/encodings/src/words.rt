@@ -1,6 +1,6 @@
 // The words of a text's outermost types.
 ghost use Rattle.std.specs.Prelude.{◌≡◌, length};
-ghost use Rattle.reads.specs.Reference.{before, after};
+ghost use Rattle.reads.specs.Reference.{before};
 ghost use Rattle.encodings.specs.Words.{types_outcome, words_fit, types_of, types_left};
 
 use crate::reading::read_types;

@@ -1,0 +1,17 @@
+use mathlib.Core.Path.{sym, ◌∙◌}
+use Rattle.encodings.proofs.Choices.{choices}
+use Rattle.encodings.proofs.Levels.{closes_open}
+use borrow.Author.Rules.{rules}
+use Rattle.encodings.proofs.parser.in_named.Goals as goal
+
+pub close-requires : goal.close-requires
+close-requires c =
+    let a = c.args in
+    let closes = c.closes in
+    closes_open a.p.depth a.p.levels a.byte (sym closes.ensures ∙ c.if-closes.true)
+
+pub returns-then-closes : goal.returns-then-closes
+returns-then-closes c = search (choices, rules)
+
+pub returns : goal.returns
+returns c = search (choices, rules)
