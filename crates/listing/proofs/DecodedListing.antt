@@ -26,7 +26,7 @@ use Rattle.walks.specs.declared.slots.Lists.{Lists}
 use Rattle.walks.specs.declared.slots.Lists.TheVariants.{Classes, Categories, Protocols}
 use Rattle.listing.specs.PlainListing as plain
 use Rattle.listing.specs.PlainListing.{info_line, version_and_flags, row_line, end_line, Field, row_list, name_list, ro_fields, plain_records, own_lines, record_fields, entry_lines, field_lines, fields_lines, lines_of, entry_in, entries_in, field_events, record_events, events_from, plain_events, plain_listing}
-use Rattle.listing.specs.DecodeListing.{joined, gather, or_nothing, of_value, present, decode_addresses, decode_listed, decode_with_meta, decode_classes, decode_categories, decode_protocols, decode_records, decode_slot_names, decode_protocol_names, named_by, decode_named, decode_own_lines, decode_fields, decode_index, decode_indices, decode_readables, decode_entry_lines, decode_field_lines, decode_fields_lines, decode_lines_of, entry_tried, decode_entry, decode_entries, decode_field_events, decode_record_events, decode_events_from, decode_events, decode_listing}
+use Rattle.listing.specs.DecodeListing.{gather, or_nothing, of_value, present, decode_addresses, decode_listed, decode_with_meta, decode_classes, decode_categories, decode_protocols, decode_records, decode_slot_names, decode_protocol_names, named_by, decode_named, decode_own_lines, decode_fields, decode_index, decode_indices, decode_readables, decode_entry_lines, decode_field_lines, decode_fields_lines, decode_lines_of, entry_tried, decode_entry, decode_entries, decode_field_events, decode_record_events, decode_events_from, decode_events, decode_listing}
 use Rattle.listing.specs.declared.at.Record.{Record}
 use Rattle.listing.specs.declared.at.Record.TheVariants as aRecord
 use Rattle.listing.specs.declared.line.Line.{Line}

@@ -16,7 +16,7 @@ use Rattle.walks.specs.Slots.{slots_of, slot_count, ledger_fits}
 use Rattle.walks.proofs.Gathers.{there_known}
 use Rattle.walks.proofs.SlotLaws.{classes_count, categories_count, slot_fits_lem, ask_11}
 use Rattle.listing.specs.PlainListing.{version_and_flags, info_line, end_line, plain_records, lines_of, Event, events_from, plain_events, plain_listing, record_line_count}
-use Rattle.listing.specs.Listing.{classes, categories, State, state, start, leaves, says, step_at, listing_step}
+use Rattle.listing.specs.Listing.{classes, State, state, start, leaves, says, step_at, listing_step}
 use Rattle.listing.specs.ListingRun.{events_at, answer_at, GivesNoNumber, Lists, ListsWhole}
 use Rattle.listing.specs.declared.at.At.TheVariants as place
 use Rattle.listing.specs.declared.line.Line.{Line}

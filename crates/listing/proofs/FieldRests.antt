@@ -143,6 +143,7 @@ module _ (t : Tables) (o : Opened t) (Over : State → List ℕ → Type 0) (k :
         let count : length zs ≡ 0 = rw nothing in
         let same : c ≡ c' = omega arith in
         rw (none, nothing, same) (rest_absent why e)
+    rest_rows (number _) u e c ys zs a b d = elim u [ ]
 
 -- The steps over one list of protocol names.
 module _ (t : Tables) (o : Opened t) (Over : State → List ℕ → Type 0) (list n : ℕ) (w : Owner) (sec : SectionWalk) (r c : ℕ) (l : List ℕ) where

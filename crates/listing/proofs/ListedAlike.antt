@@ -9,7 +9,7 @@ use Rattle.pointers.specs.declared.setting.Setting.{Setting}
 use Rattle.records.specs.Decode.{run}
 use Rattle.records.proofs.Lookups.{found_alike}
 use Rattle.listing.specs.DecodeListing.{decode_listing}
-use Rattle.listing.specs.PlainListing.{info_line, version_and_flags, plain_listing}
+use Rattle.listing.specs.PlainListing.{version_and_flags, plain_listing}
 use Rattle.listing.specs.declared.line.Line.{Line}
 use Rattle.listing.specs.declared.line.Line.TheVariants as line
 use Rattle.listing.proofs.DecodedListing.{listing_runs}

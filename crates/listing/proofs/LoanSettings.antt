@@ -6,14 +6,13 @@ use Rattle.pointers.specs.Tables.{Tables, under}
 use Rattle.pointers.specs.declared.setting.Setting.{Setting}
 use Rattle.walks.specs.Gather.{joined}
 use Rattle.listing.specs.PlainListing.{Event}
-use Rattle.listing.specs.Listing.{Begun, walks, State, Answer, Left, start, on_section, section_step, step_at, listing_step}
+use Rattle.listing.specs.Listing.{Begun, walks, State, Left, start, on_section, section_step, step_at, listing_step}
 use Rattle.listing.specs.ListingRun.{events_at, events_in, line_said, settled_at, answer_at, lines_by, events_by, Answered, Lists}
 use Rattle.listing.specs.declared.at.At.{At}
 use Rattle.listing.specs.declared.at.At.TheVariants as place
 use Rattle.listing.specs.declared.at.FieldWalk.{FieldWalk}
 use Rattle.listing.specs.declared.at.FieldWalk.TheVariants as fieldWalk
 use Rattle.listing.specs.declared.at.Owner.{Owner}
-use Rattle.listing.specs.declared.at.Record.{Record}
 use Rattle.listing.specs.declared.at.Record.TheVariants as aRecord
 use Rattle.listing.specs.declared.line.Line.{Line}
 

@@ -42,9 +42,9 @@ module _ (bytes : List ℕ) where
   count_within k w e h = rw (← e) (le-leb w 32768 h)
 
   -- Each count, where all fit.
-  pub count_fits : counts_fit bytes ≡ true → (k : ℕ) → k < 7 → word_from bytes (8 * k) ≤ 32768
+  pub count_fits_lem : counts_fit bytes ≡ true → (k : ℕ) → k < 7 → word_from bytes (8 * k) ≤ 32768
   unfolding count_fits
-  count_fits e k h = leb-true (word_from bytes (8 * k)) 32768 (every_at (count_fits bytes) 7 e k h)
+  count_fits_lem e k h = leb-true (word_from bytes (8 * k)) 32768 (every_at (count_fits bytes) 7 e k h)
 
   pub too_long : 32768 < length bytes → number 13 ≡ bundle_counts bytes
   unfolding bundle_counts bundle_fits choose

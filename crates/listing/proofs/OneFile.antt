@@ -4,7 +4,7 @@ use Rattle.reads.specs.Outcome.{Outcome, value, and_then}
 use Rattle.reads.proofs.OneFile.{Widened}
 use Rattle.records.proofs.OneFile.{Lent, as_file, run_before, one_file_decodes}
 use Rattle.listing.specs.DecodeListing.{decode_events, decode_listing}
-use Rattle.listing.specs.PlainListing.{Event, info_line, version_and_flags, plain_events, plain_listing}
+use Rattle.listing.specs.PlainListing.{info_line, version_and_flags, plain_events, plain_listing}
 use Rattle.listing.specs.declared.line.Line.{Line}
 use Rattle.listing.proofs.DecodedListing.{listing_runs, events_run}
 

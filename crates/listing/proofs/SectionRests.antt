@@ -18,7 +18,7 @@ use Rattle.walks.specs.Sections as sections
 use Rattle.walks.specs.Sections.{Walk, found, passed, dropped, finished}
 use Rattle.walks.proofs.Gathers.{joined_parts, gather_parts}
 use Rattle.listing.specs.PlainListing.{Field, ro_fields, name_or_none, class_line, category_line, own_lines, record_fields, fields_lines, lines_of, Event, field_events, record_events, events_from}
-use Rattle.listing.specs.Listing.{owner_fields, enter, SectionWalk, State, state, leaves, says, lacks, nothing, section_leaves, on_section, section_step, step_at, listing_step}
+use Rattle.listing.specs.Listing.{owner_fields, enter, SectionWalk, State, state, leaves, says, lacks, section_leaves, on_section, section_step, step_at, listing_step}
 use Rattle.listing.specs.ListingRun.{events_at}
 use Rattle.listing.specs.declared.absence.Absence.TheVariants as absence
 use Rattle.listing.specs.declared.at.At.TheVariants as place

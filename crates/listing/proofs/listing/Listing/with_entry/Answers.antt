@@ -1,0 +1,6 @@
+use Rattle.std.proofs.Common.{arith}
+use Rattle.listing.proofs.TwoWords.{one_more}
+use Rattle.listing.proofs.listing.Listing.with_entry.Goals as goal
+
+pub returns : goal.returns
+returns c = rw (c.carried.ensures, c.wrapping_add_u64-settled_low.ensures.value, one_more c.args.self.settled_high c.args.self.settled_low (omega arith) (omega arith))
