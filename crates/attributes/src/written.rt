@@ -99,7 +99,7 @@ fn put_attribute(text: &[u8], letter: u8, attribute: Attribute, out: &mut [u8], 
     }
 }
 
-// What is given of the k_th front letter.
+// What is given of the k-th front letter.
 fn attribute_at(declared: Declared, k: usize) -> Attribute
     requires { k < 11 }
     ensures { result ≡ get_or (front_of declared) k Nothing }
