@@ -1,10 +1,11 @@
 // Opening an image whose methods are to be marked (note 11): opening's questions, then 23 of the ranges; then the index is written.
 ghost use Rattle.std.specs.Prelude.{◌≡◌};
 ghost use Rattle.reads.specs.Outcome.{and_then, number};
-ghost use Rattle.reads.specs.Reference.{before, after};
+ghost use Rattle.reads.specs.Files.{files_of};
+ghost use Rattle.reads.specs.Reference.{before};
 ghost use Rattle.pointers.specs.ImageInfo.{info_outcome};
 ghost use Rattle.pointers.specs.Open.{asked_opening};
-ghost use Rattle.pointers.specs.Tables.{lent};
+ghost use Rattle.pointers.specs.Tables.{tables_of};
 ghost use Rattle.marking.specs.Framed.{framed_outcome, with_frames, last_refusal, framed_opening, framed_index};
 
 use frames::frames::{Frames, FramesAnswer, Ranges};
@@ -67,7 +68,7 @@ fn ranges_refused(
     index: &mut [u32],
     k: u8,
 ) -> FramedAnswer
-    ensures outcome { let t = lent files segments sections info rebases binds index in
+    ensures outcome { let t = tables_of (files_of files) (before segments) (before sections) (before info) (before rebases) (before binds) index.old in
         framed_outcome result ≡ and_then (asked_opening t) (λ _. number k) }
     ensures contents { index.new ≡ index.old }
 {
@@ -101,9 +102,9 @@ pub fn open_framed(
     binds: &[u64],
     index: &mut [u32],
 ) -> FramedAnswer
-    ensures outcome { let t = lent files segments sections info rebases binds index in
+    ensures outcome { let t = tables_of (files_of files) (before segments) (before sections) (before info) (before rebases) (before binds) index.old in
         framed_outcome result ≡ framed_opening ranges t }
-    ensures contents { let t = lent files segments sections info rebases binds index in
+    ensures contents { let t = tables_of (files_of files) (before segments) (before sections) (before info) (before rebases) (before binds) index.old in
         index.new ≡ framed_index ranges t }
 {
     match Frames::new(ranges) {
