@@ -18,9 +18,9 @@ use Rattle.macho.specs.Segments.{written}
 use Rattle.macho.specs.declared.command.Found.{Found}
 use Rattle.fixups.specs.FixupChains.{chained_fixups_kind}
 use Rattle.fixups.specs.Tables.{rebase_row, bind_row, rows_of}
-use Rattle.fixups.specs.Fixups.{Result, pair, result, fixups_found, settled}
+use Rattle.fixups.specs.Fixups.{Result, pair, leaves, fixups_found, settled}
 use Rattle.opcodes.specs.Tables.{bind_row as boundRow}
-use Rattle.opcodes.specs.Binds.{binds_found, Result as BindsResult, result as bindsResult, settled as bindsSettled}
+use Rattle.opcodes.specs.Binds.{binds_found, Result as BindsResult, leaves as bindsLeaves, settled as bindsSettled}
 use Rattle.opcodes.specs.declared.binding.Bound.{Bound}
 use Rattle.filetables.specs.Kind.{asked_kind}
 use Rattle.filetables.specs.FileRecords.{as_records, bound_records, records_in, file_records}
@@ -38,7 +38,7 @@ bind_rows (x ∷ xs) = ap (λ (ws : List ℕ). boundRow x ++ ws) (bind_rows xs)
 -- A bind table beside a rebase table without records.
 module _ (rs bs : List ℕ) where
   abbrev beside : BindsResult → Result
-  beside r = result (and_then r.count (λ n. value (pair 0 n))) rs r.binds
+  beside r = leaves (and_then r.count (λ n. value (pair 0 n))) rs r.binds
 
   beside_settled : (o : Outcome (List Bound)) → beside (bindsSettled o bs) ≡ settled (bound_records o) rs bs
   unfolding settled bindsSettled written choose
@@ -50,12 +50,12 @@ module _ (rs bs : List ℕ) where
       go true a b = refl
       go false a b = refl
 
-  pub from_opcodes : (o : Outcome (List Bound)) (n : Outcome ℕ) (bs' : List ℕ) → bindsResult n bs' ≡ bindsSettled o bs
-      → result (and_then n (λ n. value (pair 0 n))) rs bs' ≡ settled (bound_records o) rs bs
+  pub from_opcodes : (o : Outcome (List Bound)) (n : Outcome ℕ) (bs' : List ℕ) → bindsLeaves n bs' ≡ bindsSettled o bs
+      → leaves (and_then n (λ n. value (pair 0 n))) rs bs' ≡ settled (bound_records o) rs bs
   from_opcodes o n bs' e = ap beside e ∙ beside_settled o
 
-  pub from_missing : (o : Outcome (List Bound)) (m : Missing) (bs' : List ℕ) → bindsResult (missed m) bs' ≡ bindsSettled o bs
-      → result (missed m) rs bs' ≡ settled (bound_records o) rs bs
+  pub from_missing : (o : Outcome (List Bound)) (m : Missing) (bs' : List ℕ) → bindsLeaves (missed m) bs' ≡ bindsSettled o bs
+      → leaves (missed m) rs bs' ≡ settled (bound_records o) rs bs
   from_missing o (Absent r) bs' e = from_opcodes o (absent r) bs' e
   from_missing o (Refused k) bs' e = from_opcodes o (number k) bs' e
 
@@ -74,6 +74,6 @@ module _ (file : List ℕ) where
   unfolding file_records
   is_asked e = rw e
 
-  pub is_refused : (k : ℕ) (rs bs : List ℕ) → number k ≡ asked_kind file → result (number k) rs bs ≡ settled (file_records file) rs bs
+  pub is_refused : (k : ℕ) (rs bs : List ℕ) → number k ≡ asked_kind file → leaves (number k) rs bs ≡ settled (file_records file) rs bs
   unfolding file_records settled
   is_refused k rs bs e = rw (← e)

@@ -1,7 +1,7 @@
 // The tables of a file that is read: from its chained fixups, or else from its bind opcodes; without either there are no records.
 ghost use Rattle.std.specs.Prelude.{◌≡◌};
 ghost use Rattle.reads.specs.Reference.{before, after};
-ghost use Rattle.fixups.specs.Fixups.{result, settled};
+ghost use Rattle.fixups.specs.Fixups.{leaves, settled};
 ghost use Rattle.opcodes.specs.Binds.{binds_found};
 ghost use Rattle.filetables.specs.FileRecords.{bound_records, records_in, file_records, tables_outcome};
 
@@ -23,7 +23,7 @@ pub enum FileTables {
 
 // From the bind opcodes: such a file's words are the addresses, so that it needs no rebases.
 fn from_opcodes(file: &[u8], rebases: &mut [u64], binds: &mut [u64]) -> FileTables
-    ensures* { λ r. ⌜ result (tables_outcome r) rebases.new binds.new ≡ settled (bound_records (binds_found (before file))) rebases.old binds.old ⌝ }
+    ensures { leaves (tables_outcome result) rebases.new binds.new ≡ settled (bound_records (binds_found (before file))) rebases.old binds.old }
 {
     match bind_table(file, binds) {
         BindsBuilt::Binds(n) => FileTables::Tables(0, n),
@@ -33,7 +33,7 @@ fn from_opcodes(file: &[u8], rebases: &mut [u64], binds: &mut [u64]) -> FileTabl
 
 // From what the file has.
 fn from_either(file: &[u8], rebases: &mut [u64], binds: &mut [u64]) -> FileTables
-    ensures* { λ r. ⌜ result (tables_outcome r) rebases.new binds.new ≡ settled (records_in (before file)) rebases.old binds.old ⌝ }
+    ensures { leaves (tables_outcome result) rebases.new binds.new ≡ settled (records_in (before file)) rebases.old binds.old }
 {
     let found = find(
         command_bytes(file),
@@ -52,7 +52,7 @@ fn from_either(file: &[u8], rebases: &mut [u64], binds: &mut [u64]) -> FileTable
 
 // Builds the rebase and bind tables of a file: both counts, or the number of the first question that says no, with nothing written.
 pub fn file_tables(file: &[u8], rebases: &mut [u64], binds: &mut [u64]) -> FileTables
-    ensures* { λ r. ⌜ result (tables_outcome r) rebases.new binds.new ≡ settled (file_records (before file)) rebases.old binds.old ⌝ }
+    ensures { leaves (tables_outcome result) rebases.new binds.new ≡ settled (file_records (before file)) rebases.old binds.old }
 {
     match ask_kind(file) {
         Asked::Yes => from_either(file, rebases, binds),

@@ -15,7 +15,7 @@ use Rattle.macho.proofs.Commands.{Finds}
 use Rattle.fixups.specs.FixupChains.{chained_fixups_kind, dataoff, datasize}
 use Rattle.fixups.specs.Starts.{walk_of}
 use Rattle.fixups.specs.Tables.{rebase_row, bind_row, rows_of, State, state, puts, told, state_of}
-use Rattle.fixups.specs.Fixups.{base_of, fixups_from, fixups_in, fixups_found, pair, result, settled}
+use Rattle.fixups.specs.Fixups.{base_of, fixups_from, fixups_in, fixups_found, pair, leaves, settled}
 use Rattle.fixups.specs.declared.chain.Fixup.{Fixup}
 use Rattle.fixups.specs.declared.chain.Walked.{Walked}
 use Rattle.fixups.specs.declared.chain.Walked.TheVariants.{Counts, Refused}
@@ -45,11 +45,11 @@ module _ (cmds : List ℕ) (k a : ℕ) (r : Found) (found : Finds segment_kind c
     base_next e = base_more ∙ choose_false _ _ e
 
 -- A number, and no records.
-pub settled_number : (k : ℕ) (rs bs : List ℕ) → result (number k) rs bs ≡ settled (number k) rs bs
+pub settled_number : (k : ℕ) (rs bs : List ℕ) → leaves (number k) rs bs ≡ settled (number k) rs bs
 unfolding settled
 settled_number k rs bs = refl
 
-pub settled_none : (rs bs : List ℕ) → result (value (pair 0 0)) rs bs ≡ settled (value []) rs bs
+pub settled_none : (rs bs : List ℕ) → leaves (value (pair 0 0)) rs bs ≡ settled (value []) rs bs
 unfolding settled rows_of written choose
 settled_none rs bs = simp (le-leb 0 (length rs) (omega arith), le-leb 0 (length bs) (omega arith))
 
@@ -87,7 +87,7 @@ module _ (rs bs : List ℕ) (hr : length rs < 2 ^ 64) (hb : length bs < 2 ^ 64) 
   abbrev nothing : State
   nothing = state 0 0 [] []
 
-  pub refused : (x : Outcome (List Fixup)) (w : Walked) → state_of w [] [] ≡ told x nothing → (k : ℕ) → w ≡ Refused k → result (number k) rs bs ≡ settled x rs bs
+  pub refused : (x : Outcome (List Fixup)) (w : Walked) → state_of w [] [] ≡ told x nothing → (k : ℕ) → w ≡ Refused k → leaves (number k) rs bs ≡ settled x rs bs
   unfolding told settled
   refused (value xs) w e k g = let z : number k ≡ value (puts xs nothing) = rw g at e in let q : ◌≡◌ {A = ℕ} 0 1 = cc in absurd (omega arith)
   refused (absent r) w e k g = let z : ◌≡◌ {A = Outcome State} (number k) (absent r) = rw g at e in let q : ◌≡◌ {A = ℕ} 0 1 = cc in absurd (omega arith)
@@ -113,27 +113,27 @@ module _ (rs bs : List ℕ) (hr : length rs < 2 ^ 64) (hb : length bs < 2 ^ 64) 
     bound : Counted b bind_words (rows_of bind_row walked.0)
     bound = binds_counted walked.0 r b [] [] walked.2
 
-    pub is_5 : length rs / rebase_words < r → result (number 5) rs bs ≡ settled x rs bs
+    pub is_5 : length rs / rebase_words < r → leaves (number 5) rs bs ≡ settled x rs bs
     unfolding settled
     is_5 h = rw walked.1 (sym (choose_false _ _ (lt-leb _ _ (rebased.short rs hr h))))
 
     module _ (p : r ≤ length rs / rebase_words) where
-      pub is_6 : length bs / bind_words < b → result (number 6) rs bs ≡ settled x rs bs
+      pub is_6 : length bs / bind_words < b → leaves (number 6) rs bs ≡ settled x rs bs
       unfolding settled
       is_6 h = rw walked.1 (sym (choose_true _ _ (le-leb _ _ (rebased.fits rs hr p)) ∙ choose_false _ _ (lt-leb _ _ (bound.short bs hb h))))
 
       pub is_filled : b ≤ length bs / bind_words → (v : Walked) (rs' bs' : List ℕ) → state_of v rs' bs' ≡ told x (state 0 0 rs bs)
-          → result (value (pair r b)) rs' bs' ≡ settled x rs bs
+          → leaves (value (pair r b)) rs' bs' ≡ settled x rs bs
       unfolding settled told
       is_filled q v rs' bs' u = rw walked.1 (go v (rw walked.1 at u))
         where
           go : (v' : Walked) → state_of v' rs' bs' ≡ value (puts walked.0 (state 0 0 rs bs))
-              → result (value (pair r b)) rs' bs' ≡ settled (value walked.0) rs bs
+              → leaves (value (pair r b)) rs' bs' ≡ settled (value walked.0) rs bs
           go (Counts n m) s =
               let z : state n m rs' bs' ≡ puts walked.0 (state 0 0 rs bs) = cc in
               let er = rebases_filled walked.0 n m rs' bs' rs bs z (rebased.fits rs hr p) hr in
               let eb = binds_filled walked.0 n m rs' bs' rs bs z (bound.fits bs hb q) hb in
-              ap₂ (λ (i j : ℕ). result (value (pair i j)) rs' bs') (rebased.exact rs hr p) (bound.exact bs hb q)
+              ap₂ (λ (i j : ℕ). leaves (value (pair i j)) rs' bs') (rebased.exact rs hr p) (bound.exact bs hb q)
               ∙ rw (er, eb)
               (sym (choose_true _ _ (le-leb _ _ (rebased.fits rs hr p)) ∙ choose_true _ _ (le-leb _ _ (bound.fits bs hb q))))
           go (Refused k) s = let z : ◌≡◌ {A = ℕ} 0 1 = cc in absurd (omega arith)

@@ -11,7 +11,7 @@ use Rattle.fixups.specs.Imports.{zero_from, text_at, import_at}
 use Rattle.fixups.specs.Chain.{step_of, origin_of, target_of, slot_of, entry_of, visit_of, chain}
 use Rattle.fixups.specs.Starts.{joined, page_at, pages_from, known, segment_starts, first_starts, info_of, infos_from, image_starts, walk_of}
 use Rattle.fixups.specs.Tables.{rows_of}
-use Rattle.fixups.specs.Fixups.{base_of, fixups_from, fixups_in, fixups_found, pair, result, settled}
+use Rattle.fixups.specs.Fixups.{base_of, fixups_from, fixups_in, fixups_found, pair, leaves, settled}
 use Rattle.fixups.specs.declared.chain.Fixup.TheVariants.{Rebase, Bind}
 
 abbrev small : List ℕ
@@ -103,15 +103,15 @@ no_command = refl
 
 -- Its two rebases and its bind, in tables that have a word to spare; 6 without room for the bind, and both tables as they were.
 pub tables_filled : settled (fixups_found small) (replicate 5 7) (replicate 5 7)
-    ≡ result (value (pair 2 1)) (0x1000 ∷ 0xAB00000000001010 ∷ 0x1010 ∷ 0x1020 ∷ 7 ∷ []) (0x1008 ∷ 209 ∷ 2 ∷ 0 ∷ 7 ∷ [])
+    ≡ leaves (value (pair 2 1)) (0x1000 ∷ 0xAB00000000001010 ∷ 0x1010 ∷ 0x1020 ∷ 7 ∷ []) (0x1008 ∷ 209 ∷ 2 ∷ 0 ∷ 7 ∷ [])
 unfolding settled rows_of written le_in le choose zero_from text_at import_at step_of origin_of target_of slot_of entry_of visit_of chain joined page_at pages_from known segment_starts first_starts info_of infos_from image_starts walk_of headed sectioned fits all_fit asked_commands question of_kind named starts base_of fixups_from fixups_in fixups_found
 tables_filled = refl
 
-pub short_binds : settled (fixups_found small) (replicate 5 7) (replicate 3 7) ≡ result (number 6) (replicate 5 7) (replicate 3 7)
+pub short_binds : settled (fixups_found small) (replicate 5 7) (replicate 3 7) ≡ leaves (number 6) (replicate 5 7) (replicate 3 7)
 unfolding settled rows_of written le_in le choose zero_from text_at import_at step_of origin_of target_of slot_of entry_of visit_of chain joined page_at pages_from known segment_starts first_starts info_of infos_from image_starts walk_of headed sectioned fits all_fit asked_commands question of_kind named starts base_of fixups_from fixups_in fixups_found
 short_binds = refl
 
 -- 5 before 6.
-pub short_both : settled (fixups_found small) (replicate 3 7) (replicate 3 7) ≡ result (number 5) (replicate 3 7) (replicate 3 7)
+pub short_both : settled (fixups_found small) (replicate 3 7) (replicate 3 7) ≡ leaves (number 5) (replicate 3 7) (replicate 3 7)
 unfolding settled rows_of written le_in le choose zero_from text_at import_at step_of origin_of target_of slot_of entry_of visit_of chain joined page_at pages_from known segment_starts first_starts info_of infos_from image_starts walk_of headed sectioned fits all_fit asked_commands question of_kind named starts base_of fixups_from fixups_in fixups_found
 short_both = refl

@@ -56,16 +56,16 @@ pub record Result : Type 0 where
   pub rebases : List ℕ
   pub binds : List ℕ
 
-abbrev pub result : Outcome Pair → List ℕ → List ℕ → Result
-result o rs bs = record { counts = o; rebases = rs; binds = bs }
+abbrev pub leaves : Outcome Pair → List ℕ → List ℕ → Result
+leaves o rs bs = record { counts = o; rebases = rs; binds = bs }
 
 -- The records found go into the tables if both have room, 5 before 6; with a number both are as they were.
 unfoldable pub settled : Outcome (List Fixup) → List ℕ → List ℕ → Result
-settled (absent r) rs bs = result (absent r) rs bs
-settled (number k) rs bs = result (number k) rs bs
+settled (absent r) rs bs = leaves (absent r) rs bs
+settled (number k) rs bs = leaves (number k) rs bs
 settled (value xs) rs bs =
     choose (nat_le (length (rows_of rebase_row xs)) (length rs))
     (choose (nat_le (length (rows_of bind_row xs)) (length bs))
-    (result (value (pair (length (rows_of rebase_row xs) / rebase_words) (length (rows_of bind_row xs) / bind_words))) (written (rows_of rebase_row xs) rs) (written (rows_of bind_row xs) bs))
-    (result (number 6) rs bs))
-    (result (number 5) rs bs)
+    (leaves (value (pair (length (rows_of rebase_row xs) / rebase_words) (length (rows_of bind_row xs) / bind_words))) (written (rows_of rebase_row xs) rs) (written (rows_of bind_row xs) bs))
+    (leaves (number 6) rs bs))
+    (leaves (number 5) rs bs)

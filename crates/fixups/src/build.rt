@@ -5,7 +5,7 @@ ghost use Rattle.reads.specs.Outcome.{value};
 ghost use Rattle.macho.specs.Commands.{asked_commands, segments_of};
 ghost use Rattle.fixups.specs.Starts.{walk_of};
 ghost use Rattle.fixups.specs.Tables.{state, told, state_of};
-ghost use Rattle.fixups.specs.Fixups.{base_of, fixups_from, fixups_found, built_outcome, result, settled};
+ghost use Rattle.fixups.specs.Fixups.{base_of, fixups_from, fixups_found, built_outcome, leaves, settled};
 
 use crate::chain::Walked;
 use crate::fixup_chains::{
@@ -33,7 +33,7 @@ pub enum Built {
 
 // The image base: the vmaddr of the first segment `__TEXT`, or 0.
 fn image_base(cmds: &[u8], count: u64) -> u64
-    ensures* { λ r. ⌜ r ≡ base_of (before cmds) (segments_of (before cmds) count) ⌝ }
+    ensures { result ≡ base_of (before cmds) (segments_of (before cmds) count) }
 {
     let text = TEXT;
     let mut left = count;
@@ -53,7 +53,7 @@ fn image_base(cmds: &[u8], count: u64) -> u64
 
 // How many records the fixup data has for each table: the walk is lent no room.
 fn count_records(file: &[u8], body: &[u8], cmds: &[u8], count: u64, at: u32, base: u64) -> Walked
-    ensures* { λ w. ⌜ state_of w [] [] ≡ told (walk_of (before file) (before body) (before cmds) at base (segments_of (before cmds) count)) (state 0 0 [] []) ⌝ }
+    ensures { state_of result [] [] ≡ told (walk_of (before file) (before body) (before cmds) at base (segments_of (before cmds) count)) (state 0 0 [] []) }
 {
     let mut none = [0u64; 0];
     let mut nothing = [0u64; 0];
@@ -71,8 +71,8 @@ fn fill(
     rebases: &mut [u64],
     binds: &mut [u64],
 ) -> Built
-    ensures* { λ b. ⌜ result (built_outcome b) rebases.new binds.new
-        ≡ settled (walk_of (before file) (before body) (before cmds) at base (segments_of (before cmds) count)) rebases.old binds.old ⌝ }
+    ensures { leaves (built_outcome result) rebases.new binds.new
+        ≡ settled (walk_of (before file) (before body) (before cmds) at base (segments_of (before cmds) count)) rebases.old binds.old }
 {
     match count_records(file, body, cmds, count, at, base) {
         Walked::Counts(r, b) => {
@@ -98,8 +98,8 @@ fn fixups_at(
     rebases: &mut [u64],
     binds: &mut [u64],
 ) -> Built
-    ensures* { λ b. ⌜ result (built_outcome b) rebases.new binds.new
-        ≡ settled (fixups_from (before file) (before cmds) count command) rebases.old binds.old ⌝ }
+    ensures { leaves (built_outcome result) rebases.new binds.new
+        ≡ settled (fixups_from (before file) (before cmds) count command) rebases.old binds.old }
 {
     if field32(cmds, command, CMDSIZE) < SIZEOF_LINKEDIT_DATA_COMMAND {
         return Built::Refused(19);
@@ -113,7 +113,7 @@ fn fixups_at(
 // The tables from the first LC_DYLD_CHAINED_FIXUPS of a file, no records without one; or a number, with nothing written.
 fn build_from(file: &[u8], rebases: &mut [u64], binds: &mut [u64]) -> Built
     requires { asked_commands file.now ≡ value tt }
-    ensures* { λ b. ⌜ result (built_outcome b) rebases.new binds.new ≡ settled (fixups_found (before file)) rebases.old binds.old ⌝ }
+    ensures { leaves (built_outcome result) rebases.new binds.new ≡ settled (fixups_found (before file)) rebases.old binds.old }
 {
     let cmds = command_bytes(file);
     let count = command_count(file);
@@ -126,7 +126,7 @@ fn build_from(file: &[u8], rebases: &mut [u64], binds: &mut [u64]) -> Built
 
 // Builds the rebase and bind tables of a file: both counts, or the number of the first question that says no, with nothing written.
 pub fn build_tables(file: &[u8], rebases: &mut [u64], binds: &mut [u64]) -> Built
-    ensures* { λ b. ⌜ result (built_outcome b) rebases.new binds.new ≡ settled (fixups_found (before file)) rebases.old binds.old ⌝ }
+    ensures { leaves (built_outcome result) rebases.new binds.new ≡ settled (fixups_found (before file)) rebases.old binds.old }
 {
     match ask_commands(file) {
         Asked::Yes => build_from(file, rebases, binds),

@@ -13,7 +13,7 @@ use Rattle.fixups.proofs.Rows.{Sized, whole, Counted, table_filled, table_counte
 use Rattle.opcodes.specs.DyldInfo.{earlier, first_info}
 use Rattle.opcodes.specs.Streams.{streams_at}
 use Rattle.opcodes.specs.Tables.{bind_row, told, part_of}
-use Rattle.opcodes.specs.Binds.{binds_from, binds_in, binds_found, result, settled}
+use Rattle.opcodes.specs.Binds.{binds_from, binds_in, binds_found, leaves, settled}
 use Rattle.opcodes.specs.declared.binding.Bound.{Bound}
 use Rattle.opcodes.specs.declared.stream.Walked.{Walked}
 use Rattle.opcodes.specs.declared.stream.Walked.TheVariants.{Count, Refused}
@@ -39,11 +39,11 @@ module _ (x y : Found) where
       earlier_above l = sym (choose_true _ _ h ∙ choose_true _ _ g ∙ choose_false _ _ (le-ltb x.at y.at l))
 
 -- A number, and no binds.
-pub settled_number : (k : ℕ) (t : List ℕ) → result (number k) t ≡ settled (number k) t
+pub settled_number : (k : ℕ) (t : List ℕ) → leaves (number k) t ≡ settled (number k) t
 unfolding settled
 settled_number k t = refl
 
-pub settled_none : (t : List ℕ) → result (value 0) t ≡ settled (value []) t
+pub settled_none : (t : List ℕ) → leaves (value 0) t ≡ settled (value []) t
 unfolding settled rows_of written choose
 settled_none t = simp (le-leb 0 (length t) (omega arith))
 
@@ -78,11 +78,11 @@ sized : (x : Bound) → Sized bind_words (bind_row x)
 sized x = whole x.slot (x.name ∷ x.len ∷ 0 ∷ []) refl
 
 module _ (t : List ℕ) (ht : length t < 2 ^ 64) (x : Outcome (List Bound)) (w : Walked) (e : part_of w [] ≡ told x (part 0 [])) where
-  pub refused : (k : ℕ) → w ≡ Refused k → result (number k) t ≡ settled x t
+  pub refused : (k : ℕ) → w ≡ Refused k → leaves (number k) t ≡ settled x t
   unfolding told settled
   refused k g = go x (rw g at e)
     where
-      go : (y : Outcome (List Bound)) → number k ≡ told y (part 0 []) → result (number k) t ≡ settled y t
+      go : (y : Outcome (List Bound)) → number k ≡ told y (part 0 []) → leaves (number k) t ≡ settled y t
       go (value xs) q = let z : number k ≡ value (put_rows bind_row xs (part 0 [])) = q in let y : ◌≡◌ {A = ℕ} 0 1 = cc in absurd (omega arith)
       go (absent r) q = let z : ◌≡◌ {A = Outcome Part} (number k) (absent r) = q in let y : ◌≡◌ {A = ℕ} 0 1 = cc in absurd (omega arith)
       go (number j) q = let z : ◌≡◌ {A = Outcome Part} (number k) (number j) = q in let y : k ≡ j = cc in rw y
@@ -101,18 +101,18 @@ module _ (t : List ℕ) (ht : length t < 2 ^ 64) (x : Outcome (List Bound)) (w :
     counted : Counted n bind_words (rows_of bind_row walked.0)
     counted = table_counted bind_row sized walked.0 n [] walked.2
 
-    pub is_6 : length t / bind_words < n → result (number 6) t ≡ settled x t
+    pub is_6 : length t / bind_words < n → leaves (number 6) t ≡ settled x t
     unfolding settled
     is_6 h = rw walked.1 (sym (choose_false _ _ (lt-leb _ _ (counted.short t ht h))))
 
-    pub is_filled : n ≤ length t / bind_words → (v : Walked) (t' : List ℕ) → part_of v t' ≡ told x (part 0 t) → result (value n) t' ≡ settled x t
+    pub is_filled : n ≤ length t / bind_words → (v : Walked) (t' : List ℕ) → part_of v t' ≡ told x (part 0 t) → leaves (value n) t' ≡ settled x t
     unfolding settled told
     is_filled h v t' u = rw walked.1 (go v (rw walked.1 at u))
       where
-        go : (v' : Walked) → part_of v' t' ≡ value (put_rows bind_row walked.0 (part 0 t)) → result (value n) t' ≡ settled (value walked.0) t
+        go : (v' : Walked) → part_of v' t' ≡ value (put_rows bind_row walked.0 (part 0 t)) → leaves (value n) t' ≡ settled (value walked.0) t
         go (Count m) q =
             let z : part m t' ≡ put_rows bind_row walked.0 (part 0 t) = cc in
             let f = table_filled bind_row sized walked.0 m t' t z (counted.fits t ht h) ht in
-            ap (λ (i : ℕ). result (value i) t') (counted.exact t ht h)
+            ap (λ (i : ℕ). leaves (value i) t') (counted.exact t ht h)
             ∙ rw f (sym (choose_true _ _ (le-leb _ _ (counted.fits t ht h))))
         go (Refused k) q = let z : ◌≡◌ {A = ℕ} 0 1 = cc in absurd (omega arith)

@@ -13,7 +13,7 @@ use Rattle.opcodes.specs.DyldInfo.{earlier}
 use Rattle.opcodes.specs.Opcodes.{plain, takes_number, numbered, with_number, symbol_at, addend, skipping, times_skipping, by_opcode, decode}
 use Rattle.opcodes.specs.Binding.{bound, bound_by, run, in_segment, perform}
 use Rattle.opcodes.specs.Streams.{walk, stream_at, joined, streams_at}
-use Rattle.opcodes.specs.Binds.{binds_from, binds_in, binds_found, result, settled}
+use Rattle.opcodes.specs.Binds.{binds_from, binds_in, binds_found, leaves, settled}
 use Rattle.opcodes.specs.declared.binding.Bound.{Bound}
 
 abbrev zeros : ℕ → List ℕ
@@ -97,9 +97,9 @@ pub record Refused : Type 0 where
 -- The table: two binds need eight words.
 pub record Table : Type 0 where
   pub filled : settled (binds (from 0 (0x90 ∷ 0x90 ∷ []))) (replicate 9 7)
-      ≡ result (value 2) (0x1000 ∷ 177 ∷ 2 ∷ 0 ∷ 0x1008 ∷ 177 ∷ 2 ∷ 0 ∷ 7 ∷ [])
-  pub too_short : settled (binds (from 0 (0x90 ∷ 0x90 ∷ []))) (replicate 7 7) ≡ result (number 6) (replicate 7 7)
-  pub refused : settled (binds (from 0 (0x90 ∷ 0xE0 ∷ []))) (replicate 9 7) ≡ result (number 19) (replicate 9 7)
+      ≡ leaves (value 2) (0x1000 ∷ 177 ∷ 2 ∷ 0 ∷ 0x1008 ∷ 177 ∷ 2 ∷ 0 ∷ 7 ∷ [])
+  pub too_short : settled (binds (from 0 (0x90 ∷ 0x90 ∷ []))) (replicate 7 7) ≡ leaves (number 6) (replicate 7 7)
+  pub refused : settled (binds (from 0 (0x90 ∷ 0xE0 ∷ []))) (replicate 9 7) ≡ leaves (number 19) (replicate 9 7)
 
 pub opcodes_read : Opcodes
 unfolding le le_in choose twos digit_count unsigned_digits negative signed_digits within64 within_signed64 uleb_of sleb_of uleb128 sleb128 question headed sectioned fits all_fit asked_commands of_kind first_of zero_from earlier plain takes_number numbered with_number symbol_at addend skipping times_skipping by_opcode decode bound_by run in_segment perform walk stream_at joined streams_at binds_from binds_in binds_found

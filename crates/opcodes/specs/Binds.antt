@@ -40,14 +40,14 @@ pub record Result : Type 0 where
   pub count : Outcome ℕ
   pub binds : List ℕ
 
-abbrev pub result : Outcome ℕ → List ℕ → Result
-result o t = record { count = o; binds = t }
+abbrev pub leaves : Outcome ℕ → List ℕ → Result
+leaves o t = record { count = o; binds = t }
 
 -- The binds found go into the table if it has room; with a number it is as it was.
 unfoldable pub settled : Outcome (List Bound) → List ℕ → Result
-settled (absent r) t = result (absent r) t
-settled (number k) t = result (number k) t
+settled (absent r) t = leaves (absent r) t
+settled (number k) t = leaves (number k) t
 settled (value xs) t =
     choose (nat_le (length (rows_of bind_row xs)) (length t))
-    (result (value (length (rows_of bind_row xs) / bind_words)) (written (rows_of bind_row xs) t))
-    (result (number 6) t)
+    (leaves (value (length (rows_of bind_row xs) / bind_words)) (written (rows_of bind_row xs) t))
+    (leaves (number 6) t)

@@ -6,7 +6,7 @@ ghost use Rattle.macho.specs.Commands.{asked_commands, segments_of};
 ghost use Rattle.fixups.specs.Tables.{part};
 ghost use Rattle.opcodes.specs.Streams.{streams_at};
 ghost use Rattle.opcodes.specs.Tables.{told, part_of};
-ghost use Rattle.opcodes.specs.Binds.{binds_found, built_outcome, result, settled};
+ghost use Rattle.opcodes.specs.Binds.{binds_found, built_outcome, leaves, settled};
 
 use crate::dyld_info::{LC_DYLD_INFO, LC_DYLD_INFO_ONLY, SIZEOF_DYLD_INFO_COMMAND, earlier};
 use crate::stream::{Walked, streams_at};
@@ -27,7 +27,7 @@ pub enum BindsBuilt {
 
 // How many binds the streams make: the walk is lent no room.
 fn count_binds(file: &[u8], cmds: &[u8], count: u64, command: u64) -> Walked
-    ensures* { λ w. ⌜ part_of w [] ≡ told (streams_at (before file) (before cmds) (segments_of (before cmds) count) command) (part 0 []) ⌝ }
+    ensures { part_of result [] ≡ told (streams_at (before file) (before cmds) (segments_of (before cmds) count) command) (part 0 []) }
 {
     let mut none = [0u64; 0];
     streams_at(file, cmds, count, command, &mut none)
@@ -35,8 +35,8 @@ fn count_binds(file: &[u8], cmds: &[u8], count: u64, command: u64) -> Walked
 
 // Counts first, then writes, if the table has room.
 fn fill(file: &[u8], cmds: &[u8], count: u64, command: u64, binds: &mut [u64]) -> BindsBuilt
-    ensures* { λ b. ⌜ result (built_outcome b) binds.new
-        ≡ settled (streams_at (before file) (before cmds) (segments_of (before cmds) count) command) binds.old ⌝ }
+    ensures { leaves (built_outcome result) binds.new
+        ≡ settled (streams_at (before file) (before cmds) (segments_of (before cmds) count) command) binds.old }
 {
     match count_binds(file, cmds, count, command) {
         Walked::Count(n) => {
@@ -53,7 +53,7 @@ fn fill(file: &[u8], cmds: &[u8], count: u64, command: u64, binds: &mut [u64]) -
 // The table from the first LC_DYLD_INFO or LC_DYLD_INFO_ONLY of a file, no binds without one; or a number, with nothing written.
 fn build_from(file: &[u8], binds: &mut [u64]) -> BindsBuilt
     requires { asked_commands file.now ≡ value tt }
-    ensures* { λ b. ⌜ result (built_outcome b) binds.new ≡ settled (binds_found (before file)) binds.old ⌝ }
+    ensures { leaves (built_outcome result) binds.new ≡ settled (binds_found (before file)) binds.old }
 {
     let cmds = command_bytes(file);
     let count = command_count(file);
@@ -72,7 +72,7 @@ fn build_from(file: &[u8], binds: &mut [u64]) -> BindsBuilt
 // Builds the bind table of a file from its bind opcodes: how many binds, or the number of the first question that says no, with nothing
 // written.
 pub fn bind_table(file: &[u8], binds: &mut [u64]) -> BindsBuilt
-    ensures* { λ b. ⌜ result (built_outcome b) binds.new ≡ settled (binds_found (before file)) binds.old ⌝ }
+    ensures { leaves (built_outcome result) binds.new ≡ settled (binds_found (before file)) binds.old }
 {
     match ask_commands(file) {
         Asked::Yes => build_from(file, binds),

@@ -1,0 +1,32 @@
+use Rattle.std.proofs.Common.{◌^◌, ◌<◌, length, arith}
+use Rattle.fixups.proofs.Building as laws
+use Rattle.fixups.proofs.build.fill.Goals as goal
+
+pub returns-then-rebases-r : goal.returns-then-rebases-r
+returns-then-rebases-r c =
+    let a = c.args in
+    laws.is_5 a.rebases.now a.binds.now (omega arith) (omega arith) _ c.count_records.result c.count_records.ensures _ _ c.in-Counts.is c.if-rebases-r.true
+
+pub returns-then-binds-b : goal.returns-then-binds-b
+returns-then-binds-b c =
+    let a = c.args in
+    laws.is_6 a.rebases.now a.binds.now (omega arith) (omega arith) _ c.count_records.result c.count_records.ensures _ _ c.in-Counts.is c.if-rebases-r.false c.if-binds-b.true
+
+pub shape_of-rebases : goal.shape_of-rebases
+shape_of-rebases c = c.walk.auto.rebases
+
+pub shape_of-binds : goal.shape_of-binds
+shape_of-binds c = c.walk.auto.binds
+
+pub returns-else-binds-b : goal.returns-else-binds-b
+returns-else-binds-b c =
+    let room-rebases : length c.args.rebases.now < 2 ^ 64 = omega arith in
+    let room-binds : length c.args.binds.now < 2 ^ 64 = omega arith in
+    let a = c.args in
+    laws.is_filled a.rebases.now a.binds.now (room-rebases) (room-binds) _ c.count_records.result c.count_records.ensures _ _ c.in-Counts.is c.if-rebases-r.false c.if-binds-b.false
+    c.walk.result c.walk.new.rebases c.walk.new.binds c.walk.ensures
+
+pub returns-in-Refused : goal.returns-in-Refused
+returns-in-Refused c =
+    let a = c.args in
+    laws.refused a.rebases.now a.binds.now (omega arith) (omega arith) _ c.count_records.result c.count_records.ensures _ c.in-Refused.is

@@ -1,0 +1,22 @@
+use Rattle.std.proofs.Common.{sym, ap, ◌∙◌, arith}
+use Rattle.fixups.specs.Fixups.{settled}
+use Rattle.fixups.proofs.Building as laws
+use Rattle.fixups.proofs.build.fixups_at.Goals as goal
+
+pub returns-then-field32-lt-SIZEOF_LINKEDIT_DATA_COMMAND : goal.returns-then-field32-lt-SIZEOF_LINKEDIT_DATA_COMMAND
+returns-then-field32-lt-SIZEOF_LINKEDIT_DATA_COMMAND c =
+    let a = c.args in
+    laws.settled_number 19 a.rebases.now a.binds.now
+    ∙ ap (λ x. settled x a.rebases.now a.binds.now) (sym (laws.from_short a.file.now a.cmds.now a.count a.command (omega arith)))
+
+pub shape_of-rebases : goal.shape_of-rebases
+shape_of-rebases c = c.fill.auto.rebases
+
+pub shape_of-binds : goal.shape_of-binds
+shape_of-binds c = c.fill.auto.binds
+
+pub returns : goal.returns
+returns c =
+    let a = c.args in
+    c.fill.ensures ∙ ap (λ x. settled x a.rebases.now a.binds.now)
+    (laws.from_data a.file.now a.cmds.now a.count a.command (omega arith) _ _ _ _ _ c.range_of-body.ensures c.u32_from-at.ensures c.wide32.ensures.0 c.field32-2.ensures.0 c.image_base-base.ensures)

@@ -1,0 +1,50 @@
+use Rattle.std.proofs.Common.{◌+◌, ◌-◌, sym, refl, ap, ◌∙◌, arith}
+use Rattle.fixups.specs.Starts.{page_at, pages_from}
+use Rattle.fixups.specs.Tables.{told, state}
+use Rattle.fixups.proofs.Joining.{then, stops}
+use Rattle.fixups.proofs.Pages.{whole, pages_more, pages_done}
+use Rattle.fixups.proofs.starts.pages.Goals as goal
+
+pub loop-p-init : goal.loop-p-init
+loop-p-init c = (rw (whole c.args.count), refl, refl, omega arith)
+
+pub overflow_add-p : goal.overflow_add-p
+overflow_add-p c = omega arith
+
+pub loop-p-smaller : goal.loop-p-smaller
+loop-p-smaller c = omega arith
+
+pub loop-p-preserved : goal.loop-p-preserved
+loop-p-preserved c =
+    let a = c.args in let l = c.loop-p in (
+      l.invariant.0 ∙ ap (λ x. told x (state l.rebased l.bound l.rebases l.binds)) (pages_more a.file.now a.body.now a.f a.s a.at a.count l.p (omega arith))
+          ∙ then (page_at a.file.now a.body.now a.f a.s a.at l.p) (pages_from a.file.now a.body.now a.f a.s a.at (a.count - (l.p + 1)) (l.p + 1))
+          (state l.rebased l.bound l.rebases l.binds) c.page.result c.page.new.rebases c.page.new.binds c.page.ensures _ _ c.in-Counts.is,
+      c.page.auto.rebases ∙ l.invariant.1,
+      c.page.auto.binds ∙ l.invariant.2,
+      omega arith,
+    )
+
+pub shape_of-rebases-in-Refused : goal.shape_of-rebases-in-Refused
+shape_of-rebases-in-Refused c = c.page.auto.rebases ∙ c.loop-p.invariant.1
+
+pub shape_of-binds-in-Refused : goal.shape_of-binds-in-Refused
+shape_of-binds-in-Refused c = c.page.auto.binds ∙ c.loop-p.invariant.2
+
+pub returns-in-Refused : goal.returns-in-Refused
+returns-in-Refused c =
+    let a = c.args in let l = c.loop-p in
+    sym (l.invariant.0 ∙ ap (λ x. told x (state l.rebased l.bound l.rebases l.binds)) (pages_more a.file.now a.body.now a.f a.s a.at a.count l.p (omega arith))
+    ∙ stops (page_at a.file.now a.body.now a.f a.s a.at l.p) (pages_from a.file.now a.body.now a.f a.s a.at (a.count - (l.p + 1)) (l.p + 1))
+    (state l.rebased l.bound l.rebases l.binds) c.page.result c.page.new.rebases c.page.new.binds c.page.ensures _ c.in-Refused.is)
+
+pub shape_of-rebases : goal.shape_of-rebases
+shape_of-rebases c = c.loop-p.invariant.1
+
+pub shape_of-binds : goal.shape_of-binds
+shape_of-binds c = c.loop-p.invariant.2
+
+pub returns : goal.returns
+returns c =
+    let a = c.args in let l = c.loop-p in
+    sym (l.invariant.0 ∙ pages_done a.file.now a.body.now a.f a.s a.at a.count l.p (state l.rebased l.bound l.rebases l.binds) (omega arith))

@@ -1,0 +1,30 @@
+use Rattle.std.proofs.Common.{◌∙◌, arith}
+use Rattle.fixups.specs.Tables.{state}
+use Rattle.fixups.proofs.Pages as laws
+use Rattle.fixups.proofs.starts.segment_starts.Goals.{else-format-ne-DYLD_CHAINED_PTR_64, then-format-ne-DYLD_CHAINED_PTR_64+else-format-ne-DYLD_CHAINED_PTR_64_OFFSET}
+use Rattle.fixups.proofs.starts.segment_starts.Goals as goal
+
+pub returns-then-body-at : goal.returns-then-body-at
+returns-then-body-at c =
+    let a = c.args in
+    laws.segment_out a.file.now a.body.now a.cmds.now a.f a.at a.command (state a.r a.b a.rebases.now a.binds.now) (omega arith)
+
+pub returns-then-format-ne-DYLD_CHAINED_PTR_64_OFFSET : goal.returns-then-format-ne-DYLD_CHAINED_PTR_64_OFFSET
+returns-then-format-ne-DYLD_CHAINED_PTR_64_OFFSET c =
+    let a = c.args in
+    laws.segment_other a.file.now a.body.now a.cmds.now a.f a.at a.command (state a.r a.b a.rebases.now a.binds.now)
+    c.u16_at-format.result (omega arith) c.u16_at-format.ensures (laws.known_not _ c.if-format-ne-DYLD_CHAINED_PTR_64.true c.if-format-ne-DYLD_CHAINED_PTR_64_OFFSET.true)
+
+pub shape_of-rebases : goal.shape_of-rebases
+shape_of-rebases c = c.pages.auto.rebases
+
+pub shape_of-binds : goal.shape_of-binds
+shape_of-binds c = c.pages.auto.binds
+
+pub returns : goal.returns
+returns c =
+    let a = c.args in
+    c.pages.ensures ∙ laws.segment_pages a.file.now a.body.now a.cmds.now a.f a.at a.command (state a.r a.b a.rebases.now a.binds.now)
+    c.u16_at-format.result (omega arith) c.u16_at-format.ensures
+    (elim c.if-format-ne-DYLD_CHAINED_PTR_64.branch [ then-format-ne-DYLD_CHAINED_PTR_64+else-format-ne-DYLD_CHAINED_PTR_64_OFFSET w ↦ laws.known_6 c.u16_at-format.result w.if-format-ne-DYLD_CHAINED_PTR_64_OFFSET.false | else-format-ne-DYLD_CHAINED_PTR_64 w ↦ laws.known_2 c.u16_at-format.result w.if-format-ne-DYLD_CHAINED_PTR_64.false ])
+    _ _ (rw (c.u64_from.ensures, c.u64_from-2.ensures, c.u16_at-format.ensures, c.u16_at.ensures)) c.u16_at-2.ensures

@@ -1,0 +1,35 @@
+use Rattle.std.proofs.Common.{sym, ◌∙◌, arith}
+use Rattle.macho.specs.Commands.{segments_of}
+use Rattle.fixups.specs.Tables.{state}
+use Rattle.fixups.proofs.Pages as laws
+use Rattle.fixups.proofs.starts.walk.Goals as goal
+
+pub returns-then-body-lt-SIZEOF_CHAINED_FIXUPS_HEADER : goal.returns-then-body-lt-SIZEOF_CHAINED_FIXUPS_HEADER
+returns-then-body-lt-SIZEOF_CHAINED_FIXUPS_HEADER c =
+    let a = c.args in
+    laws.walk_out a.file.now a.body.now a.cmds.now a.at a.base (segments_of a.cmds.now a.count) (state 0 0 a.rebases.now a.binds.now) (omega arith)
+
+pub returns-then-u32_from-ne-DYLD_CHAINED_IMPORT : goal.returns-then-u32_from-ne-DYLD_CHAINED_IMPORT
+returns-then-u32_from-ne-DYLD_CHAINED_IMPORT c =
+    let a = c.args in
+    laws.walk_imports a.file.now a.body.now a.cmds.now a.at a.base (segments_of a.cmds.now a.count) (state 0 0 a.rebases.now a.binds.now) (omega arith)
+    (λ e. c.if-u32_from-ne-DYLD_CHAINED_IMPORT.true (c.u32_from.ensures ∙ e))
+
+pub returns-then-u32_from-ne-SYMBOLS_UNCOMPRESSED : goal.returns-then-u32_from-ne-SYMBOLS_UNCOMPRESSED
+returns-then-u32_from-ne-SYMBOLS_UNCOMPRESSED c =
+    let a = c.args in
+    laws.walk_symbols a.file.now a.body.now a.cmds.now a.at a.base (segments_of a.cmds.now a.count) (state 0 0 a.rebases.now a.binds.now) (omega arith)
+    (sym c.u32_from.ensures ∙ c.if-u32_from-ne-DYLD_CHAINED_IMPORT.false) (λ e. c.if-u32_from-ne-SYMBOLS_UNCOMPRESSED.true (c.u32_from-2.ensures ∙ e))
+
+pub shape_of-rebases : goal.shape_of-rebases
+shape_of-rebases c = c.image_starts.auto.rebases
+
+pub shape_of-binds : goal.shape_of-binds
+shape_of-binds c = c.image_starts.auto.binds
+
+pub returns : goal.returns
+returns c =
+    let a = c.args in
+    c.image_starts.ensures
+    ∙ laws.walk_in a.file.now a.body.now a.cmds.now a.at a.base (segments_of a.cmds.now a.count) (state 0 0 a.rebases.now a.binds.now) (omega arith)
+    (sym c.u32_from.ensures ∙ c.if-u32_from-ne-DYLD_CHAINED_IMPORT.false) (sym c.u32_from-2.ensures ∙ c.if-u32_from-ne-SYMBOLS_UNCOMPRESSED.false) _ (rw (c.u32_from-3.ensures, c.u32_from-4.ensures, c.u32_from-5.ensures, c.u32_from-6.ensures))
