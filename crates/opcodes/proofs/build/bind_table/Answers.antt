@@ -1,0 +1,19 @@
+use Rattle.std.proofs.Common.{sym, ap, ◌∙◌}
+use Rattle.pointers.specs.Question.{asked_outcome}
+use Rattle.opcodes.specs.Binds.{settled}
+use Rattle.opcodes.proofs.Building as laws
+use Rattle.opcodes.proofs.build.bind_table.Goals as goal
+
+pub build_from-requires : goal.build_from-requires
+build_from-requires c = sym c.ask_commands.ensures ∙ ap asked_outcome c.in-Yes.is
+
+pub shape_of-binds : goal.shape_of-binds
+shape_of-binds c = c.build_from.auto.binds
+
+pub returns-in-Yes : goal.returns-in-Yes
+returns-in-Yes c = c.build_from.ensures
+
+pub returns-in-Refused : goal.returns-in-Refused
+returns-in-Refused c =
+    let a = c.args in
+    laws.settled_number c.in-Refused.k a.binds.now ∙ ap (λ x. settled x a.binds.now) (laws.found_refused a.file.now c.in-Refused.k (sym (ap asked_outcome c.in-Refused.is) ∙ c.ask_commands.ensures))

@@ -1,0 +1,24 @@
+use Rattle.std.proofs.Common.{ap, ◌∙◌, ap₂, arith}
+use borrow.Author.Tests.{not-true, not-false}
+use Rattle.opcodes.specs.DyldInfo.{earlier}
+use Rattle.opcodes.specs.Binds.{settled}
+use Rattle.opcodes.proofs.Building as laws
+use Rattle.opcodes.proofs.build.build_from.Goals as goal
+
+pub returns-then-not-found : goal.returns-then-not-found
+returns-then-not-found c =
+    let a = c.args in
+    laws.settled_none a.binds.now ∙ ap (λ x. settled x a.binds.now) (laws.found_none a.file.now c.requires c.command_bytes-cmds.result.now c.command_count-count.result c.command_bytes-cmds.ensures c.command_count-count.ensures.0 c.earlier-found.result (c.earlier-found.ensures ∙ ap₂ earlier c.find-info.ensures c.find-info_only.ensures) (not-true _ c.if-not-found.true))
+
+pub returns-then-field32-lt-SIZEOF_DYLD_INFO_COMMAND : goal.returns-then-field32-lt-SIZEOF_DYLD_INFO_COMMAND
+returns-then-field32-lt-SIZEOF_DYLD_INFO_COMMAND c =
+    let a = c.args in
+    laws.settled_number 19 a.binds.now ∙ ap (λ x. settled x a.binds.now) (laws.found_short a.file.now c.requires c.command_bytes-cmds.result.now c.command_count-count.result c.command_bytes-cmds.ensures c.command_count-count.ensures.0 c.earlier-found.result (c.earlier-found.ensures ∙ ap₂ earlier c.find-info.ensures c.find-info_only.ensures) (not-false _ c.if-not-found.false) (omega arith))
+
+pub shape_of-binds : goal.shape_of-binds
+shape_of-binds c = c.fill.auto.binds
+
+pub returns : goal.returns
+returns c =
+    let a = c.args in
+    c.fill.ensures ∙ ap (λ x. settled x a.binds.now) (laws.found_long a.file.now c.requires c.command_bytes-cmds.result.now c.command_count-count.result c.command_bytes-cmds.ensures c.command_count-count.ensures.0 c.earlier-found.result (c.earlier-found.ensures ∙ ap₂ earlier c.find-info.ensures c.find-info_only.ensures) (not-false _ c.if-not-found.false) (omega arith))

@@ -1,0 +1,20 @@
+use Rattle.std.proofs.Common.{ap, ◌∙◌, arith}
+use Rattle.fixups.specs.Tables.{part}
+use Rattle.opcodes.specs.Tables.{told}
+use Rattle.macho.specs.Commands.{segments_of}
+use Rattle.opcodes.proofs.Walks as laws
+use Rattle.opcodes.proofs.stream.stream_at.Goals as goal
+
+pub overflow_add-field : goal.overflow_add-field
+overflow_add-field c = omega arith
+
+pub walk-requires : goal.walk-requires
+walk-requires c = omega (arith, c.field32-at.ensures.1, c.field32-size.ensures.1, laws.stream_short c.args.file.now c.field32-at.result c.field32-size.result c.range_of-body.result.now c.range_of-body.ensures)
+
+pub shape_of-binds : goal.shape_of-binds
+shape_of-binds c = c.walk.auto.binds
+
+pub returns : goal.returns
+returns c =
+    let a = c.args in
+    c.walk.ensures ∙ ap (λ x. told x (part a.n a.binds.now)) (laws.stream_is a.file.now a.cmds.now (segments_of a.cmds.now a.count) a.command a.field a.parts c.field32-at.result c.field32-size.result c.range_of-body.result.now c.field32-at.ensures.0 c.field32-size.ensures.0 c.range_of-body.ensures)

@@ -1,0 +1,70 @@
+use Rattle.std.proofs.Common.{ℕ, ◌+◌, ◌≤◌, length, sym, refl, ◌∙◌, ap₂, arith}
+use Rattle.macho.specs.Commands.{segments_of}
+use Rattle.fixups.specs.Tables.{part}
+use Rattle.opcodes.specs.Streams.{walk}
+use Rattle.opcodes.specs.Tables.{told}
+use Rattle.opcodes.specs.declared.binding.State.{State}
+use Rattle.opcodes.proofs.Walks as laws
+use Rattle.opcodes.proofs.stream.walk.Goals as goal
+
+pub loop-i-init : goal.loop-i-init
+loop-i-init c =
+    let a = c.args in
+    (ap₂ (λ (k : ℕ) (s : State). told (walk a.end a.cmds.now (segments_of a.cmds.now a.count) a.parts k a.body.now 0 s) (part a.n a.binds.now)) (omega arith) (sym c.unset-s.ensures), refl)
+
+pub overflow_add-place : goal.overflow_add-place
+overflow_add-place c = omega arith
+
+pub overflow_add-place-in-loop-i : goal.overflow_add-place-in-loop-i
+overflow_add-place-in-loop-i c = omega arith
+
+pub overflow_add-i : goal.overflow_add-i
+overflow_add-i c = omega arith
+
+pub slice_bounds-step-count : goal.slice_bounds-step-count
+slice_bounds-step-count c = omega arith
+
+pub slice_bounds-step-start : goal.slice_bounds-step-start
+slice_bounds-step-start c = omega arith
+
+pub slice_bounds-step-end : goal.slice_bounds-step-end
+slice_bounds-step-end c = omega arith
+
+pub overflow_add-i-in-On : goal.overflow_add-i-in-On
+overflow_add-i-in-On c =
+    let operands-fit : c.loop-i.i + 1 + c.in-On.size ≤ length c.args.body.now = let l = c.loop-i in let a = c.args in
+    laws.walk_size a.end a.cmds.now (segments_of a.cmds.now a.count) a.parts a.at a.body.now l.i l.s (part l.records l.binds) (omega arith) c.step.result c.step.new.binds c.step.ensures _ _ _ c.in-On.is in
+    omega (arith, operands-fit)
+
+pub overflow_add-i-in-On-2 : goal.overflow_add-i-in-On-2
+overflow_add-i-in-On-2 c =
+    let operands-fit : c.loop-i.i + 1 + c.in-On.size ≤ length c.args.body.now = let l = c.loop-i in let a = c.args in
+    laws.walk_size a.end a.cmds.now (segments_of a.cmds.now a.count) a.parts a.at a.body.now l.i l.s (part l.records l.binds) (omega arith) c.step.result c.step.new.binds c.step.ensures _ _ _ c.in-On.is in
+    omega (arith, operands-fit)
+
+pub loop-i-smaller : goal.loop-i-smaller
+loop-i-smaller c =
+    let operands-fit : c.loop-i.i + 1 + c.in-On.size ≤ length c.args.body.now = let l = c.loop-i in let a = c.args in
+    laws.walk_size a.end a.cmds.now (segments_of a.cmds.now a.count) a.parts a.at a.body.now l.i l.s (part l.records l.binds) (omega arith) c.step.result c.step.new.binds c.step.ensures _ _ _ c.in-On.is in
+    omega (arith, operands-fit)
+
+pub loop-i-preserved : goal.loop-i-preserved
+loop-i-preserved c =
+    let l = c.loop-i in let a = c.args in
+    (l.invariant.0 ∙ laws.walk_on a.end a.cmds.now (segments_of a.cmds.now a.count) a.parts a.at a.body.now l.i l.s (part l.records l.binds) (omega arith) c.step.result c.step.new.binds c.step.ensures _ _ _ c.in-On.is, c.step.auto.binds ∙ l.invariant.1)
+
+pub shape_of-binds-in-Refused : goal.shape_of-binds-in-Refused
+shape_of-binds-in-Refused c = c.step.auto.binds ∙ c.loop-i.invariant.1
+
+pub returns-in-Refused : goal.returns-in-Refused
+returns-in-Refused c =
+    let l = c.loop-i in let a = c.args in
+    laws.walk_refused a.end a.cmds.now (segments_of a.cmds.now a.count) a.parts a.at a.body.now l.i l.s (part l.records l.binds) (omega arith) c.step.result c.step.new.binds c.step.ensures _ c.in-Refused.is ∙ sym l.invariant.0
+
+pub shape_of-binds : goal.shape_of-binds
+shape_of-binds c = c.loop-i.invariant.1
+
+pub returns : goal.returns
+returns c =
+    let l = c.loop-i in let a = c.args in
+    laws.walk_done a.end a.cmds.now (segments_of a.cmds.now a.count) a.parts (a.at + l.i) a.body.now l.i l.s (part l.records l.binds) c.loop-i-test.false ∙ sym l.invariant.0
