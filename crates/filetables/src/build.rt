@@ -1,6 +1,6 @@
 // The tables of a file that is read: from its chained fixups, or else from its bind opcodes; without either there are no records.
 ghost use Rattle.std.specs.Prelude.{◌≡◌};
-ghost use Rattle.reads.specs.Reference.{before, after};
+ghost use Rattle.reads.specs.Reference.{before};
 ghost use Rattle.fixups.specs.Fixups.{leaves, settled};
 ghost use Rattle.opcodes.specs.Binds.{binds_found};
 ghost use Rattle.filetables.specs.FileRecords.{bound_records, records_in, file_records, tables_outcome};

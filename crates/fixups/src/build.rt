@@ -1,6 +1,6 @@
 // The rebase and bind tables of a file (document 02, note 7): counted by one walk, then written by the same.
 ghost use Rattle.std.specs.Prelude.{◌≡◌, []};
-ghost use Rattle.reads.specs.Reference.{before, after};
+ghost use Rattle.reads.specs.Reference.{before};
 ghost use Rattle.reads.specs.Outcome.{value};
 ghost use Rattle.macho.specs.Commands.{asked_commands, segments_of};
 ghost use Rattle.fixups.specs.Starts.{walk_of};

@@ -1,6 +1,6 @@
 // The chain of a page (fixup-chains.h, dyld_chained_ptr_64_rebase and dyld_chained_ptr_64_bind).
 ghost use Rattle.std.specs.Prelude.{◌≡◌, ◌<◌};
-ghost use Rattle.reads.specs.Reference.{before, after};
+ghost use Rattle.reads.specs.Reference.{before};
 ghost use Rattle.reads.specs.Outcome.{value, and_then};
 ghost use Rattle.fixups.specs.Chain.{entry_outcome, target_of, entry_of, visit_of, chain_at};
 ghost use Rattle.fixups.specs.Tables.{state, put, told, state_of, stepped, stepped_of};

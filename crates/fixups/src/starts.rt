@@ -1,6 +1,6 @@
 // Where chains start (fixup-chains.h, dyld_chained_starts_in_image and dyld_chained_starts_in_segment).
 ghost use Rattle.std.specs.Prelude.{◌≡◌, ◌+◌, ◌<◌, [], ◌==◌};
-ghost use Rattle.reads.specs.Reference.{before, after};
+ghost use Rattle.reads.specs.Reference.{before};
 ghost use Rattle.reads.specs.Outcome.{value, number, choose};
 ghost use Rattle.macho.specs.Commands.{segments_of};
 ghost use Rattle.fixups.specs.Starts.{page_at, pages_from, segment_starts, image_starts, walk_of};

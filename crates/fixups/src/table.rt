@@ -1,6 +1,5 @@
 // The records of the lent tables: each is put where there is room for it, and counted in any case.
 ghost use Rattle.std.specs.Prelude.{◌≡◌, [], ◌∷◌};
-ghost use Rattle.reads.specs.Reference.{before, after};
 ghost use Rattle.fixups.specs.Tables.{up, part, put_row};
 
 use pointers::table::{Bind, Rebase};

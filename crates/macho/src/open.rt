@@ -1,7 +1,7 @@
 // Opening a file (document 02, note 3): asks 15, 16 and the questions of the tables that loader.h defines for it; then fills these
 // tables and writes the index.
 ghost use Rattle.std.specs.Prelude.{◌≡◌, ◌≤◌, length, take};
-ghost use Rattle.reads.specs.Reference.{before, after};
+ghost use Rattle.reads.specs.Reference.{before};
 ghost use Rattle.reads.specs.Outcome.{value};
 ghost use Rattle.pointers.specs.Question.{asked_outcome};
 ghost use Rattle.pointers.specs.ImageInfo.{info_outcome};

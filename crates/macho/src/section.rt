@@ -1,7 +1,7 @@
 // The section table that a file's section headers (loader.h, section_64) define.
 ghost use Rattle.std.specs.Prelude.{◌≡◌, ◌+◌, ◌*◌, ◌≤◌, length};
 ghost use Rattle.std.proofs.lemmas.List.Edits.{sets};
-ghost use Rattle.reads.specs.Reference.{before, after};
+ghost use Rattle.reads.specs.Reference.{before};
 ghost use Rattle.pointers.specs.Tables.{section_words, section_table_words};
 ghost use Rattle.macho.specs.Sections.{named, headers_from, section_at, first_named, section_named, section_row, section_table_of};
 

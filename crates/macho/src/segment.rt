@@ -1,7 +1,7 @@
 // The segment table that a file's segment commands (loader.h, segment_command_64) define.
 ghost use Rattle.std.specs.Prelude.{◌≡◌, ◌+◌, ◌*◌, ◌≤◌, length};
 ghost use Rattle.std.proofs.lemmas.List.Edits.{sets};
-ghost use Rattle.reads.specs.Reference.{before, after};
+ghost use Rattle.reads.specs.Reference.{before};
 ghost use Rattle.reads.specs.Segment.{segment_words};
 ghost use Rattle.macho.specs.Commands.{segments_of};
 ghost use Rattle.macho.specs.Segments.{segment_row, segment_table_of, written};

@@ -1,6 +1,5 @@
 // The binds that an opcode makes.
 ghost use Rattle.std.specs.Prelude.{◌≡◌};
-ghost use Rattle.reads.specs.Reference.{before, after};
 ghost use Rattle.fixups.specs.Tables.{part};
 ghost use Rattle.opcodes.specs.Binding.{entry_outcome, further, bound_by, run};
 ghost use Rattle.opcodes.specs.Tables.{told_by, ran_of};

@@ -1,6 +1,6 @@
 // The bind table of a file by its bind opcodes: counted by one walk, then written by the same.
 ghost use Rattle.std.specs.Prelude.{◌≡◌, []};
-ghost use Rattle.reads.specs.Reference.{before, after};
+ghost use Rattle.reads.specs.Reference.{before};
 ghost use Rattle.reads.specs.Outcome.{value};
 ghost use Rattle.macho.specs.Commands.{asked_commands, segments_of};
 ghost use Rattle.fixups.specs.Tables.{part};

@@ -1,6 +1,6 @@
 // The streams of bind opcodes that a dyld_info_command names.
 ghost use Rattle.std.specs.Prelude.{◌≡◌, ◌+◌, ◌^◌, ◌<◌, true, false, length};
-ghost use Rattle.reads.specs.Reference.{before, after};
+ghost use Rattle.reads.specs.Reference.{before};
 ghost use Rattle.reads.specs.Outcome.{value, and_then};
 ghost use Rattle.macho.specs.Commands.{segments_of};
 ghost use Rattle.fixups.specs.Tables.{part};
