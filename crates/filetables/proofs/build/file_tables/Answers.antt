@@ -4,12 +4,6 @@ use Rattle.fixups.specs.Fixups.{settled}
 use Rattle.filetables.proofs.Records as laws
 use Rattle.filetables.proofs.build.file_tables.Goals as goal
 
-pub shape_of-rebases : goal.shape_of-rebases
-shape_of-rebases c = c.from_either.auto.rebases
-
-pub shape_of-binds : goal.shape_of-binds
-shape_of-binds c = c.from_either.auto.binds
-
 pub returns-in-Yes : goal.returns-in-Yes
 returns-in-Yes c =
     let a = c.args in c.from_either.ensures

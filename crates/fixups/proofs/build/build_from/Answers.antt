@@ -12,12 +12,6 @@ returns-then-not-found c =
     laws.settled_none a.rebases.now a.binds.now
     ∙ ap (λ x. settled x a.rebases.now a.binds.now) (laws.found_none a.file.now c.requires _ _ c.command_bytes-cmds.ensures c.command_count-count.ensures.0 c.find-found.result f (not-true _ c.if-not-found.true))
 
-pub shape_of-rebases : goal.shape_of-rebases
-shape_of-rebases c = c.fixups_at.auto.rebases
-
-pub shape_of-binds : goal.shape_of-binds
-shape_of-binds c = c.fixups_at.auto.binds
-
 pub returns : goal.returns
 returns c =
     let a = c.args in let f = finds_by chained_fixups_kind c.command_bytes-cmds.result.now c.command_count-count.result 0 c.find-found.result c.find-found.ensures in

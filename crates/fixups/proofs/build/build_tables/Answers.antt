@@ -7,12 +7,6 @@ use Rattle.fixups.proofs.build.build_tables.Goals as goal
 pub build_from-requires : goal.build_from-requires
 build_from-requires c = sym c.ask_commands.ensures ∙ ap asked_outcome c.in-Yes.is
 
-pub shape_of-rebases : goal.shape_of-rebases
-shape_of-rebases c = c.build_from.auto.rebases
-
-pub shape_of-binds : goal.shape_of-binds
-shape_of-binds c = c.build_from.auto.binds
-
 pub returns-in-Yes : goal.returns-in-Yes
 returns-in-Yes c = c.build_from.ensures
 

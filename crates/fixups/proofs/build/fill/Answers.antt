@@ -12,12 +12,6 @@ returns-then-binds-b c =
     let a = c.args in
     laws.is_6 a.rebases.now a.binds.now (omega arith) (omega arith) _ c.count_records.result c.count_records.ensures _ _ c.in-Counts.is c.if-rebases-r.false c.if-binds-b.true
 
-pub shape_of-rebases : goal.shape_of-rebases
-shape_of-rebases c = c.walk.auto.rebases
-
-pub shape_of-binds : goal.shape_of-binds
-shape_of-binds c = c.walk.auto.binds
-
 pub returns-else-binds-b : goal.returns-else-binds-b
 returns-else-binds-b c =
     let room-rebases : length c.args.rebases.now < 2 ^ 64 = omega arith in

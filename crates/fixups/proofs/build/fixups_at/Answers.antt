@@ -9,12 +9,6 @@ returns-then-field32-lt-SIZEOF_LINKEDIT_DATA_COMMAND c =
     laws.settled_number 19 a.rebases.now a.binds.now
     ∙ ap (λ x. settled x a.rebases.now a.binds.now) (sym (laws.from_short a.file.now a.cmds.now a.count a.command (omega arith)))
 
-pub shape_of-rebases : goal.shape_of-rebases
-shape_of-rebases c = c.fill.auto.rebases
-
-pub shape_of-binds : goal.shape_of-binds
-shape_of-binds c = c.fill.auto.binds
-
 pub returns : goal.returns
 returns c =
     let a = c.args in

@@ -12,12 +12,6 @@ overflow_add-page c = omega arith
 pub visit_slot-requires : goal.visit_slot-requires
 visit_slot-requires c = omega arith
 
-pub shape_of-rebases-then-step-eq0 : goal.shape_of-rebases-then-step-eq0
-shape_of-rebases-then-step-eq0 c = c.visit_slot.auto.rebases ∙ c.loop-o.invariant.1
-
-pub shape_of-binds-then-step-eq0 : goal.shape_of-binds-then-step-eq0
-shape_of-binds-then-step-eq0 c = c.visit_slot.auto.binds ∙ c.loop-o.invariant.2
-
 pub returns-then-step-eq0 : goal.returns-then-step-eq0
 returns-then-step-eq0 c =
     let a = c.args in let l = c.loop-o in
@@ -45,23 +39,11 @@ loop-o-preserved c =
       c.visit_slot.auto.binds ∙ l.invariant.2,
     )
 
-pub shape_of-rebases-in-Refused : goal.shape_of-rebases-in-Refused
-shape_of-rebases-in-Refused c = c.visit_slot.auto.rebases ∙ c.loop-o.invariant.1
-
-pub shape_of-binds-in-Refused : goal.shape_of-binds-in-Refused
-shape_of-binds-in-Refused c = c.visit_slot.auto.binds ∙ c.loop-o.invariant.2
-
 pub returns-in-Refused : goal.returns-in-Refused
 returns-in-Refused c =
     let a = c.args in let l = c.loop-o in
     laws.chain_refused a.file.now a.body.now a.f a.s a.page l.o (state l.rebased l.bound l.rebases l.binds) (omega arith)
     c.visit_slot.result c.visit_slot.new.rebases c.visit_slot.new.binds c.visit_slot.ensures _ c.in-Refused.is ∙ sym l.invariant.0
-
-pub shape_of-rebases : goal.shape_of-rebases
-shape_of-rebases c = c.loop-o.invariant.1
-
-pub shape_of-binds : goal.shape_of-binds
-shape_of-binds c = c.loop-o.invariant.2
 
 pub returns : goal.returns
 returns c =

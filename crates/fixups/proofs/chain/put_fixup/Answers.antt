@@ -1,14 +1,8 @@
 use Rattle.fixups.proofs.Visits.{put_rebase_is, put_bind_is}
 use Rattle.fixups.proofs.chain.put_fixup.Goals as goal
 
-pub shape_of-rebases : goal.shape_of-rebases
-shape_of-rebases c = c.put_rebase-next.auto.table
-
 pub returns-in-Rebase : goal.returns-in-Rebase
 returns-in-Rebase c = let a = c.args in put_rebase_is a.step a.r a.b a.rebases.now a.binds.now _ _ _ _ _ c.in-Rebase.is c.put_rebase-next.ensures
-
-pub shape_of-binds : goal.shape_of-binds
-shape_of-binds c = c.put_bind-next.auto.table
 
 pub returns-in-Bind : goal.returns-in-Bind
 returns-in-Bind c = let a = c.args in put_bind_is a.step a.r a.b a.rebases.now a.binds.now _ _ _ _ _ _ c.in-Bind.is c.put_bind-next.ensures

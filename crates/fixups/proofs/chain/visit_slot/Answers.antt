@@ -9,12 +9,6 @@ returns-then-n-s c = let a = c.args in visit_out a.file.now a.body.now a.f a.s a
 pub returns-then-n-s-2 : goal.returns-then-n-s-2
 returns-then-n-s-2 c = let a = c.args in visit_out a.file.now a.body.now a.f a.s a.at (state a.r a.b a.rebases.now a.binds.now) (omega arith)
 
-pub shape_of-rebases : goal.shape_of-rebases
-shape_of-rebases c = c.put_fixup.auto.rebases
-
-pub shape_of-binds : goal.shape_of-binds
-shape_of-binds c = c.put_fixup.auto.binds
-
 pub returns-in-At : goal.returns-in-At
 returns-in-At c =
     let a = c.args in

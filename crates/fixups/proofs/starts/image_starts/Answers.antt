@@ -29,12 +29,6 @@ overflow_add-first-in-loop-i c = omega arith
 pub overflow_add-first-in-loop-i-2 : goal.overflow_add-first-in-loop-i-2
 overflow_add-first-in-loop-i-2 c = omega arith
 
-pub shape_of-rebases-then-body-first : goal.shape_of-rebases-then-body-first
-shape_of-rebases-then-body-first c = c.loop-i.invariant.1
-
-pub shape_of-binds-then-body-first : goal.shape_of-binds-then-body-first
-shape_of-binds-then-body-first c = c.loop-i.invariant.2
-
 pub returns-then-body-first : goal.returns-then-body-first
 returns-then-body-first c =
     let a = c.args in let l = c.loop-i in
@@ -58,24 +52,12 @@ loop-i-preserved c =
       omega arith,
     )
 
-pub shape_of-rebases-in-Refused : goal.shape_of-rebases-in-Refused
-shape_of-rebases-in-Refused c = c.segment_info.auto.rebases ∙ c.loop-i.invariant.1
-
-pub shape_of-binds-in-Refused : goal.shape_of-binds-in-Refused
-shape_of-binds-in-Refused c = c.segment_info.auto.binds ∙ c.loop-i.invariant.2
-
 pub returns-in-Refused : goal.returns-in-Refused
 returns-in-Refused c =
     let a = c.args in let l = c.loop-i in let s = state l.rebased l.bound l.rebases l.binds in
     let h = laws.infos_more a.file.now a.body.now a.cmds.now a.f c.u32_from-total.result l.i (c.wide32-starts.result + 4 + 4 * c.wide32-next.result) (omega arith) (omega (arith, c.wide32-starts.ensures.0, c.wide32-next.ensures.0))
     c.u32_from-offset.result l.left l.at c.find-found.result (omega arith) c.u32_from-offset.ensures (finds_by segment_kind a.cmds.now l.left l.at c.find-found.result c.find-found.ensures) in
     sym (l.invariant.0 ∙ ap (λ x. told x s) h ∙ stops _ _ s c.segment_info.result c.segment_info.new.rebases c.segment_info.new.binds c.segment_info.ensures _ c.in-Refused.is)
-
-pub shape_of-rebases : goal.shape_of-rebases
-shape_of-rebases c = c.loop-i.invariant.1
-
-pub shape_of-binds : goal.shape_of-binds
-shape_of-binds c = c.loop-i.invariant.2
 
 pub returns : goal.returns
 returns c =

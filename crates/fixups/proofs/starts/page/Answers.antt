@@ -26,12 +26,6 @@ overflow_mul-offset c = omega (arith, laws.product c.wide16.result c.wide16-2.re
 pub chain-requires : goal.chain-requires
 chain-requires c = omega (arith, laws.product c.wide16.result c.wide16-2.result (omega arith) (omega arith))
 
-pub shape_of-rebases : goal.shape_of-rebases
-shape_of-rebases c = c.chain.auto.rebases
-
-pub shape_of-binds : goal.shape_of-binds
-shape_of-binds c = c.chain.auto.binds
-
 pub returns : goal.returns
 returns c =
     let a = c.args in

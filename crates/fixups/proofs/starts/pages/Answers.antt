@@ -25,24 +25,12 @@ loop-p-preserved c =
       omega arith,
     )
 
-pub shape_of-rebases-in-Refused : goal.shape_of-rebases-in-Refused
-shape_of-rebases-in-Refused c = c.page.auto.rebases ∙ c.loop-p.invariant.1
-
-pub shape_of-binds-in-Refused : goal.shape_of-binds-in-Refused
-shape_of-binds-in-Refused c = c.page.auto.binds ∙ c.loop-p.invariant.2
-
 pub returns-in-Refused : goal.returns-in-Refused
 returns-in-Refused c =
     let a = c.args in let l = c.loop-p in
     sym (l.invariant.0 ∙ ap (λ x. told x (state l.rebased l.bound l.rebases l.binds)) (pages_more a.file.now a.body.now a.f a.s a.at a.count l.p (omega arith))
     ∙ stops (page_at a.file.now a.body.now a.f a.s a.at l.p) (pages_from a.file.now a.body.now a.f a.s a.at (a.count - (l.p + 1)) (l.p + 1))
     (state l.rebased l.bound l.rebases l.binds) c.page.result c.page.new.rebases c.page.new.binds c.page.ensures _ c.in-Refused.is)
-
-pub shape_of-rebases : goal.shape_of-rebases
-shape_of-rebases c = c.loop-p.invariant.1
-
-pub shape_of-binds : goal.shape_of-binds
-shape_of-binds c = c.loop-p.invariant.2
 
 pub returns : goal.returns
 returns c =

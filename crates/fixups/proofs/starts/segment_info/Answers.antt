@@ -13,12 +13,6 @@ returns-then-not-found c = let a = c.args in laws.info_absent a.offset a.found.h
 pub segment_starts-requires : goal.segment_starts-requires
 segment_starts-requires c = omega arith
 
-pub shape_of-rebases : goal.shape_of-rebases
-shape_of-rebases c = c.segment_starts.auto.rebases
-
-pub shape_of-binds : goal.shape_of-binds
-shape_of-binds c = c.segment_starts.auto.binds
-
 pub returns : goal.returns
 returns c =
     let a = c.args in

@@ -15,12 +15,6 @@ returns-then-format-ne-DYLD_CHAINED_PTR_64_OFFSET c =
     laws.segment_other a.file.now a.body.now a.cmds.now a.f a.at a.command (state a.r a.b a.rebases.now a.binds.now)
     c.u16_at-format.result (omega arith) c.u16_at-format.ensures (laws.known_not _ c.if-format-ne-DYLD_CHAINED_PTR_64.true c.if-format-ne-DYLD_CHAINED_PTR_64_OFFSET.true)
 
-pub shape_of-rebases : goal.shape_of-rebases
-shape_of-rebases c = c.pages.auto.rebases
-
-pub shape_of-binds : goal.shape_of-binds
-shape_of-binds c = c.pages.auto.binds
-
 pub returns : goal.returns
 returns c =
     let a = c.args in

@@ -21,12 +21,6 @@ returns-then-u32_from-ne-SYMBOLS_UNCOMPRESSED c =
     laws.walk_symbols a.file.now a.body.now a.cmds.now a.at a.base (segments_of a.cmds.now a.count) (state 0 0 a.rebases.now a.binds.now) (omega arith)
     (sym c.u32_from.ensures ∙ c.if-u32_from-ne-DYLD_CHAINED_IMPORT.false) (λ e. c.if-u32_from-ne-SYMBOLS_UNCOMPRESSED.true (c.u32_from-2.ensures ∙ e))
 
-pub shape_of-rebases : goal.shape_of-rebases
-shape_of-rebases c = c.image_starts.auto.rebases
-
-pub shape_of-binds : goal.shape_of-binds
-shape_of-binds c = c.image_starts.auto.binds
-
 pub returns : goal.returns
 returns c =
     let a = c.args in

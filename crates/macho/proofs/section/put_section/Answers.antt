@@ -9,8 +9,5 @@ bounds-table-i-2 c = simp length-set (omega arith)
 pub bounds-table-i-3 : goal.bounds-table-i-3
 bounds-table-i-3 c = simp length-set (omega arith)
 
-pub shape_of-table : goal.shape_of-table
-shape_of-table c = simp length-set
-
 pub returns : goal.returns
 returns c = laws.three_put c.args.table.now c.args.i c.args.s.present c.args.s.addr c.args.s.size

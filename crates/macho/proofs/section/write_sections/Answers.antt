@@ -35,9 +35,6 @@ loop-k-preserved c =
       ap (λ (l : List ℕ). length l) c.put_section.ensures ∙ length-sets c.loop-k.table (section_words * c.loop-k.k) (section_row c.section_named.result) ∙ c.loop-k.invariant.2,
     )
 
-pub shape_of-table : goal.shape_of-table
-shape_of-table c = c.loop-k.invariant.2
-
 pub returns : goal.returns
 returns c =
     sym (laws.section_end c.args.cmds.now (sections_of c.args.cmds.now (segments_of c.args.cmds.now c.args.count)) c.loop-k.table section_names c.loop-k.k (omega arith)) ∙ c.loop-k.invariant.1

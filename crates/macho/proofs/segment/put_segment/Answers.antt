@@ -16,8 +16,5 @@ bounds-table-i-4 c = simp length-set (omega arith)
 pub bounds-table-i-5 : goal.bounds-table-i-5
 bounds-table-i-5 c = simp length-set (omega arith)
 
-pub shape_of-table : goal.shape_of-table
-shape_of-table c = simp length-set
-
 pub returns : goal.returns
 returns c = laws.five_put c.args.table.now c.args.i c.u64_from.result c.u64_from-2.result c.u64_from-3.result c.u64_from-4.result 0 ∙ rw (c.u64_from.ensures, c.u64_from-2.ensures, c.u64_from-3.ensures, c.u64_from-4.ensures)

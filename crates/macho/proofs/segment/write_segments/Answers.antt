@@ -16,9 +16,6 @@ use Rattle.macho.proofs.segment.write_segments.Goals as goal
 pub loop-found-init : goal.loop-found-init
 loop-found-init c = (refl, omega arith, refl)
 
-pub shape_of-table-then-not-found : goal.shape_of-table-then-not-found
-shape_of-table-then-not-found c = c.loop-found.invariant.2
-
 pub returns-then-not-found : goal.returns-then-not-found
 returns-then-not-found c =
     let F = finds_by segment_kind c.args.cmds.now c.loop-found.left c.loop-found.at c.find-found.result c.find-found.ensures in

@@ -17,16 +17,10 @@ loop-left-preserved c =
     let l = c.loop-left in let a = c.args in
     (l.invariant.0 ∙ laws.run_on a.end l.left a.stride l.here (part l.records l.binds) (omega arith) c.bound_by.result c.bound_by.ensures _ c.in-At.is c.put_bind-records.result c.put_bind-records.new.table c.put_bind-records.ensures c.further-here.result c.further-here.ensures, c.put_bind-records.auto.table ∙ l.invariant.1)
 
-pub shape_of-binds-in-Refused : goal.shape_of-binds-in-Refused
-shape_of-binds-in-Refused c = c.loop-left.invariant.1
-
 pub returns-in-Refused : goal.returns-in-Refused
 returns-in-Refused c =
     let l = c.loop-left in let a = c.args in
     laws.run_refused a.end l.left a.stride l.here (part l.records l.binds) (omega arith) c.bound_by.result c.bound_by.ensures _ c.in-Refused.is ∙ sym l.invariant.0
-
-pub shape_of-binds : goal.shape_of-binds
-shape_of-binds c = c.loop-left.invariant.1
 
 pub returns : goal.returns
 returns c =

@@ -15,9 +15,6 @@ returns-then-field32-lt-SIZEOF_DYLD_INFO_COMMAND c =
     let a = c.args in
     laws.settled_number 19 a.binds.now ∙ ap (λ x. settled x a.binds.now) (laws.found_short a.file.now c.requires c.command_bytes-cmds.result.now c.command_count-count.result c.command_bytes-cmds.ensures c.command_count-count.ensures.0 c.earlier-found.result (c.earlier-found.ensures ∙ ap₂ earlier c.find-info.ensures c.find-info_only.ensures) (not-false _ c.if-not-found.false) (omega arith))
 
-pub shape_of-binds : goal.shape_of-binds
-shape_of-binds c = c.fill.auto.binds
-
 pub returns : goal.returns
 returns c =
     let a = c.args in

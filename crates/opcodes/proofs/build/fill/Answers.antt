@@ -7,9 +7,6 @@ returns-then-binds-n c =
     let room : length c.args.binds.now < 2 ^ 64 = omega arith in
     laws.is_6 c.args.binds.now (room) _ c.count_binds.result c.count_binds.ensures _ c.in-Count.is c.if-binds-n.true
 
-pub shape_of-binds : goal.shape_of-binds
-shape_of-binds c = c.streams_at.auto.binds
-
 pub returns-else-binds-n : goal.returns-else-binds-n
 returns-else-binds-n c =
     let room : length c.args.binds.now < 2 ^ 64 = omega arith in

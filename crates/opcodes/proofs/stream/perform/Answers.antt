@@ -29,9 +29,6 @@ returns-in-Add c =
     let a = c.args in
     laws.does_add a.end a.cmds.now (segments_of a.cmds.now a.count) a.x a.s (part a.n a.binds.now) _ c.in-Add.is c.further.result c.further.ensures
 
-pub shape_of-binds : goal.shape_of-binds
-shape_of-binds c = c.run.auto.binds
-
 pub returns-in-Bind : goal.returns-in-Bind
 returns-in-Bind c =
     let a = c.args in

@@ -5,16 +5,10 @@ use Rattle.opcodes.specs.Binding.{perform}
 use Rattle.opcodes.proofs.Walks as laws
 use Rattle.opcodes.proofs.stream.step.Goals as goal
 
-pub shape_of-binds-in-On : goal.shape_of-binds-in-On
-shape_of-binds-in-On c = c.perform.auto.binds
-
 pub returns-in-On : goal.returns-in-On
 returns-in-On c =
     let a = c.args in
     laws.step_on (decode a.parts a.place a.b a.rest.now) (part a.n a.binds.now) (λ d. perform a.end a.cmds.now (segments_of a.cmds.now a.count) d.says a.s) c.decode.result _ _ c.decode.ensures c.in-Read.is c.perform.result c.perform.new.binds c.perform.ensures _ _ c.in-On.is
-
-pub shape_of-binds-in-Refused-perform : goal.shape_of-binds-in-Refused-perform
-shape_of-binds-in-Refused-perform c = c.perform.auto.binds
 
 pub returns-in-Refused-perform : goal.returns-in-Refused-perform
 returns-in-Refused-perform c =

@@ -11,9 +11,6 @@ overflow_add-field c = omega arith
 pub walk-requires : goal.walk-requires
 walk-requires c = omega (arith, c.field32-at.ensures.1, c.field32-size.ensures.1, laws.stream_short c.args.file.now c.field32-at.result c.field32-size.result c.range_of-body.result.now c.range_of-body.ensures)
 
-pub shape_of-binds : goal.shape_of-binds
-shape_of-binds c = c.walk.auto.binds
-
 pub returns : goal.returns
 returns c =
     let a = c.args in

@@ -9,17 +9,11 @@ use Rattle.opcodes.proofs.stream.streams_at.Goals as goal
 pub stream_at-requires : goal.stream_at-requires
 stream_at-requires c = omega arith
 
-pub shape_of-binds-in-Count : goal.shape_of-binds-in-Count
-shape_of-binds-in-Count c = c.weak_and_lazy.auto.binds ∙ c.stream_at.auto.binds
-
 pub returns-in-Count : goal.returns-in-Count
 unfolding streams_at
 returns-in-Count c =
     let a = c.args in
     c.weak_and_lazy.ensures ∙ laws.then (stream_at a.file.now a.cmds.now (segments_of a.cmds.now a.count) a.command bind_off false) (joined (stream_at a.file.now a.cmds.now (segments_of a.cmds.now a.count) a.command weak_bind_off false) (stream_at a.file.now a.cmds.now (segments_of a.cmds.now a.count) a.command lazy_bind_off true)) (part 0 a.binds.now) c.stream_at.result c.stream_at.new.binds c.stream_at.ensures _ c.in-Count.is
-
-pub shape_of-binds-in-Refused : goal.shape_of-binds-in-Refused
-shape_of-binds-in-Refused c = c.stream_at.auto.binds
 
 pub returns-in-Refused : goal.returns-in-Refused
 unfolding streams_at

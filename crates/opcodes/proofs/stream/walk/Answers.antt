@@ -53,16 +53,10 @@ loop-i-preserved c =
     let l = c.loop-i in let a = c.args in
     (l.invariant.0 ∙ laws.walk_on a.end a.cmds.now (segments_of a.cmds.now a.count) a.parts a.at a.body.now l.i l.s (part l.records l.binds) (omega arith) c.step.result c.step.new.binds c.step.ensures _ _ _ c.in-On.is, c.step.auto.binds ∙ l.invariant.1)
 
-pub shape_of-binds-in-Refused : goal.shape_of-binds-in-Refused
-shape_of-binds-in-Refused c = c.step.auto.binds ∙ c.loop-i.invariant.1
-
 pub returns-in-Refused : goal.returns-in-Refused
 returns-in-Refused c =
     let l = c.loop-i in let a = c.args in
     laws.walk_refused a.end a.cmds.now (segments_of a.cmds.now a.count) a.parts a.at a.body.now l.i l.s (part l.records l.binds) (omega arith) c.step.result c.step.new.binds c.step.ensures _ c.in-Refused.is ∙ sym l.invariant.0
-
-pub shape_of-binds : goal.shape_of-binds
-shape_of-binds c = c.loop-i.invariant.1
 
 pub returns : goal.returns
 returns c =

@@ -12,16 +12,10 @@ stream_at-requires c = omega arith
 pub stream_at-requires-in-Count : goal.stream_at-requires-in-Count
 stream_at-requires-in-Count c = omega arith
 
-pub shape_of-binds-in-Count : goal.shape_of-binds-in-Count
-shape_of-binds-in-Count c = c.stream_at-in-Count.auto.binds ∙ c.stream_at.auto.binds
-
 pub returns-in-Count : goal.returns-in-Count
 returns-in-Count c =
     let a = c.args in
     c.stream_at-in-Count.ensures ∙ laws.then (stream_at a.file.now a.cmds.now (segments_of a.cmds.now a.count) a.command weak_bind_off false) (stream_at a.file.now a.cmds.now (segments_of a.cmds.now a.count) a.command lazy_bind_off true) (part a.n a.binds.now) c.stream_at.result c.stream_at.new.binds c.stream_at.ensures _ c.in-Count.is
-
-pub shape_of-binds-in-Refused : goal.shape_of-binds-in-Refused
-shape_of-binds-in-Refused c = c.stream_at.auto.binds
 
 pub returns-in-Refused : goal.returns-in-Refused
 returns-in-Refused c =
