@@ -1,0 +1,10 @@
+use mathlib.Core.Path.{◌∙◌, ap}
+use native.Mathlib.Omega.{arith}
+use Rattle.printing.specs.Buffer.{put_all}
+use Rattle.printing.proofs.NumberTexts.{hex_digits}
+use Rattle.printing.proofs.buffer.hex.Goals as goal
+
+pub returns : goal.returns
+returns c =
+    c.bytes.ensures ∙ ap (put_all _)
+    (c.hex-k.ensures.digits ∙ hex_digits _ _ (omega arith) c.hex-k.ensures.len)
