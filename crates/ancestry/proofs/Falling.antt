@@ -3,10 +3,10 @@ use Prim.Native.Nat.{ℕ, zero, suc, ◌+◌, ◌-◌, ◌*◌, ◌≤◌, ◌<�
 use mathlib.Core.Path.{◌≡◌, refl}
 use mathlib.Core.Bool.{Bool, true, false}
 use native.Mathlib.Omega.{arith}
-use lib.Dec.{leb, eqb}
+use lib.Dec.{leb}
 use lib.ListN.{get_or}
 use borrow.Author.Tests.{leb-true, eqb-false}
-use Rattle.reads.specs.Outcome.{value, Unrefused, a_value, an_absence, nonzero}
+use Rattle.reads.specs.Outcome.{value, Unrefused, a_value, an_absence}
 use Rattle.reads.proofs.Tests.{by_choose, both_true}
 use Rattle.reads.proofs.Unrefused.{unrefused_then, unrefused_else, unrefused_because, unrefused_zero, sum_unrefused, nonzero_unrefused, readable_unrefused, word_unrefused, picked_unrefused}
 use Rattle.reads.specs.Address.{stripped}

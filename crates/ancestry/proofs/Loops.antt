@@ -4,13 +4,12 @@ use Prim.Native.Nat.{ℕ, zero, suc}
 use mathlib.Core.Path.{◌≡◌, refl, ap, ◌∙◌}
 use mathlib.Core.Bool.{Bool, false}
 use mathlib.Core.List.{Memᴰ}
-use lib.ListN.{length}
 use Rattle.reads.specs.Outcome.{Outcome, value, absent, number, and_then, nonzero}
 use Rattle.reads.proofs.Outcomes.{then_came}
 use Rattle.pointers.specs.Tables.{Tables}
 use Rattle.records.specs.Class.{class_at}
 use Rattle.records.specs.declared.class.ObjcClass.{ObjcClass}
-use Rattle.ancestry.specs.Chain.{Says, says_ended, says_looping, says_refused, above, Loops, Ends, ended, looping, last_at, climb}
+use Rattle.ancestry.specs.Chain.{Says, says_ended, says_looping, says_refused, above, Loops, Ends, ended, looping, last_at}
 use Rattle.ancestry.specs.Ancestry.{super_at, up_in, class_above, limit, ancestry_of}
 use Rattle.ancestry.proofs.Known.{known, length_known, class_known, class_of}
 use Rattle.ancestry.specs.declared.class_chain.Ancestry.{Ancestry}

@@ -6,7 +6,7 @@ use mathlib.Core.Bool.{true, false}
 use mathlib.Core.List.{List, [], ◌∷◌, ◌++◌, append_assoc, flat_map}
 use native.Mathlib.Omega.{arith}
 use lib.ListN.{length, drop}
-use Rattle.reads.specs.Outcome.{Outcome, value, absent, number, and_then, nonzero, choose, Unrefused, a_value, an_absence}
+use Rattle.reads.specs.Outcome.{Outcome, value, absent, number, and_then, nonzero, Unrefused, a_value, an_absence}
 use Rattle.reads.specs.declared.answer.Reason.{Reason}
 use Rattle.reads.proofs.Outcomes.{then_came}
 use Rattle.reads.proofs.Unrefused.{unrefused_then, nonzero_unrefused}

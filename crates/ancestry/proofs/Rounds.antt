@@ -1,5 +1,5 @@
 -- What writing a row changes, what a round of jumps comes to, and that followed rows hold the records.
-use Prim.Native.Nat.{ℕ, zero, suc, ◌+◌, ◌-◌, ◌*◌, ◌/◌, ◌%◌, ◌≤◌, ◌<◌}
+use Prim.Native.Nat.{ℕ, zero, suc, ◌+◌, ◌*◌, ◌/◌, ◌%◌, ◌≤◌, ◌<◌}
 use mathlib.Core.Path.{◌≡◌, refl, sym, ap, ◌∙◌}
 use mathlib.Core.Bool.{Bool, true, false, ◌&&◌}
 use mathlib.Core.List.{List}
@@ -10,7 +10,6 @@ use lib.Dec.{eqb, ltb}
 use lib.ListN.{length, get_or, set, drop, length-set}
 use lib.Seq.{get_or-set_same, get_or-set_other, drop-set-lt}
 use borrow.Author.Tests.{eq-eqb, ne_eqb, eqb-true, lt-ltb, le-ltb, leb-false}
-use Rattle.reads.specs.Outcome.{choose}
 use Rattle.reads.proofs.Tests.{by_choose, choose_true, choose_false, both_true}
 use Rattle.ancestry.specs.Doubling.{state_at, node_at, put_at, joined_of, jumped_at, jumped_to, finished_at, finished_to, Ground, Row, Rows, Nodes, Following}
 use Rattle.ancestry.specs.declared.doubling.State.{State}

@@ -8,7 +8,6 @@ use lib.ListN.{length, drop}
 use Rattle.reads.specs.Outcome.{value}
 use Rattle.pointers.specs.Tables.{Tables}
 use Rattle.pointers.specs.Question.{asked}
-use Rattle.ancestry.specs.Ancestry.{limit}
 use Rattle.ancestry.specs.Rebases.{chains_fall}
 use Rattle.ancestry.specs.Doubling.{node_at, put_at, Row, Rows, Following}
 use Rattle.ancestry.specs.Following.{ground_of, Ready, Unfollowed}

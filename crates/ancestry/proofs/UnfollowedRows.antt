@@ -1,7 +1,7 @@
 -- Where no lookup can be refused: the classes that decode, as rows, and what each alone is told.
 use Prim.Native.Nat.{ℕ, zero, suc, ◌+◌, ◌*◌, ◌/◌, ◌≤◌, ◌<◌}
 use mathlib.Core.Path.{◌≡◌, refl, sym, ap, ◌∙◌}
-use mathlib.Core.Bool.{Bool, true, false, not}
+use mathlib.Core.Bool.{Bool, true, false}
 use mathlib.Core.List.{List, [], ◌∷◌, ◌++◌, flat_map}
 use native.Mathlib.Omega.{arith}
 use lib.ListN.{length, get_or, drop, length-append}
@@ -16,7 +16,7 @@ use Rattle.pointers.proofs.Rooms.{asked_index_lem}
 use Rattle.reads.proofs.Outcomes.{then_came}
 use Rattle.records.specs.Class.{class_at}
 use Rattle.records.specs.declared.class.ObjcClass.{ObjcClass}
-use Rattle.ancestry.specs.Chain.{looping, climb}
+use Rattle.ancestry.specs.Chain.{looping}
 use Rattle.ancestry.specs.Ancestry.{up_in, limit, ancestry_of, words_of, ancestries, written_by}
 use Rattle.ancestry.specs.Filling.{through, unfollowed_of, told_of, tally, Fits, Counted}
 use Rattle.ancestry.specs.Rebases.{chains_fall}
@@ -161,14 +161,6 @@ told_fits one count addresses out e room =
   where
     size : (xs : List Ancestry) → value (0 + length xs) ≡ value count → length xs ≡ count
     size xs f = let g : 0 + length xs ≡ count = cc in omega arith
-
-pub is_false : (b : Bool) → not b ≡ true → b ≡ false
-is_false true e = sym e
-is_false false e = refl
-
-pub is_true : (b : Bool) → not b ≡ false → b ≡ true
-is_true true e = refl
-is_true false e = sym e
 
 -- The filling, as the code has it.
 pub fill_alone : (t : Tables) (together : Bool) (addresses out new : List ℕ) → together ≡ false → new ≡ (written_by (through (told_of t together) addresses) out).result

@@ -1,5 +1,5 @@
 -- The ancestry of the classes of an image (note 9): the count of decoded classes above a class, the address of the last, and if it loops.
-use Rattle.std.specs.Prelude.{ℕ, zero, suc, ◌+◌, ◌*◌, ◌≡◌, false, leb, length, drop}
+use Rattle.std.specs.Prelude.{ℕ, zero, suc, ◌*◌, ◌≡◌, false, leb, length, drop}
 use mathlib.Core.List.{List, [], ◌∷◌, ◌++◌, flat_map}
 use Rattle.reads.specs.Outcome.{Outcome, value, absent, number, and_then, choose, nonzero}
 use Rattle.reads.specs.Answer.{missed}

@@ -1,0 +1,13 @@
+use mathlib.Core.Path.{refl, sym, ap, ◌∙◌}
+use Rattle.reads.proofs.Outcomes.{on_number, on_value}
+use Rattle.pointers.specs.Question.{asked_outcome}
+use Rattle.ancestry.proofs.class_chain.ancestry_of.Goals as goal
+
+pub ancestry_at-requires : goal.ancestry_at-requires
+ancestry_at-requires c = sym c.ask.ensures ∙ ap asked_outcome c.in-Yes.is
+
+pub returns-in-Yes : goal.returns-in-Yes
+returns-in-Yes c = on_value asked_outcome _ c.ask.ensures c.in-Yes.is refl c.ancestry_at.ensures
+
+pub returns-in-Refused : goal.returns-in-Refused
+returns-in-Refused c = on_number asked_outcome _ c.ask.ensures c.in-Refused.is refl
