@@ -22,7 +22,7 @@ use Rattle.records.specs.declared.category.ObjcCategory.{ObjcCategory}
 use Rattle.records.specs.declared.class.ObjcClass.{ObjcClass}
 use Rattle.walks.specs.Gather.{gather, of_value, present}
 use Rattle.walks.specs.Slots.{decode_address, address_in, among}
-use Rattle.walks.specs.PlainSections.{addresses_in, once, listed, plain_categories}
+use Rattle.walks.specs.PlainSections.{addresses_in, once, plain_categories}
 use Rattle.walks.proofs.Gathers.{Parts, gather_none, gather_parts, Held, held_one, held_none, present_held}
 use Rattle.walks.proofs.SlotLaws.{among_end}
 use Rattle.walks.proofs.PlainWalks.{unseen, unseen_none, once_none, once_met, once_new, slots_from_lem}
