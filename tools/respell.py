@@ -23,7 +23,8 @@ LEMMAS = [("dispatch", "same_bytes"), ("macho", "left_by"), ("attributes", "part
 
 
 def of_function(path):
-    return os.path.basename(path) in ("Proof.antt", "Answers.antt", "Invariants.antt")
+    """A file of a function's proof; a lemma file right in proofs/ may have such a name too."""
+    return os.path.basename(path) in ("Proof.antt", "Answers.antt", "Invariants.antt") and path.count("/") > 3
 
 
 def files(kinds):

@@ -18,15 +18,15 @@ use Rattle.ancestry.proofs.Chain.{number_value}
 
 module _ (t : Tables) (addresses out : List ℕ) where
   -- A question before says no.
-  pub left-refused : (k : ℕ) → asked t ≡ number k → written (number k) out ≡ ancestries_left t addresses out
+  pub left_refused : (k : ℕ) → asked t ≡ number k → written (number k) out ≡ ancestries_left t addresses out
   unfolding ancestries_left
-  left-refused k e = rw e
+  left_refused k e = rw e
 
   module _ (yes : asked t ≡ value tt) where
     -- A lookup was refused.
-    pub left-missed : (k : ℕ) → number k ≡ tally (ancestry_of t) 0 addresses → written (number k) out ≡ ancestries_left t addresses out
+    pub left_missed : (k : ℕ) → number k ≡ tally (ancestry_of t) 0 addresses → written (number k) out ≡ ancestries_left t addresses out
     unfolding ancestries_left tally
-    left-missed k e = rw yes (go (ancestries t addresses) e)
+    left_missed k e = rw yes (go (ancestries t addresses) e)
       where
         go : (o : Outcome (List Ancestry)) → number k ≡ and_then o (λ xs. value (0 + length xs))
             → written (number k) out ≡ written_by (and_then o (fitting (length out))) out
@@ -45,17 +45,17 @@ module _ (t : Tables) (addresses out : List ℕ) where
           size xs f = let g : 0 + length xs ≡ n = cc in omega arith
 
       -- The buffer is shorter than one record per class.
-      pub left-short : length out / 3 < n → written (number 21) out ≡ ancestries_left t addresses out
+      pub left_short : length out / 3 < n → written (number 21) out ≡ ancestries_left t addresses out
       unfolding ancestries_left fitting question choose
-      left-short h =
+      left_short h =
           let r = told in
           let short : leb (length r.0 * 3) (length out) ≡ false = lt-leb (length r.0 * 3) (length out) (omega (arith, r.2)) in
           rw (yes, r.1, short)
 
-      pub left-written : n ≤ length out / 3 → (new : List ℕ) → new ≡ (written_by (ancestries t addresses) out).result
+      pub left_written : n ≤ length out / 3 → (new : List ℕ) → new ≡ (written_by (ancestries t addresses) out).result
           → written (value n) new ≡ ancestries_left t addresses out
       unfolding ancestries_left fitting question choose
-      left-written h new f =
+      left_written h new f =
           let r = told in
           let room : leb (length r.0 * 3) (length out) ≡ true = le-leb (length r.0 * 3) (length out) (omega (arith, r.2)) in
           let g : new ≡ (written_by (value r.0) out).result = rw r.1 at f in

@@ -28,7 +28,7 @@ use Rattle.ancestry.specs.Ancestry.{super_at, up_in, limit, ancestry_of, ancestr
 use Rattle.ancestry.specs.Filling.{tally}
 use Rattle.ancestry.specs.declared.class_chain.Ancestry.{Ancestry}
 use Rattle.ancestry.proofs.Known.{class_of}
-use Rattle.ancestry.proofs.Answers.{left-short, left-written}
+use Rattle.ancestry.proofs.Answers.{left_short, left_written}
 
 flat_append : {A B : Type 0} (f : A → List B) (xs ys : List A) → flat_map f (xs ++ ys) ≡ flat_map f xs ++ flat_map f ys
 unfolding flat_map
@@ -180,7 +180,7 @@ module _ (t : Tables) (o : Opened t) (ledger : List ℕ) (n : ℕ) (end : (left_
       → ancestries_left t (met t o ledger n end) out ≡ written (value count) (flat_map words_of lines.records ++ drop (count * 3) out)
   C-lines-written h =
       let size : length lines.records ≡ count = each_length t lines.each in
-      sym (left-written t (met t o ledger n end) out (opened_asked t o) count counted h _ (rw (lines.told, size)))
+      sym (left_written t (met t o ledger n end) out (opened_asked t o) count counted h _ (rw (lines.told, size)))
 
   pub C-lines-short : length out / 3 < count → ancestries_left t (met t o ledger n end) out ≡ written (number 21) out
-  C-lines-short h = sym (left-short t (met t o ledger n end) out (opened_asked t o) count counted h)
+  C-lines-short h = sym (left_short t (met t o ledger n end) out (opened_asked t o) count counted h)

@@ -1,7 +1,7 @@
 // The ancestry of all classes of a list of addresses (note 9).
 ghost use Rattle.std.specs.Prelude.{◌≡◌, ◌+◌, ◌<◌, ◌≤◌, ◌^◌, length};
 ghost use Rattle.reads.specs.Outcome.{value, and_then};
-ghost use Rattle.reads.specs.Reference.{before, after};
+ghost use Rattle.reads.specs.Reference.{before};
 ghost use Rattle.pointers.specs.Question.{asked};
 ghost use Rattle.pointers.specs.Tables.{lent, under};
 ghost use Rattle.walks.specs.Gather.{present};

@@ -1,6 +1,6 @@
 // The result buffer as room while the chains of all classes are followed together: each round doubles how far every chain is followed.
 ghost use Rattle.std.specs.Prelude.{◌≡◌, List, ℕ, ◌+◌, ◌*◌, ◌<◌, ◌≤◌, ◌^◌, length};
-ghost use Rattle.reads.specs.Reference.{before, after};
+ghost use Rattle.reads.specs.Reference.{before};
 ghost use Rattle.ancestry.specs.Doubling.{state_at, put_at, joined_of, jumped_at, jumped_to, finished_at, finished_to, Ground, Following};
 
 // What is known of a class while chains are followed: specs/Doubling.antt.

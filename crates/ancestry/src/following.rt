@@ -2,7 +2,7 @@
 ghost use Rattle.std.specs.Prelude.{◌≡◌, true, false, ◌+◌, ◌*◌, ◌<◌, ◌≤◌, length, drop};
 ghost use mathlib.Core.List.{◌++◌, flat_map};
 ghost use Rattle.reads.specs.Outcome.{value};
-ghost use Rattle.reads.specs.Reference.{before, after};
+ghost use Rattle.reads.specs.Reference.{before};
 ghost use Rattle.pointers.specs.Question.{asked};
 ghost use Rattle.pointers.specs.Tables.{lent, under};
 ghost use Rattle.ancestry.specs.Ancestry.{words_of};

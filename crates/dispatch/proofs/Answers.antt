@@ -44,22 +44,22 @@ use Rattle.dispatch.proofs.Plain.{slots_plain}
 use Rattle.dispatch.proofs.Scans.{length_effective, rows_suffice}
 use Rattle.dispatch.proofs.Walks.{was_entered}
 
-left-missed : (m : Missing) (result : List ℕ) → leaves (missed m) result ≡ left (missed m) result
+left_missed : (m : Missing) (result : List ℕ) → leaves (missed m) result ≡ left (missed m) result
 unfolding left
-left-missed (Absent why) result = refl
-left-missed (Refused k) result = refl
+left_missed (Absent why) result = refl
+left_missed (Refused k) result = refl
 
-left-number : (k : ℕ) (result : List ℕ) → leaves (number k) result ≡ left (number k) result
+left_number : (k : ℕ) (result : List ℕ) → leaves (number k) result ≡ left (number k) result
 unfolding left
-left-number k result = refl
+left_number k result = refl
 
 module _ (files : List (List ℕ)) (rs : Rows) (result : List ℕ) {a : Fit} (w : RoomFor files rs (length result / 4) a) where
-  told-by : {b : Fit} → a ≡ b → RoomFor files rs (length result / 4) b
-  told-by e = subst (λ (x : Fit). RoomFor files rs (length result / 4) x) e w
+  told_by : {b : Fit} → a ≡ b → RoomFor files rs (length result / 4) b
+  told_by e = subst (λ (x : Fit). RoomFor files rs (length result / 4) x) e w
 
-  pub from-refused : {k : ℕ} → a ≡ fit.Refused k → leaves (number k) result ≡ left (effective_among files rs) result
+  pub from_refused : {k : ℕ} → a ≡ fit.Refused k → leaves (number k) result ≡ left (effective_among files rs) result
   unfolding effective_among
-  from-refused {k} g = rw (told-by g).told (left-number k result)
+  from_refused {k} g = rw (told_by g).told (left_number k result)
 
   found : rs.end ≡ value tt → effective_among files rs ≡ value (effective_of files rs.rows)
   unfolding effective_among
@@ -68,37 +68,37 @@ module _ (files : List (List ℕ)) (rs : Rows) (result : List ℕ) {a : Fit} (w 
   pub from_short : a ≡ fit.Short → leaves (number 22) result ≡ left (effective_among files rs) result
   unfolding few_firsts left
   from_short g =
-      let l = leb-false (length (firsts files rs.rows rs.rows)) (length result / 4) (told-by g).told.1 in
-      rw (found (told-by g).told.0)
+      let l = leb-false (length (firsts files rs.rows rs.rows)) (length result / 4) (told_by g).told.1 in
+      rw (found (told_by g).told.0)
       (sym (choose_false _ _ (lt-leb (4 * length (effective_of files rs.rows)) (length result) (omega (arith, length_effective files rs.rows)))))
 
   module _ (g : a ≡ fit.Enough) where
-    pub from-room : 4 * length (firsts files rs.rows rs.rows) ≤ length result
+    pub from_room : 4 * length (firsts files rs.rows rs.rows) ≤ length result
     unfolding few_firsts
-    from-room = let l = leb-true (length (firsts files rs.rows rs.rows)) (length result / 4) (told-by g).told.1 in omega arith
+    from_room = let l = leb-true (length (firsts files rs.rows rs.rows)) (length result / 4) (told_by g).told.1 in omega arith
 
-    pub from-written : {n : ℕ} {after : List ℕ} → WroteAll files rs.rows result n after → leaves (value n) after ≡ left (effective_among files rs) result
+    pub from_written : {n : ℕ} {after : List ℕ} → WroteAll files rs.rows result n after → leaves (value n) after ≡ left (effective_among files rs) result
     unfolding left
-    from-written v =
-        rw (found (told-by g).told.0, v.counted, v.contents, ← length_effective files rs.rows)
-        (sym (choose_true _ _ (le-leb (4 * length (effective_of files rs.rows)) (length result) (omega (arith, from-room, length_effective files rs.rows)))))
+    from_written v =
+        rw (found (told_by g).told.0, v.counted, v.contents, ← length_effective files rs.rows)
+        (sym (choose_true _ _ (le-leb (4 * length (effective_of files rs.rows)) (length result) (omega (arith, from_room, length_effective files rs.rows)))))
 
 -- 22, once all rows are reached.
 module _ (files : List (List ℕ)) (rs : Rows) (room : ℕ) {a : Survey} (w : Surveyed rs room a) where
-  found-by : {b : Survey} → a ≡ b → Surveyed rs room b
-  found-by e = subst (λ (x : Survey). Surveyed rs room x) e w
+  found_by : {b : Survey} → a ≡ b → Surveyed rs room b
+  found_by e = subst (λ (x : Survey). Surveyed rs room x) e w
 
   pub room_fits : a ≡ survey.Fits → RoomFor files rs room fit.Enough
-  room_fits g = let f = (found-by g).found in record { told = (f.0, sym (rows_suffice files rs.rows room (sym f.1) refl)) }
+  room_fits g = let f = (found_by g).found in record { told = (f.0, sym (rows_suffice files rs.rows room (sym f.1) refl)) }
 
-  pub room-counted : a ≡ survey.More → {y : Bool} → y ≡ few_firsts files rs.rows rs.rows room → y ≡ true → RoomFor files rs room fit.Enough
-  room-counted g e h = record { told = ((found-by g).found, sym e ∙ h) }
+  pub room_counted : a ≡ survey.More → {y : Bool} → y ≡ few_firsts files rs.rows rs.rows room → y ≡ true → RoomFor files rs room fit.Enough
+  room_counted g e h = record { told = ((found_by g).found, sym e ∙ h) }
 
-  pub room-short : a ≡ survey.More → {y : Bool} → y ≡ few_firsts files rs.rows rs.rows room → y ≡ false → RoomFor files rs room fit.Short
-  room-short g e h = record { told = ((found-by g).found, sym e ∙ h) }
+  pub room_short : a ≡ survey.More → {y : Bool} → y ≡ few_firsts files rs.rows rs.rows room → y ≡ false → RoomFor files rs room fit.Short
+  room_short g e h = record { told = ((found_by g).found, sym e ∙ h) }
 
-  pub room-refused : {k : ℕ} → a ≡ survey.Refused k → RoomFor files rs room (fit.Refused k)
-  room-refused g = record { told = (found-by g).found }
+  pub room_refused : {k : ℕ} → a ≡ survey.Refused k → RoomFor files rs room (fit.Refused k)
+  room_refused g = record { told = (found_by g).found }
 
 -- The rows from the first entry of the class's own list on are all.
 module _ (t : Tables) (s : Side) (c : ObjcClass) (a : SourceAnswer) (o : source_outcome a ≡ own_source t s c) {r : Entered}
@@ -110,42 +110,42 @@ module _ (t : Tables) (s : Side) (c : ObjcClass) (a : SourceAnswer) (o : source_
       let z : slot_total t - 0 ≡ slot_total t = omega arith in
       rw (← o, d.1 (slot_rows t s c.address 0 (slot_total t)), d.0, z)
 
-  pub of-source : {start : Position} → r ≡ entered.At start → start.source ≡ 0
-  of-source g = (was_entered f g).came.0
+  pub of_source : {start : Position} → r ≡ entered.At start → start.source ≡ 0
+  of_source g = (was_entered f g).came.0
 
-  pub of-start : (files : List (List ℕ)) (result : List ℕ) {start : Position} {l : Left} → r ≡ entered.At start
+  pub of_start : (files : List (List ℕ)) (result : List ℕ) {start : Position} {l : Left} → r ≡ entered.At start
       → l ≡ left (effective_among files (ahead t s c.address start)) result → l ≡ left (effective_among files (slot_appearances t s c)) result
-  of-start files result g e = e ∙ ap (λ rs. left (effective_among files rs) result) (all_rows g)
+  of_start files result g e = e ∙ ap (λ rs. left (effective_among files rs) result) (all_rows g)
 
-  pub of-refused : (files : List (List ℕ)) (result : List ℕ) {k : ℕ} → r ≡ entered.Refused k → leaves (number k) result ≡ left (effective_among files (slot_appearances t s c)) result
+  pub of_refused : (files : List (List ℕ)) (result : List ℕ) {k : ℕ} → r ≡ entered.Refused k → leaves (number k) result ≡ left (effective_among files (slot_appearances t s c)) result
   unfolding slot_appearances effective_among left
-  of-refused files result {k} g =
+  of_refused files result {k} g =
       let d = (was_entered f g).came in
       rw (← o, d (slot_rows t s c.address 0 (slot_total t)))
 
 -- The categories are listed, or their number is the answer.
 module _ (t : Tables) (s : Side) (c : ObjcClass) (result : List ℕ) (a : Asked) (e : asked_outcome a ≡ settled (plain_categories t)) where
-  pub slots-listed : a ≡ asks.Yes → {l : Left} → l ≡ left (effective_among t.files (slot_appearances t s c)) result
+  pub slots_listed : a ≡ asks.Yes → {l : Left} → l ≡ left (effective_among t.files (slot_appearances t s c)) result
       → l ≡ left (and_then (plain_categories t) (λ categories. effective_among t.files (appearances t s categories c))) result
-  slots-listed g h =
+  slots_listed g h =
       let p = settled_value (plain_categories t) (sym e ∙ ap asked_outcome g) in
       h ∙ left_same t.files (slots_plain t s c p.0 p.1) (slots_ordered t s c) (appearances_ordered t s p.0 c) result
       ∙ sym (ap (λ (o : Outcome (List ObjcCategory)). left (and_then o (λ categories. effective_among t.files (appearances t s categories c))) result) p.1)
 
-  pub slots-refused : {k : ℕ} → a ≡ asks.Refused k → leaves (number k) result ≡ left (and_then (plain_categories t) (λ categories. effective_among t.files (appearances t s categories c))) result
-  slots-refused {k} g = rw (settled_number (plain_categories t) (sym e ∙ ap asked_outcome g)) (left-number k result)
+  pub slots_refused : {k : ℕ} → a ≡ asks.Refused k → leaves (number k) result ≡ left (and_then (plain_categories t) (λ categories. effective_among t.files (appearances t s categories c))) result
+  slots_refused {k} g = rw (settled_number (plain_categories t) (sym e ∙ ap asked_outcome g)) (left_number k result)
 
 module _ (t : Tables) (s : Side) (va : ℕ) (result : List ℕ) (a : Asked) (e : asked_outcome a ≡ asked t) where
-  pub call-refused : {k : ℕ} → a ≡ asks.Refused k → leaves (number k) result ≡ left (effective t s va) result
+  pub call_refused : {k : ℕ} → a ≡ asks.Refused k → leaves (number k) result ≡ left (effective t s va) result
   unfolding effective
-  call-refused {k} g = rw (← e, g) (left-number k result)
+  call_refused {k} g = rw (← e, g) (left_number k result)
 
   module _ (g : a ≡ asks.Yes) (b : ClassAnswer) (d : class_outcome b ≡ class_at t va false) where
-    pub call-missing : (m : Missing) → b ≡ classes.Missing m → leaves (missed m) result ≡ left (effective t s va) result
+    pub call_missing : (m : Missing) → b ≡ classes.Missing m → leaves (missed m) result ≡ left (effective t s va) result
     unfolding effective
-    call-missing m h = left-missed m result ∙ ap (λ o. left o result) (on_value asked_outcome _ e g refl (on_missing class_outcome _ m d h refl))
+    call_missing m h = left_missed m result ∙ ap (λ o. left o result) (on_value asked_outcome _ e g refl (on_missing class_outcome _ m d h refl))
 
-    pub call-class : {c : ObjcClass} {l : Left} → b ≡ classes.Class c
+    pub call_class : {c : ObjcClass} {l : Left} → b ≡ classes.Class c
         → l ≡ left (and_then (plain_categories t) (λ categories. effective_among t.files (appearances t s categories c))) result → l ≡ left (effective t s va) result
     unfolding effective
-    call-class h r = r ∙ ap (λ o. left o result) (on_value asked_outcome _ e g refl (on_value class_outcome _ d h refl refl))
+    call_class h r = r ∙ ap (λ o. left o result) (on_value asked_outcome _ e g refl (on_value class_outcome _ d h refl refl))

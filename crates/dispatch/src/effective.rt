@@ -1,6 +1,5 @@
 // The effective methods of a class, four words for each selector.
 ghost use Rattle.std.specs.Prelude.{◌≡◌, ◌*◌, ◌≤◌, length};
-ghost use Rattle.reads.specs.Reference.{before, after};
 ghost use Rattle.reads.specs.Outcome.{and_then};
 ghost use Rattle.reads.specs.Files.{files_of, files_lent};
 ghost use Rattle.pointers.specs.Tables.{tables_of, lent, under};

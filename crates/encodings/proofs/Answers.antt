@@ -34,11 +34,11 @@ module _ (text buffer : List ℕ) where
   answers e = rw e (refl, refl)
 
   module _ {ts : Types} (e : parse 32 text ≡ value ts) where
-    answers-short : words_fit (count ts) (length buffer) ≡ false → Answers text buffer (number 12) buffer
-    answers-short f = rw (question_no 12 (words_fit (count ts) (length buffer)) f) at (answers e)
+    answers_short : words_fit (count ts) (length buffer) ≡ false → Answers text buffer (number 12) buffer
+    answers_short f = rw (question_no 12 (words_fit (count ts) (length buffer)) f) at (answers e)
 
-    answers-types : words_fit (count ts) (length buffer) ≡ true → Answers text buffer (value (count ts)) (filled ts buffer)
-    answers-types f = rw (question_yes 12 (words_fit (count ts) (length buffer)) f) at (answers e)
+    answers_types : words_fit (count ts) (length buffer) ≡ true → Answers text buffer (value (count ts)) (filled ts buffer)
+    answers_types f = rw (question_yes 12 (words_fit (count ts) (length buffer)) f) at (answers e)
 
 -- ---- The code's first call, on no words of the buffer, says how many types there are; its second puts their words there
 
@@ -55,8 +55,8 @@ module _ (text buffer : List ℕ) {o : Outcome ℕ} {left : List ℕ} (r : Read 
   unchanged : left ++ buffer ≡ buffer
   unchanged = ap (λ (l : List ℕ). l ++ buffer) (empty left r.same)
 
-  pub answers-missing : (m : Missing) → o ≡ missed m → Answers text buffer (missed m) (left ++ buffer)
-  answers-missing m e = go (parse 32 text) refl (sym e ∙ r.counts)
+  pub answers_missing : (m : Missing) → o ≡ missed m → Answers text buffer (missed m) (left ++ buffer)
+  answers_missing m e = go (parse 32 text) refl (sym e ∙ r.counts)
     where
       go : (p : Outcome Types) → parse 32 text ≡ p → missed m ≡ counted_types p → Answers text buffer (missed m) (left ++ buffer)
       go (value ts) q c = absurd (missing_value m (count ts) c)
@@ -71,13 +71,13 @@ module _ (text buffer : List ℕ) {o : Outcome ℕ} {left : List ℕ} (r : Read 
     asked = ap (λ (k : ℕ). words_fit k (length buffer)) reading.2 ∙ ap (λ (l : List ℕ). words_fit n (length l)) (sym unchanged) ∙ sym f
 
     pub answers_number : not fits ≡ true → Answers text buffer (number 12) (left ++ buffer)
-    answers_number h = let a = answers-short text buffer reading.1 (asked ∙ not-true fits h) in (a.0, unchanged ∙ a.1)
+    answers_number h = let a = answers_short text buffer reading.1 (asked ∙ not-true fits h) in (a.0, unchanged ∙ a.1)
 
-    pub answers-value : not fits ≡ false → {o' : Outcome ℕ} {now : List ℕ} → Read text (left ++ buffer) o' now → Answers text buffer (value n) now
+    pub answers_value : not fits ≡ false → {o' : Outcome ℕ} {now : List ℕ} → Read text (left ++ buffer) o' now → Answers text buffer (value n) now
     unfolding words_fit
-    answers-value h q =
+    answers_value h q =
         let yes = asked ∙ not-false fits h in
-        let a = answers-types text buffer reading.1 yes in
+        let a = answers_types text buffer reading.1 yes in
         let room : 4 * count reading.0 ≤ length (left ++ buffer) = rw unchanged (leb-true _ _ yes) in (
           ap value (sym reading.2) ∙ a.0,
           q.holds reading.0 reading.1 room ∙ ap (λ (l : List ℕ). filled reading.0 l) unchanged ∙ a.1,
@@ -97,9 +97,9 @@ says text buffer = go (parse 32 text) refl (run_known 32 text (at none wanted []
 
         test : (t : Bool) → leb (4 * count ts) (length buffer) ≡ t → Says text buffer (types_of text (length buffer)) (types_left text buffer)
         test true q =
-            let a = answers-types text buffer e q in says_types ts r.0 r.1 (leb-true _ _ q) (sym a.0) (sym a.1)
+            let a = answers_types text buffer e q in says_types ts r.0 r.1 (leb-true _ _ q) (sym a.0) (sym a.1)
         test false q =
-            let a = answers-short text buffer e q in says_short ts r.0 r.1 (leb-false _ _ q) (sym a.0) (sym a.1)
+            let a = answers_short text buffer e q in says_short ts r.0 r.1 (leb-false _ _ q) (sym a.0) (sym a.1)
     go (absent why) e k =
         let q : parse 32 text ≡ outside = e ∙ ap (λ (x : Reason). absent x) k in
         let a = answers text buffer q in
@@ -110,24 +110,24 @@ says text buffer = go (parse 32 text) refl (run_known 32 text (at none wanted []
         says_deeper (seventeen_deeper 32 text q) (sym a.0) (sym a.1)
 
 -- Nothing else can be said.
-fits-not-deep : (text : List ℕ) (ts : Types) → Reading text ts → nesting_types ts ≤ 32 → Deeper 32 text → ⊥
-fits-not-deep text ts r h d = absurd (omega (arith, d.deeper d.rest ts (subst (λ (t : List ℕ). Reading t ts) d.is r)))
+fits_not_deep : (text : List ℕ) (ts : Types) → Reading text ts → nesting_types ts ≤ 32 → Deeper 32 text → ⊥
+fits_not_deep text ts r h d = absurd (omega (arith, d.deeper d.rest ts (subst (λ (t : List ℕ). Reading t ts) d.is r)))
 
 module _ (text old : List ℕ) {o o' : Outcome ℕ} {new new' : List ℕ} where
-  pub says-once : Says text old o new → Says text old o' new' → (o ≡ o') × (new ≡ new')
-  says-once (says_types ts g h l e w) (says_types us g' h' l' e' w') = let u = unique text ts us g g' in (cc, cc)
-  says-once (says_types ts g h l e w) (says_absent n d e' w') = absurd (n ts g)
-  says-once (says_types ts g h l e w) (says_deeper d e' w') = absurd (fits-not-deep text ts g h d)
-  says-once (says_types ts g h l e w) (says_short us g' h' l' e' w') = let u = ap count (unique text ts us g g') in absurd (omega arith)
-  says-once (says_absent n d e w) (says_types us g' h' l' e' w') = absurd (n us g')
-  says-once (says_absent n d e w) (says_absent n' d' e' w') = (cc, cc)
-  says-once (says_absent n d e w) (says_deeper d' e' w') = absurd (d d')
-  says-once (says_absent n d e w) (says_short us g' h' l' e' w') = absurd (n us g')
-  says-once (says_deeper d e w) (says_types us g' h' l' e' w') = absurd (fits-not-deep text us g' h' d)
-  says-once (says_deeper d e w) (says_absent n d' e' w') = absurd (d' d)
-  says-once (says_deeper d e w) (says_deeper d' e' w') = (cc, cc)
-  says-once (says_deeper d e w) (says_short us g' h' l' e' w') = absurd (fits-not-deep text us g' h' d)
-  says-once (says_short ts g h l e w) (says_types us g' h' l' e' w') = let u = ap count (unique text ts us g g') in absurd (omega arith)
-  says-once (says_short ts g h l e w) (says_absent n d e' w') = absurd (n ts g)
-  says-once (says_short ts g h l e w) (says_deeper d e' w') = absurd (fits-not-deep text ts g h d)
-  says-once (says_short ts g h l e w) (says_short us g' h' l' e' w') = (cc, cc)
+  pub says_once : Says text old o new → Says text old o' new' → (o ≡ o') × (new ≡ new')
+  says_once (says_types ts g h l e w) (says_types us g' h' l' e' w') = let u = unique text ts us g g' in (cc, cc)
+  says_once (says_types ts g h l e w) (says_absent n d e' w') = absurd (n ts g)
+  says_once (says_types ts g h l e w) (says_deeper d e' w') = absurd (fits_not_deep text ts g h d)
+  says_once (says_types ts g h l e w) (says_short us g' h' l' e' w') = let u = ap count (unique text ts us g g') in absurd (omega arith)
+  says_once (says_absent n d e w) (says_types us g' h' l' e' w') = absurd (n us g')
+  says_once (says_absent n d e w) (says_absent n' d' e' w') = (cc, cc)
+  says_once (says_absent n d e w) (says_deeper d' e' w') = absurd (d d')
+  says_once (says_absent n d e w) (says_short us g' h' l' e' w') = absurd (n us g')
+  says_once (says_deeper d e w) (says_types us g' h' l' e' w') = absurd (fits_not_deep text us g' h' d)
+  says_once (says_deeper d e w) (says_absent n d' e' w') = absurd (d' d)
+  says_once (says_deeper d e w) (says_deeper d' e' w') = (cc, cc)
+  says_once (says_deeper d e w) (says_short us g' h' l' e' w') = absurd (fits_not_deep text us g' h' d)
+  says_once (says_short ts g h l e w) (says_types us g' h' l' e' w') = let u = ap count (unique text ts us g g') in absurd (omega arith)
+  says_once (says_short ts g h l e w) (says_absent n d e' w') = absurd (n ts g)
+  says_once (says_short ts g h l e w) (says_deeper d e' w') = absurd (fits_not_deep text ts g h d)
+  says_once (says_short ts g h l e w) (says_short us g' h' l' e' w') = (cc, cc)

@@ -1,6 +1,6 @@
 // A Mach-O file for C (include/objclist_file.h): the part of a universal file, the tables, and the listing, written to a file descriptor.
 ghost use Rattle.std.specs.Prelude.{◌≡◌};
-ghost use Rattle.reads.specs.Reference.{before, after};
+ghost use Rattle.reads.specs.Reference.{before};
 ghost use Rattle.reads.specs.declared.text.Reading.TheVariants.{New};
 ghost use Rattle.universal.specs.Architecture.{arch_of};
 ghost use Rattle.universal.specs.Parts.{part_wanted, part_at};

@@ -1,6 +1,6 @@
 // Opening for C: of tables that are lent, and of a Mach-O file, whose segments and sections it fills in.
 ghost use Rattle.std.specs.Prelude.{◌≡◌};
-ghost use Rattle.reads.specs.Reference.{before, after};
+ghost use Rattle.reads.specs.Reference.{before};
 ghost use Rattle.pointers.specs.ImageInfo.{info_outcome};
 ghost use Rattle.pointers.specs.Open.{opening, opened_index};
 ghost use Rattle.pointers.specs.Tables.{lent};

@@ -1,7 +1,7 @@
 // The rows of a list, as many a call as the lent words hold: methods, ivars, properties and protocol names.
 ghost use Rattle.std.specs.Prelude.{◌≡◌, ◌+◌, ◌*◌, ◌/◌, ◌^◌, ◌≤◌, ◌<◌, length};
 ghost use Rattle.std.proofs.lemmas.List.Edits.{sets};
-ghost use Rattle.reads.specs.Reference.{before, after};
+ghost use Rattle.reads.specs.Reference.{before};
 ghost use Rattle.pointers.specs.Tables.{lent};
 ghost use Rattle.face.specs.Rows.{listed, refused_turn, moved_to, list_turn, name_turn, list_over, names_over, turn_over, row_turn, gather};
 

@@ -1,6 +1,5 @@
 // A step of the walk over classes, over categories and over protocols: the walk's state goes in and comes back as words.
 ghost use Rattle.std.specs.Prelude.{◌≡◌, []};
-ghost use Rattle.reads.specs.Reference.{before, after};
 ghost use Rattle.pointers.specs.Tables.{lent, under};
 ghost use Rattle.walks.specs.Sections.{classes, categories, step_of, protocol_step_of, class_step, category_step, protocol_step};
 ghost use Rattle.face.specs.Words.{setting_in};

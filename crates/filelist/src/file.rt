@@ -3,7 +3,7 @@
 // that number.
 ghost use Rattle.std.specs.Prelude.{◌*◌, min, ◌≡◌, length, take, drop};
 ghost use Rattle.reads.specs.Answer.{missed};
-ghost use Rattle.reads.specs.Reference.{before, after};
+ghost use Rattle.reads.specs.Reference.{before};
 ghost use Rattle.reads.specs.Segment.{segment_words};
 ghost use Rattle.reads.specs.declared.text.Reading.TheVariants.{New};
 ghost use Rattle.pointers.specs.ImageInfo.{info_outcome};

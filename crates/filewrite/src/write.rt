@@ -1,6 +1,6 @@
 // Writes the text of a file's listing piece by piece. What reaches the reader of the file descriptor is the operating system's.
 ghost use Rattle.std.specs.Prelude.{◌≡◌, true, [], drop};
-ghost use Rattle.reads.specs.Reference.{before, after};
+ghost use Rattle.reads.specs.Reference.{before};
 ghost use Rattle.reads.specs.declared.text.Reading.TheVariants.{New};
 ghost use Rattle.macho.specs.OpenFile.{file_outcome};
 ghost use Rattle.listing.specs.ListingAnswer.{said_of};

@@ -1,6 +1,6 @@
 // The bundle that the program reads: its counts, the ends of its ranges, where its parts stand, and its little-endian words.
 ghost use Rattle.std.specs.Prelude.{◌≡◌, ◌*◌, ◌<◌, true, length};
-ghost use Rattle.reads.specs.Reference.{before, after};
+ghost use Rattle.reads.specs.Reference.{before};
 ghost use Rattle.listing.specs.Bundle.{counts_outcome, word_from, words_from, ranges_of, segment_table_words, rebase_table_words, bind_table_words, sections_at, rebases_at, binds_at, image0_at, image1_at, image2_at, image3_at, said_length, counts_of, counts_fit, bundle_counts};
 
 use frames::frames::Ranges;

@@ -1,6 +1,6 @@
 // The section walks one after the other: classes, protocols, categories.
 ghost use Rattle.std.specs.Prelude.{◌≡◌, ℕ, List};
-ghost use Rattle.reads.specs.Reference.{before, after};
+ghost use Rattle.reads.specs.Reference.{after};
 ghost use Rattle.pointers.specs.Tables.{lent};
 ghost use Rattle.walks.specs.Sections.{class_step, category_step, protocol_step};
 ghost use Rattle.listing.specs.declared.at.Record.TheVariants as aRecord;

@@ -1,7 +1,6 @@
 // A listing with marks (note 11), one step at a time: it is gone over twice, first to meet the starts, of which nothing is said, and then to say
 // its lines, each m row with its mark. Without a possible pair nothing is marked, and once is enough.
 ghost use Rattle.std.specs.Prelude.{ℕ, ◌≡◌, List};
-ghost use Rattle.reads.specs.Reference.{before, after};
 ghost use Rattle.pointers.specs.Tables.{lent, reading_new, reading_under};
 ghost use Rattle.listing.specs.ListingAnswer.{said_of, left_of};
 ghost use Rattle.marking.specs.MarkedListing.{marked_start, marking_of, marked_left_of, finds, marked_answer, marked_step};

@@ -1,6 +1,6 @@
 // The index over the rebase and bind tables, in u32 words that the caller lends: the Rust's two HashMaps.
 ghost use Rattle.std.specs.Prelude.{◌≡◌, ◌+◌, ◌*◌, ◌^◌, ◌≤◌, ◌<◌, length, get_or};
-ghost use Rattle.reads.specs.Reference.{before, after};
+ghost use Rattle.reads.specs.Reference.{before};
 ghost use Rattle.reads.specs.Answer.{word_outcome};
 ghost use Rattle.reads.specs.Table.{records};
 ghost use Rattle.pointers.specs.Tables.{rebase_words, bind_words, chains};

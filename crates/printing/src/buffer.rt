@@ -2,7 +2,7 @@
 // as it is then.
 ghost use Rattle.std.specs.Prelude.{◌+◌, ◌*◌, ◌^◌, ◌≤◌, min, ◌≡◌, [], ◌∷◌, length, drop};
 ghost use Rattle.std.proofs.Math.Seq.{paste};
-ghost use Rattle.reads.specs.Reference.{before, after};
+ghost use Rattle.reads.specs.Reference.{before};
 ghost use Rattle.printing.specs.Buffer.{buffer, put_all, hex_text, hex_word, decimal_text};
 
 // How many bytes of the text to come are passed over, and how many bytes of the buffer are taken.

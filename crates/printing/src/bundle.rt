@@ -2,7 +2,7 @@
 // number. The buffers' sizes are those of the longest bundle, 32,768 bytes: its tables have at most 4,084 words, its index at most 8,192 +
 // 2,034, and the two lists of a section walk at most 8,138 slots. One byte more of input tells a longer bundle.
 ghost use Rattle.std.specs.Prelude.{◌≤◌, ◌<◌, ◌^◌, ◌≡◌, ◌++◌, length, take, drop};
-ghost use Rattle.reads.specs.Reference.{before, after};
+ghost use Rattle.reads.specs.Reference.{before};
 ghost use Rattle.reads.specs.Files.{files_lent, files_of, longest};
 ghost use Rattle.listing.specs.Bundle.{Accepted, counts_outcome, bundle_counts, words_from, ranges_of, segments_at};
 ghost use Rattle.marking.specs.Framed.{framed_outcome, framed_opening, framed_index};

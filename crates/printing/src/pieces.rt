@@ -1,7 +1,6 @@
 // The text of a listing, handed out piece by piece into a buffer that the caller lends; a line may be cut between pieces.
 ghost use Rattle.std.specs.Prelude.{◌<◌, ◌^◌, ◌≡◌, length, drop};
 ghost use Rattle.std.proofs.Math.Seq.{paste};
-ghost use Rattle.reads.specs.Reference.{before, after};
 ghost use Rattle.reads.specs.Answer.{missed};
 ghost use Rattle.reads.specs.Files.{files_lent, files_of, longest};
 ghost use Rattle.pointers.specs.Tables.{lent, reading_new, reading_under};

@@ -1,7 +1,7 @@
 // The lines of a listing as text (document 01, "The program's listing"): fields split by one space, numbers lower-case hex, strings as
 // length, colon and bytes, `-` for none, each line with its newline. Only the number after `refused` is decimal.
 ghost use Rattle.std.specs.Prelude.{◌∷◌, ◌≡◌};
-ghost use Rattle.reads.specs.Reference.{before, after};
+ghost use Rattle.reads.specs.Reference.{before};
 ghost use Rattle.printing.specs.Buffer.{buffer, put_all};
 ghost use Rattle.printing.specs.LineText.{none_field, number_field, string_field, part_field, text_field, text_fields, named_field, imp_field, offset_field, alignment_field, aligned_field, kind_number, class_letter, reading_number, info_text, class_text, ro_text, protocol_text, category_text, method_text, ivar_text, property_text, row_text, name_text, end_text, fields_text, line_text, refused_text};
 ghost use Rattle.reads.specs.Files.{files_of};

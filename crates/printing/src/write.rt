@@ -1,6 +1,6 @@
 // Writes the text of a listing piece by piece. What reaches the reader of the file descriptor is the operating system's.
 ghost use Rattle.std.specs.Prelude.{◌≡◌, true, [], take};
-ghost use Rattle.reads.specs.Reference.{before, after};
+ghost use Rattle.reads.specs.Reference.{before};
 ghost use Rattle.printing.specs.BundleLent.{tables_lent};
 ghost use Rattle.printing.specs.Pieces.{standing_of, to_come};
 

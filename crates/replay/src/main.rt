@@ -4,7 +4,6 @@
 #![tactic(auto)]
 
 ghost use Rattle.std.specs.Prelude.{◌≤◌, length};
-ghost use Rattle.reads.specs.Reference.{after};
 ghost use Rattle.replay.specs.Parts.{size_of};
 
 use libc::STDOUT_FILENO;

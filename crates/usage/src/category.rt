@@ -1,6 +1,5 @@
 // Categories, noted on a sheet: the reads of category_t, in the order of its definition (records/specs/Category.antt).
 ghost use Rattle.std.specs.Prelude.{◌≡◌};
-ghost use Rattle.reads.specs.Reference.{before, after};
 ghost use Rattle.pointers.specs.Tables.{lent, under};
 ghost use Rattle.reads.specs.Answer.{place_outcome};
 ghost use Rattle.reads.specs.Outcome.{choose};

@@ -1,6 +1,5 @@
 // Classes, noted on a sheet: the reads of class_t and class_ro_t, in the order of their definitions (records/specs/Class.antt).
 ghost use Rattle.std.specs.Prelude.{◌≡◌};
-ghost use Rattle.reads.specs.Reference.{before, after};
 ghost use Rattle.pointers.specs.Tables.{lent, under};
 ghost use Rattle.records.specs.Class.{decode_class, decode_ro_lists, decode_class_ro};
 ghost use Rattle.ranges.specs.Sheet.{noted_all};

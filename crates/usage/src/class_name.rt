@@ -1,6 +1,5 @@
 // Names of classes, noted on a sheet: by the class that a record's slot at +8 holds, else by the slot's bind (records/specs/Class.antt).
 ghost use Rattle.std.specs.Prelude.{◌≡◌};
-ghost use Rattle.reads.specs.Reference.{before, after};
 ghost use Rattle.pointers.specs.Tables.{lent, under};
 ghost use Rattle.reads.specs.Answer.{word_outcome, text_outcome};
 ghost use Rattle.reads.specs.Outcome.{is_absent};

@@ -1,6 +1,5 @@
 // The lists of a record, noted on a sheet, in the order of their numbers (listing/specs/PlainListing.antt).
 ghost use Rattle.std.specs.Prelude.{◌≡◌};
-ghost use Rattle.reads.specs.Reference.{before, after};
 ghost use Rattle.pointers.specs.Tables.{lent, under};
 ghost use Rattle.listing.specs.PlainListing.{ro_fields, protocol_fields, category_fields};
 ghost use Rattle.ranges.specs.Sheet.{noted_all};

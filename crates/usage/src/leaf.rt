@@ -1,6 +1,6 @@
 // Reads that are noted on a sheet: each notes the bytes that the question of the same name uses (used/specs/Used.antt), and some answer it.
 ghost use Rattle.std.specs.Prelude.{◌≡◌};
-ghost use Rattle.reads.specs.Reference.{before, after};
+ghost use Rattle.reads.specs.Reference.{before};
 ghost use Rattle.reads.specs.Answer.{word_outcome};
 ghost use Rattle.reads.specs.Outcome.{or_zero};
 ghost use Rattle.reads.specs.Files.{files_of};

@@ -2,7 +2,6 @@
 ghost use Rattle.std.specs.Prelude.{◌≡◌};
 ghost use Rattle.reads.specs.Answer.{word_outcome};
 ghost use Rattle.reads.specs.Outcome.{value, choose};
-ghost use Rattle.reads.specs.Reference.{before, after};
 ghost use Rattle.pointers.specs.Tables.{lent, under};
 ghost use Rattle.records.specs.Ask.{even_list};
 ghost use Rattle.records.specs.List.{must_be_even, decode_list};

@@ -1,6 +1,5 @@
 // The names of a protocol list, noted on a sheet: its header, and the name of each slot.
 ghost use Rattle.std.specs.Prelude.{◌≡◌};
-ghost use Rattle.reads.specs.Reference.{before, after};
 ghost use Rattle.pointers.specs.Tables.{lent, under};
 ghost use Rattle.walks.specs.ProtocolNames.{protocol_list_outcome, protocol_list_at, has_slot};
 ghost use Rattle.ranges.specs.Sheet.{noted_all};

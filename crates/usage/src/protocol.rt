@@ -1,6 +1,5 @@
 // Protocols, noted on a sheet: the reads of protocol_t, in the order of its definition (records/specs/Protocol.antt).
 ghost use Rattle.std.specs.Prelude.{◌≡◌};
-ghost use Rattle.reads.specs.Reference.{before, after};
 ghost use Rattle.pointers.specs.Tables.{lent, under};
 ghost use Rattle.records.specs.Protocol.{decode_trailing, decode_class_properties, decode_protocol_lists, decode_protocol};
 ghost use Rattle.ranges.specs.Sheet.{noted_all};

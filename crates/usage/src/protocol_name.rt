@@ -1,7 +1,6 @@
 // Names of protocols in the slots of a list, noted on a sheet: by the protocol that a slot holds, else by the slot's bind
 // (walks/specs/ProtocolNames.antt).
 ghost use Rattle.std.specs.Prelude.{◌≡◌};
-ghost use Rattle.reads.specs.Reference.{before, after};
 ghost use Rattle.pointers.specs.Tables.{lent, under};
 ghost use Rattle.reads.specs.Outcome.{is_absent};
 ghost use Rattle.records.specs.Protocol.{protocol_outcome};

@@ -2,7 +2,6 @@
 ghost use Rattle.std.specs.Prelude.{◌≡◌};
 ghost use Rattle.reads.specs.Answer.{word_outcome};
 ghost use Rattle.reads.specs.Files.{files_of};
-ghost use Rattle.reads.specs.Reference.{before, after};
 ghost use Rattle.reads.specs.Relative.{relative, signed_in};
 ghost use Rattle.pointers.specs.Tables.{lent, under};
 ghost use Rattle.records.specs.Row.{decode_legacy_method, decode_selector, decode_types, decode_small_method, decode_offset, decode_ivar, decode_property, decode_row};

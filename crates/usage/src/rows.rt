@@ -1,7 +1,6 @@
 // The rows of a list, noted on a sheet: its header, and every entry that can be read.
 ghost use Rattle.std.specs.Prelude.{◌≡◌, ◌<◌, ◌^◌};
 ghost use Rattle.reads.specs.Place.{lent_image};
-ghost use Rattle.reads.specs.Reference.{before, after};
 ghost use Rattle.pointers.specs.Tables.{lent, under};
 ghost use Rattle.records.specs.List.{entry_address};
 ghost use Rattle.records.specs.Row.{decode_row};

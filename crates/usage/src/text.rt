@@ -1,6 +1,5 @@
 // Texts that must be there, noted on a sheet.
 ghost use Rattle.std.specs.Prelude.{◌≡◌};
-ghost use Rattle.reads.specs.Reference.{before, after};
 ghost use Rattle.reads.specs.Place.{lent_image};
 ghost use Rattle.reads.specs.Text.{text_in};
 ghost use Rattle.reads.specs.Answer.{text_outcome};

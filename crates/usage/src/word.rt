@@ -3,7 +3,7 @@ ghost use Rattle.std.specs.Prelude.{◌≡◌};
 ghost use Rattle.reads.specs.Answer.{word_outcome};
 ghost use Rattle.reads.specs.Outcome.{or_zero};
 ghost use Rattle.reads.specs.Place.{lent_image};
-ghost use Rattle.reads.specs.Reference.{before, after};
+ghost use Rattle.reads.specs.Reference.{before};
 ghost use Rattle.pointers.specs.Slot.{resolve, pointer_or0_at};
 ghost use Rattle.ranges.specs.Sheet.{noted_all};
 ghost use Rattle.used.specs.Used.{uses_slot_in, uses_pointer_in};

@@ -1,7 +1,6 @@
 // The steps of the section walks, one slot each, under a setting that the walk hands on. Classes and categories meet each address once,
 // by a ledger that the caller lends.
 ghost use Rattle.std.specs.Prelude.{◌≡◌, List, [], ℕ, ◌+◌, ◌^◌, ◌<◌, length};
-ghost use Rattle.reads.specs.Reference.{before, after};
 ghost use Rattle.pointers.specs.Tables.{lent, under};
 ghost use Rattle.walks.specs.Slots.{Room};
 ghost use Rattle.reads.specs.Outcome.{value};

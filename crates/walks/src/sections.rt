@@ -1,6 +1,5 @@
 // Walks over the section lists, one slot a step. A walk says under which reading it began, and each step takes it from there.
 ghost use Rattle.std.specs.Prelude.{◌≡◌, []};
-ghost use Rattle.reads.specs.Reference.{before, after};
 ghost use Rattle.pointers.specs.Tables.{lent, under, reading_new, reading_under};
 ghost use Rattle.walks.specs.Sections.{at_start, classes, categories, step_of, protocol_step_of, class_walk, class_left, category_walk, category_left, protocol_walk, protocol_left};
 

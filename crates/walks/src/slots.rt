@@ -1,6 +1,6 @@
 // The slots of the section lists, taken one by one: what the section walks share.
 ghost use Rattle.std.specs.Prelude.{◌≡◌, true, ◌++◌, ◌+◌, ◌^◌, ◌≤◌, ◌<◌, max, length, get_or, take, set};
-ghost use Rattle.reads.specs.Reference.{before, after};
+ghost use Rattle.reads.specs.Reference.{before};
 ghost use Rattle.reads.specs.Answer.{word_outcome};
 ghost use Rattle.pointers.specs.Tables.{lent, under};
 ghost use Rattle.pointers.specs.Question.{asked_outcome};

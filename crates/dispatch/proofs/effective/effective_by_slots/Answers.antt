@@ -1,11 +1,11 @@
-use Rattle.dispatch.proofs.Answers.{of-source, of-start, of-refused}
+use Rattle.dispatch.proofs.Answers.{of_source, of_start, of_refused}
 use Rattle.dispatch.proofs.effective.effective_by_slots.Goals as goal
 
 pub effective_from-requires : goal.effective_from-requires
-effective_from-requires c = of-source _ _ _ c.own_source-own.result c.own_source-own.ensures c.enter.ensures c.in-At.is
+effective_from-requires c = of_source _ _ _ c.own_source-own.result c.own_source-own.ensures c.enter.ensures c.in-At.is
 
 pub returns-in-At : goal.returns-in-At
-returns-in-At c = of-start _ _ _ c.own_source-own.result c.own_source-own.ensures c.enter.ensures _ _ c.in-At.is c.effective_from.ensures
+returns-in-At c = of_start _ _ _ c.own_source-own.result c.own_source-own.ensures c.enter.ensures _ _ c.in-At.is c.effective_from.ensures
 
 pub returns-in-Refused : goal.returns-in-Refused
-returns-in-Refused c = of-refused _ _ _ c.own_source-own.result c.own_source-own.ensures c.enter.ensures _ _ c.in-Refused.is
+returns-in-Refused c = of_refused _ _ _ c.own_source-own.result c.own_source-own.ensures c.enter.ensures _ _ c.in-Refused.is
