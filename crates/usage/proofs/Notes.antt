@@ -17,7 +17,6 @@ use Rattle.reads.proofs.Tests.{choose_true, choose_false}
 use Rattle.reads.specs.declared.answer.Missing.{Missing}
 use Rattle.reads.specs.declared.answer.Missing.TheVariants.{Absent, Refused}
 use Rattle.reads.specs.declared.place.Place.{Place}
-use Rattle.pointers.specs.Bytes as bytes
 use Rattle.pointers.specs.Slot as slots
 use Rattle.pointers.specs.Tables.{Tables, image_in}
 use Rattle.records.specs.Ask as ask

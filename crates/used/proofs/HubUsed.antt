@@ -25,7 +25,7 @@ use Rattle.pointers.proofs.OpenedTables.{opened_follow_rebase, opened_follow_bin
 use Rattle.records.specs.Ask.{even_list, entry_size}
 use Rattle.records.specs.Asks.{asks}
 use Rattle.records.specs.Class.{bits_of, decode_data, decode_class, decode_ro_lists, decode_class_ro, decode_ro_of, decode_nonzero_class_name, decode_bound_name, decode_class_name_of}
-use Rattle.records.specs.Decode.{Decode, given, lacking, run, done, then, tried, readable}
+use Rattle.records.specs.Decode.{Decode, given, lacking, run, done, then, tried}
 use Rattle.records.specs.List.{method_rows, decode_list}
 use Rattle.records.specs.Row.{decode_row, decode_legacy_method}
 use Rattle.records.specs.declared.list.Layout.{Layout}
@@ -48,7 +48,7 @@ use Rattle.listing.proofs.DecodedListing.{readables_run}
 use Rattle.ranges.specs.Range.{Range, range, lies, covers}
 use Rattle.ranges.specs.Runs
 use Rattle.ranges.specs.Runs.{ended, begun, runs, runs_from, merged}
-use Rattle.used.specs.Used.{uses, uses_word, uses_field, uses_slot_in, uses_pointer_in, uses_text, uses_symbol_in, used}
+use Rattle.used.specs.Used.{uses_word, uses_field, uses_slot_in, uses_pointer_in, uses_text, uses_symbol_in, used}
 use Rattle.used.specs.UsedBy.{used_by, ranges_used}
 use Rattle.used.proofs.ReadableUses.{readables_use}
 use Rattle.used.proofs.UsedParts.{used_done, used_tried, then_uses}

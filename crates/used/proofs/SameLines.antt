@@ -8,7 +8,6 @@ use Rattle.records.specs.Asks.{Each}
 use Rattle.records.specs.Class.{decode_class_name_of}
 use Rattle.records.specs.Decode.{Decode, Tried, given, lacking, done}
 use Rattle.records.specs.List.{entry_address}
-use Rattle.records.specs.declared.row.Row.{Row}
 use Rattle.walks.specs.ProtocolNames.{slot_in, decode_protocol_name, decode_protocol_name_in, decode_name_in}
 use Rattle.walks.specs.Slots.{slots_of}
 use Rattle.walks.specs.declared.protocol_names.ProtocolList.{ProtocolList}

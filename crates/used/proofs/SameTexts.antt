@@ -41,7 +41,7 @@ use Rattle.records.specs.declared.ivar.Ivar.{Ivar}
 use Rattle.records.specs.declared.property.Property.{Property}
 use Rattle.records.specs.declared.row.Row.{Row}
 use Rattle.records.specs.declared.row.Row.TheVariants as row
-use Rattle.used.specs.Used.{place_range, name_range, uses_text, uses_symbol_in, used}
+use Rattle.used.specs.Used.{place_range, name_range, uses_text, uses_symbol_in}
 use Rattle.used.proofs.AnswersAlike.{SamePart}
 use Rattle.used.proofs.UsedParts.{used_asked}
 use Rattle.used.proofs.Yields.{Yields, after_value, yields_done, yields_then, yields_next, yields_else, yields_else_first}

@@ -1,0 +1,4 @@
+use Rattle.usage.proofs.rows.note_entry.Goals as goal
+
+pub returns : goal.returns
+returns c = c.note_row.ensures
