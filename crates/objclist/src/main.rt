@@ -2,10 +2,16 @@
 // text to standard output. That a bundle was refused, and that a write failed, is said on standard error too.
 #![tactic(auto)]
 
-use libc::{STDERR_FILENO, STDIN_FILENO, STDOUT_FILENO};
 use printing::bundle::{decode, open};
 use printing::pieces::Progress;
 use printing::write::write_pieces;
+
+// The descriptors that every program begins with.
+const STDIN: i32 = 0;
+
+const STDOUT: i32 = 1;
+
+const STDERR: i32 = 2;
 
 fn main() {
     let mut input = [0u8; 32769];
@@ -13,11 +19,11 @@ fn main() {
     let mut index = [0u32; 10240];
     let mut ledger = [0u64; 8192];
     let mut out = [0u8; 4096];
-    let n = io::read_full(STDIN_FILENO, &mut input);
+    let n = io::read_full(STDIN, &mut input);
     decode(&input, n, &mut words);
     let start = Progress::new(open(&input, n, &words, &mut index));
     let written = write_pieces(
-        STDOUT_FILENO,
+        STDOUT,
         start,
         &input,
         n,
@@ -27,11 +33,11 @@ fn main() {
         &mut out,
     );
     if !written.whole {
-        os::fail(b"objclist: standard output");
+        io::write_all(STDERR, b"objclist: standard output\n");
         return;
     }
     let end = written.progress;
     if end.refused() {
-        io::write_all(STDERR_FILENO, b"objclist: the bundle is refused\n");
+        io::write_all(STDERR, b"objclist: the bundle is refused\n");
     }
 }
