@@ -1,0 +1,9 @@
+use mathlib.Core.Path.{◌≡◌}
+use native.Mathlib.Omega.{arith}
+use lib.ListN.{length}
+use Rattle.filewrite.proofs.write.whole_piece.Goals as goal
+
+pub returns : goal.returns
+returns c =
+    let size : length c.args.out.now ≡ 65536 = omega arith in
+    rw size at c.next_piece.ensures
