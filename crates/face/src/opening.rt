@@ -1,9 +1,10 @@
 // Opening for C: of tables that are lent, and of a Mach-O file, whose segments and sections it fills in.
 ghost use Rattle.std.specs.Prelude.{◌≡◌};
+ghost use Rattle.reads.specs.Files.{files_of};
 ghost use Rattle.reads.specs.Reference.{before};
 ghost use Rattle.pointers.specs.ImageInfo.{info_outcome};
 ghost use Rattle.pointers.specs.Open.{opening, opened_index};
-ghost use Rattle.pointers.specs.Tables.{lent};
+ghost use Rattle.pointers.specs.Tables.{tables_of};
 ghost use Rattle.face.specs.Status.{given};
 ghost use Rattle.macho.specs.OpenFile.{file_outcome, opening_file, segments_left, sections_left, index_left};
 ghost use Rattle.face.specs.Opening.{opened_words, file_words, no_file, file_told};
@@ -114,9 +115,9 @@ pub extern "C" fn objclist_open(
     binds: &[u64],
     index: &mut [u32],
 ) -> InfoTold
-    ensures answer { let t = lent files segments sections info rebases binds index in
+    ensures answer { let t = tables_of (files_of files) (before segments) (before sections) (before info) (before rebases) (before binds) index.old in
         result ≡ opened_words (given (opening t)) }
-    ensures contents { let t = lent files segments sections info rebases binds index in
+    ensures contents { let t = tables_of (files_of files) (before segments) (before sections) (before info) (before rebases) (before binds) index.old in
         index.new ≡ opened_index t }
 {
     let answer = open(files, segments, sections, info, rebases, binds, index);

@@ -1,0 +1,7 @@
+use mathlib.Core.Path.{ap, ◌∙◌}
+use Rattle.face.specs.Status.{given}
+use Rattle.face.specs.Decoding.{category_told}
+use Rattle.face.proofs.decoding.objclist_category.Goals as goal
+
+pub returns : goal.returns
+returns c = rw (← c.setting_in-setting.ensures) (c.of.ensures ∙ ap (λ o. category_told (given o)) c.decode_category-answer.ensures)

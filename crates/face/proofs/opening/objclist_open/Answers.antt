@@ -1,0 +1,10 @@
+use mathlib.Core.Path.{ap, ◌∙◌}
+use Rattle.face.specs.Status.{given}
+use Rattle.face.specs.Opening.{opened_words}
+use Rattle.face.proofs.opening.objclist_open.Goals as goal
+
+pub returns : goal.returns
+returns c = record {
+  answer = c.of.ensures ∙ ap (λ o. opened_words (given o)) c.open-answer.ensures.outcome;
+  contents = c.open-answer.ensures.contents;
+}

@@ -1,0 +1,5 @@
+use mathlib.Core.Path.{◌∙◌}
+use Rattle.face.proofs.rows.RowWalk.list_turn.Goals as goal
+
+pub returns : goal.returns
+returns c = c.turn.ensures ∙ rw (← c.setting_in-setting.ensures, ← c.walked_list-stepped.ensures, c.list_said-said.ensures)

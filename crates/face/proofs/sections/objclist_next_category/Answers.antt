@@ -1,0 +1,7 @@
+use Rattle.face.proofs.sections.objclist_next_category.Goals as goal
+
+pub returns : goal.returns
+returns c = record {
+  answer = rw (← c.setting_in-setting.ensures, ← c.next-stepped.ensures.0, c.category_step_told.ensures);
+  contents = rw (← c.setting_in-setting.ensures, ← c.next-stepped.ensures.0);
+}
