@@ -6,13 +6,19 @@
 ghost use Rattle.std.specs.Prelude.{◌≤◌, length};
 ghost use Rattle.replay.specs.Parts.{size_of};
 
-use libc::STDOUT_FILENO;
 use printing::bundle::{decode, open};
 use printing::pieces::Progress;
 use printing::write::write_pieces;
 use reads::answer::Word;
 use reads::place::read_u64_le_at;
 use reads::text::Reading;
+use std::fs::File;
+use std::io::Read;
+
+// The descriptors that every program begins with.
+const STDOUT: i32 = 1;
+
+const STDERR: i32 = 2;
 
 // A part of the file, read to the front of a buffer: so many bytes, or cut, since the file ends before or the buffer is too short.
 #[derive(Clone, Copy)]
@@ -30,46 +36,47 @@ enum Replayed {
 }
 
 // The next word of the file, absent where the file ends before.
-fn read_word(fd: i32) -> Word {
+fn read_word(file: &mut File) -> Word {
     let mut word = [0u8; 8];
-    let n = io::read_full(fd, &mut word);
-    read_u64_le_at(&word[..n], 0)
+    match file.read_exact(&mut word) {
+        Ok(()) => read_u64_le_at(&word, 0),
+        Err(_) => read_u64_le_at(&[], 0),
+    }
 }
 
 // The next n bytes of the file.
-fn fill(fd: i32, n: u64, to: &mut [u8]) -> Part
+fn fill(file: &mut File, n: u64, to: &mut [u8]) -> Part
     ensures { size_of result ≤ length to.new }
 {
     if n > to.len() as u64 {
         return Part::Cut;
     }
     let k = n as usize;
-    let got = io::read_full(fd, &mut to[0..k]);
-    if got < k {
-        return Part::Cut;
+    match file.read_exact(&mut to[0..k]) {
+        Ok(()) => Part::Bytes(k),
+        Err(_) => Part::Cut,
     }
-    Part::Bytes(k)
 }
 
 // The next title or bundle of the file.
-fn read_part(fd: i32, to: &mut [u8]) -> Part
+fn read_part(file: &mut File, to: &mut [u8]) -> Part
     ensures { size_of result ≤ length to.new }
 {
-    match read_word(fd) {
-        Word::Value(n) => fill(fd, n, to),
+    match read_word(file) {
+        Word::Value(n) => fill(file, n, to),
         Word::Missing(_) => Part::Cut,
     }
 }
 
 // A case's first line: whether it was written.
 fn write_title(title: &[u8]) -> bool {
-    if !io::write_all(STDOUT_FILENO, b"# ") {
+    if !io::write_all(STDOUT, b"# ") {
         return false;
     }
-    if !io::write_all(STDOUT_FILENO, title) {
+    if !io::write_all(STDOUT, title) {
         return false;
     }
-    io::write_all(STDOUT_FILENO, b"\n")
+    io::write_all(STDOUT, b"\n")
 }
 
 // The listing of a bundle under a reading: whether it was written.
@@ -84,7 +91,7 @@ fn write_under(
 ) -> bool {
     decode(input, n, words);
     let start = Progress::under(reading, open(input, n, words, index));
-    let written = write_pieces(STDOUT_FILENO, start, input, n, words, index, ledger, out);
+    let written = write_pieces(STDOUT, start, input, n, words, index, ledger, out);
     written.whole
 }
 
@@ -108,22 +115,22 @@ fn write_listings(
 
 // A case after its title.
 fn replay_bundle(
-    fd: i32,
+    file: &mut File,
     input: &mut [u8; 32769],
     words: &mut [u64; 4096],
     index: &mut [u32; 10240],
     ledger: &mut [u64; 8192],
     out: &mut [u8; 4096],
 ) -> Replayed {
-    match read_part(fd, input) {
+    match read_part(file, input) {
         Part::Bytes(n) => write_listings(input, n, words, index, ledger, out),
         Part::Cut => Replayed::Cut,
     }
 }
 
 // The next title, and its line.
-fn replay_title(fd: i32, title: &mut [u8]) -> Replayed {
-    match read_part(fd, title) {
+fn replay_title(file: &mut File, title: &mut [u8]) -> Replayed {
+    match read_part(file, title) {
         Part::Bytes(n) => {
             if write_title(&title[0..n]) {
                 return Replayed::Whole;
@@ -136,7 +143,7 @@ fn replay_title(fd: i32, title: &mut [u8]) -> Replayed {
 
 // So many cases. The lent buffers go from case to case as they are.
 fn replay_all(
-    fd: i32,
+    file: &mut File,
     count: u64,
     input: &mut [u8; 32769],
     words: &mut [u64; 4096],
@@ -146,11 +153,11 @@ fn replay_all(
 ) -> Replayed {
     let mut left = count;
     while left > 0 {
-        let title = replay_title(fd, input);
+        let title = replay_title(file, input);
         let Replayed::Whole = title else {
             return title;
         };
-        let bundle = replay_bundle(fd, input, words, index, ledger, out);
+        let bundle = replay_bundle(file, input, words, index, ledger, out);
         let Replayed::Whole = bundle else {
             return bundle;
         };
@@ -160,15 +167,15 @@ fn replay_all(
 }
 
 // The whole file.
-fn replay_file(fd: i32) -> Replayed {
+fn replay_file(file: &mut File) -> Replayed {
     let mut input = [0u8; 32769];
     let mut words = [0u64; 4096];
     let mut index = [0u32; 10240];
     let mut ledger = [0u64; 8192];
     let mut out = [0u8; 4096];
-    match read_word(fd) {
+    match read_word(file) {
         Word::Value(count) => replay_all(
-            fd,
+            file,
             count,
             &mut input,
             &mut words,
@@ -180,13 +187,22 @@ fn replay_file(fd: i32) -> Replayed {
     }
 }
 
-fn main() {
-    let fd = os::open_read(b"cases");
-    match replay_file(fd) {
+// The cases that stand where the program runs; where they cannot be opened none is there.
+fn replay(rt: &HostRuntime) -> Replayed {
+    match File::open(rt, "cases") {
+        Ok(mut file) => replay_file(&mut file),
+        Err(_) => Replayed::Cut,
+    }
+}
+
+fn main(rt: HostRuntime) {
+    match replay(&rt) {
         Replayed::Whole => {}
         Replayed::Cut => {
-            io::write_all(STDOUT_FILENO, b"cases end early\n");
+            io::write_all(STDOUT, b"cases end early\n");
         }
-        Replayed::Unwritten => os::fail(b"replay: standard output"),
+        Replayed::Unwritten => {
+            io::write_all(STDERR, b"replay: standard output\n");
+        }
     }
 }
