@@ -1,4 +1,4 @@
-// The C face of the library: target/staticlib/libface.a (rt staticlib face), for C and C++ on x86-64 Linux.
+// The C face of the library: target/staticlib/libface.a (host/build.sh), for C and C++ on x86-64 Linux.
 //
 // Everything is lent, nothing is kept or allocated. A slice is a pointer and a number of elements; the pointer is never null, also where the
 // number is 0, and is aligned for its elements. A slice that is written overlaps no other. No call reads or writes outside what it is lent,
