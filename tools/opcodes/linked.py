@@ -51,7 +51,7 @@ def listed(path):
 
 def main():
     count, first = [int(a) for a in sys.argv[1:3]] + [200, 0][len(sys.argv) - 1:]
-    tools = os.path.join(os.path.dirname(os.path.dirname(os.path.realpath(shutil.which("rt")))), "on", os.uname().machine, "toolchain", "bin")
+    tools = os.path.join(os.path.dirname(os.path.dirname(os.path.realpath(shutil.which("rt")))), "toolchain", "bin")
     os.makedirs(OUT, exist_ok=True)
     linker = os.path.join(OUT, "ld64.lld")
     if not os.path.exists(linker):

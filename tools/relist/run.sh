@@ -6,7 +6,7 @@ set -eu
 cd "$(dirname "$0")/../.."
 out=target/relist
 mkdir -p "$out"
-[ -f target/staticlib/libface.a ] || rt staticlib face >"$out/staticlib.log"
+host/build.sh
 cc -O2 -Wall -o "$out/relist" tools/relist/relist.c target/staticlib/libface.a
 python3 tools/relist/unmarked.py <crates/replay/stdout >"$out/expected"
 for room in 1 2 3 64; do

@@ -3,7 +3,7 @@
 
     objclist.py [OBJCLIST [RUST]]
 
-OBJCLIST is target/bin/objclist and RUST target/oracle/release (--bare) if left out. They take turns at five bundles near
+OBJCLIST is crates/objclist/out/objclist and RUST target/oracle/release (--bare) if left out. They take turns at five bundles near
 32 KiB, a thousand runs of each; first their listings must be the same. A row has the user time of all runs, the ratio of
 objclist's to the Rust's, and the ratio less the time of as many runs on a bundle without records. The last rows are a
 bundle of 300 classes, and the ◆ bundle, a list that claims 4,294,967,295 rows: with the oracle's own jump, and once by
@@ -113,7 +113,7 @@ def row(name, size, runs, times, start=None):
 
 
 def main(args):
-    objclist = args[0] if args else os.path.join(ROOT, "target", "bin", "objclist")
+    objclist = args[0] if args else os.path.join(ROOT, "crates", "objclist", "out", "objclist")
     rust = args[1] if len(args) > 1 else os.path.join(ROOT, "target", "oracle", "release")
     both = [objclist], [rust, "--bare"]
     print("| Bundle | bytes | runs | objclist, s | Rust, s | ratio | less start |\n|---|---|---|---|---|---|---|")

@@ -1,5 +1,5 @@
 #!/bin/sh
-# text.sh [BEFORE]: times the text reads of target/staticlib/libreads.a (`rt staticlib reads` writes it) beside the Rust's two passes, by text.rs;
+# text.sh [BEFORE]: times the text reads of target/staticlib/libreads.a (crates/reads_c) beside the Rust's two passes, by text.rs;
 # and in the same run those of BEFORE, the libreads.a of another state. A loop of a few instructions takes up to twice as long where it lies across
 # two lines of 64 bytes of the code, which no source decides: so each library is linked at four places, 16 bytes apart, and the mean is shown.
 set -eu
@@ -7,7 +7,9 @@ before=${1:+$(cd "$(dirname "$1")" && pwd)/$(basename "$1")}
 cd "$(dirname "$0")/../.."
 f=reads_cstr_length_plus_one
 out=target/speed
-mkdir -p "$out"
+mkdir -p "$out" target/staticlib
+(cd crates/reads_c && rt lib) >"$out/staticlib.log" 2>&1 || { echo "the library is not proved: see $out/staticlib.log" >&2; exit 1; }
+cp crates/reads_c/out/libreads_c.a target/staticlib/libreads.a
 set -- -O -o "$out/text" tools/speed/text.rs
 # place NAME LIB: NAME_0.o to NAME_3.o, whose function NAME_k lies k * 16 bytes behind a multiple of 64.
 place() {
