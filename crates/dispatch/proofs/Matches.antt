@@ -66,7 +66,7 @@ paired_length paired_none = refl
 paired_length (paired_next s o l k e p) = ap suc (paired_length p)
 
 module _ (files : List (List ℕ)) where
-  module _ {n m : ℕ} (a b : Appearance) (ofA : a.source ≡ n) (ofB : b.source ≡ m) (s : a.selector ≡ b.selector) (o : a.origin ≡ b.origin) where
+  module _ {n m : ℕ} (a b : Appearance) (of_a : a.source ≡ n) (of_b : b.source ≡ m) (s : a.selector ≡ b.selector) (o : a.origin ≡ b.origin) where
     paired_new : {more rest : List Appearance} → Paired n m more rest → Paired n m (a ∷ more) (b ∷ rest)
     paired_new p =
         let l : a.source ≤ n = omega arith in
@@ -80,7 +80,7 @@ module _ (files : List (List ℕ)) where
     note_paired paired_none = paired_new paired_none
     note_paired (paired_next {a = x} {b = y} {more = more} {rest = rest} xy po l k e p) =
         go (same_selector files x.selector a.selector) (same_selector files y.selector b.selector) (λ i. same_selector files (xy i) (s i))
-        (ltb x.source a.source) (ltb y.source b.source) (ap (ltb x.source) ofA ∙ e ∙ sym (ap (ltb y.source) ofB)) (note_paired p)
+        (ltb x.source a.source) (ltb y.source b.source) (ap (ltb x.source) of_a ∙ e ∙ sym (ap (ltb y.source) of_b)) (note_paired p)
       where
         go : (t u : Bool) → t ≡ u → (v w : Bool) → v ≡ w → Paired n m (note files a more) (note files b rest)
             → Paired n m (choose t (choose v a x ∷ more) (x ∷ note files a more)) (choose u (choose w b y ∷ rest) (y ∷ note files b rest))
@@ -97,7 +97,7 @@ module _ (files : List (List ℕ)) where
       → (words (note_all files xs rows) ≡ words (note_all files ys others)) × (length (note_all files xs rows) ≡ length (note_all files ys others))
   unfolding note_all
   noted_same matched_none p = (paired_words p, paired_length p)
-  noted_same (matched_here {a = a} {b = b} ofA ofB s o w) p = noted_same w (note_paired a b ofA ofB s o p)
+  noted_same (matched_here {a = a} {b = b} of_a of_b s o w) p = noted_same w (note_paired a b of_a of_b s o p)
   noted_same (matched_later i j g h w) p = noted_same w (paired_later i j g h p)
 
   module _ {n m : ℕ} {r q : Rows} (w : MatchedRows n m r q) (o : Ordered r.rows) (z : Ordered q.rows) (result : List ℕ) where

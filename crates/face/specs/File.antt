@@ -35,5 +35,5 @@ sizes_of n =
     }
 
 abbrev pub ranges_of : ℕ → ℕ → ℕ → ℕ → Ranges
-ranges_of firstFrame lastFrame firstSlide lastSlide =
-    record { first_frame = firstFrame; last_frame = lastFrame; first_slide = firstSlide; last_slide = lastSlide }
+ranges_of first_frame last_frame first_slide last_slide =
+    record { first_frame = first_frame; last_frame = last_frame; first_slide = first_slide; last_slide = last_slide }

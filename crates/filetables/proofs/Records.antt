@@ -19,8 +19,8 @@ use Rattle.macho.specs.declared.command.Found.{Found}
 use Rattle.fixups.specs.FixupChains.{chained_fixups_kind}
 use Rattle.fixups.specs.Tables.{rebase_row, bind_row, rows_of}
 use Rattle.fixups.specs.Fixups.{Result, pair, leaves, fixups_found, settled}
-use Rattle.opcodes.specs.Tables.{bind_row as boundRow}
-use Rattle.opcodes.specs.Binds.{binds_found, Result as BindsResult, leaves as bindsLeaves, settled as bindsSettled}
+use Rattle.opcodes.specs.Tables.{bind_row as bound_row}
+use Rattle.opcodes.specs.Binds.{binds_found, Result as BindsResult, leaves as binds_leaves, settled as binds_settled}
 use Rattle.opcodes.specs.declared.binding.Bound.{Bound}
 use Rattle.filetables.specs.Kind.{asked_kind}
 use Rattle.filetables.specs.FileRecords.{as_records, bound_records, records_in, file_records}
@@ -30,31 +30,31 @@ unfolding as_records rows_of
 no_rebases [] = refl
 no_rebases (x ∷ xs) = no_rebases xs
 
-bind_rows : (xs : List Bound) → rows_of bind_row (as_records xs) ≡ rows_of boundRow xs
+bind_rows : (xs : List Bound) → rows_of bind_row (as_records xs) ≡ rows_of bound_row xs
 unfolding as_records rows_of
 bind_rows [] = refl
-bind_rows (x ∷ xs) = ap (λ (ws : List ℕ). boundRow x ++ ws) (bind_rows xs)
+bind_rows (x ∷ xs) = ap (λ (ws : List ℕ). bound_row x ++ ws) (bind_rows xs)
 
 -- A bind table beside a rebase table without records.
 module _ (rs bs : List ℕ) where
   abbrev beside : BindsResult → Result
   beside r = leaves (and_then r.count (λ n. value (pair 0 n))) rs r.binds
 
-  beside_settled : (o : Outcome (List Bound)) → beside (bindsSettled o bs) ≡ settled (bound_records o) rs bs
-  unfolding settled bindsSettled written choose
+  beside_settled : (o : Outcome (List Bound)) → beside (binds_settled o bs) ≡ settled (bound_records o) rs bs
+  unfolding settled binds_settled written choose
   beside_settled (absent r) = refl
   beside_settled (number k) = refl
-  beside_settled (value xs) = rw (no_rebases xs, bind_rows xs, choose_true _ _ (le-leb 0 (length rs) (omega arith))) (go (leb (length (rows_of boundRow xs)) (length bs)) _ _)
+  beside_settled (value xs) = rw (no_rebases xs, bind_rows xs, choose_true _ _ (le-leb 0 (length rs) (omega arith))) (go (leb (length (rows_of bound_row xs)) (length bs)) _ _)
     where
       go : (t : Bool) (a b : BindsResult) → beside (choose t a b) ≡ choose t (beside a) (beside b)
       go true a b = refl
       go false a b = refl
 
-  pub from_opcodes : (o : Outcome (List Bound)) (n : Outcome ℕ) (bs' : List ℕ) → bindsLeaves n bs' ≡ bindsSettled o bs
+  pub from_opcodes : (o : Outcome (List Bound)) (n : Outcome ℕ) (bs' : List ℕ) → binds_leaves n bs' ≡ binds_settled o bs
       → leaves (and_then n (λ n. value (pair 0 n))) rs bs' ≡ settled (bound_records o) rs bs
   from_opcodes o n bs' e = ap beside e ∙ beside_settled o
 
-  pub from_missing : (o : Outcome (List Bound)) (m : Missing) (bs' : List ℕ) → bindsLeaves (missed m) bs' ≡ bindsSettled o bs
+  pub from_missing : (o : Outcome (List Bound)) (m : Missing) (bs' : List ℕ) → binds_leaves (missed m) bs' ≡ binds_settled o bs
       → leaves (missed m) rs bs' ≡ settled (bound_records o) rs bs
   from_missing o (Absent r) bs' e = from_opcodes o (absent r) bs' e
   from_missing o (Refused k) bs' e = from_opcodes o (number k) bs' e

@@ -148,17 +148,17 @@ module _ (x : Ranges) (frames_in_order : x.first_frame ≤ x.last_frame) (slides
         (λ some.
         let any = leb-true x.first_slide x.last_frame some in
         by_choose (Says x starts a) (λ past. says_past (ltb-true (highest x) a past))
-        (λ notPast.
-        let h = ltb-false (highest x) a notPast in
+        (λ not_past.
+        let h = ltb-false (highest x) a not_past in
         by_choose (Says x starts a) (λ between. says_between any h (ltb-true (lowest x) a between))
-        (λ notBetween.
-        let l = ltb-false (lowest x) a notBetween in
-        by_choose (Says x starts a) (λ atHighest. says_certain any l (at_floor starts (highest x) g q a atHighest))
-        (λ notAtHighest.
+        (λ not_between.
+        let l = ltb-false (lowest x) a not_between in
+        by_choose (Says x starts a) (λ at_highest. says_certain any l (at_floor starts (highest x) g q a at_highest))
+        (λ not_at_highest.
         by_choose (Says x starts a)
-        (λ atLowest. says_first any l (at_floor starts (lowest x) f p a atLowest) (below_floor starts (highest x) g q a m h notAtHighest))
-        (λ notAtLowest. says_passed any l (below_floor starts (lowest x) f p a m l notAtLowest))))))
-        (λ noPair. says_no_pair (leb-false x.first_slide x.last_frame noPair))
+        (λ at_lowest. says_first any l (at_floor starts (lowest x) f p a at_lowest) (below_floor starts (highest x) g q a m h not_at_highest))
+        (λ not_at_lowest. says_passed any l (below_floor starts (lowest x) f p a m l not_at_lowest))))))
+        (λ no_pair. says_no_pair (leb-false x.first_slide x.last_frame no_pair))
 
 -- No pair is possible where no ranges are given.
 pub no_pair_given : Pair no_ranges → ⊥

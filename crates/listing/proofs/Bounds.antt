@@ -26,7 +26,7 @@ use Rattle.records.specs.declared.list.ListKind.{ListKind}
 use Rattle.records.specs.declared.protocol.ObjcProtocol.{ObjcProtocol}
 use Rattle.walks.specs.Gather.{gather, of_value, as_each}
 use Rattle.walks.specs.PlainSections.{plain_classes, plain_protocols, plain_categories, Gives, passing, dropping, giving, Run}
-use Rattle.walks.specs.PlainSections as plainSections
+use Rattle.walks.specs.PlainSections as plain_sections
 use Rattle.walks.specs.Sections as sections
 use Rattle.walks.specs.Sections.{Walk}
 use Rattle.walks.specs.Slots.{slot_count, protocol_count}
@@ -35,7 +35,7 @@ use Rattle.walks.proofs.PlainWalks.{class_run, category_run, protocol_run}
 use Rattle.walks.proofs.Walk.{settled_bound}
 use Rattle.listing.specs.PlainListing.{Field, row_list, name_list, ro_fields, protocol_fields, category_fields, plain_records, record_fields, Entry, entry_in, entries_in, Event, field_events, record_events, events_from, plain_events}
 use Rattle.listing.specs.declared.at.Record.{Record}
-use Rattle.listing.specs.declared.at.Record.TheVariants as aRecord
+use Rattle.listing.specs.declared.at.Record.TheVariants as a_record
 use Rattle.listing.proofs.Events.{parts_length, each_length, field_parts, entries_length, names_settle_none}
 
 -- The fields that name a list of rows.
@@ -52,9 +52,9 @@ class_six (number k) fs e = let z : ◌≡◌ {A = ℕ} 0 1 = cc in absurd (omeg
 
 six_lists : (t : Tables) (x : Record) (fs : List Field) → record_fields t x ≡ value fs → row_lists fs ≤ 6
 unfolding record_fields
-six_lists t (aRecord.Class c) fs e = class_six (ro_of t c) fs e
-six_lists t (aRecord.Protocol p) fs e = let same : fs ≡ protocol_fields p = cc in rw same (unfold row_lists in omega arith)
-six_lists t (aRecord.Category c) fs e = let same : fs ≡ category_fields c = cc in rw same (unfold row_lists in omega arith)
+six_lists t (a_record.Class c) fs e = class_six (ro_of t c) fs e
+six_lists t (a_record.Protocol p) fs e = let same : fs ≡ protocol_fields p = cc in rw same (unfold row_lists in omega arith)
+six_lists t (a_record.Category c) fs e = let same : fs ≡ category_fields c = cc in rw same (unfold row_lists in omega arith)
 
 module _ (t : Tables) (o : Opened t) where
   -- S x floor(n / 12), the most that a walk over one list settles.
@@ -105,7 +105,7 @@ module _ (t : Tables) (o : Opened t) where
 
 -- A run gives at most a record for each step.
 gives_few : {A : Type 0} {step : Walk → List ℕ → sections.Left A} {n : ℕ} {w : Walk} {l : List ℕ} {rs : List A} → Gives step n w l rs → length rs ≤ n
-gives_few (plainSections.ended e) = omega arith
+gives_few (plain_sections.ended e) = omega arith
 gives_few (passing e g) = omega (arith, gives_few g)
 gives_few (dropping e g) = omega (arith, gives_few g)
 gives_few (giving e g) = omega (arith, gives_few g)
@@ -161,11 +161,11 @@ module _ (t : Tables) (o : Opened t) where
   records_slots : (rs : List Record) → plain_records t ≡ value rs → length rs ≤ 9 * (longest t.files / 8)
   unfolding plain_records
   records_slots rs e =
-      let all = joined_parts (as_each aRecord.Class (plain_classes t)) _ e in
-      let others = joined_parts (as_each aRecord.Protocol (plain_protocols t)) (as_each aRecord.Category (plain_categories t)) all.of_second in
-      let classes = each_came aRecord.Class (plain_classes t) all.of_first in
-      let protocols = each_came aRecord.Protocol (plain_protocols t) others.of_first in
-      let categories = each_came aRecord.Category (plain_categories t) others.of_second in
+      let all = joined_parts (as_each a_record.Class (plain_classes t)) _ e in
+      let others = joined_parts (as_each a_record.Protocol (plain_protocols t)) (as_each a_record.Category (plain_categories t)) all.of_second in
+      let classes = each_came a_record.Class (plain_classes t) all.of_first in
+      let protocols = each_came a_record.Protocol (plain_protocols t) others.of_first in
+      let categories = each_came a_record.Category (plain_categories t) others.of_second in
       omega (
         arith,
         parts_length all,

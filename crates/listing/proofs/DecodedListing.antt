@@ -28,7 +28,7 @@ use Rattle.listing.specs.PlainListing as plain
 use Rattle.listing.specs.PlainListing.{info_line, version_and_flags, row_line, end_line, Field, row_list, name_list, ro_fields, plain_records, own_lines, record_fields, entry_lines, field_lines, fields_lines, lines_of, entry_in, entries_in, field_events, record_events, events_from, plain_events, plain_listing}
 use Rattle.listing.specs.DecodeListing.{gather, or_nothing, of_value, present, decode_addresses, decode_listed, decode_with_meta, decode_classes, decode_categories, decode_protocols, decode_records, decode_slot_names, decode_protocol_names, named_by, decode_named, decode_own_lines, decode_fields, decode_index, decode_indices, decode_readables, decode_entry_lines, decode_field_lines, decode_fields_lines, decode_lines_of, entry_tried, decode_entry, decode_entries, decode_field_events, decode_record_events, decode_events_from, decode_events, decode_listing}
 use Rattle.listing.specs.declared.at.Record.{Record}
-use Rattle.listing.specs.declared.at.Record.TheVariants as aRecord
+use Rattle.listing.specs.declared.at.Record.TheVariants as a_record
 use Rattle.listing.specs.declared.line.Line.{Line}
 use Rattle.listing.specs.declared.line.Line.TheVariants as line
 
@@ -126,16 +126,16 @@ module _ (t : Tables) where
 
   pub own_lines_run : (x : Record) → run t (decode_own_lines x) ≡ own_lines t x
   unfolding decode_own_lines own_lines
-  own_lines_run (aRecord.Class c) =
+  own_lines_run (a_record.Class c) =
       rw (named_runs (decode_class_name_of c.address c.superclass_address), of_value_runs (decode_ro_of c) (λ r. done (line.Ro r ∷ [])) (λ r. value (line.Ro r ∷ [])) (λ r. refl))
-  own_lines_run (aRecord.Protocol p) = refl
-  own_lines_run (aRecord.Category c) = rw (named_runs (decode_class_name_of c.address c.class_address))
+  own_lines_run (a_record.Protocol p) = refl
+  own_lines_run (a_record.Category c) = rw (named_runs (decode_class_name_of c.address c.class_address))
 
   pub fields_run : (x : Record) → run t (decode_fields x) ≡ record_fields t x
   unfolding decode_fields record_fields
-  fields_run (aRecord.Class c) = of_value_runs (decode_ro_of c) (λ r. done (ro_fields r)) (λ r. value (ro_fields r)) (λ r. refl)
-  fields_run (aRecord.Protocol p) = refl
-  fields_run (aRecord.Category c) = refl
+  fields_run (a_record.Class c) = of_value_runs (decode_ro_of c) (λ r. done (ro_fields r)) (λ r. value (ro_fields r)) (λ r. refl)
+  fields_run (a_record.Protocol p) = refl
+  fields_run (a_record.Category c) = refl
 
   -- A test whether bytes can be read is never refused.
   index_runs : (h : Layout) (i : ℕ) → run t (decode_index h i) ≡ value (choose (entry (image_in t) h i) (i ∷ []) [])

@@ -55,7 +55,7 @@ use Rattle.listing.specs.DecodeListing.{decode_listing}
 use Rattle.listing.specs.PlainListing as plain
 use Rattle.listing.specs.PlainListing.{Event, event, with_row, without_row, plain_records, events_from, plain_events, plain_listing}
 use Rattle.listing.specs.declared.at.Record.{Record}
-use Rattle.listing.specs.declared.at.Record.TheVariants as aRecord
+use Rattle.listing.specs.declared.at.Record.TheVariants as a_record
 use Rattle.listing.specs.declared.line.Line.{Line}
 use Rattle.listing.specs.declared.line.Line.TheVariants as line
 use Rattle.listing.specs.declared.line.Named.TheVariants as named
@@ -101,7 +101,7 @@ abbrev file_class : ObjcClass
 file_class = record { address = 0x1000; isa = 0; superclass_address = 0; bits = 0x1028; is_meta = false }
 
 abbrev the_record : Record
-the_record = aRecord.Class file_class
+the_record = a_record.Class file_class
 
 abbrev the_ro : ClassRo
 the_ro =

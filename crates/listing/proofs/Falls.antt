@@ -21,11 +21,11 @@ use Rattle.listing.specs.Listing.{Begun, begun, owner_fields, at_first, enter, S
 use Rattle.listing.specs.declared.at.At.{At}
 use Rattle.listing.specs.declared.at.At.TheVariants as place
 use Rattle.listing.specs.declared.at.FieldWalk.{FieldWalk}
-use Rattle.listing.specs.declared.at.FieldWalk.TheVariants as fieldWalk
+use Rattle.listing.specs.declared.at.FieldWalk.TheVariants as field_walk
 use Rattle.listing.specs.declared.at.Owner.{Owner}
-use Rattle.listing.specs.declared.at.Owner.TheVariants as anOwner
+use Rattle.listing.specs.declared.at.Owner.TheVariants as an_owner
 use Rattle.listing.specs.declared.at.Record.{Record}
-use Rattle.listing.specs.declared.at.Record.TheVariants as aRecord
+use Rattle.listing.specs.declared.at.Record.TheVariants as a_record
 use Rattle.listing.proofs.Remaining.{walk_left, section_weight, list_left, cursor_in, place_left, remaining, goes_on, slot_of, InWords}
 
 pub never : {A : Type 0} → false ≡ true → A
@@ -78,16 +78,16 @@ module _ (s : State) (l : List ℕ) where
   onward_falls (number k) go f = stays k
 
   record_falls : place_left s.at ≡ 2 ^ 71 → (t : Tables) (x : Record) → Falls s (record_step t s l x)
-  record_falls h t (aRecord.Class c) =
+  record_falls h t (a_record.Class c) =
       onward_falls (name_or_none (guarded t (superclass_name t c))) _ (λ name. record { falls = λ e f. nearer _ s refl (omega (arith, h)) })
-  record_falls h t (aRecord.Protocol p) =
-      onward_falls (asked t) _ (λ u. record { falls = λ e f. nearer _ s refl (omega (arith, h, enter_few s.setting (anOwner.Protocol p) 0)) })
-  record_falls h t (aRecord.Category c) =
+  record_falls h t (a_record.Protocol p) =
+      onward_falls (asked t) _ (λ u. record { falls = λ e f. nearer _ s refl (omega (arith, h, enter_few s.setting (an_owner.Protocol p) 0)) })
+  record_falls h t (a_record.Category c) =
       onward_falls (name_or_none (guarded t (category_class_name t c))) _
-      (λ name. record { falls = λ e f. nearer _ s refl (omega (arith, h, enter_few s.setting (anOwner.Category c) 0)) })
+      (λ name. record { falls = λ e f. nearer _ s refl (omega (arith, h, enter_few s.setting (an_owner.Category c) 0)) })
 
   ro_falls : place_left s.at ≡ 2 ^ 70 → (o : Outcome ClassRo) → Falls s (by_ro s l o)
-  ro_falls h (value r) = record { falls = λ e f. nearer _ s refl (omega (arith, h, enter_few s.setting (anOwner.Class r) 0)) }
+  ro_falls h (value r) = record { falls = λ e f. nearer _ s refl (omega (arith, h, enter_few s.setting (an_owner.Class r) 0)) }
   ro_falls h (absent r) = record { falls = λ e f. nearer _ s refl (omega (arith, h)) }
   ro_falls h (number k) = stays k
 
@@ -110,17 +110,17 @@ module _ (s : State) (l : List ℕ) where
     name_falls w v h (absent r) m = record { falls = λ e f. nearer _ s refl (omega (arith, h, enter_few s.setting o (suc n))) }
 
     list_falls : (t : Tables) (x : FieldWalk) → place_left s.at ≡ list_left (cursor_in x) lists_after → Falls s (list_step t s l o n x)
-    list_falls t (fieldWalk.Rows w) h = let x = next_of t w in row_falls w x.walk h x.answer (row_step_moved t w).moves
-    list_falls t (fieldWalk.Names w) h = let x = next_name t w in name_falls w x.walk h x.answer (name_step_moved t w).moves
+    list_falls t (field_walk.Rows w) h = let x = next_of t w in row_falls w x.walk h x.answer (row_step_moved t w).moves
+    list_falls t (field_walk.Names w) h = let x = next_name t w in name_falls w x.walk h x.answer (name_step_moved t w).moves
 
 -- A step of a section walk, over any section: `weight` is what the sections after it weigh.
-module _ {A : Type 0} (s : State) (h : place_left s.at ≡ 1) (f : A → Record) (inWalk : Walk → SectionWalk) (weight : ℕ)
-    (weighs : (w : Walk) → section_weight (inWalk w) ≡ weight + walk_left w) (slots : (w : Walk) → slot_of (inWalk w) ≡ w.slot) (w v : Walk)
-    (here : s.section ≡ inWalk w) (m : List ℕ) (last : v ≡ w → Falls s (after_section s m (inWalk v))) where
-  taken_falls : (walk_left v < walk_left w) → (place : At) → place_left place < 2 ^ 80 → remaining (listing.in_section s place (inWalk v)) < remaining s
+module _ {A : Type 0} (s : State) (h : place_left s.at ≡ 1) (f : A → Record) (in_walk : Walk → SectionWalk) (weight : ℕ)
+    (weighs : (w : Walk) → section_weight (in_walk w) ≡ weight + walk_left w) (slots : (w : Walk) → slot_of (in_walk w) ≡ w.slot) (w v : Walk)
+    (here : s.section ≡ in_walk w) (m : List ℕ) (last : v ≡ w → Falls s (after_section s m (in_walk v))) where
+  taken_falls : (walk_left v < walk_left w) → (place : At) → place_left place < 2 ^ 80 → remaining (listing.in_section s place (in_walk v)) < remaining s
   taken_falls less place small = lighter _ s (rw (here, weighs v, weighs w) (omega (arith, less))) small
 
-  walk_falls : (o : Outcome (Step A)) → SectionMoves w v o → Falls s (onward s m (as_record f o) (by_section s m (inWalk v)))
+  walk_falls : (o : Outcome (Step A)) → SectionMoves w v o → Falls s (onward s m (as_record f o) (by_section s m (in_walk v)))
   walk_falls (value (found a)) b = record { falls = λ e g. taken_falls (further_less w v b (rw (slots v) at g.slot)) (place.Record (f a)) (omega arith) }
   walk_falls (value (passed r)) b = record { falls = λ e g. taken_falls (further_less w v b (rw (slots v) at g.slot)) place.Section (omega arith) }
   walk_falls (value dropped) b = record { falls = λ e g. taken_falls (further_less w v b (rw (slots v) at g.slot)) place.Section (omega arith) }
@@ -132,17 +132,17 @@ module _ (s : State) (l : List ℕ) where
   stage_falls : (t : Tables) (n : ℕ) (c p k : Begun) → place_left s.at ≡ 1 → s.section ≡ walks n c p k → Falls s (on_section s (section_step t l (walks n c p k)))
   stage_falls t zero c p k h e =
       let x = step_of sections.classes (under c.setting t) c.walk l in
-      walk_falls s h aRecord.Class (λ v. walks 0 (begun c.setting v) p k) (2 * 2 ^ 70) (λ v. refl) (λ v. refl) c.walk x.walk e x.ledger
+      walk_falls s h a_record.Class (λ v. walks 0 (begun c.setting v) p k) (2 * 2 ^ 70) (λ v. refl) (λ v. refl) c.walk x.walk e x.ledger
       (λ b. record { falls = λ g i. lighter _ s (rw e (omega (arith, walk_few at_start))) (omega arith) })
       x.answer (section_step_moved sections.classes (under c.setting t) c.walk l).moves
   stage_falls t (suc zero) c p k h e =
       let x = protocol_step_of (under p.setting t) p.walk [] in
-      walk_falls s h aRecord.Protocol (λ v. walks 1 c (begun p.setting v) k) (2 ^ 70) (λ v. refl) (λ v. refl) p.walk x.walk e l
+      walk_falls s h a_record.Protocol (λ v. walks 1 c (begun p.setting v) k) (2 ^ 70) (λ v. refl) (λ v. refl) p.walk x.walk e l
       (λ b. record { falls = λ g i. lighter _ s (rw e (omega (arith, walk_few at_start))) (omega arith) })
       x.answer (protocol_step_moved (under p.setting t) p.walk []).moves
   stage_falls t (suc (suc n)) c p k h e =
       let x = step_of sections.categories (under k.setting t) k.walk l in
-      walk_falls s h aRecord.Category (λ v. walks (suc (suc n)) c p (begun k.setting v)) 0 (λ v. omega arith) (λ v. refl) k.walk x.walk e x.ledger
+      walk_falls s h a_record.Category (λ v. walks (suc (suc n)) c p (begun k.setting v)) 0 (λ v. omega arith) (λ v. refl) k.walk x.walk e x.ledger
       (λ b. record { falls = λ g i. nearer _ s (rw (e, b)) (omega (arith, h)) })
       x.answer (section_step_moved sections.categories (under k.setting t) k.walk l).moves
 

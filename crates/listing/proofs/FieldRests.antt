@@ -30,7 +30,7 @@ use Rattle.listing.specs.PlainListing.{Field, row_list, name_list, row_line, nam
 use Rattle.listing.specs.Listing.{owner_fields, in_list, enter, SectionWalk, State, state, after_row, after_name, step_at, listing_step}
 use Rattle.listing.specs.ListingRun.{events_in, events_at, settled_in}
 use Rattle.listing.specs.declared.at.At.TheVariants as place
-use Rattle.listing.specs.declared.at.FieldWalk.TheVariants as fieldWalk
+use Rattle.listing.specs.declared.at.FieldWalk.TheVariants as field_walk
 use Rattle.listing.specs.declared.at.Owner.{Owner}
 use Rattle.listing.specs.declared.line.Line.{Line}
 use Rattle.listing.proofs.Events.{field_parts, names_settle_none, entries_length}
@@ -49,7 +49,7 @@ drop_next (suc n) (b ∷ l) e = drop_next n l e
 module _ (t : Tables) (o : Opened t) (Over : State → List ℕ → Type 0) (k : ListKind) (list n : ℕ) (w : Owner) (sec : SectionWalk) (r : ℕ) (l : List ℕ) where
   -- The state at entry p, with c entries settled so far.
   abbrev at_entry : ℕ → ℕ → State
-  at_entry p c = state t.setting (in_list w n (fieldWalk.Rows (walk_of t.setting list k p))) sec r c
+  at_entry p c = state t.setting (in_list w n (field_walk.Rows (walk_of t.setting list k p))) sec r c
 
   step_by : (p c : ℕ) (x : RowLeft) → next_of t (walk_of t.setting list k p) ≡ x → listing_step t (at_entry p c) l ≡ after_row (at_entry p c) l w n x
   unfolding step_at
@@ -148,7 +148,7 @@ module _ (t : Tables) (o : Opened t) (Over : State → List ℕ → Type 0) (k :
 -- The steps over one list of protocol names.
 module _ (t : Tables) (o : Opened t) (Over : State → List ℕ → Type 0) (list n : ℕ) (w : Owner) (sec : SectionWalk) (r c : ℕ) (l : List ℕ) where
   abbrev at_name : ℕ → State
-  at_name i = state t.setting (in_list w n (fieldWalk.Names (walk_at t.setting list i))) sec r c
+  at_name i = state t.setting (in_list w n (field_walk.Names (walk_at t.setting list i))) sec r c
 
   name_by : (i : ℕ) (x : NameLeft) → next_name t (walk_at t.setting list i) ≡ x → listing_step t (at_name i) l ≡ after_name (at_name i) l w n i x
   unfolding step_at

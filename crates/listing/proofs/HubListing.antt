@@ -24,7 +24,7 @@ use Rattle.walks.proofs.HubRun.{hub, hub_methods, slot_stored, up, row_0, row_1,
 use Rattle.records.proofs.ListCases.{hub_two}
 use Rattle.pointers.specs.Tables.{reading_new}
 use Rattle.listing.specs.PlainListing as plain
-use Rattle.listing.specs.declared.at.Record.TheVariants as aRecord
+use Rattle.listing.specs.declared.at.Record.TheVariants as a_record
 use Rattle.listing.specs.declared.line.Line.{Line}
 use Rattle.listing.specs.declared.line.Line.TheVariants as line
 use Rattle.listing.specs.declared.line.Named.TheVariants as named
@@ -68,15 +68,15 @@ hub_class_ro =
 abbrev pub class_line_lem : Line
 class_line_lem = line.Class (record { class = hub_class_record; superclass_name = named.Text (text_of 0 182 8) })
 
-hub_records : plain.plain_records hub ≡ value (aRecord.Class hub_class_record ∷ [])
+hub_records : plain.plain_records hub ≡ value (a_record.Class hub_class_record ∷ [])
 unfolding plain.plain_records
 hub_records = rw (hub_classes, hub_protocols, hub_categories)
 
-hub_own : plain.own_lines hub (aRecord.Class hub_class_record) ≡ value (class_line_lem ∷ line.Ro hub_class_ro ∷ [])
+hub_own : plain.own_lines hub (a_record.Class hub_class_record) ≡ value (class_line_lem ∷ line.Ro hub_class_ro ∷ [])
 unfolding plain.own_lines
 hub_own = rw (hub_superclass, hub_ro_of, hub_ro)
 
-hub_fields : plain.record_fields hub (aRecord.Class hub_class_record) ≡ value (plain.ro_fields hub_class_ro)
+hub_fields : plain.record_fields hub (a_record.Class hub_class_record) ≡ value (plain.ro_fields hub_class_ro)
 unfolding plain.record_fields
 hub_fields = rw (hub_ro_of, hub_ro)
 
@@ -88,7 +88,7 @@ hub_lines : plain.fields_lines hub 0 (plain.ro_fields hub_class_ro) ≡ value (r
 unfolding plain.fields_lines plain.field_lines protocol_names gather
 hub_lines = rw (hub_methods, hub_two, row_0, row_1, no_list hub Ivars, no_list hub Properties, no_names hub)
 
-hub_settling : plain.events_from hub 0 (aRecord.Class hub_class_record ∷ []) ≡ value (plain.event 0 0 (plain.with_row 0) ∷ plain.event 0 0 (plain.without_row 1 Unmapped) ∷ [])
+hub_settling : plain.events_from hub 0 (a_record.Class hub_class_record ∷ []) ≡ value (plain.event 0 0 (plain.with_row 0) ∷ plain.event 0 0 (plain.without_row 1 Unmapped) ∷ [])
 unfolding plain.events_from plain.record_events plain.field_events plain.entries_in gather
 hub_settling = rw hub_fields (rw (hub_methods, hub_two, row_0, row_1, no_list hub Ivars, no_list hub Properties))
 

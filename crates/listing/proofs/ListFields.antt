@@ -5,13 +5,13 @@ use Rattle.listing.specs.Listing.{owner_fields, at_first, enter}
 use Rattle.listing.specs.declared.at.At.{At}
 use Rattle.listing.specs.declared.at.At.TheVariants as place
 use Rattle.listing.specs.declared.at.Owner.{Owner}
-use Rattle.listing.specs.declared.at.Owner.TheVariants as anOwner
+use Rattle.listing.specs.declared.at.Owner.TheVariants as an_owner
 
 -- A record has at most seven lists.
 at_most_seven : (o : Owner) → length (owner_fields o) ≤ 7
-at_most_seven (anOwner.Class r) = omega arith
-at_most_seven (anOwner.Protocol p) = omega arith
-at_most_seven (anOwner.Category c) = omega arith
+at_most_seven (an_owner.Class r) = omega arith
+at_most_seven (an_owner.Protocol p) = omega arith
+at_most_seven (an_owner.Category c) = omega arith
 
 -- Past them the section goes on.
 pub none_past_seven : (u : Setting) (o : Owner) (n : ℕ) → 7 ≤ n → place.Section ≡ enter u o (suc n)

@@ -11,9 +11,9 @@ use Rattle.listing.specs.ListingRun.{events_at, events_in, line_said, settled_at
 use Rattle.listing.specs.declared.at.At.{At}
 use Rattle.listing.specs.declared.at.At.TheVariants as place
 use Rattle.listing.specs.declared.at.FieldWalk.{FieldWalk}
-use Rattle.listing.specs.declared.at.FieldWalk.TheVariants as fieldWalk
+use Rattle.listing.specs.declared.at.FieldWalk.TheVariants as field_walk
 use Rattle.listing.specs.declared.at.Owner.{Owner}
-use Rattle.listing.specs.declared.at.Record.TheVariants as aRecord
+use Rattle.listing.specs.declared.at.Record.TheVariants as a_record
 use Rattle.listing.specs.declared.line.Line.{Line}
 
 module _ (u : Setting) (t : Tables) where
@@ -27,16 +27,16 @@ module _ (u : Setting) (t : Tables) where
   loan_at s l place.Info = refl
   loan_at s l place.Section =
       let x = s.section in ap (on_section s) (loan_section l x.stage x.classes_at x.protocols_at x.categories_at)
-  loan_at s l (place.Record (aRecord.Class c)) = refl
-  loan_at s l (place.Record (aRecord.Protocol p)) = refl
-  loan_at s l (place.Record (aRecord.Category c)) = refl
+  loan_at s l (place.Record (a_record.Class c)) = refl
+  loan_at s l (place.Record (a_record.Protocol p)) = refl
+  loan_at s l (place.Record (a_record.Category c)) = refl
   loan_at s l (place.Ro c) = refl
   loan_at s l (place.List n x) = go x.owner x.walk
     where
       go : (o : Owner) (w : FieldWalk)
           → step_at (under u t) s l (place.List n (record { walk = w; owner = o })) ≡ step_at t s l (place.List n (record { walk = w; owner = o }))
-      go o (fieldWalk.Rows w) = refl
-      go o (fieldWalk.Names w) = refl
+      go o (field_walk.Rows w) = refl
+      go o (field_walk.Names w) = refl
   loan_at s l place.End = refl
 
   pub loan_step : (s : State) (l : List ℕ) → listing_step (under u t) s l ≡ listing_step t s l
@@ -52,8 +52,8 @@ module _ (u : Setting) (t : Tables) where
     where
       go : (o : Owner) (w : FieldWalk)
           → events_at (under u t) r (place.List n (record { walk = w; owner = o })) ≡ events_at t r (place.List n (record { walk = w; owner = o }))
-      go o (fieldWalk.Rows w) = refl
-      go o (fieldWalk.Names w) = refl
+      go o (field_walk.Rows w) = refl
+      go o (field_walk.Names w) = refl
   loan_events_at r place.End = refl
 
   loan_events : (s : State) → events_in (under u t) s ≡ events_in t s

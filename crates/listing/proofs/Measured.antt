@@ -10,7 +10,7 @@ use Rattle.pointers.specs.Tables.{section_table_words}
 use Rattle.pointers.proofs.Questions.{every_at}
 use Rattle.listing.specs.declared.bundle.Counts.{Counts}
 use Rattle.listing.specs.declared.bundle.CountsAnswer.{CountsAnswer}
-use Rattle.listing.specs.declared.bundle.CountsAnswer.TheVariants as countsAnswer
+use Rattle.listing.specs.declared.bundle.CountsAnswer.TheVariants as counts_answer
 
 -- The length in document 01's order: counts, ends, image info, the words of the four tables, the four files.
 pub said_length_lem : (c : Counts)
@@ -82,7 +82,7 @@ accepted bytes c =
     (λ t e. let z : ◌≡◌ {A = ℕ} 0 1 = cc in absurd (omega arith))
 
 -- The same, of an answer of the code.
-pub measured : (r : CountsAnswer) (bytes : List ℕ) (c : Counts) → counts_outcome r ≡ bundle_counts bytes → r ≡ countsAnswer.Counts c → Accepted bytes c
+pub measured : (r : CountsAnswer) (bytes : List ℕ) (c : Counts) → counts_outcome r ≡ bundle_counts bytes → r ≡ counts_answer.Counts c → Accepted bytes c
 measured r bytes c e g = accepted bytes c (rw (← e, g))
 
 -- The tables of an accepted bundle have at most 4,084 words together.

@@ -54,7 +54,7 @@ use Rattle.walks.specs.Sections.{meta_of}
 use Rattle.listing.specs.Bundle.{words_from, bundle_fits, bundle_counts, bundled}
 use Rattle.listing.specs.PlainListing as plain
 use Rattle.listing.specs.declared.at.Record.{Record}
-use Rattle.listing.specs.declared.at.Record.TheVariants as aRecord
+use Rattle.listing.specs.declared.at.Record.TheVariants as a_record
 use Rattle.listing.specs.declared.bundle.Counts.{Counts}
 use Rattle.listing.specs.declared.line.Line.{Line}
 use Rattle.listing.specs.declared.line.Line.TheVariants as line
@@ -265,7 +265,7 @@ module _ (before : List ℕ) where
   the_categories_lem = rw (category_addresses, the_category)
 
   abbrev four_records : List Record
-  four_records = aRecord.Class node_class ∷ aRecord.Class meta_class ∷ aRecord.Protocol walks_protocol ∷ aRecord.Category extra_category ∷ []
+  four_records = a_record.Class node_class ∷ a_record.Class meta_class ∷ a_record.Protocol walks_protocol ∷ a_record.Category extra_category ∷ []
 
   the_records : plain.plain_records (node before) ≡ value four_records
   unfolding plain.plain_records
@@ -346,16 +346,16 @@ module _ (before : List ℕ) where
   unfolding plain.field_lines protocol_names gather
   name_lines n = rw (one_name, its_slots)
 
-  node_lines : plain.lines_of (node before) (aRecord.Class node_class) ≡ value (plain.class_line node_class named.Nothing ∷ line.Ro node_ro ∷ [])
+  node_lines : plain.lines_of (node before) (a_record.Class node_class) ≡ value (plain.class_line node_class named.Nothing ∷ line.Ro node_ro ∷ [])
   unfolding plain.lines_of plain.own_lines plain.record_fields plain.fields_lines
   node_lines = rw (node_superclass, node_ro_there, none_lines 0 Methods, none_lines 1 Ivars, none_lines 2 Properties, no_name_lines 3)
 
-  meta_lines : plain.lines_of (node before) (aRecord.Class meta_class)
+  meta_lines : plain.lines_of (node before) (a_record.Class meta_class)
       ≡ value (plain.class_line meta_class named.Nothing ∷ line.Ro meta_ro ∷ plain.row_line 0 go_row ∷ [])
   unfolding plain.lines_of plain.own_lines plain.record_fields plain.fields_lines
   meta_lines = rw (meta_superclass, meta_ro_there, list_lines 0, none_lines 1 Ivars, none_lines 2 Properties, no_name_lines 3)
 
-  protocol_lines : plain.lines_of (node before) (aRecord.Protocol walks_protocol) ≡ value (line.Protocol walks_protocol ∷ [])
+  protocol_lines : plain.lines_of (node before) (a_record.Protocol walks_protocol) ≡ value (line.Protocol walks_protocol ∷ [])
   unfolding plain.lines_of plain.own_lines plain.record_fields plain.fields_lines
   protocol_lines =
       rw (
@@ -368,7 +368,7 @@ module _ (before : List ℕ) where
         no_name_lines 6,
       )
 
-  category_lines : plain.lines_of (node before) (aRecord.Category extra_category)
+  category_lines : plain.lines_of (node before) (a_record.Category extra_category)
       ≡ value
       (plain.category_line extra_category (named.Text (text_of 1 0 4))
       ∷ plain.row_line 0 go_row

@@ -19,7 +19,7 @@ use Rattle.walks.proofs.OpenedSections.{classes_there, categories_there, protoco
 use Rattle.walks.proofs.ProtocolNameWalks.{names_there}
 use Rattle.listing.specs.PlainListing.{version_and_flags, Field, row_list, name_list, name_or_none, class_line, own_lines, record_fields, entry_lines, field_lines, fields_lines, lines_of, with_row, without_row, entry_by, entry_in, entries_in, event, field_events, record_events, events_from, plain_events, plain_records, plain_listing}
 use Rattle.listing.specs.declared.at.Record.{Record}
-use Rattle.listing.specs.declared.at.Record.TheVariants as aRecord
+use Rattle.listing.specs.declared.at.Record.TheVariants as a_record
 use Rattle.listing.specs.declared.line.Line.TheVariants as line
 use Rattle.listing.specs.declared.line.Named.TheVariants as named
 
@@ -40,17 +40,17 @@ module _ (t : Tables) (o : Opened t) where
 
   own_there : (x : Record) → There (own_lines t x)
   unfolding own_lines
-  own_there (aRecord.Class c) =
+  own_there (a_record.Class c) =
       there_then _ (name_there (class_name_of_unrefused t o _ _)) (λ name.
       there_joined (is_there (class_line c name ∷ [])) (there_of (λ r. value (line.Ro r ∷ [])) (ro_unrefused t o c) (λ r. is_there (line.Ro r ∷ []))))
-  own_there (aRecord.Protocol p) = is_there _
-  own_there (aRecord.Category c) = there_then _ (name_there (class_name_of_unrefused t o _ _)) (λ name. is_there _)
+  own_there (a_record.Protocol p) = is_there _
+  own_there (a_record.Category c) = there_then _ (name_there (class_name_of_unrefused t o _ _)) (λ name. is_there _)
 
   fields_there : (x : Record) → There (record_fields t x)
   unfolding record_fields
-  fields_there (aRecord.Class c) = there_of _ (ro_unrefused t o c) (λ r. is_there _)
-  fields_there (aRecord.Protocol p) = is_there _
-  fields_there (aRecord.Category c) = is_there _
+  fields_there (a_record.Class c) = there_of _ (ro_unrefused t o c) (λ r. is_there _)
+  fields_there (a_record.Protocol p) = is_there _
+  fields_there (a_record.Category c) = is_there _
 
   field_lines_there : (n : ℕ) (f : Field) → There (field_lines t n f)
   unfolding field_lines

@@ -17,7 +17,7 @@ use Rattle.walks.specs.ProtocolNames.{protocol_names}
 use Rattle.walks.proofs.Gathers.{Parts, joined_parts, gather_parts, each_came}
 use Rattle.listing.specs.PlainListing.{Field, row_list, name_list, name_or_none, class_line, category_line, row_line, name_line, own_lines, record_fields, entry_lines, field_lines, fields_lines, lines_of, record_line_count}
 use Rattle.listing.specs.declared.at.Record.{Record}
-use Rattle.listing.specs.declared.at.Record.TheVariants as aRecord
+use Rattle.listing.specs.declared.at.Record.TheVariants as a_record
 use Rattle.listing.specs.declared.line.Line.{Line}
 use Rattle.listing.specs.declared.line.Line.TheVariants as line
 
@@ -86,14 +86,14 @@ ro_none (number k) ys e = let z : ◌≡◌ {A = ℕ} 0 1 = cc in absurd (omega 
 
 own_one : (t : Tables) (x : Record) (ys : List Line) → own_lines t x ≡ value ys → record_line_count ys ≡ 1
 unfolding own_lines
-own_one t (aRecord.Class c) ys e =
+own_one t (a_record.Class c) ys e =
     let name = then_came (name_or_none (superclass_name t c)) _ ys e in
     let parts = joined_parts (value (class_line c name.0 ∷ [])) (of_value (ro_of t c) (λ r. value (line.Ro r ∷ []))) name.2 in
     let same : parts.first ≡ class_line c name.0 ∷ [] = let g = parts.of_first in cc in
     let own : record_line_count parts.first ≡ 1 = rw same (unfold record_line_count in refl) in
     omega (arith, parts_count parts, ro_none (ro_of t c) parts.second parts.of_second)
-own_one t (aRecord.Protocol p) ys e = let same : ys ≡ line.Protocol p ∷ [] = cc in rw same (unfold record_line_count in refl)
-own_one t (aRecord.Category c) ys e =
+own_one t (a_record.Protocol p) ys e = let same : ys ≡ line.Protocol p ∷ [] = cc in rw same (unfold record_line_count in refl)
+own_one t (a_record.Category c) ys e =
     let name = then_came (name_or_none (category_class_name t c)) _ ys e in
     let same : ys ≡ category_line c name.0 ∷ [] = let g = name.2 in cc in
     rw same (unfold record_line_count in refl)

@@ -21,7 +21,7 @@ use Rattle.walks.specs.declared.slots.Lists.TheVariants.{Categories, Protocols}
 use Rattle.listing.specs.DecodeListing.{joined, gather, of_value, present, as_each, decode_classes, decode_categories, decode_protocols, decode_records, decode_named, decode_own_lines, decode_lines_of, decode_listing}
 use Rattle.listing.specs.PlainListing.{plain_records, plain_listing}
 use Rattle.listing.specs.declared.at.Record.{Record}
-use Rattle.listing.specs.declared.at.Record.TheVariants as aRecord
+use Rattle.listing.specs.declared.at.Record.TheVariants as a_record
 use Rattle.listing.specs.declared.line.Line.{Line}
 use Rattle.listing.proofs.DecodedListing.{listed_runs, records_run, listing_runs}
 use Rattle.listing.proofs.ListedAsBefore.{tried_as_before}
@@ -56,13 +56,13 @@ module _ (t : Tables) (ends : StringsEnd t (decode_listing t.sections)) (there :
       (records.0, records.1, lines.0, lines.1)
 
   abbrev class_part : Decode (List Record)
-  class_part = as_each aRecord.Class (decode_classes t.sections)
+  class_part = as_each a_record.Class (decode_classes t.sections)
 
   abbrev protocol_part : Decode (List Record)
-  protocol_part = as_each aRecord.Protocol (decode_protocols t.sections)
+  protocol_part = as_each a_record.Protocol (decode_protocols t.sections)
 
   abbrev category_part : Decode (List Record)
-  category_part = as_each aRecord.Category (decode_categories t.sections)
+  category_part = as_each a_record.Category (decode_categories t.sections)
 
   classes_gave : Parts (run old class_part) (run old (joined protocol_part category_part)) recorded.0
   unfolding decode_records
@@ -87,7 +87,7 @@ module _ (t : Tables) (ends : StringsEnd t (decode_listing t.sections)) (there :
   pub protocols_as_before : Each (λ a. (p : ℕ) → address_in old a ≡ value p → protocol_at (under_new t) p ≡ protocol_at old p) (slots_of Protocols t.sections)
   unfolding decode_protocols
   protocols_as_before =
-      let gave = each_came aRecord.Protocol (run old (decode_protocols t.sections)) protocols_gave.of_first in
+      let gave = each_came a_record.Protocol (run old (decode_protocols t.sections)) protocols_gave.of_first in
       gather_each old (λ a. of_value (decode_address a) (λ p. present (decode_protocol p))) _ (decode_listing t.sections) (slots_of Protocols t.sections)
       gave.0 gave.1 in_protocols
       (λ a zs e lift p q. tried_as_before t ends (decode_protocol p) (lift _ _ (in_next (ap tried_of q) (in_first _ (in_trial itself)))))
@@ -96,7 +96,7 @@ module _ (t : Tables) (ends : StringsEnd t (decode_listing t.sections)) (there :
   pub categories_as_before : (xs : List ℕ) → listed old Categories ≡ value xs → Each (λ a. category_at (under_new t) a ≡ category_at old a) xs
   unfolding decode_categories
   categories_as_before xs q =
-      let gave = each_came aRecord.Category (run old (decode_categories t.sections)) protocols_gave.of_second in
+      let gave = each_came a_record.Category (run old (decode_categories t.sections)) protocols_gave.of_second in
       let slots = listed_runs old Categories ∙ q in
       let rest = ap (λ (o : Outcome (List ℕ)). and_then o (λ found. run old (gather (λ a. present (decode_category a)) found))) (sym slots) ∙ gave.1 in
       gather_each old (λ a. present (decode_category a)) _ (decode_listing t.sections) xs gave.0 rest
@@ -109,18 +109,18 @@ module _ (t : Tables) (ends : StringsEnd t (decode_listing t.sections)) (there :
   in_lines D d w = in_next recorded.1 (in_first _ w)
 
   ro_same : (x : Record) (zs : List Line) → run old (decode_lines_of x) ≡ value zs → ((D : Type 0) (d : Decode D) → Within old d (List Line) (decode_lines_of x) → In d)
-      → (c : ObjcClass) → x ≡ aRecord.Class c → ro_of (under_new t) c ≡ ro_of old c
+      → (c : ObjcClass) → x ≡ a_record.Class c → ro_of (under_new t) c ≡ ro_of old c
   unfolding decode_lines_of decode_own_lines
-  ro_same (aRecord.Class c) zs q lift d e =
+  ro_same (a_record.Class c) zs q lift d e =
       let name = decode_named (decode_class_name_of c.address c.superclass_address) in
-      let own = then_came (run old (decode_own_lines (aRecord.Class c))) _ zs q in
+      let own = then_came (run old (decode_own_lines (a_record.Class c))) _ zs q in
       let named = then_came (run old name) _ own.0 own.1 in
       let same : c ≡ d = cc in
       rw (← same) (tried_as_before t ends (decode_ro_of c) (lift _ _ (in_first _ (in_next named.1 (in_next refl (in_first _ (in_first _ (in_trial itself))))))))
-  ro_same (aRecord.Protocol p) zs q lift d e = let z : ◌≡◌ {A = ℕ} 0 1 = cc in absurd (omega arith)
-  ro_same (aRecord.Category k) zs q lift d e = let z : ◌≡◌ {A = ℕ} 0 1 = cc in absurd (omega arith)
+  ro_same (a_record.Protocol p) zs q lift d e = let z : ◌≡◌ {A = ℕ} 0 1 = cc in absurd (omega arith)
+  ro_same (a_record.Category k) zs q lift d e = let z : ◌≡◌ {A = ℕ} 0 1 = cc in absurd (omega arith)
 
-  pub ros_as_before : (xs : List Record) → plain_records old ≡ value xs → Each (λ x. (c : ObjcClass) → x ≡ aRecord.Class c → ro_of (under_new t) c ≡ ro_of old c) xs
+  pub ros_as_before : (xs : List Record) → plain_records old ≡ value xs → Each (λ x. (c : ObjcClass) → x ≡ a_record.Class c → ro_of (under_new t) c ≡ ro_of old c) xs
   ros_as_before xs q =
       let found = sym recorded.1 ∙ records_run old ∙ q in
       let same : recorded.0 ≡ xs = cc in

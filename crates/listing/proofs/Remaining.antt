@@ -7,7 +7,7 @@ use Rattle.listing.specs.Listing.{owner_fields, SectionWalk, State, Answer, says
 use Rattle.listing.specs.declared.at.At.{At}
 use Rattle.listing.specs.declared.at.At.TheVariants as place
 use Rattle.listing.specs.declared.at.FieldWalk.{FieldWalk}
-use Rattle.listing.specs.declared.at.FieldWalk.TheVariants as fieldWalk
+use Rattle.listing.specs.declared.at.FieldWalk.TheVariants as field_walk
 
 -- The slots that a section walk has not taken, and the address that waits.
 unfoldable pub walk_left : Walk → ℕ
@@ -26,8 +26,8 @@ abbrev pub list_left : ℕ → ℕ → ℕ
 list_left cursor later = 2 + (2 ^ 64 - cursor) + later * 2 ^ 65
 
 abbrev pub cursor_in : FieldWalk → ℕ
-cursor_in (fieldWalk.Rows w) = w.cursor
-cursor_in (fieldWalk.Names w) = w.cursor
+cursor_in (field_walk.Rows w) = w.cursor
+cursor_in (field_walk.Names w) = w.cursor
 
 abbrev pub place_left : At → ℕ
 place_left place.Info = 2

@@ -12,7 +12,7 @@ use Rattle.records.specs.declared.class.ClassRo.{ClassRo}
 use Rattle.records.specs.declared.class.ObjcClass.{ObjcClass}
 use Rattle.records.specs.declared.protocol.ObjcProtocol.{ObjcProtocol}
 use Rattle.walks.specs.Gather.{gather, of_value}
-use Rattle.walks.specs.PlainSections as plainSections
+use Rattle.walks.specs.PlainSections as plain_sections
 use Rattle.walks.specs.PlainSections.{Gives, passing, dropping, giving}
 use Rattle.walks.specs.Sections as sections
 use Rattle.walks.specs.Sections.{Walk, found, passed, dropped, finished}
@@ -23,9 +23,9 @@ use Rattle.listing.specs.ListingRun.{events_at}
 use Rattle.listing.specs.declared.absence.Absence.TheVariants as absence
 use Rattle.listing.specs.declared.at.At.TheVariants as place
 use Rattle.listing.specs.declared.at.Owner.{Owner}
-use Rattle.listing.specs.declared.at.Owner.TheVariants as anOwner
+use Rattle.listing.specs.declared.at.Owner.TheVariants as an_owner
 use Rattle.listing.specs.declared.at.Record.{Record}
-use Rattle.listing.specs.declared.at.Record.TheVariants as aRecord
+use Rattle.listing.specs.declared.at.Record.TheVariants as a_record
 use Rattle.listing.specs.declared.line.Line.{Line}
 use Rattle.listing.specs.declared.line.Line.TheVariants as line
 use Rattle.listing.specs.declared.line.Named.{Named}
@@ -38,18 +38,18 @@ module _ (t : Tables) (o : Opened t) (Over : State → List ℕ → Type 0) (sec
   one_record = mod-eq_of_lt few
 
   class_said_lem : (k : ObjcClass) (name : Named) → name_or_none (superclass_name t k) ≡ value name
-      → listing_step t (state t.setting (place.Record (aRecord.Class k)) sec r c) l ≡ leaves (value (says (class_line k name))) (state t.setting (place.Ro k) sec (r + 1) c) l
+      → listing_step t (state t.setting (place.Record (a_record.Class k)) sec r c) l ≡ leaves (value (says (class_line k name))) (state t.setting (place.Ro k) sec (r + 1) c) l
   unfolding step_at
   class_said_lem k name e = rw (opened_asked t o, e, one_record)
 
   protocol_said_lem : (p : ObjcProtocol)
-      → listing_step t (state t.setting (place.Record (aRecord.Protocol p)) sec r c) l ≡ leaves (value (says (line.Protocol p))) (state t.setting (enter t.setting (anOwner.Protocol p) 0) sec (r + 1) c) l
+      → listing_step t (state t.setting (place.Record (a_record.Protocol p)) sec r c) l ≡ leaves (value (says (line.Protocol p))) (state t.setting (enter t.setting (an_owner.Protocol p) 0) sec (r + 1) c) l
   unfolding step_at
   protocol_said_lem p = rw (opened_asked t o, one_record)
 
   category_said_lem : (k : ObjcCategory) (name : Named) → name_or_none (category_class_name t k) ≡ value name
-      → listing_step t (state t.setting (place.Record (aRecord.Category k)) sec r c) l
-      ≡ leaves (value (says (category_line k name))) (state t.setting (enter t.setting (anOwner.Category k) 0) sec (r + 1) c) l
+      → listing_step t (state t.setting (place.Record (a_record.Category k)) sec r c) l
+      ≡ leaves (value (says (category_line k name))) (state t.setting (enter t.setting (an_owner.Category k) 0) sec (r + 1) c) l
   unfolding step_at
   category_said_lem k name e = rw (opened_asked t o, e, one_record)
 
@@ -61,11 +61,11 @@ module _ (t : Tables) (o : Opened t) (Over : State → List ℕ → Type 0) (sec
         → of_value v (λ ro. value (ro_fields ro)) ≡ value fs → Steps t Over (state t.setting (place.Ro k) sec (r + 1) c) l (ros ++ ys) es
     unfolding step_at events_at
     ro_comes k (value ro) e ros a b =
-        let said : listing_step t (state t.setting (place.Ro k) sec (r + 1) c) l ≡ leaves (value (says (line.Ro ro))) (state t.setting (enter t.setting (anOwner.Class ro) 0) sec (r + 1) c) l =
+        let said : listing_step t (state t.setting (place.Ro k) sec (r + 1) c) l ≡ leaves (value (says (line.Ro ro))) (state t.setting (enter t.setting (an_owner.Class ro) 0) sec (r + 1) c) l =
         rw (opened_asked t o, e) in
         let own : ros ≡ line.Ro ro ∷ [] = cc in
         let fields : ro_fields ro ≡ fs = cc in
-        rw own (saying said refl (lists (anOwner.Class ro) fields))
+        rw own (saying said refl (lists (an_owner.Class ro) fields))
     ro_comes k (absent why) e ros a b =
         let said : listing_step t (state t.setting (place.Ro k) sec (r + 1) c) l ≡ leaves (value (lacks (absence.Record why))) (state t.setting place.Section sec (r + 1) c) l = rw (opened_asked t o, e) in
         let own : ros ≡ [] = cc in
@@ -75,20 +75,20 @@ module _ (t : Tables) (o : Opened t) (Over : State → List ℕ → Type 0) (sec
 
     own_comes : (x : Record) (own : List Line) → own_lines t x ≡ value own → record_fields t x ≡ value fs → Steps t Over (state t.setting (place.Record x) sec r c) l (own ++ ys) es
     unfolding own_lines record_fields events_at
-    own_comes (aRecord.Class k) own a b =
+    own_comes (a_record.Class k) own a b =
         let name = then_came (name_or_none (superclass_name t k)) _ own a in
         let parts = joined_parts (value (class_line k name.0 ∷ [])) (of_value (ro_of t k) (λ ro. value (line.Ro ro ∷ []))) name.2 in
         let mine : parts.first ≡ class_line k name.0 ∷ [] = let g = parts.of_first in cc in
         rw (parts.whole, mine) (saying (class_said_lem k name.0 name.1) refl (ro_comes k (ro_of t k) refl parts.second parts.of_second b))
-    own_comes (aRecord.Protocol p) own a b =
+    own_comes (a_record.Protocol p) own a b =
         let mine : own ≡ line.Protocol p ∷ [] = cc in
-        let fields : owner_fields (anOwner.Protocol p) ≡ fs = cc in
-        rw mine (saying (protocol_said_lem p) refl (lists (anOwner.Protocol p) fields))
-    own_comes (aRecord.Category k) own a b =
+        let fields : owner_fields (an_owner.Protocol p) ≡ fs = cc in
+        rw mine (saying (protocol_said_lem p) refl (lists (an_owner.Protocol p) fields))
+    own_comes (a_record.Category k) own a b =
         let name = then_came (name_or_none (category_class_name t k)) _ own a in
         let mine : own ≡ category_line k name.0 ∷ [] = let g = name.2 in cc in
-        let fields : owner_fields (anOwner.Category k) ≡ fs = cc in
-        rw mine (saying (category_said_lem k name.0 name.1) refl (lists (anOwner.Category k) fields))
+        let fields : owner_fields (an_owner.Category k) ≡ fs = cc in
+        rw mine (saying (category_said_lem k name.0 name.1) refl (lists (an_owner.Category k) fields))
 
   -- The whole record, with c' entries settled after it.
   module _ (c' : ℕ) (below : c' < 2 ^ 128) (xs : List Line) (es : List Event) (later : Steps t Over (state t.setting place.Section sec (r + 1) c') l xs es) where
@@ -127,27 +127,27 @@ module _ (t : Tables) (o : Opened t) (Over : State → List ℕ → Type 0) (sec
 
 -- A section, of records f: its walk's steps, and the section walk that holds its walk. The walk's ledger is `led` of the listing's; `good`
 -- holds of it all along.
-module _ {A : Type 0} (t : Tables) (step : Walk → List ℕ → sections.Left A) (f : A → Record) (inWalk : Walk → SectionWalk) (led : List ℕ → List ℕ) (good : List ℕ → Type 0)
-    (is : (w : Walk) (l : List ℕ) → good l → section_step t (led l) (inWalk w) ≡ section_leaves f inWalk (step w l).answer (step w l).walk (led (step w l).ledger)) where
+module _ {A : Type 0} (t : Tables) (step : Walk → List ℕ → sections.Left A) (f : A → Record) (in_walk : Walk → SectionWalk) (led : List ℕ → List ℕ) (good : List ℕ → Type 0)
+    (is : (w : Walk) (l : List ℕ) → good l → section_step t (led l) (in_walk w) ≡ section_leaves f in_walk (step w l).answer (step w l).walk (led (step w l).ledger)) where
   -- The listing's step, by the walk's.
   pub step_of_lem : (w v : Walk) (l m : List ℕ) (a : Outcome (sections.Step A)) → good l → step w l ≡ sections.leaves a v m → (r c : ℕ)
-      → listing_step t (state t.setting place.Section (inWalk w) r c) (led l) ≡ on_section (state t.setting place.Section (inWalk w) r c) (section_leaves f inWalk a v (led m))
+      → listing_step t (state t.setting place.Section (in_walk w) r c) (led l) ≡ on_section (state t.setting place.Section (in_walk w) r c) (section_leaves f in_walk a v (led m))
   unfolding step_at
   step_of_lem w v l m a g e r c =
-      ap (on_section (state t.setting place.Section (inWalk w) r c))
-      (is w l g ∙ ap (λ (x : sections.Left A). section_leaves f inWalk x.answer x.walk (led x.ledger)) e)
+      ap (on_section (state t.setting place.Section (in_walk w) r c))
+      (is w l g ∙ ap (λ (x : sections.Left A). section_leaves f in_walk x.answer x.walk (led x.ledger)) e)
 
   module _ (o : Opened t) (Over : State → List ℕ → Type 0) (keeps : (w : Walk) (l : List ℕ) → good l → good (step w l).ledger)
       (xs : List Line) (es : List Event) (r' c' : ℕ) (few : r' < 2 ^ 64) (below : c' < 2 ^ 128)
-      (later : (w : Walk) (l : List ℕ) → good l → step w l ≡ sections.leaves (value finished) w l → Steps t Over (state t.setting place.Section (inWalk w) r' c') (led l) xs es) where
+      (later : (w : Walk) (l : List ℕ) → good l → step w l ≡ sections.leaves (value finished) w l → Steps t Over (state t.setting place.Section (in_walk w) r' c') (led l) xs es) where
     good_after : (w v : Walk) (l m : List ℕ) (a : Outcome (sections.Step A)) → good l → step w l ≡ sections.leaves a v m → good m
     good_after w v l m a g e = subst (λ (x : sections.Left A). good x.ledger) e (keeps w l g)
 
     pub section_comes : {n : ℕ} {w : Walk} {l : List ℕ} {rs : List A} → Gives step n w l rs → good l → (r c : ℕ) (zs : List Line) (gs : List Event)
         → gather (lines_of t) (map f rs) ≡ value zs → events_from t r (map f rs) ≡ value gs → r' ≡ r + length rs → c' ≡ c + length gs
-        → Steps t Over (state t.setting place.Section (inWalk w) r c) (led l) (zs ++ xs) (gs ++ es)
+        → Steps t Over (state t.setting place.Section (in_walk w) r c) (led l) (zs ++ xs) (gs ++ es)
     unfolding gather events_from events_at
-    section_comes {w = w} {l = l} (plainSections.ended e) g r c zs gs a b d h =
+    section_comes {w = w} {l = l} (plain_sections.ended e) g r c zs gs a b d h =
         let none : zs ≡ [] = cc in
         let nothing : gs ≡ [] = cc in
         let count : length gs ≡ 0 = rw nothing in
@@ -168,6 +168,6 @@ module _ {A : Type 0} (t : Tables) (step : Walk → List ℕ → sections.Left A
         let rest : events_from t (r + 1) (map f rs) ≡ value events.second = ap (λ (i : ℕ). events_from t i (map f rs)) (sym next) ∙ events.of_second in
         rw (lines.whole, events.whole, append_assoc lines.first lines.second xs, append_assoc events.first events.second es)
         (silent (step_of_lem w v l m (value (found x)) g e r c) refl
-        (record_comes t o Over (inWalk v) r c (led m) (omega arith) c₁ (less (2 ^ 128) c₁ c' u below) (lines.second ++ xs) (events.second ++ es)
+        (record_comes t o Over (in_walk v) r c (led m) (omega arith) c₁ (less (2 ^ 128) c₁ c' u below) (lines.second ++ xs) (events.second ++ es)
         (section_comes more (good_after w v l m (value (found x)) g e) (r + 1) c₁ lines.second events.second lines.of_second rest (omega arith) (omega arith))
         (f x) lines.first events.first lines.of_first events.of_first refl))

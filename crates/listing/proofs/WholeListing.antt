@@ -23,7 +23,7 @@ use Rattle.listing.specs.Listing.{classes, protocols, categories, State, state, 
 use Rattle.listing.specs.ListingRun.{events_at, Lists}
 use Rattle.listing.specs.declared.at.At.TheVariants as place
 use Rattle.listing.specs.declared.at.Record.{Record}
-use Rattle.listing.specs.declared.at.Record.TheVariants as aRecord
+use Rattle.listing.specs.declared.at.Record.TheVariants as a_record
 use Rattle.listing.specs.declared.line.Line.{Line}
 use Rattle.listing.proofs.Bounds.{records_few, events_few}
 use Rattle.listing.proofs.Events.{events_of, events_append}
@@ -49,7 +49,7 @@ section_there t o r xs =
 -- The records of all, by those of each section.
 records_of : (t : Tables) (cs : List ObjcClass) (ps : List ObjcProtocol) (ks : List ObjcCategory)
     → plain_classes t ≡ value cs → plain_protocols t ≡ value ps → plain_categories t ≡ value ks
-    → plain_records t ≡ value (map aRecord.Class cs ++ (map aRecord.Protocol ps ++ map aRecord.Category ks))
+    → plain_records t ≡ value (map a_record.Class cs ++ (map a_record.Protocol ps ++ map a_record.Category ks))
 unfolding plain_records
 records_of t cs ps ks a b c = rw (a, b, c)
 
@@ -65,13 +65,13 @@ module _ (t : Tables) (o : Opened t) where
   the_categories = there_known (categories_there t o)
 
   abbrev class_records : List Record
-  class_records = map aRecord.Class the_classes.known
+  class_records = map a_record.Class the_classes.known
 
   abbrev protocol_records : List Record
-  protocol_records = map aRecord.Protocol the_protocols.known
+  protocol_records = map a_record.Protocol the_protocols.known
 
   abbrev category_records : List Record
-  category_records = map aRecord.Category the_categories.known
+  category_records = map a_record.Category the_categories.known
 
   -- The records before each section and at the end.
   abbrev r₁ : ℕ
@@ -141,7 +141,7 @@ module _ (t : Tables) (o : Opened t) where
   info = info_line (version_and_flags t.info) t.setting
 
   -- With room for the classes: the listing comes to the first step of the category walk, with a ledger as long.
-  module _ (l : List ℕ) (classRoom : slot_count t.sections 0 1 ≤ length l) (Over : State → List ℕ → Type 0) (xs : List Line) (es : List Event)
+  module _ (l : List ℕ) (class_room : slot_count t.sections 0 1 ≤ length l) (Over : State → List ℕ → Type 0) (xs : List Line) (es : List Event)
       (later : (m : List ℕ) → length m ≡ length l → Steps t Over (state t.setting place.Section (categories t.setting at_start) r₂ c₂) m xs es) where
     abbrev Kept : List ℕ → Type 0
     Kept m = length m ≡ length l
@@ -149,18 +149,18 @@ module _ (t : Tables) (o : Opened t) where
     -- The listing's ledger stays as it is while the protocols are walked.
     module _ (m : List ℕ) (g : Kept m) where
       is_protocols : (w : Walk) (n : List ℕ) → n ≡ [] → section_step t m (protocols t.setting w)
-          ≡ section_leaves aRecord.Protocol (protocols t.setting) (protocol_step_of t w n).answer (protocol_step_of t w n).walk m
+          ≡ section_leaves a_record.Protocol (protocols t.setting) (protocol_step_of t w n).answer (protocol_step_of t w n).walk m
       is_protocols w n h = rw h
 
       protocols_end : (w : Walk) (n : List ℕ) → n ≡ [] → protocol_step_of t w n ≡ sections.leaves (value finished) w n
           → Steps t Over (state t.setting place.Section (protocols t.setting w) r₂ c₂) m xs es
       unfolding events_at
       protocols_end w n h e =
-          silent (step_of_lem t (protocol_step_of t) aRecord.Protocol (protocols t.setting) (λ _. m) (λ k. k ≡ []) is_protocols w w n n (value finished) h e r₂ c₂) refl (later m g)
+          silent (step_of_lem t (protocol_step_of t) a_record.Protocol (protocols t.setting) (λ _. m) (λ k. k ≡ []) is_protocols w w n n (value finished) h e r₂ c₂) refl (later m g)
 
       protocols_come : Steps t Over (state t.setting place.Section (protocols t.setting at_start) r₁ c₁) m (of_protocols.lines ++ xs) (of_protocols.events ++ es)
       protocols_come =
-          section_comes t (protocol_step_of t) aRecord.Protocol (protocols t.setting) (λ _. m) (λ k. k ≡ []) is_protocols o Over (λ w n h. protocol_step_keeps t w n ∙ h)
+          section_comes t (protocol_step_of t) a_record.Protocol (protocols t.setting) (λ _. m) (λ k. k ≡ []) is_protocols o Over (λ w n h. protocol_step_keeps t w n ∙ h)
           xs es r₂ c₂ (omega (arith, few)) (less (2 ^ 128) c₂ c₃ (omega arith) below) protocols_end
           (protocol_run t (opened_asked t o) [] the_protocols.known the_protocols.is).2 refl r₁ c₁ of_protocols.lines of_protocols.events of_protocols.of_lines of_protocols.of_events refl refl
 
@@ -168,7 +168,7 @@ module _ (t : Tables) (o : Opened t) where
         → Steps t Over (state t.setting place.Section (classes t.setting w) r₁ c₁) m (of_protocols.lines ++ xs) (of_protocols.events ++ es)
     unfolding events_at
     classes_end w m g e =
-        silent (step_of_lem t (step_of sections.classes t) aRecord.Class (classes t.setting) (λ n. n) Kept (λ v n h. refl) w w m m (value finished) g e r₁ c₁) refl (protocols_come m g)
+        silent (step_of_lem t (step_of sections.classes t) a_record.Class (classes t.setting) (λ n. n) Kept (λ v n h. refl) w w m m (value finished) g e r₁ c₁) refl (protocols_come m g)
 
     pub to_categories : Steps t Over (start t.setting) l (info ∷ (of_classes.lines ++ (of_protocols.lines ++ xs))) (of_classes.events ++ (of_protocols.events ++ es))
     unfolding step_at events_at
@@ -176,12 +176,12 @@ module _ (t : Tables) (o : Opened t) where
         let h : c₁ ≤ c₃ = omega arith in
         let first : listing_step t (start t.setting) l ≡ leaves (value (says info)) (state t.setting place.Section (classes t.setting at_start) 0 0) l = rw (opened_asked t o) in
         saying first refl
-        (section_comes t (step_of sections.classes t) aRecord.Class (classes t.setting) (λ n. n) Kept (λ v n g. refl) o Over (λ w n g. step_keeps_length sections.classes t w n ∙ g)
+        (section_comes t (step_of sections.classes t) a_record.Class (classes t.setting) (λ n. n) Kept (λ v n g. refl) o Over (λ w n g. step_keeps_length sections.classes t w n ∙ g)
         (of_protocols.lines ++ xs) (of_protocols.events ++ es) r₁ c₁ (omega (arith, few)) (less (2 ^ 128) c₁ c₃ h below) classes_end
-        (class_run t (opened_asked t o) l classRoom the_classes.known the_classes.is).2 refl 0 0 of_classes.lines of_classes.events of_classes.of_lines of_classes.of_events (omega arith) (omega arith))
+        (class_run t (opened_asked t o) l class_room the_classes.known the_classes.is).2 refl 0 0 of_classes.lines of_classes.events of_classes.of_lines of_classes.of_events (omega arith) (omega arith))
 
   -- With room for the categories too: the listing comes to its end.
-  module _ (l : List ℕ) (classRoom : slot_count t.sections 0 1 ≤ length l) (categoryRoom : slot_count t.sections 2 3 ≤ length l) where
+  module _ (l : List ℕ) (class_room : slot_count t.sections 0 1 ≤ length l) (category_room : slot_count t.sections 2 3 ≤ length l) where
     abbrev end : Line
     end = end_line r₃ c₃
 
@@ -190,15 +190,15 @@ module _ (t : Tables) (o : Opened t) where
     unfolding step_at events_at
     categories_end w m g e =
         let stays : listing_step t (state t.setting place.End (categories t.setting w) r₃ c₃) m ≡ leaves (value ended) (state t.setting place.End (categories t.setting w) r₃ c₃) m = rw (opened_asked t o) in
-        saying (step_of_lem t (step_of sections.categories t) aRecord.Category (categories t.setting) (λ n. n) (λ n. length n ≡ length l) (λ v n h. refl) w w m m (value finished) g e r₃ c₃) refl
+        saying (step_of_lem t (step_of sections.categories t) a_record.Category (categories t.setting) (λ n. n) (λ n. length n ≡ length l) (λ v n h. refl) w w m m (value finished) g e r₃ c₃) refl
         (over stays refl)
 
     categories_come : (m : List ℕ) → length m ≡ length l
         → Rest t (state t.setting place.Section (categories t.setting at_start) r₂ c₂) m (of_categories.lines ++ (end ∷ [])) (of_categories.events ++ [])
     categories_come m g =
-        section_comes t (step_of sections.categories t) aRecord.Category (categories t.setting) (λ n. n) (λ n. length n ≡ length l) (λ v n h. refl) o _
+        section_comes t (step_of sections.categories t) a_record.Category (categories t.setting) (λ n. n) (λ n. length n ≡ length l) (λ v n h. refl) o _
         (λ w n h. step_keeps_length sections.categories t w n ∙ h) (end ∷ []) [] r₃ c₃ few below categories_end
-        (category_run t (opened_asked t o) m (rw g categoryRoom) the_categories.known the_categories.is).2 g r₂ c₂ of_categories.lines of_categories.events of_categories.of_lines of_categories.of_events refl refl
+        (category_run t (opened_asked t o) m (rw g category_room) the_categories.known the_categories.is).2 g r₂ c₂ of_categories.lines of_categories.events of_categories.of_lines of_categories.of_events refl refl
 
     -- All that is left at the start.
     in_all : plain_listing t ≡ value (info ∷ (of_classes.lines ++ (of_protocols.lines ++ (of_categories.lines ++ (end ∷ [])))))
@@ -221,7 +221,7 @@ module _ (t : Tables) (o : Opened t) where
         let last : of_categories.events ++ [] ≡ of_categories.events = append-nil of_categories.events in
         rw (lines, events)
         (subst (λ (es : List Event). Rest t (start t.setting) l (info ∷ (of_classes.lines ++ (of_protocols.lines ++ (of_categories.lines ++ (end ∷ []))))) (of_classes.events ++ (of_protocols.events ++ es))) last
-        (to_categories l classRoom _ (of_categories.lines ++ (end ∷ [])) (of_categories.events ++ []) categories_come))
+        (to_categories l class_room _ (of_categories.lines ++ (end ∷ [])) (of_categories.events ++ []) categories_come))
 
     -- The whole listing, with a ledger long enough.
     pub lists_with_room : (zs : List Line) (gs : List Event) → plain_listing t ≡ value zs → plain_events t ≡ value gs → Lists t.setting t l zs gs

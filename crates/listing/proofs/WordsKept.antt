@@ -42,11 +42,11 @@ use Rattle.listing.specs.Listing.{Begun, begun, owner_fields, at_first, enter, S
 use Rattle.listing.specs.declared.at.At.{At}
 use Rattle.listing.specs.declared.at.At.TheVariants as place
 use Rattle.listing.specs.declared.at.FieldWalk.{FieldWalk}
-use Rattle.listing.specs.declared.at.FieldWalk.TheVariants as fieldWalk
+use Rattle.listing.specs.declared.at.FieldWalk.TheVariants as field_walk
 use Rattle.listing.specs.declared.at.Owner.{Owner}
-use Rattle.listing.specs.declared.at.Owner.TheVariants as anOwner
+use Rattle.listing.specs.declared.at.Owner.TheVariants as an_owner
 use Rattle.listing.specs.declared.at.Record.{Record}
-use Rattle.listing.specs.declared.at.Record.TheVariants as aRecord
+use Rattle.listing.specs.declared.at.Record.TheVariants as a_record
 use Rattle.listing.proofs.Bounds.{section_slots}
 use Rattle.listing.proofs.Falls.{never}
 use Rattle.listing.proofs.Remaining.{slot_of, cursor_of, goes_on, InWords}
@@ -204,14 +204,14 @@ module _ (s : State) (l : List ℕ) (h : InWords s) where
   onward_keeps (number k) go f = refuses k
 
   record_keeps : (t : Tables) (x : Record) → Keeps (record_step t s l x)
-  record_keeps t (aRecord.Class c) =
+  record_keeps t (a_record.Class c) =
       onward_keeps (name_or_none (guarded t (superclass_name t c))) _ (λ name. record { keeps = λ e. in_section_lem _ _ _ (omega arith) })
-  record_keeps t (aRecord.Protocol p) = onward_keeps (asked t) _ (λ u. record { keeps = λ e. in_section_lem _ _ _ (enter_low s.setting (anOwner.Protocol p) 0) })
-  record_keeps t (aRecord.Category c) =
-      onward_keeps (name_or_none (guarded t (category_class_name t c))) _ (λ name. record { keeps = λ e. in_section_lem _ _ _ (enter_low s.setting (anOwner.Category c) 0) })
+  record_keeps t (a_record.Protocol p) = onward_keeps (asked t) _ (λ u. record { keeps = λ e. in_section_lem _ _ _ (enter_low s.setting (an_owner.Protocol p) 0) })
+  record_keeps t (a_record.Category c) =
+      onward_keeps (name_or_none (guarded t (category_class_name t c))) _ (λ name. record { keeps = λ e. in_section_lem _ _ _ (enter_low s.setting (an_owner.Category c) 0) })
 
   ro_keeps : (o : Outcome ClassRo) → Keeps (by_ro s l o)
-  ro_keeps (value r) = record { keeps = λ e. in_section_lem _ _ _ (enter_low s.setting (anOwner.Class r) 0) }
+  ro_keeps (value r) = record { keeps = λ e. in_section_lem _ _ _ (enter_low s.setting (an_owner.Class r) 0) }
   ro_keeps (absent r) = record { keeps = λ e. in_section_lem _ _ _ (omega arith) }
   ro_keeps (number k) = refuses k
 
@@ -231,8 +231,8 @@ module _ (s : State) (l : List ℕ) (h : InWords s) where
     name_keeps i v (number k) m = refuses k
 
     list_keeps : (t : Tables) (x : FieldWalk) → Keeps (list_step t s l o n x)
-    list_keeps t (fieldWalk.Rows w) = let x = next_of t w in row_keeps x.walk x.answer (rows_low t w).low
-    list_keeps t (fieldWalk.Names w) = let x = next_name t w in name_keeps w.cursor x.walk x.answer (names_low t w).low
+    list_keeps t (field_walk.Rows w) = let x = next_of t w in row_keeps x.walk x.answer (rows_low t w).low
+    list_keeps t (field_walk.Names w) = let x = next_name t w in name_keeps w.cursor x.walk x.answer (names_low t w).low
 
   -- After the last record of a section the next begins at its first slot, or E is said and the section stays.
   after_keeps : (m : List ℕ) (x : SectionWalk) → slot_of x < 2 ^ 64 → Keeps (after_section s m x)
@@ -259,15 +259,15 @@ module _ (s : State) (l : List ℕ) (h : InWords s) where
       go zero c p k e =
           let low : c.walk.slot < 2 ^ 64 = rw e at h.slot in
           let x = step_of sections.classes (under c.setting t) c.walk l in
-          section_keeps aRecord.Class x.ledger (walks 0 (begun c.setting x.walk) p k) (step_low sections.classes (under c.setting t) c.walk l low) x.answer
+          section_keeps a_record.Class x.ledger (walks 0 (begun c.setting x.walk) p k) (step_low sections.classes (under c.setting t) c.walk l low) x.answer
       go (suc zero) c p k e =
           let low : p.walk.slot < 2 ^ 64 = rw e at h.slot in
           let x = protocol_step_of (under p.setting t) p.walk [] in
-          section_keeps aRecord.Protocol l (walks 1 c (begun p.setting x.walk) k) (protocol_low (under p.setting t) p.walk [] low) x.answer
+          section_keeps a_record.Protocol l (walks 1 c (begun p.setting x.walk) k) (protocol_low (under p.setting t) p.walk [] low) x.answer
       go (suc (suc n)) c p k e =
           let low : k.walk.slot < 2 ^ 64 = rw e at h.slot in
           let x = step_of sections.categories (under k.setting t) k.walk l in
-          section_keeps aRecord.Category x.ledger (walks (suc (suc n)) c p (begun k.setting x.walk)) (step_low sections.categories (under k.setting t) k.walk l low) x.answer
+          section_keeps a_record.Category x.ledger (walks (suc (suc n)) c p (begun k.setting x.walk)) (step_low sections.categories (under k.setting t) k.walk l low) x.answer
 
   at_keeps : (t : Tables) (a : At) → Keeps (step_at t s l a)
   unfolding step_at

@@ -11,12 +11,12 @@ use Rattle.pointers.specs.Tables.{Tables, tables_of, section_table_words, rebase
 use Rattle.frames.specs.declared.frames.Ranges.{Ranges}
 use Rattle.listing.specs.declared.bundle.Counts.{Counts}
 use Rattle.listing.specs.declared.bundle.CountsAnswer.{CountsAnswer}
-use Rattle.listing.specs.declared.bundle.CountsAnswer.TheVariants as countsAnswer
+use Rattle.listing.specs.declared.bundle.CountsAnswer.TheVariants as counts_answer
 
 -- Document 01's outcome of each case of the code's answer.
 abbrev pub counts_outcome : CountsAnswer → Outcome Counts
-counts_outcome (countsAnswer.Counts c) = value c
-counts_outcome (countsAnswer.Missing m) = missed m
+counts_outcome (counts_answer.Counts c) = value c
+counts_outcome (counts_answer.Missing m) = missed m
 
 -- The word at an offset; 0 where its eight bytes do not lie in the bundle.
 abbrev pub word_from : List ℕ → ℕ → ℕ

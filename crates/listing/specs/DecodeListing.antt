@@ -23,7 +23,7 @@ use Rattle.walks.specs.declared.slots.Lists.{Lists}
 use Rattle.walks.specs.declared.slots.Lists.TheVariants.{Classes, Categories, Protocols}
 use Rattle.listing.specs.PlainListing.{class_line, category_line, row_line, name_line, end_line, Field, row_list, name_list, ro_fields, protocol_fields, category_fields, Entry, with_row, without_row, Event, event}
 use Rattle.listing.specs.declared.at.Record.{Record}
-use Rattle.listing.specs.declared.at.Record.TheVariants as aRecord
+use Rattle.listing.specs.declared.at.Record.TheVariants as a_record
 use Rattle.listing.specs.declared.line.Line.{Line}
 use Rattle.listing.specs.declared.line.Line.TheVariants as line
 use Rattle.listing.specs.declared.line.Named.{Named}
@@ -72,8 +72,8 @@ decode_protocols ws = gather (λ a. of_value (decode_address a) (λ p. present (
 
 unfoldable pub decode_records : List ℕ → Decode (List Record)
 decode_records ws =
-    joined (as_each aRecord.Class (decode_classes ws))
-    (joined (as_each aRecord.Protocol (decode_protocols ws)) (as_each aRecord.Category (decode_categories ws)))
+    joined (as_each a_record.Class (decode_classes ws))
+    (joined (as_each a_record.Protocol (decode_protocols ws)) (as_each a_record.Category (decode_categories ws)))
 
 -- The protocol names of a list, k slots at most from i on.
 unfoldable pub decode_slot_names : ProtocolList → ℕ → ℕ → Decode (List Text)
@@ -94,17 +94,17 @@ decode_named d = then (tried d) (λ name. done (named_by name))
 
 -- A record's own line, and R; its lists.
 unfoldable pub decode_own_lines : Record → Decode (List Line)
-decode_own_lines (aRecord.Class c) =
+decode_own_lines (a_record.Class c) =
     then (decode_named (decode_class_name_of c.address c.superclass_address)) (λ name.
     joined (done (class_line c name ∷ [])) (of_value (decode_ro_of c) (λ r. done (line.Ro r ∷ []))))
-decode_own_lines (aRecord.Protocol p) = done (line.Protocol p ∷ [])
-decode_own_lines (aRecord.Category c) =
+decode_own_lines (a_record.Protocol p) = done (line.Protocol p ∷ [])
+decode_own_lines (a_record.Category c) =
     then (decode_named (decode_class_name_of c.address c.class_address)) (λ name. done (category_line c name ∷ []))
 
 unfoldable pub decode_fields : Record → Decode (List Field)
-decode_fields (aRecord.Class c) = of_value (decode_ro_of c) (λ r. done (ro_fields r))
-decode_fields (aRecord.Protocol p) = done (protocol_fields p)
-decode_fields (aRecord.Category c) = done (category_fields c)
+decode_fields (a_record.Class c) = of_value (decode_ro_of c) (λ r. done (ro_fields r))
+decode_fields (a_record.Protocol p) = done (protocol_fields p)
+decode_fields (a_record.Category c) = done (category_fields c)
 
 -- The readable entries of a list, of the k indices from i on.
 unfoldable pub decode_index : Layout → ℕ → Decode (List ℕ)

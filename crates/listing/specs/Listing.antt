@@ -24,20 +24,20 @@ use Rattle.listing.specs.declared.absence.Absence.TheVariants as absence
 use Rattle.listing.specs.declared.at.At.{At}
 use Rattle.listing.specs.declared.at.At.TheVariants as place
 use Rattle.listing.specs.declared.at.FieldWalk.{FieldWalk}
-use Rattle.listing.specs.declared.at.FieldWalk.TheVariants as fieldWalk
+use Rattle.listing.specs.declared.at.FieldWalk.TheVariants as field_walk
 use Rattle.listing.specs.declared.at.Owner.{Owner}
-use Rattle.listing.specs.declared.at.Owner.TheVariants as anOwner
+use Rattle.listing.specs.declared.at.Owner.TheVariants as an_owner
 use Rattle.listing.specs.declared.at.Record.{Record}
-use Rattle.listing.specs.declared.at.Record.TheVariants as aRecord
+use Rattle.listing.specs.declared.at.Record.TheVariants as a_record
 use Rattle.listing.specs.declared.line.Line.{Line}
 use Rattle.listing.specs.declared.line.Line.TheVariants as line
 use Rattle.listing.specs.declared.line.Named.{Named}
 
 -- The fields of a record that name lists.
 abbrev pub owner_fields : Owner → List Field
-owner_fields (anOwner.Class r) = ro_fields r
-owner_fields (anOwner.Protocol p) = protocol_fields p
-owner_fields (anOwner.Category c) = category_fields c
+owner_fields (an_owner.Class r) = ro_fields r
+owner_fields (an_owner.Protocol p) = protocol_fields p
+owner_fields (an_owner.Category c) = category_fields c
 
 -- In list n of a record, with a walk over it.
 abbrev pub in_list : Owner → ℕ → FieldWalk → At
@@ -45,8 +45,8 @@ in_list o n w = place.List n (record { walk = w; owner = o })
 
 -- At the start of list n, which a field names; the walk over it begins under a setting.
 abbrev pub at_field : Setting → Owner → ℕ → Field → At
-at_field u o n (row_list k va) = in_list o n (fieldWalk.Rows (walk_of u va k 0))
-at_field u o n (name_list va) = in_list o n (fieldWalk.Names (walk_at u va 0))
+at_field u o n (row_list k va) = in_list o n (field_walk.Rows (walk_of u va k 0))
+at_field u o n (name_list va) = in_list o n (field_walk.Names (walk_at u va 0))
 
 -- At the first of the fields from list n on; with none left the section goes on.
 abbrev pub at_first : Setting → Owner → ℕ → List Field → At
@@ -197,16 +197,16 @@ step_left f section x = section_leaves f section x.answer x.walk x.ledger
 -- A step of each walk, under the setting that it began with. The protocol walk looks at no ledger.
 abbrev pub classes_step : Tables → List ℕ → SectionWalk → SectionLeft
 classes_step t l x =
-    step_left aRecord.Class (moved_classes x) (step_of sections.classes (under x.classes_at.setting t) x.classes_at.walk l)
+    step_left a_record.Class (moved_classes x) (step_of sections.classes (under x.classes_at.setting t) x.classes_at.walk l)
 
 abbrev pub protocols_step : Tables → List ℕ → SectionWalk → SectionLeft
 protocols_step t l x =
     let y = protocol_step_of (under x.protocols_at.setting t) x.protocols_at.walk [] in
-    section_leaves aRecord.Protocol (moved_protocols x) y.answer y.walk l
+    section_leaves a_record.Protocol (moved_protocols x) y.answer y.walk l
 
 abbrev pub categories_step : Tables → List ℕ → SectionWalk → SectionLeft
 categories_step t l x =
-    step_left aRecord.Category (moved_categories x) (step_of sections.categories (under x.categories_at.setting t) x.categories_at.walk l)
+    step_left a_record.Category (moved_categories x) (step_of sections.categories (under x.categories_at.setting t) x.categories_at.walk l)
 
 -- A step of the walk under way.
 abbrev pub step_in_stage : Tables → List ℕ → SectionWalk → ℕ → SectionLeft
@@ -248,20 +248,20 @@ class_said s l c o = onward s l o (λ name. record_said s l (class_line c name) 
 
 -- P, and then the protocol's lists.
 abbrev pub protocol_said : State → List ℕ → ObjcProtocol → Outcome (Unit {0}) → Left
-protocol_said s l p o = onward s l o (λ _. record_said s l (line.Protocol p) (enter s.setting (anOwner.Protocol p) 0))
+protocol_said s l p o = onward s l o (λ _. record_said s l (line.Protocol p) (enter s.setting (an_owner.Protocol p) 0))
 
 -- K with the class's name or none, and then the category's lists.
 abbrev pub category_said : State → List ℕ → ObjcCategory → Outcome Named → Left
-category_said s l c o = onward s l o (λ name. record_said s l (category_line c name) (enter s.setting (anOwner.Category c) 0))
+category_said s l c o = onward s l o (λ name. record_said s l (category_line c name) (enter s.setting (an_owner.Category c) 0))
 
 abbrev pub record_step : Tables → State → List ℕ → Record → Left
-record_step t s l (aRecord.Class c) = class_said s l c (name_or_none (guarded t (superclass_name t c)))
-record_step t s l (aRecord.Protocol p) = protocol_said s l p (asked t)
-record_step t s l (aRecord.Category c) = category_said s l c (name_or_none (guarded t (category_class_name t c)))
+record_step t s l (a_record.Class c) = class_said s l c (name_or_none (guarded t (superclass_name t c)))
+record_step t s l (a_record.Protocol p) = protocol_said s l p (asked t)
+record_step t s l (a_record.Category c) = category_said s l c (name_or_none (guarded t (category_class_name t c)))
 
 -- R if class_ro decodes, and then the class's lists; else why it does not.
 abbrev pub by_ro : State → List ℕ → Outcome ClassRo → Left
-by_ro s l (value r) = leaves (value (says (line.Ro r))) (go_to s (enter s.setting (anOwner.Class r) 0)) l
+by_ro s l (value r) = leaves (value (says (line.Ro r))) (go_to s (enter s.setting (an_owner.Class r) 0)) l
 by_ro s l (absent r) = leaves (value (lacks (absence.Record r))) (go_to s place.Section) l
 by_ro s l (number k) = leaves (number k) s l
 
@@ -269,8 +269,8 @@ by_ro s l (number k) = leaves (number k) s l
 -- next list comes.
 abbrev pub by_row : State → List ℕ → Owner → ℕ → ListWalk → Outcome ReachedRow → Left
 by_row s l o n w (value (row_reached r)) =
-    leaves (value (says (row_line n r))) (with_entry s (in_list o n (fieldWalk.Rows w))) l
-by_row s l o n w (value (row_skipped j r)) = leaves (value (lacks (skipped_entry n j r))) (with_entry s (in_list o n (fieldWalk.Rows w))) l
+    leaves (value (says (row_line n r))) (with_entry s (in_list o n (field_walk.Rows w))) l
+by_row s l o n w (value (row_skipped j r)) = leaves (value (lacks (skipped_entry n j r))) (with_entry s (in_list o n (field_walk.Rows w))) l
 by_row s l o n w (value rows_finished) = leaves (value nothing) (go_to s (enter s.setting o (suc n))) l
 by_row s l o n w (absent r) = leaves (value nothing) (go_to s (enter s.setting o (suc n))) l
 by_row s l o n w (number k) = leaves (number k) s l
@@ -281,8 +281,8 @@ after_row s l o n x = by_row s l o n x.walk x.answer
 -- A step over slot i of the protocol names of list n: q, or the slot gives none for a reason; or the next list.
 abbrev pub by_name : State → List ℕ → Owner → ℕ → ℕ → ProtocolNameWalk → Outcome ReachedName → Left
 by_name s l o n i w (value (name_reached name)) =
-    leaves (value (says (name_line n name))) (go_to s (in_list o n (fieldWalk.Names w))) l
-by_name s l o n i w (value (name_passed r)) = leaves (value (lacks (unnamed n i r))) (go_to s (in_list o n (fieldWalk.Names w))) l
+    leaves (value (says (name_line n name))) (go_to s (in_list o n (field_walk.Names w))) l
+by_name s l o n i w (value (name_passed r)) = leaves (value (lacks (unnamed n i r))) (go_to s (in_list o n (field_walk.Names w))) l
 by_name s l o n i w (value names_finished) = leaves (value nothing) (go_to s (enter s.setting o (suc n))) l
 by_name s l o n i w (absent r) = leaves (value nothing) (go_to s (enter s.setting o (suc n))) l
 by_name s l o n i w (number k) = leaves (number k) s l
@@ -291,8 +291,8 @@ abbrev pub after_name : State → List ℕ → Owner → ℕ → ℕ → NameLef
 after_name s l o n i x = by_name s l o n i x.walk x.answer
 
 abbrev pub list_step : Tables → State → List ℕ → Owner → ℕ → FieldWalk → Left
-list_step t s l o n (fieldWalk.Rows w) = after_row s l o n (next_of t w)
-list_step t s l o n (fieldWalk.Names w) = after_name s l o n w.cursor (next_name t w)
+list_step t s l o n (field_walk.Rows w) = after_row s l o n (next_of t w)
+list_step t s l o n (field_walk.Names w) = after_name s l o n w.cursor (next_name t w)
 
 -- A step, by where the listing stands: under its setting, or under that of the walk under way, never that of what is lent (document 02,
 -- note 12). After the last line every step says so.

@@ -14,7 +14,7 @@ use Rattle.listing.specs.Listing.{State, Answer, start, says, lacks, nothing, en
 use Rattle.listing.specs.declared.at.At.{At}
 use Rattle.listing.specs.declared.at.At.TheVariants as place
 use Rattle.listing.specs.declared.at.FieldWalk.{FieldWalk}
-use Rattle.listing.specs.declared.at.FieldWalk.TheVariants as fieldWalk
+use Rattle.listing.specs.declared.at.FieldWalk.TheVariants as field_walk
 use Rattle.listing.specs.declared.at.Record.{Record}
 use Rattle.listing.specs.declared.line.Line.{Line}
 
@@ -30,8 +30,8 @@ abbrev pub settled_in : ℕ → ℕ → RowLeft → Outcome (List Event)
 settled_in of n x = of_value x.answer (λ a. value (settled_by of n x.walk.cursor a))
 
 abbrev pub settled_over : Tables → ℕ → ℕ → FieldWalk → Outcome (List Event)
-settled_over t of n (fieldWalk.Rows w) = settled_in of n (next_of t w)
-settled_over t of n (fieldWalk.Names w) = value []
+settled_over t of n (field_walk.Rows w) = settled_in of n (next_of t w)
+settled_over t of n (field_walk.Names w) = value []
 
 -- The settling step as an event, if the step at a place is one; r records have been said, so the record is number r - 1 from 0.
 unfoldable pub events_at : Tables → ℕ → At → Outcome (List Event)

@@ -27,7 +27,7 @@ use Rattle.walks.specs.Gather.{joined, gather, of_value, as_each}
 use Rattle.walks.specs.PlainSections.{plain_classes, plain_protocols, plain_categories}
 use Rattle.walks.specs.ProtocolNames.{protocol_names}
 use Rattle.listing.specs.declared.at.Record.{Record}
-use Rattle.listing.specs.declared.at.Record.TheVariants as aRecord
+use Rattle.listing.specs.declared.at.Record.TheVariants as a_record
 use Rattle.listing.specs.declared.line.Line.{Line}
 use Rattle.listing.specs.declared.line.Line.TheVariants as line
 use Rattle.listing.specs.declared.line.Named.{Named}
@@ -105,22 +105,22 @@ category_fields c =
 -- The records in the order classes, protocols, categories.
 unfoldable pub plain_records : Tables → Outcome (List Record)
 plain_records t =
-    joined (as_each aRecord.Class (plain_classes t))
-    (joined (as_each aRecord.Protocol (plain_protocols t)) (as_each aRecord.Category (plain_categories t)))
+    joined (as_each a_record.Class (plain_classes t))
+    (joined (as_each a_record.Protocol (plain_protocols t)) (as_each a_record.Category (plain_categories t)))
 
 -- A record's own line, and R if it has a class_ro.
 unfoldable pub own_lines : Tables → Record → Outcome (List Line)
-own_lines t (aRecord.Class c) =
+own_lines t (a_record.Class c) =
     and_then (name_or_none (superclass_name t c)) (λ name.
     joined (value (class_line c name ∷ [])) (of_value (ro_of t c) (λ r. value (line.Ro r ∷ []))))
-own_lines t (aRecord.Protocol p) = value (line.Protocol p ∷ [])
-own_lines t (aRecord.Category c) = and_then (name_or_none (category_class_name t c)) (λ name. value (category_line c name ∷ []))
+own_lines t (a_record.Protocol p) = value (line.Protocol p ∷ [])
+own_lines t (a_record.Category c) = and_then (name_or_none (category_class_name t c)) (λ name. value (category_line c name ∷ []))
 
 -- Its lists; a class without a class_ro has none.
 unfoldable pub record_fields : Tables → Record → Outcome (List Field)
-record_fields t (aRecord.Class c) = of_value (ro_of t c) (λ r. value (ro_fields r))
-record_fields t (aRecord.Protocol p) = value (protocol_fields p)
-record_fields t (aRecord.Category c) = value (category_fields c)
+record_fields t (a_record.Class c) = of_value (ro_of t c) (λ r. value (ro_fields r))
+record_fields t (a_record.Protocol p) = value (protocol_fields p)
+record_fields t (a_record.Category c) = value (category_fields c)
 
 -- The line of an entry is its row's, none where the entry is skipped. The lines of a list, and of the lists from number n on.
 abbrev pub entry_lines : Tables → ℕ → Layout → ℕ → Outcome (List Line)

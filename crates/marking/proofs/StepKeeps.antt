@@ -21,10 +21,10 @@ use Rattle.listing.specs.Listing.{Begun, begun, SectionWalk, walks, State, Left,
 use Rattle.listing.specs.declared.at.At.{At}
 use Rattle.listing.specs.declared.at.At.TheVariants as place
 use Rattle.listing.specs.declared.at.FieldWalk.{FieldWalk}
-use Rattle.listing.specs.declared.at.FieldWalk.TheVariants as fieldWalk
+use Rattle.listing.specs.declared.at.FieldWalk.TheVariants as field_walk
 use Rattle.listing.specs.declared.at.Owner.{Owner}
 use Rattle.listing.specs.declared.at.Record.{Record}
-use Rattle.listing.specs.declared.at.Record.TheVariants as aRecord
+use Rattle.listing.specs.declared.at.Record.TheVariants as a_record
 
 pub record Keeps (s : State) (l : List ℕ) (x : Left) : Type 0 where
   pub setting : x.state.setting ≡ s.setting
@@ -37,9 +37,9 @@ module _ (s : State) (l : List ℕ) where
   onward_keeps m e (number k) go f = record { setting = refl; room = e }
 
   record_keeps : (t : Tables) (x : Record) → Keeps s l (record_step t s l x)
-  record_keeps t (aRecord.Class c) = onward_keeps l refl (name_or_none (guarded t (superclass_name t c))) _ (λ name. record { setting = refl; room = refl })
-  record_keeps t (aRecord.Protocol p) = onward_keeps l refl (asked t) _ (λ u. record { setting = refl; room = refl })
-  record_keeps t (aRecord.Category c) = onward_keeps l refl (name_or_none (guarded t (category_class_name t c))) _ (λ name. record { setting = refl; room = refl })
+  record_keeps t (a_record.Class c) = onward_keeps l refl (name_or_none (guarded t (superclass_name t c))) _ (λ name. record { setting = refl; room = refl })
+  record_keeps t (a_record.Protocol p) = onward_keeps l refl (asked t) _ (λ u. record { setting = refl; room = refl })
+  record_keeps t (a_record.Category c) = onward_keeps l refl (name_or_none (guarded t (category_class_name t c))) _ (λ name. record { setting = refl; room = refl })
 
   ro_keeps : (o : Outcome ClassRo) → Keeps s l (by_ro s l o)
   ro_keeps (value r) = record { setting = refl; room = refl }
@@ -62,8 +62,8 @@ module _ (s : State) (l : List ℕ) where
     name_keeps i w (number k) = record { setting = refl; room = refl }
 
     list_keeps : (t : Tables) (x : FieldWalk) → Keeps s l (list_step t s l o n x)
-    list_keeps t (fieldWalk.Rows w) = let x = next_of t w in row_keeps x.walk x.answer
-    list_keeps t (fieldWalk.Names w) = let x = next_name t w in name_keeps w.cursor x.walk x.answer
+    list_keeps t (field_walk.Rows w) = let x = next_of t w in row_keeps x.walk x.answer
+    list_keeps t (field_walk.Names w) = let x = next_name t w in name_keeps w.cursor x.walk x.answer
 
   module _ (m : List ℕ) (e : length m ≡ length l) where
     after_keeps : (x : SectionWalk) → Keeps s l (after_section s m x)
@@ -88,13 +88,13 @@ module _ (s : State) (l : List ℕ) where
       go : (n : ℕ) (c p k : Begun) → Keeps s l (on_section s (section_step t l (walks n c p k)))
       go zero c p k =
           let x = step_of sections.classes (under c.setting t) c.walk l in
-          section_keeps x.ledger (step_keeps_length sections.classes (under c.setting t) c.walk l) aRecord.Class (walks 0 (begun c.setting x.walk) p k) x.answer
+          section_keeps x.ledger (step_keeps_length sections.classes (under c.setting t) c.walk l) a_record.Class (walks 0 (begun c.setting x.walk) p k) x.answer
       go (suc zero) c p k =
           let x = protocol_step_of (under p.setting t) p.walk [] in
-          section_keeps l refl aRecord.Protocol (walks 1 c (begun p.setting x.walk) k) x.answer
+          section_keeps l refl a_record.Protocol (walks 1 c (begun p.setting x.walk) k) x.answer
       go (suc (suc n)) c p k =
           let x = step_of sections.categories (under k.setting t) k.walk l in
-          section_keeps x.ledger (step_keeps_length sections.categories (under k.setting t) k.walk l) aRecord.Category (walks (suc (suc n)) c p (begun k.setting x.walk)) x.answer
+          section_keeps x.ledger (step_keeps_length sections.categories (under k.setting t) k.walk l) a_record.Category (walks (suc (suc n)) c p (begun k.setting x.walk)) x.answer
 
   at_keeps : (t : Tables) (a : At) → Keeps s l (step_at t s l a)
   unfolding step_at

@@ -1,4 +1,4 @@
--- A worked example: three three_rebases in one chain, the first and the last of one slot.
+-- A worked example: three rebases in one chain, the first and the last of one slot.
 use Prim.Native.Nat.{ℕ, ◌*◌}
 use mathlib.Core.Path.{◌≡◌, refl}
 use mathlib.Core.List.{List, [], ◌∷◌}

@@ -52,9 +52,9 @@ module _ (heads next number slot : ℕ) (index : List ℕ) where
   linked_other : (p : ℕ) → (p ≡ heads + chain_of slot → ⊥) → (p ≡ next → ⊥)
       → get_or (linked heads next number slot index) p 0 ≡ get_or index p 0
   unfolding linked
-  linked_other p notHead notNext =
-      get_or-set_other (nexted heads next slot index) (heads + chain_of slot) p number 0 notHead
-      ∙ get_or-set_other index next p (get_or index (heads + chain_of slot) 0) 0 notNext
+  linked_other p not_head not_next =
+      get_or-set_other (nexted heads next slot index) (heads + chain_of slot) p number 0 not_head
+      ∙ get_or-set_other index next p (get_or index (heads + chain_of slot) 0) 0 not_next
 
   module _ (apart : heads + chains ≤ next) (inside : next < length index) where
     linked_head : get_or (linked heads next number slot index) (heads + chain_of slot) 0 ≡ number
@@ -82,12 +82,12 @@ module _ (width : ℕ) (table : List ℕ) (heads nexts : ℕ) (index : List ℕ)
   chained_other : (n p : ℕ) → ((c : ℕ) → c < chains → p ≡ heads + c → ⊥) → ((k : ℕ) → k < n → p ≡ nexts + k → ⊥)
       → get_or (chained width table heads nexts n index) p 0 ≡ get_or index p 0
   unfolding chained
-  chained_other zero p notHead notNext = refl
-  chained_other (suc n) p notHead notNext =
+  chained_other zero p not_head not_next = refl
+  chained_other (suc n) p not_head not_next =
       linked_other heads (nexts + n) (suc n) (slot_of width table n) _ p
-      (notHead (chain_of (slot_of width table n)) (omega arith))
-      (notNext n (omega arith))
-      ∙ chained_other n p notHead (λ k h. notNext k (omega arith))
+      (not_head (chain_of (slot_of width table n)) (omega arith))
+      (not_next n (omega arith))
+      ∙ chained_other n p not_head (λ k h. not_next k (omega arith))
 
   -- Over empty chains, with next words behind the heads.
   module _ (apart : heads + chains ≤ nexts) (empty : (c : ℕ) → c < chains → get_or index (heads + c) 0 ≡ 0) where
@@ -145,8 +145,8 @@ module _ (rebases binds index : List ℕ) (room : index_length rebases binds ≤
       → ((k : ℕ) → k < records bind_words binds → p ≡ bind_nexts rebases + k → ⊥)
       → get_or (folded rebases binds index) p 0 ≡ get_or (rebased rebases index) p 0
   unfolding folded rebased
-  folded_other p notHead notNext =
-      chained_other bind_words binds chains (bind_nexts rebases) (rebased rebases index) (records bind_words binds) p notHead notNext
+  folded_other p not_head not_next =
+      chained_other bind_words binds chains (bind_nexts rebases) (rebased rebases index) (records bind_words binds) p not_head not_next
 
   folded_rest : (p : ℕ) → index_length rebases binds ≤ p → get_or (folded rebases binds index) p 0 ≡ get_or index p 0
   unfolding rebased

@@ -134,8 +134,8 @@ module _ (rebases binds index : List ℕ) where
 
 -- Two lists of one length that both hold an index over the two tables, and agree past it, are equal.
 module _ (rebases binds one other : List ℕ)
-    (oneRebases : Words rebase_words rebases 0 (2 * chains) one) (otherRebases : Words rebase_words rebases 0 (2 * chains) other)
-    (oneBinds : Words bind_words binds chains (bind_nexts rebases) one) (otherBinds : Words bind_words binds chains (bind_nexts rebases) other)
+    (one_rebases : Words rebase_words rebases 0 (2 * chains) one) (other_rebases : Words rebase_words rebases 0 (2 * chains) other)
+    (one_binds : Words bind_words binds chains (bind_nexts rebases) one) (other_binds : Words bind_words binds chains (bind_nexts rebases) other)
     (rest : (p : ℕ) → index_length rebases binds ≤ p → get_or one p 0 ≡ get_or other p 0) where
   at_word : (p q : ℕ) → p ≡ q → get_or one q 0 ≡ get_or other q 0 → get_or one p 0 ≡ get_or other p 0
   at_word p q e h = rw e h
@@ -143,17 +143,17 @@ module _ (rebases binds one other : List ℕ)
   same_word : (p : ℕ) → get_or one p 0 ≡ get_or other p 0
   same_word p =
       elim (dec_lt p chains) [
-        | yes rebaseHead ↦ at_word p (0 + p) (omega arith) (oneRebases.head p rebaseHead ∙ sym (otherRebases.head p rebaseHead))
+        | yes rebase_head ↦ at_word p (0 + p) (omega arith) (one_rebases.head p rebase_head ∙ sym (other_rebases.head p rebase_head))
         | no past0 ↦ elim (dec_lt p (2 * chains)) [
-          | yes bindHead ↦ at_word p (chains + (p - chains)) (omega arith)
-              (oneBinds.head (p - chains) (omega arith) ∙ sym (otherBinds.head (p - chains) (omega arith)))
+          | yes bind_head ↦ at_word p (chains + (p - chains)) (omega arith)
+              (one_binds.head (p - chains) (omega arith) ∙ sym (other_binds.head (p - chains) (omega arith)))
           | no past1 ↦ elim (dec_lt p (bind_nexts rebases)) [
-            | yes rebaseNext ↦ at_word p (2 * chains + (p - 2 * chains)) (omega arith)
-                (oneRebases.next (p - 2 * chains) (omega arith) ∙ sym (otherRebases.next (p - 2 * chains) (omega arith)))
+            | yes rebase_next ↦ at_word p (2 * chains + (p - 2 * chains)) (omega arith)
+                (one_rebases.next (p - 2 * chains) (omega arith) ∙ sym (other_rebases.next (p - 2 * chains) (omega arith)))
             | no past2 ↦ elim (dec_lt p (index_length rebases binds)) [
-              | yes bindNext ↦ at_word p (bind_nexts rebases + (p - bind_nexts rebases)) (omega arith)
-                  (oneBinds.next (p - bind_nexts rebases) (omega arith)
-                  ∙ sym (otherBinds.next (p - bind_nexts rebases) (omega arith)))
+              | yes bind_next ↦ at_word p (bind_nexts rebases + (p - bind_nexts rebases)) (omega arith)
+                  (one_binds.next (p - bind_nexts rebases) (omega arith)
+                  ∙ sym (other_binds.next (p - bind_nexts rebases) (omega arith)))
               | no past3 ↦ rest p (omega arith)
             ]
           ]

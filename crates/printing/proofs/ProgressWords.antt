@@ -12,7 +12,7 @@ use Rattle.listing.proofs.Remaining.{slot_in, slot_of, cursor_in, cursor_of, InW
 use Rattle.listing.specs.declared.at.At.{At}
 use Rattle.listing.specs.declared.at.At.TheVariants as at
 use Rattle.listing.specs.declared.at.FieldWalk.{FieldWalk}
-use Rattle.listing.specs.declared.at.FieldWalk.TheVariants as fieldWalk
+use Rattle.listing.specs.declared.at.FieldWalk.TheVariants as field_walk
 use Rattle.listing.specs.contracts.at.FieldWalk as field-type
 use Rattle.printing.specs.Pieces.{standing_of}
 use Rattle.printing.specs.declared.pieces.Progress.{Progress}
@@ -28,8 +28,8 @@ section_in_words s vs p = go s.stage
     go (suc (suc n)) = omega (arith, p)
 
 field_in_words : (w : FieldWalk) (vs : List Val) → Is field-type.the_row w vs → cursor_in w < 2 ^ 64
-field_in_words (fieldWalk.Rows w) vs p = omega (arith, p)
-field_in_words (fieldWalk.Names w) vs p = omega (arith, p)
+field_in_words (field_walk.Rows w) vs p = omega (arith, p)
+field_in_words (field_walk.Names w) vs p = omega (arith, p)
 
 at_in_words : (a : At) (vs : List Val) → Is at-type.the_row a vs → cursor_of a < 2 ^ 64
 at_in_words at.Info vs p = omega arith

@@ -261,7 +261,7 @@ module _ (s : List ℕ) (first : ByteRead) where
   unfolding character
   by_row o e = ap (follow_row s first) (sym e)
 
-  -- The k_th row of the grammar: what is due after the byte between lo and hi, of which q, t and u are the first, second and third.
+  -- The k-th row of the grammar: what is due after the byte between lo and hi, of which q, t and u are the first, second and third.
   module _ (k lo hi : ℕ) (a : lo ≤ first.byte) (b : first.byte ≤ hi) where
     of_row : (w : List Range) → get_or multi k [] ≡ (lo to hi) ∷ w → follow_all s (record { fits = true; last = first }) w ≡ character s first
     of_row w e = by_row (some w) (multi_row k lo hi first.byte e a b)

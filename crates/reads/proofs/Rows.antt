@@ -69,7 +69,7 @@ nth [] k r w e = let z : ◌≡◌ {A = ℕ} 0 1 = cc in absurd (omega arith)
 nth (v ∷ rows) zero r w e = Memᴰ.head (sym e)
 nth (v ∷ rows) (suc k) r w e = Memᴰ.tail (nth rows k r w e)
 
--- The k_th row of the characters of more than one byte, where a byte lies in its first range.
+-- The k-th row of the characters of more than one byte, where a byte lies in its first range.
 pub multi_row : (k lo hi b : ℕ) {w : List Range} → get_or multi k [] ≡ (lo to hi) ∷ w → lo ≤ b → b ≤ hi → begun multi b ≡ some w
 multi_row k lo hi b {w} e h l =
     begun_unique multi (lo to hi) w b refl (nth multi k (lo to hi) w e) (inside_between lo hi b h l)

@@ -34,10 +34,10 @@ category_properties_at t va wide = run t (decode_category_properties va wide)
 unfoldable pub decode_category_lists : ℕ → Decode CategoryLists
 decode_category_lists va =
     then (pointer_or0 va category_instance_methods) (λ instance.
-    then (pointer_or0 va category_class_methods) (λ classMethods.
+    then (pointer_or0 va category_class_methods) (λ class_methods.
     then (pointer_or0 va category_protocols) (λ protocols.
     then (pointer_or0 va category_instance_properties) (λ properties.
-    done (record { instance_methods = instance; class_methods = classMethods; protocols = protocols; instance_properties = properties })))))
+    done (record { instance_methods = instance; class_methods = class_methods; protocols = protocols; instance_properties = properties })))))
 
 abbrev pub category_lists_at : Tables → ℕ → Outcome CategoryLists
 category_lists_at t va = run t (decode_category_lists va)
@@ -49,7 +49,7 @@ decode_category_of va wide =
     then (slot va) (λ named.
     then (pointer_or0 va category_cls) (λ class.
     then (decode_category_lists va) (λ lists.
-    then (decode_category_properties va wide) (λ classProperties.
+    then (decode_category_properties va wide) (λ class_properties.
     then (string named) (λ name.
     done
     (record {
@@ -60,7 +60,7 @@ decode_category_of va wide =
       class_methods = lists.class_methods;
       protocols = lists.protocols;
       instance_properties = lists.instance_properties;
-      class_properties = classProperties;
+      class_properties = class_properties;
     })))))))
 
 abbrev pub category_of : Tables → ℕ → Bool → Outcome ObjcCategory

@@ -43,9 +43,9 @@ decode_protocol_lists va =
     then (pointer_or0 va protocol_instance_methods) (λ instance.
     then (pointer_or0 va protocol_class_methods) (λ class.
     then (pointer_or0 va protocol_optional_instance_methods) (λ optional.
-    then (pointer_or0 va protocol_optional_class_methods) (λ optionalClass.
+    then (pointer_or0 va protocol_optional_class_methods) (λ optional_class.
     then (pointer_or0 va protocol_instance_properties) (λ properties.
-    done (record { protocols = protocols; instance_methods = instance; class_methods = class; optional_instance_methods = optional; optional_class_methods = optionalClass; instance_properties = properties })))))))
+    done (record { protocols = protocols; instance_methods = instance; class_methods = class; optional_instance_methods = optional; optional_class_methods = optional_class; instance_properties = properties })))))))
 
 abbrev pub protocol_lists_at : Tables → ℕ → Outcome ProtocolLists
 protocol_lists_at t va = run t (decode_protocol_lists va)
@@ -59,7 +59,7 @@ decode_protocol va =
     then (u32_in p protocol_own_size) (λ size.
     then (u32_in p protocol_flags) (λ flags.
     then (string named) (λ name.
-    then (decode_class_properties va p) (λ classProperties.
+    then (decode_class_properties va p) (λ class_properties.
     done
     (record {
       address = va;
@@ -70,7 +70,7 @@ decode_protocol va =
       optional_instance_methods = lists.optional_instance_methods;
       optional_class_methods = lists.optional_class_methods;
       instance_properties = lists.instance_properties;
-      class_properties = classProperties;
+      class_properties = class_properties;
       size = size;
       flags = flags;
     }))))))))

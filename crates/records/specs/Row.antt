@@ -114,11 +114,11 @@ decode_small_method va direct =
     then (i32_in p small_method_name) (λ _.
     then (i32_in p small_method_types) (λ _.
     then (u32_in p small_method_imp) (λ raw.
-    then (sum64 va small_method_types) (λ typesField.
+    then (sum64 va small_method_types) (λ types_field.
     then (sum64 va small_method_imp) (λ imp_field.
     then (decode_selector direct va p) (λ name.
     then (string name) (λ selector.
-    then (decode_types typesField p) (λ types.
+    then (decode_types types_field p) (λ types.
     done (method_of selector types (small_imp raw imp_field) (small_kind direct)))))))))))
 
 abbrev pub small_method_at : Tables → ℕ → Bool → Outcome Method

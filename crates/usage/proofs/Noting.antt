@@ -7,7 +7,7 @@ use Rattle.reads.specs.Answer.{missed, text_outcome}
 use Rattle.reads.specs.declared.text.TextAnswer.{TextAnswer}
 use Rattle.reads.specs.Breaks.{is_value}
 use Rattle.reads.specs.Outcome.{Outcome, value, absent, number, Unrefused, a_value, an_absence, and_then, or_zero, choose, text_of}
-use Rattle.reads.specs.Outcome.{or_empty as orEmptyOf}
+use Rattle.reads.specs.Outcome.{or_empty as or_empty_of}
 use Rattle.reads.proofs.Unrefused.{text_in_unrefused}
 use Rattle.reads.specs.declared.answer.Missing.{Missing}
 use Rattle.reads.specs.declared.answer.Missing.TheVariants.{Absent, Refused}
@@ -149,8 +149,8 @@ text_next t va f m {m₁} {m₂} g h = go refl (text_in_unrefused t.setting.read
     same = g ∙ ap (λ l. noted_all l m) (sym (used_or t (asks.string va) (text_of 0 0 0)))
 
     go : {o : Outcome Text} → answer t (asks.string va) ≡ o → Unrefused o → m₂ ≡ noted_all (used t (then (or_empty (string va)) f)) m
-    go e (a_value a) = noted_next t (or_empty (string va)) f a m (ap orEmptyOf e) same (h a)
-    go e (an_absence r) = noted_next t (or_empty (string va)) f (text_of 0 0 0) m (ap orEmptyOf e) same (h (text_of 0 0 0))
+    go e (a_value a) = noted_next t (or_empty (string va)) f a m (ap or_empty_of e) same (h a)
+    go e (an_absence r) = noted_next t (or_empty (string va)) f (text_of 0 0 0) m (ap or_empty_of e) same (h (text_of 0 0 0))
 
 -- What counts as something where it is absent.
 pub noted_or : (t : Tables) {A : Type 0} (d : Decode A) (a : A) (m : List ℕ) {m₁ : List ℕ} → m₁ ≡ noted_all (used t d) m → m₁ ≡ noted_all (used t (else d (done a))) m

@@ -37,7 +37,7 @@ use Rattle.walks.proofs.Gathers.{There, is_there, there_then, there_joined, ther
 use Rattle.listing.specs.DecodeListing.{joined, gather, or_nothing, of_value, present, as_each, decode_addresses, decode_listed, decode_with_meta, decode_classes, decode_categories, decode_protocols, decode_records, decode_listing, decode_slot_names, decode_protocol_names, named_by, decode_named, decode_own_lines, decode_fields, decode_readables, decode_entry_lines, decode_field_lines, decode_fields_lines, decode_lines_of, entry_tried, decode_entry, decode_entries, decode_field_events, decode_record_events, decode_events_from}
 use Rattle.listing.specs.PlainListing.{class_line, category_line, row_line, name_line, end_line, Field, row_list, name_list, ro_fields, protocol_fields, category_fields, Entry, Event, event}
 use Rattle.listing.specs.declared.at.Record.{Record}
-use Rattle.listing.specs.declared.at.Record.TheVariants as aRecord
+use Rattle.listing.specs.declared.at.Record.TheVariants as a_record
 use Rattle.listing.specs.declared.line.Line.{Line}
 use Rattle.listing.specs.declared.line.Line.TheVariants as line
 use Rattle.listing.proofs.DecodedListing.{readables_run}
@@ -219,9 +219,9 @@ module _ (t : Tables) (o : Opened t) where
 
   fields_there : (x : Record) → There (run t (decode_fields x))
   unfolding decode_fields
-  fields_there (aRecord.Class c) = of_there (decode_ro_of c) (λ r. done (ro_fields r)) (λ r. is_there (ro_fields r))
-  fields_there (aRecord.Protocol p) = is_there (protocol_fields p)
-  fields_there (aRecord.Category c) = is_there (category_fields c)
+  fields_there (a_record.Class c) = of_there (decode_ro_of c) (λ r. done (ro_fields r)) (λ r. is_there (ro_fields r))
+  fields_there (a_record.Protocol p) = is_there (protocol_fields p)
+  fields_there (a_record.Category c) = is_there (category_fields c)
 
   named_there : (d : Decode Text) → There (run t (decode_named d))
   named_there d = go (unrefused t o d)
@@ -232,12 +232,12 @@ module _ (t : Tables) (o : Opened t) where
 
   own_there : (x : Record) → There (run t (decode_own_lines x))
   unfolding decode_own_lines
-  own_there (aRecord.Class c) =
+  own_there (a_record.Class c) =
       there_then _ (named_there (decode_class_name_of c.address c.superclass_address)) (λ name.
       joined_there (done (class_line c name ∷ [])) (of_value (decode_ro_of c) (λ r. done (line.Ro r ∷ []))) (is_there (class_line c name ∷ []))
       (of_there (decode_ro_of c) (λ r. done (line.Ro r ∷ [])) (λ r. is_there (line.Ro r ∷ []))))
-  own_there (aRecord.Protocol p) = is_there (line.Protocol p ∷ [])
-  own_there (aRecord.Category c) =
+  own_there (a_record.Protocol p) = is_there (line.Protocol p ∷ [])
+  own_there (a_record.Category c) =
       there_then _ (named_there (decode_class_name_of c.address c.class_address)) (λ name. is_there (category_line c name ∷ []))
 
   lines_there : (x : Record) → There (run t (decode_lines_of x))
@@ -463,11 +463,11 @@ module _ (t : Tables) (o : Opened t) where
 
     meta_there : (c : ObjcClass) → There (run t (pass_meta c))
     unfolding pass_meta
-    meta_there c = of_there (meta c) (λ m. decode_lines_of (aRecord.Class m)) (λ m. lines_there (aRecord.Class m))
+    meta_there c = of_there (meta c) (λ m. decode_lines_of (a_record.Class m)) (λ m. lines_there (a_record.Class m))
 
     class_there : (a : ℕ) → There (run t (pass_class a))
     unfolding pass_class
-    class_there a = of_there (decode_class a false) (λ c. joined (decode_lines_of (aRecord.Class c)) (pass_meta c)) (λ c. joined_there (decode_lines_of (aRecord.Class c)) (pass_meta c) (lines_there (aRecord.Class c)) (meta_there c))
+    class_there a = of_there (decode_class a false) (λ c. joined (decode_lines_of (a_record.Class c)) (pass_meta c)) (λ c. joined_there (decode_lines_of (a_record.Class c)) (pass_meta c) (lines_there (a_record.Class c)) (meta_there c))
 
     -- d or (q or (m or h)) in the other order.
     reorder : (d q m h : Bool) → (d || (q || (m || h))) ≡ ((d || m) || (q || h))
@@ -477,15 +477,15 @@ module _ (t : Tables) (o : Opened t) where
     reorder false false true h = refl
     reorder false false false h = refl
 
-    meta_hit : (c : ObjcClass) → hit (run t (decode_with_meta c)) (any (λ r. lined (aRecord.Class r))) ≡ (lined (aRecord.Class c) || hit (run t (meta c)) (λ m. lined (aRecord.Class m)))
+    meta_hit : (c : ObjcClass) → hit (run t (decode_with_meta c)) (any (λ r. lined (a_record.Class r))) ≡ (lined (a_record.Class c) || hit (run t (meta c)) (λ m. lined (a_record.Class m)))
     unfolding decode_with_meta
     meta_hit c =
         let k = there_known (present_there (meta c)) in
-        ap (λ (z : Outcome (List ObjcClass)). hit z (any (λ r. lined (aRecord.Class r)))) (joined_is (done (c ∷ [])) (present (meta c)) refl k.is)
+        ap (λ (z : Outcome (List ObjcClass)). hit z (any (λ r. lined (a_record.Class r)))) (joined_is (done (c ∷ [])) (present (meta c)) refl k.is)
         ∙ first k.known
-        ∙ ap (λ (y : Bool). lined (aRecord.Class c) || y) (sym (ap (λ (z : Outcome (List ObjcClass)). hit z (any (λ r. lined (aRecord.Class r)))) k.is) ∙ present_hit (λ m. lined (aRecord.Class m)) (meta c))
+        ∙ ap (λ (y : Bool). lined (a_record.Class c) || y) (sym (ap (λ (z : Outcome (List ObjcClass)). hit z (any (λ r. lined (a_record.Class r)))) k.is) ∙ present_hit (λ m. lined (a_record.Class m)) (meta c))
       where
-        first : (xs : List ObjcClass) → any (λ r. lined (aRecord.Class r)) ((c ∷ []) ++ xs) ≡ (lined (aRecord.Class c) || any (λ r. lined (aRecord.Class r)) xs)
+        first : (xs : List ObjcClass) → any (λ r. lined (a_record.Class r)) ((c ∷ []) ++ xs) ≡ (lined (a_record.Class c) || any (λ r. lined (a_record.Class r)) xs)
         first xs = unfold any in refl
 
     with_meta_uses : (c : ObjcClass) → uses (decode_with_meta c) ≡ uses (meta c)
@@ -494,30 +494,30 @@ module _ (t : Tables) (o : Opened t) where
         has_joined t f b (done (c ∷ [])) (present (meta c)) (is_there (c ∷ []))
         ∙ ap (λ (y : Bool). y || uses (present (meta c))) (has_done t f b (c ∷ [])) ∙ has_present t f b (meta c)
 
-    meta_uses : (c : ObjcClass) → uses (pass_meta c) ≡ (uses (meta c) || hit (run t (meta c)) (λ m. lined (aRecord.Class m)))
+    meta_uses : (c : ObjcClass) → uses (pass_meta c) ≡ (uses (meta c) || hit (run t (meta c)) (λ m. lined (a_record.Class m)))
     unfolding pass_meta
-    meta_uses c = has_of t f b (meta c) (λ m. decode_lines_of (aRecord.Class m))
+    meta_uses c = has_of t f b (meta c) (λ m. decode_lines_of (a_record.Class m))
 
     class_each : (a : ℕ) → uses (pass_class a)
-        ≡ (uses (of_value (decode_class a false) decode_with_meta) || hit (run t (of_value (decode_class a false) decode_with_meta)) (any (λ r. lined (aRecord.Class r))))
+        ≡ (uses (of_value (decode_class a false) decode_with_meta) || hit (run t (of_value (decode_class a false) decode_with_meta)) (any (λ r. lined (a_record.Class r))))
     unfolding pass_class
     class_each a =
-        has_of t f b (decode_class a false) (λ c. joined (decode_lines_of (aRecord.Class c)) (pass_meta c))
+        has_of t f b (decode_class a false) (λ c. joined (decode_lines_of (a_record.Class c)) (pass_meta c))
         ∙ go (run t (decode_class a false))
-        ∙ ap (λ (y : Bool). y || hit (run t (of_value (decode_class a false) decode_with_meta)) (any (λ r. lined (aRecord.Class r)))) (sym (has_of t f b (decode_class a false) decode_with_meta))
+        ∙ ap (λ (y : Bool). y || hit (run t (of_value (decode_class a false) decode_with_meta)) (any (λ r. lined (a_record.Class r)))) (sym (has_of t f b (decode_class a false) decode_with_meta))
       where
-        lines : (c : ObjcClass) → uses (joined (decode_lines_of (aRecord.Class c)) (pass_meta c)) ≡ (lined (aRecord.Class c) || (uses (meta c) || hit (run t (meta c)) (λ m. lined (aRecord.Class m))))
+        lines : (c : ObjcClass) → uses (joined (decode_lines_of (a_record.Class c)) (pass_meta c)) ≡ (lined (a_record.Class c) || (uses (meta c) || hit (run t (meta c)) (λ m. lined (a_record.Class m))))
         lines c =
-            has_joined t f b (decode_lines_of (aRecord.Class c)) (pass_meta c) (lines_there (aRecord.Class c))
-            ∙ ap (λ (y : Bool). lined (aRecord.Class c) || y) (meta_uses c)
+            has_joined t f b (decode_lines_of (a_record.Class c)) (pass_meta c) (lines_there (a_record.Class c))
+            ∙ ap (λ (y : Bool). lined (a_record.Class c) || y) (meta_uses c)
 
         go : (z : Outcome ObjcClass)
-            → (uses (decode_class a false) || hit z (λ c. uses (joined (decode_lines_of (aRecord.Class c)) (pass_meta c))))
-            ≡ ((uses (decode_class a false) || hit z (λ c. uses (decode_with_meta c))) || hit (and_then (tried_of z) (λ y. run t (or_nothing decode_with_meta y))) (any (λ r. lined (aRecord.Class r))))
+            → (uses (decode_class a false) || hit z (λ c. uses (joined (decode_lines_of (a_record.Class c)) (pass_meta c))))
+            ≡ ((uses (decode_class a false) || hit z (λ c. uses (decode_with_meta c))) || hit (and_then (tried_of z) (λ y. run t (or_nothing decode_with_meta y))) (any (λ r. lined (a_record.Class r))))
         go (value c) =
             ap (λ (y : Bool). uses (decode_class a false) || y) (lines c)
-            ∙ reorder (uses (decode_class a false)) (lined (aRecord.Class c)) (uses (meta c)) (hit (run t (meta c)) (λ m. lined (aRecord.Class m)))
-            ∙ ap (λ (y : Bool). (uses (decode_class a false) || y) || (lined (aRecord.Class c) || hit (run t (meta c)) (λ m. lined (aRecord.Class m)))) (sym (with_meta_uses c))
+            ∙ reorder (uses (decode_class a false)) (lined (a_record.Class c)) (uses (meta c)) (hit (run t (meta c)) (λ m. lined (a_record.Class m)))
+            ∙ ap (λ (y : Bool). (uses (decode_class a false) || y) || (lined (a_record.Class c) || hit (run t (meta c)) (λ m. lined (a_record.Class m)))) (sym (with_meta_uses c))
             ∙ ap (λ (y : Bool). (uses (decode_class a false) || uses (decode_with_meta c)) || y) (sym (meta_hit c))
         go (absent r) = sym (unfold any in or_false (uses (decode_class a false) || false))
         go (number k) = sym (or_false (uses (decode_class a false) || false))
@@ -529,9 +529,9 @@ module _ (t : Tables) (o : Opened t) where
         ∙ ap (λ (y : Bool). y || hit (run t d) (λ r. lined (x r))) (sym (has_present t f b d))
         ∙ ap (λ (y : Bool). uses (present d) || y) (sym (present_hit (λ r. lined (x r)) d))
 
-    protocol_each : (a : ℕ) → uses (pass_protocol a) ≡ (uses (present (decode_protocol a)) || hit (run t (present (decode_protocol a))) (any (λ r. lined (aRecord.Protocol r))))
+    protocol_each : (a : ℕ) → uses (pass_protocol a) ≡ (uses (present (decode_protocol a)) || hit (run t (present (decode_protocol a))) (any (λ r. lined (a_record.Protocol r))))
     unfolding pass_protocol
-    protocol_each a = present_each (decode_protocol a) aRecord.Protocol
+    protocol_each a = present_each (decode_protocol a) a_record.Protocol
 
     -- Protocols repeat if they are listed twice.
     abbrev protocol_in : ℕ → Decode (List ObjcProtocol)
@@ -540,24 +540,24 @@ module _ (t : Tables) (o : Opened t) where
     protocol_in_there : (s : ℕ) → There (run t (protocol_in s))
     protocol_in_there s = of_there (decode_address s) (λ p. present (decode_protocol p)) (λ p. present_there (decode_protocol p))
 
-    slot_each : (s : ℕ) → uses (of_value (decode_address s) pass_protocol) ≡ (uses (protocol_in s) || hit (run t (protocol_in s)) (any (λ r. lined (aRecord.Protocol r))))
+    slot_each : (s : ℕ) → uses (of_value (decode_address s) pass_protocol) ≡ (uses (protocol_in s) || hit (run t (protocol_in s)) (any (λ r. lined (a_record.Protocol r))))
     slot_each s =
         has_of t f b (decode_address s) pass_protocol
         ∙ go (run t (decode_address s))
-        ∙ ap (λ (y : Bool). y || hit (run t (protocol_in s)) (any (λ r. lined (aRecord.Protocol r)))) (sym (has_of t f b (decode_address s) (λ p. present (decode_protocol p))))
+        ∙ ap (λ (y : Bool). y || hit (run t (protocol_in s)) (any (λ r. lined (a_record.Protocol r)))) (sym (has_of t f b (decode_address s) (λ p. present (decode_protocol p))))
       where
         go : (z : Outcome ℕ)
             → (uses (decode_address s) || hit z (λ a. uses (pass_protocol a)))
-            ≡ ((uses (decode_address s) || hit z (λ p. uses (present (decode_protocol p)))) || hit (and_then (tried_of z) (λ y. run t (or_nothing (λ p. present (decode_protocol p)) y))) (any (λ r. lined (aRecord.Protocol r))))
+            ≡ ((uses (decode_address s) || hit z (λ p. uses (present (decode_protocol p)))) || hit (and_then (tried_of z) (λ y. run t (or_nothing (λ p. present (decode_protocol p)) y))) (any (λ r. lined (a_record.Protocol r))))
         go (value p) =
             ap (λ (y : Bool). uses (decode_address s) || y) (protocol_each p)
-            ∙ or_assoc (uses (decode_address s)) (uses (present (decode_protocol p))) (hit (run t (present (decode_protocol p))) (any (λ r. lined (aRecord.Protocol r))))
+            ∙ or_assoc (uses (decode_address s)) (uses (present (decode_protocol p))) (hit (run t (present (decode_protocol p))) (any (λ r. lined (a_record.Protocol r))))
         go (absent r) = sym (unfold any in or_false (uses (decode_address s) || false))
         go (number k) = sym (or_false (uses (decode_address s) || false))
 
     protocol_there : (a : ℕ) → There (run t (pass_protocol a))
     unfolding pass_protocol
-    protocol_there a = of_there (decode_protocol a) (λ p. decode_lines_of (aRecord.Protocol p)) (λ p. lines_there (aRecord.Protocol p))
+    protocol_there a = of_there (decode_protocol a) (λ p. decode_lines_of (a_record.Protocol p)) (λ p. lines_there (a_record.Protocol p))
 
     slots_there_lem : (g : ℕ → Decode (List Line)) → ((a : ℕ) → There (run t (g a))) → (slots : List ℕ) → There (run t (pass_slots g slots))
     unfolding pass_slots
@@ -566,14 +566,14 @@ module _ (t : Tables) (o : Opened t) where
     abbrev protocols_in : List ℕ → List ObjcProtocol
     protocols_in ws = all_of protocol_in protocol_in_there (slots_of Protocols ws)
 
-    protocols_have : (ws : List ℕ) → (uses (decode_protocols ws) || any (λ r. lined (aRecord.Protocol r)) (protocols_in ws)) ≡ uses (pass_slots pass_protocol (slots_of Protocols ws))
+    protocols_have : (ws : List ℕ) → (uses (decode_protocols ws) || any (λ r. lined (a_record.Protocol r)) (protocols_in ws)) ≡ uses (pass_slots pass_protocol (slots_of Protocols ws))
     unfolding decode_protocols pass_slots
     protocols_have ws =
         let slots = slots_of Protocols ws in
-        ap (λ (y : Bool). y || any (λ r. lined (aRecord.Protocol r)) (protocols_in ws)) (has_gather t f b protocol_in protocol_in_there slots)
-        ∙ ap (λ (y : Bool). any (λ s. uses (protocol_in s)) slots || y) (gather_any protocol_in protocol_in_there (λ r. lined (aRecord.Protocol r)) slots)
-        ∙ sym (any_or (λ s. uses (protocol_in s)) (λ s. hit (run t (protocol_in s)) (any (λ r. lined (aRecord.Protocol r)))) slots)
-        ∙ any_same (λ s. uses (protocol_in s) || hit (run t (protocol_in s)) (any (λ r. lined (aRecord.Protocol r)))) (λ s. uses (of_value (decode_address s) pass_protocol)) (λ s. sym (slot_each s)) slots
+        ap (λ (y : Bool). y || any (λ r. lined (a_record.Protocol r)) (protocols_in ws)) (has_gather t f b protocol_in protocol_in_there slots)
+        ∙ ap (λ (y : Bool). any (λ s. uses (protocol_in s)) slots || y) (gather_any protocol_in protocol_in_there (λ r. lined (a_record.Protocol r)) slots)
+        ∙ sym (any_or (λ s. uses (protocol_in s)) (λ s. hit (run t (protocol_in s)) (any (λ r. lined (a_record.Protocol r)))) slots)
+        ∙ any_same (λ s. uses (protocol_in s) || hit (run t (protocol_in s)) (any (λ r. lined (a_record.Protocol r)))) (λ s. uses (of_value (decode_address s) pass_protocol)) (λ s. sym (slot_each s)) slots
         ∙ sym (has_gather t f b (λ a. of_value (decode_address a) pass_protocol) (λ a. of_there (decode_address a) pass_protocol protocol_there) slots)
 
     -- The three lists of records, and the lines of each.
@@ -585,29 +585,29 @@ module _ (t : Tables) (o : Opened t) where
 
     category_there : (a : ℕ) → There (run t (pass_category a))
     unfolding pass_category
-    category_there a = of_there (decode_category a) (λ c. decode_lines_of (aRecord.Category c)) (λ c. lines_there (aRecord.Category c))
+    category_there a = of_there (decode_category a) (λ c. decode_lines_of (a_record.Category c)) (λ c. lines_there (a_record.Category c))
 
-    category_each : (a : ℕ) → uses (pass_category a) ≡ (uses (present (decode_category a)) || hit (run t (present (decode_category a))) (any (λ r. lined (aRecord.Category r))))
+    category_each : (a : ℕ) → uses (pass_category a) ≡ (uses (present (decode_category a)) || hit (run t (present (decode_category a))) (any (λ r. lined (a_record.Category r))))
     unfolding pass_category
-    category_each a = present_each (decode_category a) aRecord.Category
+    category_each a = present_each (decode_category a) a_record.Category
 
     module _ (ws : List ℕ) where
       abbrev classes_in : List ObjcClass
-      classes_in = found ws Classes (λ a. of_value (decode_class a false) decode_with_meta) class_taken aRecord.Class pass_class class_there class_each
+      classes_in = found ws Classes (λ a. of_value (decode_class a false) decode_with_meta) class_taken a_record.Class pass_class class_there class_each
 
       abbrev categories_in : List ObjcCategory
-      categories_in = found ws Categories (λ a. present (decode_category a)) category_taken aRecord.Category pass_category category_there category_each
+      categories_in = found ws Categories (λ a. present (decode_category a)) category_taken a_record.Category pass_category category_there category_each
 
       abbrev records_in : List Record
-      records_in = map aRecord.Class classes_in ++ (map aRecord.Protocol (protocols_in ws) ++ map aRecord.Category categories_in)
+      records_in = map a_record.Class classes_in ++ (map a_record.Protocol (protocols_in ws) ++ map a_record.Category categories_in)
 
       classes_are : run t (decode_classes ws) ≡ value classes_in
       unfolding decode_classes
-      classes_are = found_is ws Classes (λ a. of_value (decode_class a false) decode_with_meta) class_taken aRecord.Class pass_class class_there class_each
+      classes_are = found_is ws Classes (λ a. of_value (decode_class a false) decode_with_meta) class_taken a_record.Class pass_class class_there class_each
 
       categories_are : run t (decode_categories ws) ≡ value categories_in
       unfolding decode_categories
-      categories_are = found_is ws Categories (λ a. present (decode_category a)) category_taken aRecord.Category pass_category category_there category_each
+      categories_are = found_is ws Categories (λ a. present (decode_category a)) category_taken a_record.Category pass_category category_there category_each
 
       protocols_are : run t (decode_protocols ws) ≡ value (protocols_in ws)
       unfolding decode_protocols
@@ -617,34 +617,34 @@ module _ (t : Tables) (o : Opened t) where
       unfolding decode_records
       records_are = rw (classes_are, protocols_are, categories_are) refl
 
-      classes_have : (uses (decode_classes ws) || any (λ r. lined (aRecord.Class r)) classes_in) ≡ uses (pass_slots pass_class (slots_of Classes ws))
+      classes_have : (uses (decode_classes ws) || any (λ r. lined (a_record.Class r)) classes_in) ≡ uses (pass_slots pass_class (slots_of Classes ws))
       unfolding decode_classes
-      classes_have = once_have ws Classes (λ a. of_value (decode_class a false) decode_with_meta) class_taken aRecord.Class pass_class class_there class_each
+      classes_have = once_have ws Classes (λ a. of_value (decode_class a false) decode_with_meta) class_taken a_record.Class pass_class class_there class_each
 
-      categories_have : (uses (decode_categories ws) || any (λ r. lined (aRecord.Category r)) categories_in) ≡ uses (pass_slots pass_category (slots_of Categories ws))
+      categories_have : (uses (decode_categories ws) || any (λ r. lined (a_record.Category r)) categories_in) ≡ uses (pass_slots pass_category (slots_of Categories ws))
       unfolding decode_categories
-      categories_have = once_have ws Categories (λ a. present (decode_category a)) category_taken aRecord.Category pass_category category_there category_each
+      categories_have = once_have ws Categories (λ a. present (decode_category a)) category_taken a_record.Category pass_category category_there category_each
 
       records_have : uses (decode_records ws) ≡ (uses (decode_classes ws) || (uses (decode_protocols ws) || uses (decode_categories ws)))
       unfolding decode_records
       records_have =
-          has_joined t f b (as_each aRecord.Class (decode_classes ws)) (joined (as_each aRecord.Protocol (decode_protocols ws)) (as_each aRecord.Category (decode_categories ws)))
-          (there_then _ (subst There (sym classes_are) (is_there classes_in)) (λ cs. is_there (map aRecord.Class cs)))
-          ∙ ap (λ (y : Bool). y || uses (joined (as_each aRecord.Protocol (decode_protocols ws)) (as_each aRecord.Category (decode_categories ws)))) (has_each t f b aRecord.Class (decode_classes ws))
+          has_joined t f b (as_each a_record.Class (decode_classes ws)) (joined (as_each a_record.Protocol (decode_protocols ws)) (as_each a_record.Category (decode_categories ws)))
+          (there_then _ (subst There (sym classes_are) (is_there classes_in)) (λ cs. is_there (map a_record.Class cs)))
+          ∙ ap (λ (y : Bool). y || uses (joined (as_each a_record.Protocol (decode_protocols ws)) (as_each a_record.Category (decode_categories ws)))) (has_each t f b a_record.Class (decode_classes ws))
           ∙ ap (λ (y : Bool). uses (decode_classes ws) || y)
-          (has_joined t f b (as_each aRecord.Protocol (decode_protocols ws)) (as_each aRecord.Category (decode_categories ws))
-          (there_then _ (subst There (sym protocols_are) (is_there (protocols_in ws))) (λ ps. is_there (map aRecord.Protocol ps)))
-          ∙ ap (λ (y : Bool). y || uses (as_each aRecord.Category (decode_categories ws))) (has_each t f b aRecord.Protocol (decode_protocols ws))
-          ∙ ap (λ (y : Bool). uses (decode_protocols ws) || y) (has_each t f b aRecord.Category (decode_categories ws)))
+          (has_joined t f b (as_each a_record.Protocol (decode_protocols ws)) (as_each a_record.Category (decode_categories ws))
+          (there_then _ (subst There (sym protocols_are) (is_there (protocols_in ws))) (λ ps. is_there (map a_record.Protocol ps)))
+          ∙ ap (λ (y : Bool). y || uses (as_each a_record.Category (decode_categories ws))) (has_each t f b a_record.Protocol (decode_protocols ws))
+          ∙ ap (λ (y : Bool). uses (decode_protocols ws) || y) (has_each t f b a_record.Category (decode_categories ws)))
 
-      lines_have : any lined records_in ≡ (any (λ r. lined (aRecord.Class r)) classes_in || (any (λ r. lined (aRecord.Protocol r)) (protocols_in ws) || any (λ r. lined (aRecord.Category r)) categories_in))
+      lines_have : any lined records_in ≡ (any (λ r. lined (a_record.Class r)) classes_in || (any (λ r. lined (a_record.Protocol r)) (protocols_in ws) || any (λ r. lined (a_record.Category r)) categories_in))
       lines_have =
-          any_append lined (map aRecord.Class classes_in) (map aRecord.Protocol (protocols_in ws) ++ map aRecord.Category categories_in)
-          ∙ ap (λ (y : Bool). y || any lined (map aRecord.Protocol (protocols_in ws) ++ map aRecord.Category categories_in)) (any_map lined aRecord.Class classes_in)
-          ∙ ap (λ (y : Bool). any (λ r. lined (aRecord.Class r)) classes_in || y)
-          (any_append lined (map aRecord.Protocol (protocols_in ws)) (map aRecord.Category categories_in)
-          ∙ ap (λ (y : Bool). y || any lined (map aRecord.Category categories_in)) (any_map lined aRecord.Protocol (protocols_in ws))
-          ∙ ap (λ (y : Bool). any (λ r. lined (aRecord.Protocol r)) (protocols_in ws) || y) (any_map lined aRecord.Category categories_in))
+          any_append lined (map a_record.Class classes_in) (map a_record.Protocol (protocols_in ws) ++ map a_record.Category categories_in)
+          ∙ ap (λ (y : Bool). y || any lined (map a_record.Protocol (protocols_in ws) ++ map a_record.Category categories_in)) (any_map lined a_record.Class classes_in)
+          ∙ ap (λ (y : Bool). any (λ r. lined (a_record.Class r)) classes_in || y)
+          (any_append lined (map a_record.Protocol (protocols_in ws)) (map a_record.Category categories_in)
+          ∙ ap (λ (y : Bool). y || any lined (map a_record.Category categories_in)) (any_map lined a_record.Protocol (protocols_in ws))
+          ∙ ap (λ (y : Bool). any (λ r. lined (a_record.Protocol r)) (protocols_in ws) || y) (any_map lined a_record.Category categories_in))
 
       pass_has : uses (decode_pass ws) ≡ (uses (pass_slots pass_class (slots_of Classes ws)) || (uses (pass_slots pass_protocol (slots_of Protocols ws)) || uses (pass_slots pass_category (slots_of Categories ws))))
       unfolding decode_pass
@@ -670,12 +670,12 @@ module _ (t : Tables) (o : Opened t) where
       pass_listing =
           pass_has
           ∙ ap (λ (y : Bool). y || (uses (pass_slots pass_protocol (slots_of Protocols ws)) || uses (pass_slots pass_category (slots_of Categories ws)))) (sym classes_have)
-          ∙ ap (λ (y : Bool). (uses (decode_classes ws) || any (λ r. lined (aRecord.Class r)) classes_in) || (y || uses (pass_slots pass_category (slots_of Categories ws)))) (sym (protocols_have ws))
-          ∙ ap (λ (y : Bool). (uses (decode_classes ws) || any (λ r. lined (aRecord.Class r)) classes_in) || ((uses (decode_protocols ws) || any (λ r. lined (aRecord.Protocol r)) (protocols_in ws)) || y)) (sym categories_have)
-          ∙ ap (λ (y : Bool). (uses (decode_classes ws) || any (λ r. lined (aRecord.Class r)) classes_in) || y)
-          (swap (uses (decode_protocols ws)) (any (λ r. lined (aRecord.Protocol r)) (protocols_in ws)) (uses (decode_categories ws)) (any (λ r. lined (aRecord.Category r)) categories_in))
-          ∙ swap (uses (decode_classes ws)) (any (λ r. lined (aRecord.Class r)) classes_in) (uses (decode_protocols ws) || uses (decode_categories ws)) (any (λ r. lined (aRecord.Protocol r)) (protocols_in ws) || any (λ r. lined (aRecord.Category r)) categories_in)
-          ∙ ap (λ (y : Bool). y || (any (λ r. lined (aRecord.Class r)) classes_in || (any (λ r. lined (aRecord.Protocol r)) (protocols_in ws) || any (λ r. lined (aRecord.Category r)) categories_in))) (sym records_have)
+          ∙ ap (λ (y : Bool). (uses (decode_classes ws) || any (λ r. lined (a_record.Class r)) classes_in) || (y || uses (pass_slots pass_category (slots_of Categories ws)))) (sym (protocols_have ws))
+          ∙ ap (λ (y : Bool). (uses (decode_classes ws) || any (λ r. lined (a_record.Class r)) classes_in) || ((uses (decode_protocols ws) || any (λ r. lined (a_record.Protocol r)) (protocols_in ws)) || y)) (sym categories_have)
+          ∙ ap (λ (y : Bool). (uses (decode_classes ws) || any (λ r. lined (a_record.Class r)) classes_in) || y)
+          (swap (uses (decode_protocols ws)) (any (λ r. lined (a_record.Protocol r)) (protocols_in ws)) (uses (decode_categories ws)) (any (λ r. lined (a_record.Category r)) categories_in))
+          ∙ swap (uses (decode_classes ws)) (any (λ r. lined (a_record.Class r)) classes_in) (uses (decode_protocols ws) || uses (decode_categories ws)) (any (λ r. lined (a_record.Protocol r)) (protocols_in ws) || any (λ r. lined (a_record.Category r)) categories_in)
+          ∙ ap (λ (y : Bool). y || (any (λ r. lined (a_record.Class r)) classes_in || (any (λ r. lined (a_record.Protocol r)) (protocols_in ws) || any (λ r. lined (a_record.Category r)) categories_in))) (sym records_have)
           ∙ ap (λ (y : Bool). uses (decode_records ws) || y) (sym lines_have)
           ∙ sym listing_has
 

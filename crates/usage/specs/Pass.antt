@@ -10,21 +10,21 @@ use Rattle.walks.specs.Sections.{meta_of}
 use Rattle.walks.specs.Slots.{slots_of, decode_address}
 use Rattle.walks.specs.declared.slots.Lists.TheVariants.{Classes, Categories, Protocols}
 use Rattle.listing.specs.DecodeListing.{joined, gather, of_value, decode_lines_of}
-use Rattle.listing.specs.declared.at.Record.TheVariants as aRecord
+use Rattle.listing.specs.declared.at.Record.TheVariants as a_record
 use Rattle.listing.specs.declared.line.Line.{Line}
 
 -- A class with all its lines, then its metaclass.
 unfoldable pub pass_meta : ObjcClass → Decode (List Line)
-pass_meta c = of_value (then (nonzero (meta_of c)) (λ a. decode_class a true)) (λ m. decode_lines_of (aRecord.Class m))
+pass_meta c = of_value (then (nonzero (meta_of c)) (λ a. decode_class a true)) (λ m. decode_lines_of (a_record.Class m))
 
 unfoldable pub pass_class : ℕ → Decode (List Line)
-pass_class va = of_value (decode_class va false) (λ c. joined (decode_lines_of (aRecord.Class c)) (pass_meta c))
+pass_class va = of_value (decode_class va false) (λ c. joined (decode_lines_of (a_record.Class c)) (pass_meta c))
 
 unfoldable pub pass_protocol : ℕ → Decode (List Line)
-pass_protocol va = of_value (decode_protocol va) (λ p. decode_lines_of (aRecord.Protocol p))
+pass_protocol va = of_value (decode_protocol va) (λ p. decode_lines_of (a_record.Protocol p))
 
 unfoldable pub pass_category : ℕ → Decode (List Line)
-pass_category va = of_value (decode_category va) (λ c. decode_lines_of (aRecord.Category c))
+pass_category va = of_value (decode_category va) (λ c. decode_lines_of (a_record.Category c))
 
 -- What stands in each of some slots.
 unfoldable pub pass_slots : (ℕ → Decode (List Line)) → List ℕ → Decode (List Line)

@@ -40,7 +40,7 @@ use Rattle.walks.specs.Slots.{slots_from, section_slots, decode_address}
 use Rattle.walks.proofs.HubRun.{binds, hub, hub_opened, hub_methods, up, row_0, row_1, hub_class_record, hub_ro, hub_ro_of, hub_superclass}
 use Rattle.listing.specs.DecodeListing.{decode_protocol_names, decode_events_from, decode_record_events, decode_field_events, decode_entries, decode_entry, entry_tried, as_each, decode_lines_of, decode_listing, decode_fields, decode_fields_lines, joined, decode_named, decode_own_lines, gather, of_value, or_nothing, decode_addresses, decode_listed, decode_with_meta, decode_classes, decode_categories, decode_protocols, decode_records, decode_readables, decode_entry_lines, decode_field_lines}
 use Rattle.listing.specs.PlainListing.{row_list, name_list, Field, ro_fields, row_line, Entry, with_row, without_row, event}
-use Rattle.listing.specs.declared.at.Record.TheVariants as aRecord
+use Rattle.listing.specs.declared.at.Record.TheVariants as a_record
 use Rattle.listing.specs.declared.line.Line.TheVariants as line
 use Rattle.listing.specs.declared.line.Named.TheVariants as named
 use Rattle.listing.proofs.HubListing.{hub_class_ro, class_line_lem}
@@ -67,7 +67,7 @@ records_use : used hub (decode_records hub.sections) ≡ range 0 160 8 ∷ range
 unfolding asks flat_map file_of decode_records decode_classes decode_listed decode_addresses decode_address decode_with_meta decode_protocols decode_categories gather section_slots slots_from section_at slot_address once without meta_of decode_class decode_data uses_slot_in uses_word resolve picked picked_wide mapped data_arm64e data64 places.readable readable_at lookup rows ends holds placed sum64 stored word stripped bits_of le nonzero choose counted
 records_use = rw (no_rebase_lem 0x10A0, no_rebase_lem 0x1000, no_rebase_lem 0x1008, no_rebase_lem 0x1020)
 
-records_are : run hub (decode_records hub.sections) ≡ value (aRecord.Class hub_class_record ∷ [])
+records_are : run hub (decode_records hub.sections) ≡ value (a_record.Class hub_class_record ∷ [])
 unfolding file_of decode_records decode_classes decode_listed decode_addresses decode_address decode_with_meta decode_protocols decode_categories gather section_slots slots_from section_at slot_address once without meta_of decode_class decode_data resolve picked picked_wide mapped data_arm64e data64 places.readable readable_at lookup rows ends holds placed sum64 stored word stripped bits_of le nonzero choose counted
 records_are = rw (no_rebase_lem 0x10A0, no_rebase_lem 0x1000, no_rebase_lem 0x1008, no_rebase_lem 0x1020)
 
@@ -120,7 +120,7 @@ joined_uses d e {xs} {ys} h v g w = then_uses hub d (λ xs. then e (λ ys. done 
 ro_runs : run hub (decode_ro_of hub_class_record) ≡ value hub_class_ro
 ro_runs = hub_ro_of ∙ hub_ro
 
-own_uses : used hub (decode_own_lines (aRecord.Class hub_class_record)) ≡ range 0 168 22 ∷ (ro_ranges ++ [])
+own_uses : used hub (decode_own_lines (a_record.Class hub_class_record)) ≡ range 0 168 22 ∷ (ro_ranges ++ [])
 unfolding decode_own_lines
 own_uses =
     then_uses hub (decode_named (decode_class_name_of 0x1000 0)) _ {a = named.Text (text_of 0 182 8)}
@@ -129,11 +129,11 @@ own_uses =
     (joined_uses (done _) (of_value (decode_ro_of hub_class_record) _) {ys = line.Ro hub_class_ro ∷ []} (used_done hub _) refl
     (of_uses (decode_ro_of hub_class_record) (λ r. done (line.Ro r ∷ [])) ro_uses ro_runs (used_done hub _)) (rw ro_runs refl))
 
-fields_use : used hub (decode_fields (aRecord.Class hub_class_record)) ≡ ro_ranges ++ []
+fields_use : used hub (decode_fields (a_record.Class hub_class_record)) ≡ ro_ranges ++ []
 unfolding decode_fields
 fields_use = of_uses (decode_ro_of hub_class_record) (λ r. done (ro_fields r)) ro_uses ro_runs (used_done hub _)
 
-fields_are : run hub (decode_fields (aRecord.Class hub_class_record)) ≡ value (ro_fields hub_class_ro)
+fields_are : run hub (decode_fields (a_record.Class hub_class_record)) ≡ value (ro_fields hub_class_ro)
 unfolding decode_fields
 fields_are = rw ro_runs refl
 
@@ -235,14 +235,14 @@ steps_are : run hub (decode_field_events 0 0 (ro_fields hub_class_ro)) ≡ value
 unfolding decode_field_events
 steps_are = rw (entries_are, no_steps_are) refl
 
-events_use : used hub (decode_events_from 0 (aRecord.Class hub_class_record ∷ [])) ≡ ro_ranges ++ method_ranges
+events_use : used hub (decode_events_from 0 (a_record.Class hub_class_record ∷ [])) ≡ ro_ranges ++ method_ranges
 unfolding decode_events_from decode_record_events
 events_use =
-    joined_uses (then (decode_fields (aRecord.Class hub_class_record)) (decode_field_events 0 0)) (done []) {xs = map (event 0 0) settled} {ys = []} {ss = []}
-    (then_uses hub (decode_fields (aRecord.Class hub_class_record)) (decode_field_events 0 0) {a = ro_fields hub_class_ro} fields_use fields_are steps_use)
+    joined_uses (then (decode_fields (a_record.Class hub_class_record)) (decode_field_events 0 0)) (done []) {xs = map (event 0 0) settled} {ys = []} {ss = []}
+    (then_uses hub (decode_fields (a_record.Class hub_class_record)) (decode_field_events 0 0) {a = ro_fields hub_class_ro} fields_use fields_are steps_use)
     (rw (fields_are, steps_are) refl) (used_done hub []) refl
 
-events_are : run hub (decode_events_from 0 (aRecord.Class hub_class_record ∷ [])) ≡ value (map (event 0 0) settled)
+events_are : run hub (decode_events_from 0 (a_record.Class hub_class_record ∷ [])) ≡ value (map (event 0 0) settled)
 unfolding decode_events_from decode_record_events
 events_are = rw (fields_are, steps_are) refl
 
@@ -255,7 +255,7 @@ ranges =
 whole_use : used hub (decode_listing hub.sections) ≡ ranges
 unfolding decode_listing decode_lines_of gather
 whole_use =
-    let x = aRecord.Class hub_class_record in
+    let x = a_record.Class hub_class_record in
     let own_are : run hub (decode_own_lines x) ≡ value (class_line_lem ∷ line.Ro hub_class_ro ∷ []) = unfold decode_own_lines in rw (hub_superclass, ro_runs) refl in
     let fields : run hub (then (decode_fields x) (decode_fields_lines 0)) ≡ value (row_line 0 up ∷ []) = rw (fields_are, lines_are) refl in
     let lines : run hub (decode_lines_of x) ≡ value (class_line_lem ∷ line.Ro hub_class_ro ∷ row_line 0 up ∷ []) = unfold decode_lines_of in rw (own_are, fields) refl in

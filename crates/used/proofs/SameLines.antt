@@ -15,7 +15,7 @@ use Rattle.walks.specs.declared.slots.Lists.TheVariants.{Protocols}
 use Rattle.listing.specs.DecodeListing.{joined, gather, or_nothing, of_value, present, as_each, decode_categories, decode_protocols, decode_records, decode_slot_names, decode_protocol_names, named_by, decode_named, decode_own_lines, decode_field_lines, decode_fields_lines, decode_lines_of, decode_listing}
 use Rattle.listing.specs.PlainListing.{row_line, name_line, end_line, Field, row_list, name_list}
 use Rattle.listing.specs.declared.at.Record.{Record}
-use Rattle.listing.specs.declared.at.Record.TheVariants as aRecord
+use Rattle.listing.specs.declared.at.Record.TheVariants as a_record
 use Rattle.listing.specs.declared.line.Line.{Line}
 use Rattle.listing.specs.declared.line.Line.TheVariants as line
 use Rattle.listing.specs.declared.line.Named.{Named}
@@ -70,9 +70,9 @@ module _ (t : Tables) (others : List (List ℕ)) where
 
   -- A record's name, where it has one; a line's texts.
   abbrev pub SameRecord : Record → Type 0
-  SameRecord (aRecord.Class c) = Unit {0}
-  SameRecord (aRecord.Protocol p) = SameText t others p.name
-  SameRecord (aRecord.Category c) = SameText t others c.name
+  SameRecord (a_record.Class c) = Unit {0}
+  SameRecord (a_record.Protocol p) = SameText t others p.name
+  SameRecord (a_record.Category c) = SameText t others c.name
 
   abbrev pub SameNamed : Named → Type 0
   SameNamed (named.Text x) = SameText t others x
@@ -96,11 +96,11 @@ module _ (t : Tables) (others : List (List ℕ)) where
   unfolding decode_records decode_protocols decode_categories
   records_give ws =
       gives_joined SameRecord
-      (yields_next t _ (λ cs. yields_done t _ (each_map (λ _. Unit {0}) SameRecord aRecord.Class (λ c _. tt) cs (any cs))))
+      (yields_next t _ (λ cs. yields_done t _ (each_map (λ _. Unit {0}) SameRecord a_record.Class (λ c _. tt) cs (any cs))))
       (gives_joined SameRecord
-      (gives_each (λ p. SameText t others p.name) SameRecord aRecord.Protocol (λ p same. same)
+      (gives_each (λ p. SameText t others p.name) SameRecord a_record.Protocol (λ p same. same)
       (gives_all _ (λ a. gives_of_any _ _ (λ p. gives_present _ (protocol_gives t others p))) (slots_of Protocols ws)))
-      (gives_each (λ c. SameText t others c.name) SameRecord aRecord.Category (λ c same. same)
+      (gives_each (λ c. SameText t others c.name) SameRecord a_record.Category (λ c same. same)
       (yields_next t _ (gives_all _ (λ a. gives_present _ (category_gives t others a))))))
 
   named_gives : (d : Decode Text) → Gives t others (SameText t others) d → Gives t others SameNamed (decode_named d)
@@ -112,11 +112,11 @@ module _ (t : Tables) (others : List (List ℕ)) where
 
   own_lines_give : (x : Record) → SameRecord x → Gives t others (Each SameLine) (decode_own_lines x)
   unfolding decode_own_lines
-  own_lines_give (aRecord.Class c) h =
+  own_lines_give (a_record.Class c) h =
       yields_then t _ (named_gives (decode_class_name_of c.address c.superclass_address) (class_name_of_gives t others c.address c.superclass_address)) (λ name same.
       gives_joined SameLine (yields_done t _ (same, tt)) (gives_of SameLine (λ r. done (line.Ro r ∷ [])) (ro_of_gives t others c) (λ r alike. yields_done t _ (alike, tt))))
-  own_lines_give (aRecord.Protocol p) h = yields_done t _ (h, tt)
-  own_lines_give (aRecord.Category c) h =
+  own_lines_give (a_record.Protocol p) h = yields_done t _ (h, tt)
+  own_lines_give (a_record.Category c) h =
       yields_then t _ (named_gives (decode_class_name_of c.address c.class_address) (class_name_of_gives t others c.address c.class_address)) (λ name same. yields_done t _ ((h, same), tt))
 
   protocol_name_gives : (a : ℕ) → Gives t others (SameText t others) (decode_name_in a)

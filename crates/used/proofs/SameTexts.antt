@@ -218,7 +218,7 @@ module _ (t : Tables) (others : List (List ℕ)) where
       yields_next t _ (λ _.
       yields_next t _ (λ _.
       yields_next t _ (λ raw.
-      yields_next t _ (λ typesField.
+      yields_next t _ (λ types_field.
       yields_next t _ (λ imp_field.
       yields_next t _ (λ name.
       yields_then t _ (string_gives name) (λ selector same.

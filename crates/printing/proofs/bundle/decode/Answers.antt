@@ -1,12 +1,6 @@
 use Rattle.printing.proofs.BundleAnswers.{first_bytes}
 use Rattle.printing.proofs.bundle.decode.Goals as goal
 
--- src/bundle.rt:57:9
--- src/bundle.rt:58:18
--- src/bundle.rt:58:18
--- src/bundle.rt:58:18
--- src/bundle.rt:58:5
--- src/bundle.rt:52:1
 pub returns : goal.returns
 returns c =
     rw (first_bytes c.args.input.now c.args.n _ c.least-end.ensures) at c.decode_bytes.ensures

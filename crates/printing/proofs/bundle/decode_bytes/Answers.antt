@@ -4,9 +4,6 @@ use mathlib.Core.Path.{sym}
 use borrow.Author.Rules.{rules}
 use Rattle.printing.proofs.bundle.decode_bytes.Goals as goal
 
--- src/bundle.rt:45:11
--- src/bundle.rt:46:30
--- src/bundle.rt:47:13
 pub decode_counted-requires : goal.decode_counted-requires
 decode_counted-requires c =
     record {
@@ -14,9 +11,6 @@ decode_counted-requires c =
       in_bounds = search rules;
     }
 
--- src/bundle.rt:50:31
--- src/bundle.rt:40:1
--- src/bundle.rt:40:1
 pub returns-in-Counts : goal.returns-in-Counts
 returns-in-Counts c =
     let e = counted_is _ c.measure.result c.measure.ensures _ c.in-Counts.is in
@@ -25,7 +19,6 @@ returns-in-Counts c =
       contents = rw e c.decode_counted.ensures;
     }
 
--- src/bundle.rt:40:1
 pub returns-in-Missing : goal.returns-in-Missing
 returns-in-Missing c =
     let e = uncounted_is _ c.measure.result c.measure.ensures _ c.in-Missing.is in

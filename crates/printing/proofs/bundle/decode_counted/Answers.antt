@@ -3,18 +3,6 @@ use Rattle.listing.proofs.Measured.{tables_fit}
 use native.Mathlib.Omega.{arith}
 use Rattle.printing.proofs.bundle.decode_counted.Goals as goal
 
--- src/bundle.rt:33:15
--- src/bundle.rt:33:15
--- src/bundle.rt:35:11
--- src/bundle.rt:33:15
--- src/bundle.rt:36:11
--- src/bundle.rt:33:15
--- src/bundle.rt:37:42
--- src/bundle.rt:37:42
--- src/bundle.rt:37:42
--- src/bundle.rt:37:5
--- src/bundle.rt:28:1
--- src/bundle.rt:28:1
 pub returns : goal.returns
 returns c =
     decoded_whole _ c.args.words.now c.args.counts _ _ _ c.segment_words.ensures

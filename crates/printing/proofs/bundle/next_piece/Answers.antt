@@ -4,12 +4,6 @@ use native.Mathlib.Omega.{arith}
 use mathlib.Core.Path.{◌≡◌}
 use Rattle.printing.proofs.bundle.next_piece.Goals as goal
 
--- src/bundle.rt:205:9
--- src/bundle.rt:206:27
--- src/bundle.rt:206:27
--- src/bundle.rt:206:27
--- src/bundle.rt:206:5
--- src/bundle.rt:190:1
 pub returns : goal.returns
 returns c =
     let size : length c.args.out.now ≡ 4096 = omega arith in
