@@ -12,6 +12,7 @@ returns-then-binds-b c =
     let a = c.args in
     laws.is_6 a.rebases.now a.binds.now (omega arith) (omega arith) _ c.count_records.result c.count_records.ensures _ _ c.in-Counts.is c.if-rebases-r.false c.if-binds-b.true
 
+-- `room-rebases`: the length of a slice is a word.
 pub returns-else-binds-b : goal.returns-else-binds-b
 returns-else-binds-b c =
     let room-rebases : length c.args.rebases.now < 2 ^ 64 = omega arith in

@@ -20,6 +20,7 @@ slice_bounds-section_named-end c = below_five c.loop-k.k c.loop-k-test.true (λ 
 pub put_section-requires : goal.put_section-requires
 put_section-requires c = omega (arith, c.requires)
 
+-- `told`: the row is the name, so the call gives the section of that name.
 pub loop-k-preserved : goal.loop-k-preserved
 loop-k-preserved c =
     let told : let a = c.args in c.section_named.result ≡ section_named a.cmds.now a.count (get_or section_names c.loop-k.k []) = below_five c.loop-k.k c.loop-k-test.true

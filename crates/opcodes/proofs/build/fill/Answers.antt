@@ -2,6 +2,7 @@ use Rattle.std.proofs.Common.{◌^◌, ◌<◌, length, arith}
 use Rattle.opcodes.proofs.Building as laws
 use Rattle.opcodes.proofs.build.fill.Goals as goal
 
+-- `room`: the length of a slice is a word.
 pub returns-then-binds-n : goal.returns-then-binds-n
 returns-then-binds-n c =
     let room : length c.args.binds.now < 2 ^ 64 = omega arith in

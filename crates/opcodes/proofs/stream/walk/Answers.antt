@@ -30,6 +30,7 @@ slice_bounds-step-start c = omega arith
 pub slice_bounds-step-end : goal.slice_bounds-step-end
 slice_bounds-step-end c = omega arith
 
+-- `operands-fit`: the operands of an opcode lie in the stream.
 pub overflow_add-i-in-On : goal.overflow_add-i-in-On
 overflow_add-i-in-On c =
     let operands-fit : c.loop-i.i + 1 + c.in-On.size ≤ length c.args.body.now = let l = c.loop-i in let a = c.args in

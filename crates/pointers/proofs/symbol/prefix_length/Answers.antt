@@ -14,6 +14,7 @@ slice_bounds-starts_with-end c =
     below_five c.loop-k.k c.loop-k-test.true
     (λ e. rw e (omega arith)) (λ e. rw e (omega arith)) (λ e. rw e (omega arith)) (λ e. rw e (omega arith)) (λ e. rw e (omega arith))
 
+-- `told`: the row and its length are the prefix, so the call says whether s starts with it.
 pub returns-then-starts_with : goal.returns-then-starts_with
 returns-then-starts_with c =
     let told : c.starts_with.result ≡ starts (get_or prefixes c.loop-k.k []) c.args.s.now = below_five c.loop-k.k c.loop-k-test.true

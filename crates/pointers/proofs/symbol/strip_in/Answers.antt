@@ -7,6 +7,7 @@ use Rattle.pointers.proofs.symbol.strip_in.Goals as goal
 pub returns-then-total-name : goal.returns-then-total-name
 returns-then-total-name c = stripped_past _ _ c.if-total-name.true
 
+-- `short`: the prefix is no longer than the bytes that are there.
 pub overflow_add-result : goal.overflow_add-result
 overflow_add-result c =
     let short : c.prefix_length-n.result ≤ c.least-there.result = let a = c.args in

@@ -22,6 +22,7 @@ loop-read-preserved-then-b-lt128 c =
 pub returns-then-b-eq0 : goal.returns-then-b-eq0
 returns-then-b-eq0 c = scan_good c.loop-read.invariant c.read_byte-b.ensures c.if-b-eq0.true
 
+-- `high`: past the tests the byte is neither zero nor ASCII.
 pub broken-requires : goal.broken-requires
 broken-requires c =
     let high : 0x80 ≤ c.read_byte-b.result.byte = elim c.if-b-gt0.branch [ then-b-gt0+else-b-lt128 w ↦ omega arith | else-b-gt0 w ↦ omega arith ] in

@@ -15,6 +15,7 @@ loop-read-smaller-then-b-lt128 c =
 pub loop-read-preserved-then-b-lt128 : goal.loop-read-preserved-then-b-lt128
 loop-read-preserved-then-b-lt128 c = left_ascii c.loop-read.invariant c.read_byte-b.ensures c.loop-read-test.true tt c.if-b-lt128.true
 
+-- `stands`: behind the tests stands a character of more than one byte.
 pub returns-then-not-step : goal.returns-then-not-step
 returns-then-not-step c =
     let stands : Stands false c.args.s.now c.loop-read.read [] c.character-step.result = left_character c.loop-read.invariant c.read_byte-b.ensures c.if-b-lt128.false c.character-step.ensures in
