@@ -5,7 +5,6 @@ ghost use Rattle.reads.specs.Files.{files_of};
 ghost use Rattle.pointers.specs.Symbol.{starts, fitting, prefixes, stripped_in, stripped_name};
 
 use reads::files::is_lent;
-use reads::order::least;
 use reads::text::Text;
 
 // In the order in which they are tried, padded with zeros.
@@ -60,7 +59,7 @@ fn strip_in(bytes: &[u8], name: Text) -> Text
     if total <= name.offset {
         return name;
     }
-    let there = least(name.len, total - name.offset);
+    let there = name.len.min(total - name.offset);
     let from = name.offset as usize;
     let end = (name.offset + there) as usize;
     let n = prefix_length(&bytes[from..end]) as u64;

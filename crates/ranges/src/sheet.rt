@@ -6,7 +6,6 @@ ghost use Rattle.ranges.specs.Range.{range};
 ghost use Rattle.ranges.specs.Sheet.{window, marked_at, with_bit, with_bits, lowered_to, noted_from, noted};
 
 use crate::number::less;
-use reads::order::{greatest, least};
 
 pub const WORDS: usize = 32771;
 
@@ -53,7 +52,7 @@ fn set_bits(sheet: &mut [u64; WORDS], k: u64, n: u64)
 fn lower(sheet: &mut [u64; WORDS], x: u64)
     ensures { sheet.new ≡ lowered_to sheet.old x }
 {
-    sheet[2] = least(x, sheet[2]);
+    sheet[2] = x.min(sheet[2]);
 }
 
 // `left` bytes are used, from `first` bytes after the window's first on.
@@ -66,7 +65,7 @@ fn note_from(sheet: &mut [u64; WORDS], first: u64, left: u64)
         return;
     }
     set_bits(sheet, first, room);
-    lower(sheet, greatest(first, WINDOW));
+    lower(sheet, first.max(WINDOW));
 }
 
 // Notes that `len` bytes of a file are used, from `offset` on.

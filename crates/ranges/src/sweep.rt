@@ -7,7 +7,6 @@ ghost use Rattle.ranges.specs.Sweep.{output, progress, put_at, closed_at, passed
 
 use crate::number::{less, more};
 use crate::sheet::{WINDOW, WORDS, marked};
-use reads::order::{greatest, least};
 
 // All bytes from `start` on are used, and belong to a run that is not yet put out; `count` runs are.
 #[derive(Clone, Copy)]
@@ -121,11 +120,11 @@ impl Sweep {
         let file = self.file;
         let at = self.at;
         let left = less(size, at);
-        let n = least(WINDOW, left);
-        let next = least(sheet[2], left);
+        let n = WINDOW.min(left);
+        let next = sheet[2].min(left);
         let run = scan(sheet, file, at, n, self.run, out);
         let run = leap(out, file, run, at, n, next);
-        let at = at + greatest(n, next);
+        let at = at + n.max(next);
         Sweep { file, at, run }
     }
 

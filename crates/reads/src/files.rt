@@ -2,8 +2,6 @@
 ghost use Rattle.std.specs.Prelude.{◌≡◌, length};
 ghost use Rattle.reads.specs.Files.{files_of, is_lent, file_of, longest};
 
-use crate::order::greatest;
-
 // How many files may be lent.
 const FILES: u64 = 4;
 
@@ -33,10 +31,10 @@ pub fn file_len(files: &[&[u8]], f: u64) -> u64
 pub fn longest(files: &[&[u8]]) -> u64
     ensures { result ≡ longest (files_of files) }
 {
-    let mut n = 0;
+    let mut n: u64 = 0;
     let mut f = 0;
     while f < FILES {
-        n = greatest(n, file_len(files, f));
+        n = n.max(file_len(files, f));
         f += 1;
     }
     n

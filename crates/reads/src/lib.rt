@@ -7,7 +7,6 @@ pub mod answer;
 pub mod breaks;
 pub mod files;
 pub mod leb128;
-pub mod order;
 pub mod place;
 pub mod ptrauth;
 pub mod relative;

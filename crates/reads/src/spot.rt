@@ -8,7 +8,6 @@ ghost use Rattle.reads.specs.Spot.{distance, nowhere, spot_at, spot_in, readable
 
 use crate::answer::{Missing, Reason};
 use crate::files::file_len;
-use crate::order::{greatest, least};
 use crate::place::{Place, Placed};
 use crate::segment::Segment;
 
@@ -64,11 +63,11 @@ fn spot_at(s: Segment, far: u64, va: u64, d: u64) -> Spot
         return nowhere();
     }
     let offset = s.fileoff + d;
-    let last = least(s.filesize, s.vmsize) - d - 1;
+    let last = s.filesize.min(s.vmsize) - d - 1;
     Spot {
         file: s.file,
         offset,
-        room: least(last, Segment::MAX - greatest(far, offset)) + 1,
+        room: last.min(Segment::MAX - far.max(offset)) + 1,
     }
 }
 
@@ -87,7 +86,7 @@ fn spot_in(segments: &[u64], va: u64) -> Spot
         if holds_at(s, va, d) {
             return spot_at(s, far, va, d);
         }
-        far = greatest(far, d);
+        far = far.max(d);
         i += 1;
     }
     nowhere()

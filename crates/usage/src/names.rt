@@ -10,7 +10,6 @@ use crate::protocol_name::note_name_in;
 use pointers::setting::Setting;
 use ranges::sheet::WORDS;
 use reads::answer::{Word, checked_add, nonzero};
-use reads::order::least;
 use reads::place::{Placed, readable, u64_in};
 use records::list::even_list;
 use walks::protocol_names::{ProtocolList, ProtocolListAnswer};
@@ -48,7 +47,7 @@ fn protocol_list_at(
     };
     ProtocolListAnswer::List(ProtocolList {
         base,
-        count: least(u64_in(files, p, 0), 1_048_576),
+        count: u64_in(files, p, 0).min(1_048_576),
     })
 }
 

@@ -11,7 +11,6 @@ use pointers::section::ObjcSection;
 use pointers::setting::Setting;
 use pointers::slot::slot_or_0;
 use reads::answer::{Missing, Word, nonzero};
-use reads::order::greatest;
 use reads::relative::slot_address;
 
 // The lists that are walked: class_list, then nlclslist; cat_list, then nlcat_list; proto_list.
@@ -368,7 +367,7 @@ impl SlotWalk {
         SlotWalk {
             slot: self.slot + 1,
             used: self.used + 1,
-            highest: greatest(self.highest, va),
+            highest: self.highest.max(va),
         }
     }
 }

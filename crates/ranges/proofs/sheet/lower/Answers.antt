@@ -4,4 +4,4 @@ use Rattle.ranges.proofs.sheet.lower.Goals as goal
 
 pub returns : goal.returns
 unfolding lowered_to
-returns c = rw (← c.least.ensures) refl
+returns c = rw (← c.min.ensures) refl

@@ -12,4 +12,4 @@ pub set_bits-requires-2 : goal.set_bits-requires-2
 set_bits-requires-2 c = let room = c.less-room.ensures in omega arith
 
 pub returns : goal.returns
-returns c = laws.from_beyond _ _ _ _ _ _ _ c.less-room.ensures (omega arith) c.set_bits-2.ensures c.greatest.ensures c.lower.ensures
+returns c = laws.from_beyond _ _ _ _ _ _ _ c.less-room.ensures (omega arith) c.set_bits-2.ensures c.max.ensures c.lower.ensures

@@ -10,7 +10,7 @@ pub loop-f-preserved : goal.loop-f-preserved
 loop-f-preserved c = (
   omega arith,
   longest_step (files_lent c.args.files.now) c.loop-f.f c.loop-f.n _ _ _
-      c.loop-f.invariant.1 c.file_len.ensures c.greatest-n.ensures,
+      c.loop-f.invariant.1 c.file_len.ensures c.max-n.ensures,
 )
 
 pub returns : goal.returns

@@ -9,19 +9,19 @@ pub returns-then-s-d-2 : goal.returns-then-s-d-2
 returns-then-s-d-2 c = c.nowhere-then-s-d-2.ensures ∙ spot_over _ _ _ c.args.d (search rules) (search rules) (search rules) (omega arith)
 
 pub overflow_sub-last : goal.overflow_sub-last
-overflow_sub-last c = omega (arith, c.least.ensures, held_inside _ 0 _ _ c.requires.va_value c.requires.d_value)
+overflow_sub-last c = omega (arith, c.min.ensures, held_inside _ 0 _ _ c.requires.va_value c.requires.d_value)
 
 pub overflow_sub-last-2 : goal.overflow_sub-last-2
-overflow_sub-last-2 c = omega (arith, c.least.ensures, held_inside _ 0 _ _ c.requires.va_value c.requires.d_value)
+overflow_sub-last-2 c = omega (arith, c.min.ensures, held_inside _ 0 _ _ c.requires.va_value c.requires.d_value)
 
 pub overflow_add-result : goal.overflow_add-result
 overflow_add-result c =
-    let h = room_fits c.least-2.result c.least.result _ _ (search rules) c.least-2.ensures in
+    let h = room_fits c.min-2.result c.min.result _ _ (search rules) c.min-2.ensures in
     search rules
 
 pub returns : goal.returns
 returns c =
     let d = c.args.d in
-    rw c.least-2.ensures
+    rw c.min-2.ensures
     (spot_there _ _ _ d (search rules) (search rules) _ _ (search rules) (sum_within _ _ (search rules) c.if-s-d-2.false) (search rules)
-    (ap (λ (x : ℕ). x - d - 1) c.least.ensures) c.greatest.ensures)
+    (ap (λ (x : ℕ). x - d - 1) c.min.ensures) c.max.ensures)

@@ -40,7 +40,7 @@ loop-i-preserved c =
     let e = sym c.ends.ensures ∙ c.if-ends.false in
     let h = sym c.holds_at.ensures ∙ c.if-holds_at.false in (
       omega arith,
-      rw (c.greatest-far.ensures, c.distance-d.ensures)
+      rw (c.max-far.ensures, c.distance-d.ensures)
           (sym (spot_on c.args.segments.now c.loop-i.i (omega arith) _ c.at-s.ensures c.loop-i.far c.args.va e h)
           ∙ c.loop-i.invariant.1),
     )

@@ -63,4 +63,4 @@ returns c =
     let reach-3 : run (tables) (whole) ≡ run (tables) (rest-3) = reach-2 ∙ past (tables) (rest-2) c.in-At.p (sym c.readable.ensures ∙ ap place_outcome c.in-At.is) in
     let rest-4 : Decode ProtocolList = rest (rest-3) c.in-Value-checked_add.base in
     let reach-4 : run (tables) (whole) ≡ run (tables) (rest-4) = reach-3 ∙ past (tables) (rest-3) c.in-Value-checked_add.base (sym c.checked_add.ensures ∙ ap word_outcome c.in-Value-checked_add.is) in
-    (rw (c.least.ensures, c.u64_in.ensures)) ∙ sym (reach-4)
+    (rw (c.min.ensures, c.u64_in.ensures)) ∙ sym (reach-4)
