@@ -55,8 +55,7 @@ pub fn next_break(files: &[&[u8]], segments: &[u64], least: u64, va: u64) -> Bre
     ensures { result ≡ next_break (breaks_of (lent_image files segments) least) va }
 {
     let mut best = Break::Nothing;
-    let mut i = 0;
-    while i < segments.len() / Segment::WORDS {
+    for i in 0..segments.len() / Segment::WORDS {
         let s = Segment::at(segments, i);
         if s.ends() {
             return best;
@@ -66,7 +65,6 @@ pub fn next_break(files: &[&[u8]], segments: &[u64], least: u64, va: u64) -> Bre
         best = lower(va, best, s.vmaddr);
         best = lower(va, best, s.vmaddr + size);
         best = lower(va, best, s.vmaddr + s.vmsize);
-        i += 1;
     }
     best
 }

@@ -32,10 +32,8 @@ pub fn longest(files: &[&[u8]]) -> u64
     ensures { result ≡ longest (files_of files) }
 {
     let mut n: u64 = 0;
-    let mut f = 0;
-    while f < FILES {
+    for f in 0..FILES {
         n = n.max(file_len(files, f));
-        f += 1;
     }
     n
 }

@@ -87,8 +87,7 @@ impl Segment {
 pub fn vm_to_file_offset_in(segments: &[u64], va: u64) -> Placed
     ensures { place_outcome result ≡ lookup (rows (before segments)) va }
 {
-    let mut i = 0;
-    while i < segments.len() / Segment::WORDS {
+    for i in 0..segments.len() / Segment::WORDS {
         let s = Segment::at(segments, i);
         if s.ends() {
             return Placed::Missing(Missing::Absent(Reason::Unmapped));
@@ -96,7 +95,6 @@ pub fn vm_to_file_offset_in(segments: &[u64], va: u64) -> Placed
         if s.holds(va) {
             return s.place(va);
         }
-        i += 1;
     }
     Placed::Missing(Missing::Absent(Reason::Unmapped))
 }
@@ -137,8 +135,7 @@ impl Segment {
 pub fn file_offset_to_vm_in(segments: &[u64], file: u64, offset: u64) -> Word
     ensures { word_outcome result ≡ address_of (rows (before segments)) file offset }
 {
-    let mut i = 0;
-    while i < segments.len() / Segment::WORDS {
+    for i in 0..segments.len() / Segment::WORDS {
         let s = Segment::at(segments, i);
         if s.ends_in_file() {
             return Word::Missing(Missing::Absent(Reason::Unmapped));
@@ -146,7 +143,6 @@ pub fn file_offset_to_vm_in(segments: &[u64], file: u64, offset: u64) -> Word
         if s.carries(file, offset) {
             return because(checked_add(s.vmaddr, offset - s.fileoff), Reason::Unmapped);
         }
-        i += 1;
     }
     Word::Missing(Missing::Absent(Reason::Unmapped))
 }

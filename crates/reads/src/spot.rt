@@ -76,8 +76,7 @@ fn spot_in(segments: &[u64], va: u64) -> Spot
     ensures { result ≡ spot_in (before segments) va }
 {
     let mut far = 0;
-    let mut i = 0;
-    while i < segments.len() / Segment::WORDS {
+    for i in 0..segments.len() / Segment::WORDS {
         let s = Segment::at(segments, i);
         if s.ends() {
             return nowhere();
@@ -87,7 +86,6 @@ fn spot_in(segments: &[u64], va: u64) -> Spot
             return spot_at(s, far, va, d);
         }
         far = far.max(d);
-        i += 1;
     }
     nowhere()
 }

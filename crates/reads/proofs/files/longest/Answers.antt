@@ -4,18 +4,16 @@ use Rattle.reads.proofs.LentFiles.{longest_past, longest_step}
 use Rattle.reads.proofs.files.longest.Goals as goal
 
 pub loop-f-init : goal.loop-f-init
-loop-f-init c = (omega arith, omega arith)
+loop-f-init c = omega arith
 
 pub loop-f-preserved : goal.loop-f-preserved
-loop-f-preserved c = (
-  omega arith,
-  longest_step (files_lent c.args.files.now) c.loop-f.f c.loop-f.n _ _ _
-      c.loop-f.invariant.1 c.file_len.ensures c.max-n.ensures,
-)
+loop-f-preserved c =
+    longest_step (files_lent c.args.files.now) c.loop-f.f c.loop-f.n _ _ _
+      c.loop-f.invariant c.file_len.ensures c.max-n.ensures
 
 pub returns : goal.returns
 returns c =
     let files = c.args.files.now in
     let e : c.loop-f.f ≡ 4 = omega arith in
     let p = ap (λ (x : ℕ). longest (drop x (files_lent files))) e in
-    omega (arith, c.loop-f.invariant.1, p, longest_past files)
+    omega (arith, c.loop-f.invariant, p, longest_past files)

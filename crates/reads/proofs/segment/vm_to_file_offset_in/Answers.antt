@@ -4,7 +4,7 @@ use Rattle.reads.proofs.Lookups.{holds_is, lookup_ends, lookup_holds, lookup_on,
 use Rattle.reads.proofs.segment.vm_to_file_offset_in.Goals as goal
 
 pub loop-i-init : goal.loop-i-init
-loop-i-init c = (omega arith, rw rows_all)
+loop-i-init c = rw rows_all
 
 pub returns-then-ends : goal.returns-then-ends
 returns-then-ends c = cc (lookup_ends c.args.segments.now c.loop-i.i (omega arith) c.at-s.result c.at-s.ensures c.args.va (cc))
@@ -16,7 +16,7 @@ pub returns-then-holds : goal.returns-then-holds
 returns-then-holds c = cc (lookup_holds c.args.segments.now c.loop-i.i (omega arith) c.at-s.result c.at-s.ensures c.args.va (cc) (cc))
 
 pub loop-i-preserved : goal.loop-i-preserved
-loop-i-preserved c = (omega arith, cc (lookup_on c.args.segments.now c.loop-i.i (omega arith) c.at-s.result c.at-s.ensures c.args.va (cc) (cc)))
+loop-i-preserved c = cc (lookup_on c.args.segments.now c.loop-i.i (omega arith) c.at-s.result c.at-s.ensures c.args.va (cc) (cc))
 
 pub returns : goal.returns
 returns c = cc (lookup_out c.args.segments.now c.loop-i.i c.args.va (omega arith))
