@@ -1,5 +1,8 @@
--- Numbers in files, over the width: a number of j + k bytes from those of j and of k, and where k bytes can be read.
-use Rattle.std.proofs.Common.{◌≡◌, ℕ, zero, suc, ◌+◌, ◌*◌, ◌<◌, ◌≤◌, Bool, true, false, leb, List, [], ◌∷◌, ◌++◌, reverse, length, get_or, take, drop, refl, ap, ◌∙◌, subst, arith, length-drop, length-take, drop-cons, drop-drop, take-add, Bor, le-leb, leb-true}
+-- Numbers in files, over the width: a number of k bytes as the code reads it, and where k bytes can be read.
+use Rattle.std.proofs.Common.{◌≡◌, ℕ, zero, suc, ◌+◌, ◌-◌, ◌*◌, ◌^◌, ◌<◌, ◌≤◌, Bool, true, false, leb, List, [], ◌∷◌, ◌++◌, reverse, length, get_or, take, drop, refl, ap, ◌∙◌, subst, arith, length-append, length-drop, length-take, drop-drop, take-add, drop-cons, get_or-drop, pow-suc, Bor, Fits, w8, w64, le-leb, leb-true}
+use Rattle.std.proofs.lemmas.List.{append-nil, get_or-reverse}
+use borrow.Rule.Slice.PartMut.{put_mid, Post-is}
+use Rattle.std.specs.Int.{from_le_bytes, from_be_bytes}
 use mathlib.Core.List.{reverse-append}
 use borrow.Author.Tests.{lt-leb}
 use lib.ListN.{length-reverse}
@@ -30,30 +33,116 @@ length_part bs at k h = simp (length-take, length-drop) (omega arith)
 part_more : (bs : List ℕ) (at j k : ℕ) → part bs at (j + k) ≡ part bs at j ++ part bs (at + j) k
 part_more bs at j k = take-add j k (drop at bs) ∙ ap (λ (l : List ℕ). part bs at j ++ take k l) (drop-drop j at bs)
 
--- Two parts side by side, in little-endian and in big-endian order.
+-- Two parts side by side.
 pub le_part : (bs : List ℕ) (at j k : ℕ) → at + j ≤ length bs → le (part bs at (j + k)) ≡ le (part bs at j) + scaled j (le (part bs (at + j) k))
 le_part bs at j k h =
     ap le (part_more bs at j k)
     ∙ le_append (part bs at j) (part bs (at + j) k)
     ∙ ap (λ (n : ℕ). le (part bs at j) + scaled n (le (part bs (at + j) k))) (length_part bs at j h)
 
-pub be_part : (bs : List ℕ) (at j k : ℕ) → at + j + k ≤ length bs → be (part bs at (j + k)) ≡ be (part bs (at + j) k) + scaled k (be (part bs at j))
-be_part bs at j k h =
-    ap be (part_more bs at j k)
-    ∙ ap le (reverse-append (part bs at j) (part bs (at + j) k))
-    ∙ le_append (reverse (part bs (at + j) k)) (reverse (part bs at j))
-    ∙ ap (λ (n : ℕ). be (part bs (at + j) k) + scaled n (be (part bs at j))) (length-reverse (part bs (at + j) k) ∙ length_part bs (at + j) k h)
-
-part_one : (bs : List ℕ) (at : ℕ) → at + 1 ≤ length bs → part bs at 1 ≡ get_or bs at 0 ∷ []
-part_one bs at h = ap (λ (l : List ℕ). take 1 l) (drop-cons bs at 0 (omega arith))
-
 pub le_one : (bs : List ℕ) (at : ℕ) → at + 1 ≤ length bs → le (part bs at 1) ≡ get_or bs at 0
 unfolding le
-le_one bs at h = ap le (part_one bs at h) ∙ omega arith
+le_one bs at h = ap le (ap (λ (l : List ℕ). take 1 l) (drop-cons bs at 0 (omega arith))) ∙ omega arith
 
-pub be_one : (bs : List ℕ) (at : ℕ) → at + 1 ≤ length bs → be (part bs at 1) ≡ get_or bs at 0
+-- The number of the bytes from j on is byte j and the number of those after it.
+le_step : (xs : List ℕ) (j : ℕ) → le (drop j xs) ≡ get_or xs j 0 + 256 * le (drop (suc j) xs)
 unfolding le
-be_one bs at h = ap be (part_one bs at h) ∙ omega arith
+le_step [] zero = refl
+le_step [] (suc j) = refl
+le_step (x ∷ xs) zero = refl
+le_step (x ∷ xs) (suc j) = le_step xs j
+
+le_past : (xs : List ℕ) (n : ℕ) → length xs ≤ n → le (drop n xs) ≡ 0
+unfolding le
+le_past [] zero h = refl
+le_past [] (suc n) h = refl
+le_past (x ∷ xs) zero h = absurd (omega arith)
+le_past (x ∷ xs) (suc n) h = le_past xs n (omega arith)
+
+-- What `from_le_bytes` and `from_be_bytes` of u64 say of eight bytes.
+le_of_eight : (xs : List ℕ) → length xs ≡ 8 → from_le_bytes w64 xs ≡ le xs
+le_of_eight xs h =
+    omega (arith, le_step xs 0, le_step xs 1, le_step xs 2, le_step xs 3, le_step xs 4, le_step xs 5, le_step xs 6, le_step xs 7, le_past xs 8 (omega arith))
+
+be_of_eight : (xs : List ℕ) → length xs ≡ 8 → from_be_bytes w64 xs ≡ be xs
+be_of_eight xs h =
+    let g : (k : ℕ) → k < 8 → get_or (reverse xs) k 0 ≡ get_or xs (7 - k) 0 =
+        λ k l. get_or-reverse xs k 0 (omega arith) ∙ ap (λ (n : ℕ). get_or xs (n - 1 - k) 0) h in
+    let s : (k : ℕ) → le (drop k (reverse xs)) ≡ get_or (reverse xs) k 0 + 256 * le (drop (suc k) (reverse xs)) = le_step (reverse xs) in
+    omega (arith, s 0, s 1, s 2, s 3, s 4, s 5, s 6, s 7, le_past (reverse xs) 8 (omega (arith, length-reverse xs)), g 0 (omega arith), g 1 (omega arith), g 2 (omega arith), g 3 (omega arith), g 4 (omega arith), g 5 (omega arith), g 6 (omega arith), g 7 (omega arith))
+
+-- Bytes that are 0.
+scaled_zero : (n : ℕ) → scaled n 0 ≡ 0
+scaled_zero zero = refl
+scaled_zero (suc n) = omega (arith, scaled_zero n)
+
+zero_drop : (xs : List ℕ) (n : ℕ) → le xs ≡ 0 → le (drop n xs) ≡ 0
+unfolding le
+zero_drop [] zero e = refl
+zero_drop [] (suc n) e = refl
+zero_drop (x ∷ xs) zero e = e
+zero_drop (x ∷ xs) (suc n) e = zero_drop xs n (omega arith)
+
+zero_take : (xs : List ℕ) (n : ℕ) → le xs ≡ 0 → le (take n xs) ≡ 0
+unfolding le
+zero_take [] zero e = refl
+zero_take [] (suc n) e = refl
+zero_take (x ∷ xs) zero e = refl
+zero_take (x ∷ xs) (suc n) e = omega (arith, zero_take xs n (omega arith))
+
+zero_reverse : (xs : List ℕ) → le xs ≡ 0 → be xs ≡ 0
+unfolding le
+zero_reverse [] e = refl
+zero_reverse (x ∷ xs) e =
+    let z : le (x ∷ []) ≡ 0 = omega arith in
+    ap le (reverse-append (x ∷ []) xs) ∙ le_append (reverse xs) (x ∷ []) ∙ rw (z, scaled_zero) (omega (arith, zero_reverse xs (omega arith)))
+
+abbrev zeros : List ℕ
+zeros = 0 ∷ 0 ∷ 0 ∷ 0 ∷ 0 ∷ 0 ∷ 0 ∷ 0 ∷ []
+
+le_zeros : le zeros ≡ 0
+unfolding le
+le_zeros = refl
+
+module _ (bs : List ℕ) (at n r : ℕ) (fits : n ≤ 8) (inside : at + n ≤ length bs) (p : List ℕ) (q : p ≡ take (at + n - at) (drop at bs)) where
+  copied : p ≡ part bs at n
+  copied = let e : at + n - at ≡ n = omega arith in q ∙ ap (λ (k : ℕ). part bs at k) e
+
+  size : length p ≡ n
+  size = ap length copied ∙ length_part bs at n inside
+
+  pub le_copied : r ≡ from_le_bytes w64 (p ++ drop n zeros) → r ≡ le (part bs at n)
+  le_copied e =
+      e
+      ∙ le_of_eight (p ++ drop n zeros) (simp (length-append, length-drop) (omega (arith, size)))
+      ∙ le_append p (drop n zeros)
+      ∙ (rw (zero_drop zeros n le_zeros, scaled_zero) (omega (arith, ap le copied)))
+
+  pub be_copied : r ≡ from_be_bytes w64 (put_mid (8 - n) (8 - (8 - n)) zeros p) → r ≡ be (part bs at n)
+  be_copied e =
+      let zs : List ℕ = take (8 - n) zeros in
+      e
+      ∙ ap (λ (l : List ℕ). from_be_bytes w64 (zs ++ (p ++ l))) (Post-is (8 - n) 8 zeros (omega arith))
+      ∙ ap (λ (l : List ℕ). from_be_bytes w64 (zs ++ l)) (append-nil p)
+      ∙ be_of_eight (zs ++ p) (simp (length-append, length-take) (omega (arith, size)))
+      ∙ ap le (reverse-append zs p)
+      ∙ le_append (reverse p) (reverse zs)
+      ∙ rw (zero_reverse zs (zero_take zeros (8 - n) le_zeros), scaled_zero) (omega (arith, ap be copied))
+
+-- A number is below 256 for each of its bytes.
+pub positive_power : (n : ℕ) → 0 < 256 ^ n
+positive_power zero = omega arith
+positive_power (suc n) = rw pow-suc (omega (arith, positive_power n))
+
+take_below : (xs : List ℕ) (n : ℕ) → ((i : ℕ) → get_or xs i 0 < 256) → le (take n xs) < 256 ^ n
+unfolding le
+take_below [] zero f = omega arith
+take_below [] (suc n) f = positive_power (suc n)
+take_below (x ∷ xs) zero f = omega arith
+take_below (x ∷ xs) (suc n) f = rw pow-suc (omega (arith, f 0, take_below xs n (λ i. f (suc i))))
+
+pub part_below : (bs : List ℕ) (at n : ℕ) → ((i : ℕ) → Fits w8 (get_or bs i 0)) → le (part bs at n) < 256 ^ n
+part_below bs at n f = take_below (drop at bs) n (λ i. let h = f (at + i) in rw get_or-drop h.fits)
 
 module _ (n : ℕ) (p : Place) (k : ℕ) where
   pub readable_in : p.offset + k ≤ n → value p ≡ readable_at n p k

@@ -45,168 +45,120 @@ pub fn readable(files: &[&[u8]], segments: &[u64], va: u64, k: u64) -> Placed
     }
 }
 
-fn wide(x: u8) -> u64
-    ensures { (result ≡ x) × (result < 256) }
+// The number of N bytes that lie in the slice, in little-endian order.
+pub(crate) fn le<const N: usize>(bytes: &[u8], at: usize) -> u64
+    requires fits { N ≤ 8 }
+    requires inside { at + N ≤ length bytes.now }
+    ensures { (result ≡ le (part (before bytes) at N)) × (result < 256 ^ N) }
 {
-    x as u64
+    let mut word = [0; 8];
+    word[..N].copy_from_slice(&bytes[at..at + N]);
+    u64::from_le_bytes(word)
 }
 
-// The number of two bytes that lie in the slice, in little-endian order.
-fn le2(bytes: &[u8], at: usize) -> u64
-    requires { at + 2 ≤ length bytes.now }
-    ensures { (result ≡ le (part (before bytes) at 2)) × (result < 2 ^ 16) }
+// The number of N bytes that lie in the slice, in big-endian order.
+fn be<const N: usize>(bytes: &[u8], at: usize) -> u64
+    requires fits { N ≤ 8 }
+    requires inside { at + N ≤ length bytes.now }
+    ensures { result ≡ be (part (before bytes) at N) }
 {
-    wide(bytes[at]) + wide(bytes[at + 1]) * 0x100
+    let mut word = [0; 8];
+    word[8 - N..].copy_from_slice(&bytes[at..at + N]);
+    u64::from_be_bytes(word)
 }
 
-// The number of four bytes that lie in the slice, in little-endian order.
-pub(crate) fn le4(bytes: &[u8], at: usize) -> u64
-    requires { at + 4 ≤ length bytes.now }
-    ensures { (result ≡ le (part (before bytes) at 4)) × (result < 2 ^ 32) }
+// The number of N bytes at an offset of one slice.
+pub fn read_le_at<const N: usize>(bytes: &[u8], offset: u64) -> Word
+    requires { N ≤ 8 }
+    ensures { word_outcome result ≡ le_at (before bytes) N offset }
 {
-    le2(bytes, at) + le2(bytes, at + 2) * 0x1_0000
+    match readable_at(bytes.len() as u64, Place { file: 0, offset }, N as u64) {
+        Placed::At(p) => Word::Value(le::<N>(bytes, p.offset as usize)),
+        Placed::Missing(m) => Word::Missing(m),
+    }
 }
 
-// The number of eight bytes that lie in the slice, in little-endian order.
-fn le8(bytes: &[u8], at: usize) -> u64
-    requires { at + 8 ≤ length bytes.now }
-    ensures { (result ≡ le (part (before bytes) at 8)) × (result < 2 ^ 64) }
+// The same in big-endian order.
+pub fn read_be_at<const N: usize>(bytes: &[u8], offset: u64) -> Word
+    requires { N ≤ 8 }
+    ensures { word_outcome result ≡ be_at (before bytes) N offset }
 {
-    le4(bytes, at) + le4(bytes, at + 4) * 0x1_0000_0000
+    match readable_at(bytes.len() as u64, Place { file: 0, offset }, N as u64) {
+        Placed::At(p) => Word::Value(be::<N>(bytes, p.offset as usize)),
+        Placed::Missing(m) => Word::Missing(m),
+    }
 }
 
-// The number of two bytes that lie in the slice, in big-endian order.
-fn be2(bytes: &[u8], at: usize) -> u64
-    requires { at + 2 ≤ length bytes.now }
-    ensures { (result ≡ be (part (before bytes) at 2)) × (result < 2 ^ 16) }
+// The number of N bytes at an address.
+pub fn read<const N: usize>(files: &[&[u8]], segments: &[u64], va: u64) -> Word
+    requires some { 0 < N }
+    requires fits { N ≤ 8 }
+    ensures { word_outcome result ≡ word (lent_image files segments) N va }
 {
-    wide(bytes[at + 1]) + wide(bytes[at]) * 0x100
-}
-
-// The number of four bytes that lie in the slice, in big-endian order.
-fn be4(bytes: &[u8], at: usize) -> u64
-    requires { at + 4 ≤ length bytes.now }
-    ensures { (result ≡ be (part (before bytes) at 4)) × (result < 2 ^ 32) }
-{
-    be2(bytes, at + 2) + be2(bytes, at) * 0x1_0000
-}
-
-// The number of eight bytes that lie in the slice, in big-endian order.
-fn be8(bytes: &[u8], at: usize) -> u64
-    requires { at + 8 ≤ length bytes.now }
-    ensures { (result ≡ be (part (before bytes) at 8)) × (result < 2 ^ 64) }
-{
-    be4(bytes, at + 4) + be4(bytes, at) * 0x1_0000_0000
+    match readable(files, segments, va, N as u64) {
+        Placed::At(p) => {
+            let f = p.file as usize;
+            let bytes = files[f];
+            Word::Value(le::<N>(bytes, p.offset as usize))
+        }
+        Placed::Missing(m) => Word::Missing(m),
+    }
 }
 
 // The number of two bytes at an offset of one slice.
 pub fn read_u16_le_at(bytes: &[u8], offset: u64) -> Word
     ensures { word_outcome result ≡ le_at (before bytes) 2 offset }
 {
-    match readable_at(bytes.len() as u64, Place { file: 0, offset }, 2) {
-        Placed::At(p) => {
-            let at = p.offset as usize;
-            Word::Value(le2(bytes, at))
-        }
-        Placed::Missing(m) => Word::Missing(m),
-    }
+    read_le_at::<2>(bytes, offset)
 }
 
 // The number of four bytes at an offset of one slice.
 pub fn read_u32_le_at(bytes: &[u8], offset: u64) -> Word
     ensures { word_outcome result ≡ le_at (before bytes) 4 offset }
 {
-    match readable_at(bytes.len() as u64, Place { file: 0, offset }, 4) {
-        Placed::At(p) => {
-            let at = p.offset as usize;
-            Word::Value(le4(bytes, at))
-        }
-        Placed::Missing(m) => Word::Missing(m),
-    }
+    read_le_at::<4>(bytes, offset)
 }
 
 // The number of eight bytes at an offset of one slice.
 pub fn read_u64_le_at(bytes: &[u8], offset: u64) -> Word
     ensures { word_outcome result ≡ le_at (before bytes) 8 offset }
 {
-    match readable_at(bytes.len() as u64, Place { file: 0, offset }, 8) {
-        Placed::At(p) => {
-            let at = p.offset as usize;
-            Word::Value(le8(bytes, at))
-        }
-        Placed::Missing(m) => Word::Missing(m),
-    }
+    read_le_at::<8>(bytes, offset)
 }
 
 // The number of four bytes at an offset of one slice, in big-endian order.
 pub fn read_u32_be_at(bytes: &[u8], offset: u64) -> Word
     ensures { word_outcome result ≡ be_at (before bytes) 4 offset }
 {
-    match readable_at(bytes.len() as u64, Place { file: 0, offset }, 4) {
-        Placed::At(p) => {
-            let at = p.offset as usize;
-            Word::Value(be4(bytes, at))
-        }
-        Placed::Missing(m) => Word::Missing(m),
-    }
+    read_be_at::<4>(bytes, offset)
 }
 
 // The number of eight bytes at an offset of one slice, in big-endian order.
 pub fn read_u64_be_at(bytes: &[u8], offset: u64) -> Word
     ensures { word_outcome result ≡ be_at (before bytes) 8 offset }
 {
-    match readable_at(bytes.len() as u64, Place { file: 0, offset }, 8) {
-        Placed::At(p) => {
-            let at = p.offset as usize;
-            Word::Value(be8(bytes, at))
-        }
-        Placed::Missing(m) => Word::Missing(m),
-    }
+    read_be_at::<8>(bytes, offset)
 }
 
 // The number of two bytes at an address.
 pub fn read_u16(files: &[&[u8]], segments: &[u64], va: u64) -> Word
     ensures { word_outcome result ≡ word (lent_image files segments) 2 va }
 {
-    match readable(files, segments, va, 2) {
-        Placed::At(p) => {
-            let f = p.file as usize;
-            let bytes = files[f];
-            let at = p.offset as usize;
-            Word::Value(le2(bytes, at))
-        }
-        Placed::Missing(m) => Word::Missing(m),
-    }
+    read::<2>(files, segments, va)
 }
 
 // The number of four bytes at an address.
 pub fn read_u32(files: &[&[u8]], segments: &[u64], va: u64) -> Word
     ensures { word_outcome result ≡ word (lent_image files segments) 4 va }
 {
-    match readable(files, segments, va, 4) {
-        Placed::At(p) => {
-            let f = p.file as usize;
-            let bytes = files[f];
-            let at = p.offset as usize;
-            Word::Value(le4(bytes, at))
-        }
-        Placed::Missing(m) => Word::Missing(m),
-    }
+    read::<4>(files, segments, va)
 }
 
 // The number of eight bytes at an address.
 pub fn read_u64(files: &[&[u8]], segments: &[u64], va: u64) -> Word
     ensures { word_outcome result ≡ word (lent_image files segments) 8 va }
 {
-    match readable(files, segments, va, 8) {
-        Placed::At(p) => {
-            let f = p.file as usize;
-            let bytes = files[f];
-            let at = p.offset as usize;
-            Word::Value(le8(bytes, at))
-        }
-        Placed::Missing(m) => Word::Missing(m),
-    }
+    read::<8>(files, segments, va)
 }
 
 // Whether k bytes at i bytes from an offset lie in n bytes.
@@ -222,48 +174,55 @@ fn lies_in(n: u64, from: u64, i: u64, k: u64) -> bool
     k <= n - from - i
 }
 
-// The number of four bytes at i bytes from an offset of one slice; 0 where they do not lie in it.
+// The number of N bytes at i bytes from an offset of one slice; 0 where they do not lie in it.
+pub fn le_from<const N: usize>(bytes: &[u8], offset: u64, i: u64) -> u64
+    requires { N ≤ 8 }
+    ensures { (result ≡ le_in (before bytes) N (offset + i)) × (result < 256 ^ N) }
+{
+    if lies_in(bytes.len() as u64, offset, i, N as u64) {
+        return le::<N>(bytes, (offset + i) as usize);
+    }
+    0
+}
+
+// The number of four bytes.
 pub fn u32_from(bytes: &[u8], offset: u64, i: u64) -> u32
     ensures { result ≡ le_in (before bytes) 4 (offset + i) }
 {
-    if lies_in(bytes.len() as u64, offset, i, 4) {
-        let at = (offset + i) as usize;
-        return le4(bytes, at) as u32;
-    }
-    0
+    le_from::<4>(bytes, offset, i) as u32
 }
 
 // The number of eight.
 pub fn u64_from(bytes: &[u8], offset: u64, i: u64) -> u64
     ensures { result ≡ le_in (before bytes) 8 (offset + i) }
 {
-    if lies_in(bytes.len() as u64, offset, i, 8) {
-        let at = (offset + i) as usize;
-        return le8(bytes, at);
-    }
-    0
+    le_from::<8>(bytes, offset, i)
 }
 
-// The number of four bytes at i bytes from a place; 0 where they do not lie in its file.
-pub fn u32_in(files: &[&[u8]], p: Place, i: u64) -> u32
-    ensures { result ≡ word_in (files_of files) 4 p i }
+// The number of N bytes at i bytes from a place; 0 where they do not lie in its file.
+pub fn le_in<const N: usize>(files: &[&[u8]], p: Place, i: u64) -> u64
+    requires some { 0 < N }
+    requires fits { N ≤ 8 }
+    ensures { (result ≡ word_in (files_of files) N p i) × (result < 256 ^ N) }
 {
     if !is_lent(files, p.file) {
         return 0;
     }
     let f = p.file as usize;
     let bytes = files[f];
-    u32_from(bytes, p.offset, i)
+    le_from::<N>(bytes, p.offset, i)
+}
+
+// The number of four bytes.
+pub fn u32_in(files: &[&[u8]], p: Place, i: u64) -> u32
+    ensures { result ≡ word_in (files_of files) 4 p i }
+{
+    le_in::<4>(files, p, i) as u32
 }
 
 // The number of eight.
 pub fn u64_in(files: &[&[u8]], p: Place, i: u64) -> u64
     ensures { result ≡ word_in (files_of files) 8 p i }
 {
-    if !is_lent(files, p.file) {
-        return 0;
-    }
-    let f = p.file as usize;
-    let bytes = files[f];
-    u64_from(bytes, p.offset, i)
+    le_in::<8>(files, p, i)
 }

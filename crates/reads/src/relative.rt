@@ -6,7 +6,7 @@ ghost use Rattle.reads.specs.Files.{files_of};
 ghost use Rattle.reads.specs.Relative.{signed32, signed_in, signed_at, modulo64, relative, slot_address};
 
 use crate::answer::Signed;
-use crate::place::{Place, Placed, le4, readable_at, u32_in};
+use crate::place::{Place, Placed, le, readable_at, u32_in};
 
 // The signed number of 32 bits.
 pub fn signed(x: u32) -> i32
@@ -25,7 +25,7 @@ pub fn read_i32_le_at(bytes: &[u8], offset: u64) -> Signed
     match readable_at(bytes.len() as u64, Place { file: 0, offset }, 4) {
         Placed::At(p) => {
             let at = p.offset as usize;
-            Signed::Value(signed(le4(bytes, at) as u32))
+            Signed::Value(signed(le::<4>(bytes, at) as u32))
         }
         Placed::Missing(m) => Signed::Missing(m),
     }

@@ -1,6 +1,0 @@
-use Rattle.std.proofs.Common.{arith}
-use Rattle.reads.proofs.Numbers.{be_part}
-use Rattle.reads.proofs.place.be8.Goals as goal
-
-pub returns : goal.returns
-returns c = (omega (arith, be_part c.args.bytes.now c.args.at 4 4 (omega arith)), omega arith)
