@@ -38,12 +38,10 @@ pub enum SlebAnswer {
 fn digit_count(bytes: &[u8]) -> Word
     ensures { word_outcome result ≡ digit_count (before bytes) }
 {
-    let mut i = 0;
-    while i < bytes.len() {
-        if bytes[i] < 0x80 {
+    for (i, b) in bytes.iter().enumerate() {
+        if *b < 0x80 {
             return Word::Value((i + 1) as u64);
         }
-        i += 1;
     }
     Word::Missing(Missing::Absent(Reason::Unreadable))
 }
@@ -63,15 +61,12 @@ fn digit(b: u8, negative: bool) -> u64
 fn magnitude(digits: &[u8], negative: bool) -> Word
     ensures { word_outcome result ≡ within64 (magnitude negative (before digits)) }
 {
-    let mut n: u64 = 0;
-    let mut i = digits.len();
-    while 0 < i {
+    let mut n = 0;
+    for i in (0..digits.len()).rev() {
         if 0x0200_0000_0000_0000 <= n {
             return Word::Missing(Missing::Absent(Reason::Malformed));
         }
-        i -= 1;
-        let b = digits[i];
-        n = n * 128 + digit(b, negative);
+        n = n * 128 + digit(digits[i], negative);
     }
     Word::Value(n)
 }
