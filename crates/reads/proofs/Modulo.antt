@@ -1,5 +1,5 @@
 -- Laws of sums modulo 2^64.
-use Rattle.std.proofs.Common.{◌≡◌, ℕ, suc, ◌+◌, ◌-◌, ◌*◌, ◌/◌, ◌%◌, ◌^◌, ◌<◌, Bool, true, false, ltb, ℤ, pos, negsuc, ◌+ℤ◌, sym, refl, ◌∙◌, mod-lt, mod-eq_of_lt, arith, ltb-false, ltb-true}
+use Rattle.std.proofs.Common.{◌≡◌, ℕ, suc, ◌+◌, ◌-◌, ◌*◌, ◌/◌, ◌%◌, ◌^◌, ◌<◌, Bool, true, false, ltb, ℤ, pos, negsuc, ◌+ℤ◌, sym, refl, ap, ◌∙◌, mod-lt, mod-eq_of_lt, arith, to_z-of_z, w32, w64, SFits, to_z, of_z, ltb-false, ltb-true}
 use native.Mathlib.Nat.{add-mod-mod, add-mul-mod_self_left, div-add-mod}
 use Rattle.reads.specs.Relative.{modulo64, slot_address}
 
@@ -31,8 +31,23 @@ modulo64_of_sum a (negsuc n) = go (ltb a (suc n)) refl
         simp e
         (multiple _ (a - suc n) (suc (n / 2 ^ 64)) (omega (arith, parts n, rest_below n, ltb-false a (suc n) e)))
 
-pub slot_modulo : (vmaddr k : ℕ) → (vmaddr + k % 2 ^ 61 * 8) % 2 ^ 64 ≡ slot_address vmaddr k
+-- A signed number of 32 bits, as one of 64.
+wide : (z : ℤ) → SFits w32 z → SFits w64 z
+wide (pos n) f = record { sfits = omega (arith, f.sfits) }
+wide (negsuc n) f = record { sfits = omega (arith, f.sfits) }
+
+bits_of : (z : ℤ) → SFits w64 z → of_z w64 z ≡ modulo64 z
+unfolding modulo64
+bits_of (pos n) f = sym (mod-eq_of_lt (omega (arith, f.sfits)))
+bits_of (negsuc n) f =
+    let e : n % 2 ^ 64 ≡ n = mod-eq_of_lt (omega (arith, f.sfits)) in
+    rw e (omega arith)
+
+pub extended : (z : ℤ) → SFits w32 z → of_z w64 (to_z w64 (of_z w64 (to_z w32 (of_z w32 z)))) ≡ modulo64 z
+extended z f = rw (to_z-of_z f, to_z-of_z (wide z f)) (bits_of z (wide z f))
+
+pub slot_modulo : (vmaddr k : ℕ) → (vmaddr + k * 8 % 2 ^ 64) % 2 ^ 64 ≡ slot_address vmaddr k
 unfolding slot_address
 slot_modulo vmaddr k =
-    let e : 2 ^ 61 * (k / 2 ^ 61) + k % 2 ^ 61 ≡ k = div-add-mod k (2 ^ 61) in
-    sym (multiple (vmaddr + 8 * k) _ (k / 2 ^ 61) (omega arith))
+    let e : k * 8 ≡ 8 * k = omega arith in
+    add-mod-mod vmaddr (k * 8) (2 ^ 64) ∙ ap (λ (n : ℕ). (vmaddr + n) % 2 ^ 64) e

@@ -1,5 +1,5 @@
 -- Spots, by the tests that the code makes; and what is read near one is what a lookup gives.
-use Rattle.std.proofs.Common.{◌≡◌, ℕ, ◌+◌, ◌-◌, ◌^◌, ◌<◌, ◌≤◌, min, max, Bool, true, false, ◌&&◌, ◌||◌, eqb, ltb, leb, List, [], ◌∷◌, length, sym, refl, ap, ◌∙◌, subst, true≢false, arith, ltb-false, lt-ltb, eq-eqb, ne_eqb, eqb-true, le-leb, leb-false, leb-true}
+use Rattle.std.proofs.Common.{◌≡◌, ℕ, ◌%◌, ◌+◌, ◌-◌, ◌^◌, ◌<◌, ◌≤◌, min, max, Bool, true, false, ◌&&◌, ◌||◌, eqb, ltb, leb, List, [], ◌∷◌, length, sym, refl, ap, ◌∙◌, subst, true≢false, arith, ltb-false, lt-ltb, eq-eqb, ne_eqb, eqb-true, le-leb, leb-false, leb-true}
 use mathlib.Core.Bool.{and-true, or-true}
 use borrow.Author.Tests.{lt-leb, eqb-false}
 use Rattle.reads.specs.Outcome.{Outcome, value, absent, and_then, because, choose}
@@ -29,10 +29,10 @@ module _ (s : Segment) (va : ℕ) where
   distance_before h = choose_false _ _ (lt-leb s.vmaddr va h)
 
   -- The number that vmaddr added to wraps to the address.
-  pub distance_wraps : (d : ℕ) → d < 2 ^ 64 → s.vmaddr < 2 ^ 64 → va < 2 ^ 64 → Prim.Native.Nat.◌%◌ (d + s.vmaddr) (2 ^ 64) ≡ va → d ≡ distance s va
-  distance_wraps d f g h e = go (leb s.vmaddr va) refl
+  pub distance_wraps : s.vmaddr < 2 ^ 64 → va < 2 ^ 64 → (va + (2 ^ 64 - s.vmaddr)) % 2 ^ 64 ≡ distance s va
+  distance_wraps g h = go (leb s.vmaddr va) refl
     where
-      go : (b : Bool) → leb s.vmaddr va ≡ b → d ≡ distance s va
+      go : (b : Bool) → leb s.vmaddr va ≡ b → (va + (2 ^ 64 - s.vmaddr)) % 2 ^ 64 ≡ distance s va
       go true p = let q = leb-true s.vmaddr va p in rw (distance_past q) (omega arith)
       go false p = let q = leb-false s.vmaddr va p in rw (distance_before q) (omega arith)
 

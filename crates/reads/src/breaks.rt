@@ -26,10 +26,7 @@ fn readable_part(s: Segment, n: u64, least: u64) -> u64
     if last < s.fileoff {
         return 0;
     }
-    let mut size = s.vmsize;
-    if s.filesize < size {
-        size = s.filesize;
-    }
+    let size = s.mapped_size();
     if last - s.fileoff < size {
         return last - s.fileoff + 1;
     }
@@ -45,7 +42,7 @@ fn lower(va: u64, best: Break, b: u64) -> Break
     }
     match best {
         Break::Nothing => Break::At(b),
-        Break::At(a) => { if b < a { Break::At(b) } else { Break::At(a) } }
+        Break::At(a) => Break::At(b.min(a)),
     }
 }
 

@@ -3,7 +3,7 @@ ghost use Rattle.std.specs.Prelude.{◌≡◌};
 ghost use Rattle.reads.specs.Reference.{before};
 ghost use Rattle.reads.specs.Answer.{signed_outcome};
 ghost use Rattle.reads.specs.Files.{files_of};
-ghost use Rattle.reads.specs.Relative.{signed32, signed_in, signed_at, modulo64, relative, slot_address};
+ghost use Rattle.reads.specs.Relative.{signed32, signed_in, signed_at, relative, slot_address};
 
 use crate::answer::Signed;
 use crate::place::{Place, Placed, le, readable_at, u32_in};
@@ -12,10 +12,7 @@ use crate::place::{Place, Placed, le, readable_at, u32_in};
 pub fn signed(x: u32) -> i32
     ensures { result ≡ signed32 x }
 {
-    if 0x8000_0000 <= x {
-        return -1 - ((0xFFFF_FFFF - x) as i32);
-    }
-    x as i32
+    x.cast_signed()
 }
 
 // The signed number of four bytes at an offset of one slice.
@@ -38,26 +35,16 @@ pub fn i32_in(files: &[&[u8]], p: Place, i: u64) -> i32
     signed(u32_in(files, p, i))
 }
 
-// offset as i64 as u64.
-fn sign_extended(offset: i32) -> u64
-    ensures { result ≡ modulo64 offset }
-{
-    if offset < 0 {
-        return 0xFFFF_FFFF_FFFF_FFFF - ((-1 - offset) as u64);
-    }
-    offset as u64
-}
-
 // The address that a signed offset at base_va refers to.
 pub fn relative_pointer(base_va: u64, offset: i32) -> u64
     ensures { result ≡ relative base_va offset }
 {
-    std::num::wrapping_add_u64(base_va, sign_extended(offset))
+    base_va.wrapping_add_signed(offset as i64)
 }
 
 // The address of slot k of a section at vmaddr: 8 * k wraps too.
 pub fn slot_address(vmaddr: u64, k: u64) -> u64
     ensures { result ≡ slot_address vmaddr k }
 {
-    std::num::wrapping_add_u64(vmaddr, (k % 0x2000_0000_0000_0000) * 8)
+    vmaddr.wrapping_add(k.wrapping_mul(8))
 }

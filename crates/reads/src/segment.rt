@@ -108,13 +108,11 @@ impl Segment {
     }
 
     // How many bytes of the file are mapped: a segment's file bytes stand at the start of its addresses.
+    #[tactic(auto, unfolding(crate::specs::Segment::mapped_size))]
     pub fn mapped_size(self) -> u64
         ensures { result ≡ mapped_size self }
     {
-        if self.vmsize < self.filesize {
-            return self.vmsize;
-        }
-        self.filesize
+        self.filesize.min(self.vmsize)
     }
 
     // The file is the segment's, and the offset is among the bytes mapped from it.

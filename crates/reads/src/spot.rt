@@ -35,7 +35,7 @@ fn nowhere() -> Spot
 fn distance(s: Segment, va: u64) -> u64
     ensures { result ≡ distance s va }
 {
-    std::num::wrapping_sub_u64(va, s.vmaddr)
+    va.wrapping_sub(s.vmaddr)
 }
 
 // The segment holds an address at this distance, where it does not end a lookup.
@@ -63,7 +63,7 @@ fn spot_at(s: Segment, far: u64, va: u64, d: u64) -> Spot
         return nowhere();
     }
     let offset = s.fileoff + d;
-    let last = s.filesize.min(s.vmsize) - d - 1;
+    let last = s.mapped_size() - d - 1;
     Spot {
         file: s.file,
         offset,

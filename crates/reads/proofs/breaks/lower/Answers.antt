@@ -25,8 +25,5 @@ returns-then-b-va c = not-above _ _ _ (search rules)
 pub returns-in-Nothing : goal.returns-in-Nothing
 returns-in-Nothing c = first _ _ _ c.in-Nothing.is (search rules)
 
-pub returns-then-b-a : goal.returns-then-b-a
-returns-then-b-a c = less _ _ _ _ _ c.in-At.is (search rules) (omega arith)
-
-pub returns-else-b-a : goal.returns-else-b-a
-returns-else-b-a c = less _ _ _ _ _ c.in-At.is (search rules) (omega arith)
+pub returns-in-At : goal.returns-in-At
+returns-in-At c = less _ _ _ _ _ c.in-At.is (search rules) (omega arith)

@@ -3,4 +3,4 @@ use Rattle.std.proofs.Common.{arith}
 use Rattle.reads.proofs.spot.distance.Goals as goal
 
 pub returns : goal.returns
-returns c = distance_wraps _ _ _ (omega arith) (omega arith) (omega arith) c.wrapping_sub_u64.ensures.value
+returns c = distance_wraps _ _ (omega arith) (omega arith)
