@@ -1,5 +1,5 @@
 -- Laws of two's complement, over the width.
-use Rattle.std.proofs.Common.{◌≡◌, ℕ, zero, suc, ◌-◌, ◌^◌, ◌<◌, ◌≤◌, Bool, true, false, ltb, ℤ, pos, negsuc, ◌-ℤ◌, sym, refl, ap, ◌∙◌, zero-add, arith, to_z-of_z, w32, SFits, to_z, of_z, ltb-false, ltb-true, lt-ltb, le-leb}
+use Rattle.std.proofs.Common.{◌≡◌, ℕ, zero, suc, ◌-◌, ◌^◌, ◌<◌, ◌≤◌, Bool, true, false, ltb, pos, negsuc, ◌-ℤ◌, sym, refl, ap, ◌∙◌, zero-add, arith, to_z-of_z, w32, SFits, to_z, of_z, ltb-false, ltb-true, lt-ltb, le-leb}
 use borrow.Author.Tests.{lt-leb}
 use mir.Syntax.{Width}
 use mir.Val.{hbits}

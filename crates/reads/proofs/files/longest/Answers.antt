@@ -3,9 +3,6 @@ use Rattle.reads.specs.Files.{files_lent, longest}
 use Rattle.reads.proofs.LentFiles.{longest_past, longest_step}
 use Rattle.reads.proofs.files.longest.Goals as goal
 
-pub loop-f-init : goal.loop-f-init
-loop-f-init c = omega arith
-
 pub loop-f-preserved : goal.loop-f-preserved
 loop-f-preserved c =
     longest_step (files_lent c.args.files.now) c.loop-f.f c.loop-f.n _ _ _

@@ -1,11 +1,8 @@
 use Rattle.std.proofs.Common.{w64, rules}
 use mir.Facts.{to_z_pos}
 use Rattle.reads.specs.Leb128.{by_sign}
-use Rattle.reads.proofs.TwosLaws.{code_less, code_less_fits}
+use Rattle.reads.proofs.TwosLaws.{code_less}
 use Rattle.reads.proofs.leb128.by_sign.Goals as goal
-
-pub overflow_sub-result : goal.overflow_sub-result
-overflow_sub-result c = code_less_fits w64 c.args.m (search rules)
 
 pub returns-then-negative : goal.returns-then-negative
 unfolding by_sign

@@ -1,6 +1,6 @@
 use Rattle.std.proofs.Common.{ℕ, ◌-◌, ap, ◌∙◌, arith, rules}
 use Rattle.reads.specs.Segment.{mapped_size}
-use Rattle.reads.proofs.Spots.{held_inside, spot_past, spot_over, spot_there, sum_within, room_fits}
+use Rattle.reads.proofs.Spots.{held_inside, spot_past, spot_over, spot_there, sum_within}
 use Rattle.reads.proofs.spot.spot_at.Goals as goal
 
 pub returns-then-s-d : goal.returns-then-s-d
@@ -16,11 +16,6 @@ overflow_sub-last c = omega (arith, c.mapped_size.ensures, held_inside _ 0 _ _ c
 pub overflow_sub-last-2 : goal.overflow_sub-last-2
 unfolding mapped_size
 overflow_sub-last-2 c = omega (arith, c.mapped_size.ensures, held_inside _ 0 _ _ c.requires.va_value c.requires.d_value)
-
-pub overflow_add-result : goal.overflow_add-result
-overflow_add-result c =
-    let h = room_fits c.min.result c.mapped_size.result _ _ (search rules) c.min.ensures in
-    search rules
 
 pub returns : goal.returns
 unfolding mapped_size

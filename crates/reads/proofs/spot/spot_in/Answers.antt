@@ -13,20 +13,6 @@ returns-then-ends c =
     ∙ sym (spot_ends c.args.segments.now c.loop-i.i (omega arith) _ c.at-s.ensures c.loop-i.far c.args.va e)
     ∙ c.loop-i.invariant
 
-pub holds_at-requires : goal.holds_at-requires
-holds_at-requires c =
-    record {
-      s_value = sym c.ends.ensures ∙ c.if-ends.false;
-      d_value = c.distance-d.ensures;
-    }
-
-pub spot_at-requires : goal.spot_at-requires
-spot_at-requires c =
-    record {
-      va_value = sym c.holds_at.ensures ∙ c.if-holds_at.true;
-      d_value = c.distance-d.ensures;
-    }
-
 pub returns-then-holds_at : goal.returns-then-holds_at
 returns-then-holds_at c =
     let e = sym c.ends.ensures ∙ c.if-ends.false in

@@ -1,9 +1,6 @@
 use Rattle.std.proofs.Common.{ap, arith}
-use Rattle.reads.proofs.Texts.{ahead_start, ahead_on, ahead_ends, read_next}
+use Rattle.reads.proofs.Texts.{ahead_on, ahead_ends, read_next}
 use Rattle.reads.proofs.text.broken.Goals as goal
-
-pub loop-b-init : goal.loop-b-init
-loop-b-init c = ahead_start c.requires.0 c.requires.1
 
 pub loop-b-smaller : goal.loop-b-smaller
 loop-b-smaller c =

@@ -1,12 +1,9 @@
 use Rattle.std.proofs.Common.{◌≤◌, true, [], ap, ◌∙◌, arith}
 use borrow.Author.Tests.{not-true, not-false}
-use Rattle.reads.proofs.Passes.{Stands, left_start, byte_inside, read_there, left_ascii, left_character, stands_ahead}
+use Rattle.reads.proofs.Passes.{Stands, byte_inside, read_there, left_ascii, left_character, stands_ahead}
 use Rattle.reads.proofs.Texts.{scan_good, scan_broken}
 use Rattle.reads.proofs.text.scan_text.Goals.{else-b-gt0, then-b-gt0+else-b-lt128}
 use Rattle.reads.proofs.text.scan_text.Goals as goal
-
-pub loop-read-init : goal.loop-read-init
-loop-read-init c = left_start true c.args.s.now
 
 pub loop-read-smaller-then-b-lt128 : goal.loop-read-smaller-then-b-lt128
 loop-read-smaller-then-b-lt128 c =

@@ -1,11 +1,8 @@
 use Rattle.std.proofs.Common.{false, [], sym, ap, ◌∙◌, arith, drop_of_length-le}
 use borrow.Author.Tests.{not-true, not-false}
 use Rattle.reads.specs.Utf8.{judge}
-use Rattle.reads.proofs.Passes.{Stands, left_start, left_ascii, left_character, read_there, stands_ahead}
+use Rattle.reads.proofs.Passes.{Stands, left_ascii, left_character, read_there, stands_ahead}
 use Rattle.reads.proofs.text.utf8_verdict.Goals as goal
-
-pub loop-read-init : goal.loop-read-init
-loop-read-init c = left_start false c.args.s.now
 
 pub loop-read-smaller-then-b-lt128 : goal.loop-read-smaller-then-b-lt128
 loop-read-smaller-then-b-lt128 c =

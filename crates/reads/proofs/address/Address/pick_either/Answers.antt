@@ -1,6 +1,6 @@
 use Rattle.reads.specs.Answer.{word_outcome}
 use Rattle.reads.proofs.Masks.{fast_data_mask_64}
-use Rattle.reads.proofs.Outcomes.{when_absent, when_present}
+use Rattle.reads.proofs.Outcomes.{when_absent}
 use Rattle.reads.proofs.address.Address.pick_either.Goals as goal
 
 pub returns-then-is_absent : goal.returns-then-is_absent
@@ -8,8 +8,3 @@ returns-then-is_absent c =
     let wide = c.pick_wide-wide in
     rw (← fast_data_mask_64 _)
     (when_absent word_outcome _ wide.result wide.ensures c.is_absent.ensures c.if-is_absent.true c.nonzero.ensures)
-
-pub returns : goal.returns
-returns c =
-    let wide = c.pick_wide-wide in
-    when_present word_outcome _ wide.result wide.ensures c.is_absent.ensures c.if-is_absent.false
