@@ -35,6 +35,7 @@ impl Address {
     }
 
     // An address that looks up.
+    #[tactic(auto, using(crate::proofs::Outcomes::outcomes), unfolding(crate::specs::Address::mapped))]
     pub fn mapped(segments: &[u64], va: u64) -> Word
         ensures { word_outcome result ≡ mapped (before segments) va }
     {
@@ -55,6 +56,7 @@ impl Address {
     }
 
     // The data address by the wide mask, else by the other.
+    #[tactic(auto, using(crate::proofs::Outcomes::outcomes), unfolding(crate::specs::Address::picked_wide))]
     fn pick_either(segments: &[u64], word: u64) -> Word
         ensures { word_outcome result ≡ picked_either (before segments) word }
     {
@@ -66,6 +68,7 @@ impl Address {
     }
 
     // The data address in the bits word of a class: mask_class_ro_pointer.
+    #[tactic(auto, using(crate::proofs::Outcomes::outcomes), unfolding(crate::specs::Address::picked))]
     pub fn pick(segments: &[u64], word: u64) -> Word
         ensures { word_outcome result ≡ picked (before segments) word }
     {

@@ -102,6 +102,7 @@ pub fn or_zero(w: Word) -> Word
 }
 
 // The address of a field, absent over 64 bits: checked_add.
+#[tactic(auto, using(std::proofs::lemmas::Bool::Decides::nat_tests), unfolding(crate::specs::Outcome::sum64, crate::specs::Outcome::choose))]
 pub fn checked_add(a: u64, b: u64) -> Word
     ensures { word_outcome result ≡ sum64 a b }
 {
@@ -112,6 +113,7 @@ pub fn checked_add(a: u64, b: u64) -> Word
 }
 
 // An address that is not 0.
+#[tactic(auto, using(std::proofs::lemmas::Bool::Decides::nat_tests), unfolding(crate::specs::Outcome::nonzero, crate::specs::Outcome::choose))]
 pub fn nonzero(x: u64) -> Word
     ensures { word_outcome result ≡ nonzero x }
 {

@@ -34,6 +34,7 @@ fn readable_part(s: Segment, n: u64, least: u64) -> u64
 }
 
 // The lesser of the breakpoint found so far and b, if b lies above va.
+#[tactic(auto, using(std::proofs::lemmas::Bool::Decides::nat_tests), unfolding(crate::specs::Breaks::lower, crate::specs::Outcome::choose))]
 fn lower(va: u64, best: Break, b: u64) -> Break
     ensures { result ≡ lower va best b }
 {

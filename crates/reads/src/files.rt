@@ -6,6 +6,7 @@ ghost use Rattle.reads.specs.Files.{files_of, is_lent, file_of, longest};
 const FILES: u64 = 4;
 
 // A file number that has a lent slice.
+#[tactic(auto, using(std::proofs::lemmas::Bool::Decides::nat_tests), unfolding(crate::specs::Files::files_lent))]
 pub fn is_lent(files: &[&[u8]], f: u64) -> bool
     ensures { result ≡ is_lent (files_of files) f }
 {

@@ -72,6 +72,7 @@ fn magnitude(digits: &[u8], negative: bool) -> Word
 }
 
 // m, or -1 - m.
+#[tactic(auto, unfolding(crate::specs::Leb128::by_sign))]
 fn by_sign(negative: bool, m: u64) -> i64
     requires { m < 2 ^ 63 }
     ensures { result ≡ by_sign negative m }
@@ -83,6 +84,7 @@ fn by_sign(negative: bool, m: u64) -> i64
 }
 
 // The unsigned number of the digits.
+#[tactic(auto, using(crate::proofs::Outcomes::outcomes), unfolding(crate::specs::Leb128::uleb_of, crate::specs::Leb128::magnitude))]
 fn uleb_of(digits: &[u8]) -> UlebAnswer
     ensures { uleb_outcome result ≡ uleb_of (before digits) }
 {
@@ -116,6 +118,7 @@ fn sleb_of(digits: &[u8]) -> SlebAnswer
 }
 
 // The unsigned number that bytes begin with.
+#[tactic(auto, using(crate::proofs::Outcomes::outcomes), unfolding(crate::specs::Leb128::uleb128))]
 pub fn read_uleb128(bytes: &[u8]) -> UlebAnswer
     ensures { uleb_outcome result ≡ uleb128 (before bytes) }
 {
@@ -129,6 +132,7 @@ pub fn read_uleb128(bytes: &[u8]) -> UlebAnswer
 }
 
 // The signed number that bytes begin with.
+#[tactic(auto, using(crate::proofs::Outcomes::outcomes), unfolding(crate::specs::Leb128::sleb128))]
 pub fn read_sleb128(bytes: &[u8]) -> SlebAnswer
     ensures { sleb_outcome result ≡ sleb128 (before bytes) }
 {

@@ -24,6 +24,7 @@ pub enum Placed {
 }
 
 // A place, if k bytes from it lie in its file of n bytes.
+#[tactic(auto, using(std::proofs::lemmas::Bool::Decides::nat_tests), unfolding(crate::specs::Place::readable_at, crate::specs::Outcome::choose))]
 pub fn readable_at(n: u64, p: Place, k: u64) -> Placed
     ensures { place_outcome result ≡ readable_at n p k }
 {
@@ -36,6 +37,7 @@ pub fn readable_at(n: u64, p: Place, k: u64) -> Placed
 }
 
 // The place of an address, if k bytes can be read there: only the first byte is looked up.
+#[tactic(auto, using(crate::proofs::Outcomes::outcomes), unfolding(crate::specs::Place::readable))]
 pub fn readable(files: &[&[u8]], segments: &[u64], va: u64, k: u64) -> Placed
     ensures { place_outcome result ≡ readable (lent_image files segments) va k }
 {
@@ -68,6 +70,7 @@ fn be<const N: usize>(bytes: &[u8], at: usize) -> u64
 }
 
 // The number of N bytes at an offset of one slice.
+#[tactic(auto, using(crate::proofs::Outcomes::outcomes), unfolding(crate::specs::Place::le_at))]
 pub fn read_le_at<const N: usize>(bytes: &[u8], offset: u64) -> Word
     requires { N ≤ 8 }
     ensures { word_outcome result ≡ le_at (before bytes) N offset }
@@ -79,6 +82,7 @@ pub fn read_le_at<const N: usize>(bytes: &[u8], offset: u64) -> Word
 }
 
 // The same in big-endian order.
+#[tactic(auto, using(crate::proofs::Outcomes::outcomes), unfolding(crate::specs::Place::be_at))]
 pub fn read_be_at<const N: usize>(bytes: &[u8], offset: u64) -> Word
     requires { N ≤ 8 }
     ensures { word_outcome result ≡ be_at (before bytes) N offset }
@@ -90,6 +94,7 @@ pub fn read_be_at<const N: usize>(bytes: &[u8], offset: u64) -> Word
 }
 
 // The number of N bytes at an address.
+#[tactic(auto, using(crate::proofs::Outcomes::outcomes, crate::proofs::Numbers::found_file, crate::proofs::Numbers::found_holds), unfolding(crate::specs::Place::word))]
 pub fn read<const N: usize>(files: &[&[u8]], segments: &[u64], va: u64) -> Word
     requires some { 0 < N }
     requires fits { N ≤ 8 }
@@ -175,6 +180,7 @@ fn lies_in(n: u64, from: u64, i: u64, k: u64) -> bool
 }
 
 // The number of N bytes at i bytes from an offset of one slice; 0 where they do not lie in it.
+#[tactic(auto, using(std::proofs::lemmas::Bool::Decides::nat_tests, crate::proofs::Numbers::positive_power), unfolding(crate::specs::Place::le_in, crate::specs::Outcome::choose))]
 pub fn le_from<const N: usize>(bytes: &[u8], offset: u64, i: u64) -> u64
     requires { N ≤ 8 }
     ensures { (result ≡ le_in (before bytes) N (offset + i)) × (result < 256 ^ N) }

@@ -16,6 +16,7 @@ pub fn signed(x: u32) -> i32
 }
 
 // The signed number of four bytes at an offset of one slice.
+#[tactic(auto, using(crate::proofs::Outcomes::outcomes), unfolding(crate::specs::Relative::signed_at))]
 pub fn read_i32_le_at(bytes: &[u8], offset: u64) -> Signed
     ensures { signed_outcome result ≡ signed_at (before bytes) offset }
 {
@@ -29,6 +30,7 @@ pub fn read_i32_le_at(bytes: &[u8], offset: u64) -> Signed
 }
 
 // The signed number of four bytes at i bytes from a place; 0 where they do not lie in its file.
+#[tactic(auto, unfolding(crate::specs::Relative::signed_in))]
 pub fn i32_in(files: &[&[u8]], p: Place, i: u64) -> i32
     ensures { result ≡ signed_in (files_of files) p i }
 {

@@ -44,6 +44,7 @@ impl Segment {
     }
 
     // vmaddr + vmsize exceeds 64 bits, which ends every lookup.
+    #[tactic(auto, using(std::proofs::lemmas::Bool::Decides::nat_tests), unfolding(crate::specs::Segment::ends))]
     pub fn ends(self) -> bool
         ensures { result ≡ ends self }
     {
@@ -51,6 +52,7 @@ impl Segment {
     }
 
     // The segment has bytes in the file, and the address is in it.
+    #[tactic(auto, using(std::proofs::lemmas::Bool::Decides::nat_tests), unfolding(crate::specs::Segment::holds))]
     pub fn holds(self, va: u64) -> bool
         ensures { result ≡ holds self va }
     {
@@ -64,6 +66,7 @@ impl Segment {
     }
 
     // The place of an address that the segment holds.
+    #[tactic(auto, using(std::proofs::lemmas::Bool::Decides::nat_tests), unfolding(crate::specs::Segment::placed, crate::specs::Outcome::sum64, crate::specs::Outcome::choose))]
     pub(crate) fn place(self, va: u64) -> Placed
         requires { self.vmaddr ≤ va }
         ensures { place_outcome result ≡ placed self va }
@@ -101,6 +104,7 @@ pub fn vm_to_file_offset_in(segments: &[u64], va: u64) -> Placed
 
 impl Segment {
     // fileoff and the bytes mapped from the file exceed 64 bits, which ends the way back too.
+    #[tactic(auto, using(std::proofs::lemmas::Bool::Decides::nat_tests), unfolding(crate::specs::Segment::ends_in_file))]
     pub fn ends_in_file(self) -> bool
         ensures { result ≡ ends_in_file self }
     {
@@ -116,6 +120,7 @@ impl Segment {
     }
 
     // The file is the segment's, and the offset is among the bytes mapped from it.
+    #[tactic(auto, using(std::proofs::lemmas::Bool::Decides::nat_tests), unfolding(crate::specs::Segment::carries))]
     pub fn carries(self, file: u64, offset: u64) -> bool
         ensures { result ≡ carries self file offset }
     {

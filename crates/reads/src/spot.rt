@@ -32,6 +32,7 @@ fn nowhere() -> Spot
 }
 
 // How far an address lies past the segment's first one, modulo 2^64.
+#[tactic(auto, using(std::proofs::lemmas::Bool::Decides::nat_tests), unfolding(crate::specs::Spot::distance, crate::specs::Outcome::choose))]
 fn distance(s: Segment, va: u64) -> u64
     ensures { result ≡ distance s va }
 {
@@ -39,6 +40,7 @@ fn distance(s: Segment, va: u64) -> u64
 }
 
 // The segment holds an address at this distance, where it does not end a lookup.
+#[tactic(auto, using(std::proofs::lemmas::Bool::Decides::nat_tests), unfolding(crate::specs::Segment::ends, crate::specs::Segment::holds, crate::specs::Spot::distance, crate::specs::Outcome::choose))]
 fn holds_at(s: Segment, va: u64, d: u64) -> bool
     requires s_value { ends s ≡ false }
     requires d_value { d ≡ distance s va }
@@ -91,6 +93,7 @@ fn spot_in(segments: &[u64], va: u64) -> Spot
 }
 
 // The spot of an address, if k bytes can be read there.
+#[tactic(auto, using(std::proofs::lemmas::Bool::Decides::nat_tests), unfolding(crate::specs::Spot::readable_spot, crate::specs::Outcome::choose))]
 pub fn readable_spot(files: &[&[u8]], segments: &[u64], va: u64, k: u64) -> Spot
     ensures { result ≡ readable_spot (lent_image files segments) va k }
 {
@@ -105,6 +108,7 @@ pub fn readable_spot(files: &[&[u8]], segments: &[u64], va: u64, k: u64) -> Spot
 }
 
 // The place of a spot, if it has one.
+#[tactic(auto, using(std::proofs::lemmas::Bool::Decides::nat_tests), unfolding(crate::specs::Spot::spot_place, crate::specs::Outcome::choose))]
 pub fn spot_place(s: Spot) -> Placed
     ensures { place_outcome result ≡ spot_place s }
 {

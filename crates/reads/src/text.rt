@@ -105,6 +105,7 @@ pub fn text_because(t: TextAnswer, why: Reason) -> TextAnswer
 }
 
 // The byte after `read` bytes of s that were read, and the count raised by it: the one place where a byte of a text is read.
+#[tactic(auto, using(std::proofs::lemmas::Bool::Decides::nat_tests), unfolding(crate::specs::Outcome::choose))]
 fn read_byte(s: &[u8], read: usize) -> ByteRead
     ensures { result ≡ byte_after (before s) read }
 {
@@ -140,6 +141,7 @@ fn due(s: &[u8], last: ByteRead, lo: u8, hi: u8) -> Step
 }
 
 // The same where the character went on so far, and that byte is of UTF8-tail.
+#[tactic(auto, using(std::proofs::lemmas::Bool::Decides::nat_tests), unfolding(crate::specs::Outcome::choose))]
 fn tail(s: &[u8], step: Step) -> Step
     ensures { result ≡ follow (before s) step tail }
 {
@@ -195,6 +197,7 @@ pub fn utf8_verdict(s: &[u8]) -> Verdict
 }
 
 // The bytes are UTF-8.
+#[tactic(auto, unfolding(crate::specs::Utf8::utf8))]
 pub fn utf8(s: &[u8]) -> bool
     ensures { result ≡ utf8 (before s) }
 {
@@ -289,6 +292,7 @@ fn text_of_scan(reading: Reading, p: Place, scan: Scan) -> TextAnswer
 }
 
 // The text at a place whose file has these bytes, and how many bytes were read.
+#[tactic(auto, using(std::proofs::lemmas::Bool::Decides::nat_tests), unfolding(crate::specs::Text::text_from, crate::specs::Text::read_from, crate::specs::Outcome::choose))]
 fn read_cstr_in(bytes: &[u8], reading: Reading, p: Place) -> CstrRead
     ensures { (text_outcome result.text ≡ text_from reading (before bytes) p) × (result.read ≡ read_from (before bytes) p.offset) }
 {
@@ -318,6 +322,7 @@ pub fn read_cstr_at(files: &[&[u8]], reading: Reading, p: Place) -> CstrRead
 }
 
 // The text at an address, and how many bytes were read: absent at 0 and where nothing is mapped, and then none.
+#[tactic(auto, using(crate::proofs::Outcomes::outcomes), unfolding(crate::specs::Text::text_in, crate::specs::Text::read_in))]
 pub fn read_cstr_counted(files: &[&[u8]], segments: &[u64], reading: Reading, va: u64) -> CstrRead
     ensures { let m = lent_image files segments in (text_outcome result.text ≡ text_in reading m va) × (result.read ≡ read_in m va) }
 {
@@ -357,6 +362,7 @@ pub fn read_cstr_or_empty(
 }
 
 // The length of the text in a field of 16 bytes, as segname and sectname: 0 where it is not UTF-8.
+#[tactic(auto, unfolding(crate::specs::Text::fixed_length, crate::specs::Utf8::utf8, crate::specs::Outcome::choose))]
 pub fn cstr_from_fixed(bytes: &[u8; 16]) -> u64
     ensures { result ≡ fixed_length (before bytes) }
 {
@@ -370,6 +376,7 @@ pub fn cstr_from_fixed(bytes: &[u8; 16]) -> u64
 
 // For callers in C or Rust: one more than the length of the text at an offset of one file under the old reading, 0 where there is none.
 #[unsafe(no_mangle)]
+#[tactic(auto, unfolding(crate::specs::Text::length_plus_one))]
 pub extern "C" fn reads_cstr_length_plus_one(bytes: &[u8], offset: u64) -> u64
     ensures { result ≡ length_plus_one (text_from Old (before bytes) (place_at 0 offset)) }
 {

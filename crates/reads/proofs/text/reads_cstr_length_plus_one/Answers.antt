@@ -2,19 +2,11 @@
 use Rattle.std.proofs.Common.{sym, ap, ◌∙◌, arith}
 use Rattle.reads.specs.Answer.{text_outcome}
 use Rattle.reads.specs.Segment.{place_at}
-use Rattle.reads.specs.Text.{length_plus_one}
 use Rattle.reads.specs.declared.text.Reading.TheVariants.{Old}
-use Rattle.reads.proofs.Texts.{length_plus_one_missed, text_inside}
+use Rattle.reads.proofs.Texts.{text_inside}
 use Rattle.reads.proofs.text.reads_cstr_length_plus_one.Goals as goal
 
 pub overflow_add-result : goal.overflow_add-result
 overflow_add-result c =
     let a = c.args in
     omega (arith, (text_inside Old a.bytes.now (place_at 0 a.offset) c.in-Found.t (sym (ap text_outcome c.in-Found.is) ∙ c.read_cstr_in-r.ensures.0)).1, c.well_formed.0)
-
-pub returns-in-Found : goal.returns-in-Found
-unfolding length_plus_one
-returns-in-Found c = ap length_plus_one (sym (ap text_outcome c.in-Found.is) ∙ c.read_cstr_in-r.ensures.0)
-
-pub returns-in-Missing : goal.returns-in-Missing
-returns-in-Missing c = length_plus_one_missed c.in-Missing.field-0 ∙ ap length_plus_one (sym (ap text_outcome c.in-Missing.is) ∙ c.read_cstr_in-r.ensures.0)
