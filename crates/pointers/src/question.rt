@@ -11,7 +11,7 @@ ghost use Rattle.pointers.specs.Question.{question, asked_outcome, image_fits, w
 
 use crate::index::HEADS;
 use crate::section::ObjcSection;
-use crate::table::{Bind, Rebase};
+use crate::table::{Bind, Rebase, every};
 use reads::files::{file_len, is_lent, longest};
 use reads::segment::Segment;
 use reads::text::{Text, utf8};
@@ -62,21 +62,15 @@ pub fn section_fits(n: u64, present: u64, len: u64) -> bool
 }
 
 // 3: is the section table 15 words long, and does each row fit?
+#[tactic(auto, unfolding(crate::specs::Question::section_table))]
 pub fn section_table(sections: &[u64], n: u64) -> bool
     ensures { result ≡ section_table n (before sections) }
 {
-    if sections.len() != ObjcSection::TABLE_WORDS {
-        return false;
-    }
-    let mut i = 0;
-    while i < sections.len() / ObjcSection::WORDS {
-        let first = i * ObjcSection::WORDS;
-        if !section_fits(n, sections[first], sections[first + 2]) {
-            return false;
-        }
-        i += 1;
-    }
-    true
+    sections.len() == ObjcSection::TABLE_WORDS
+        && every(sections.len() / ObjcSection::WORDS, |i| {
+            let first = i * ObjcSection::WORDS;
+            section_fits(n, sections[first], sections[first + 2])
+        })
 }
 
 // 4: is the image info at least 8 bytes long?
@@ -101,18 +95,13 @@ pub fn binds_whole(n: usize) -> bool
 }
 
 // 18: has the file number of every segment a lent slice?
+#[tactic(auto, unfolding(crate::specs::Question::segment_files))]
 pub fn segment_files(files: &[&[u8]], segments: &[u64]) -> bool
     ensures { result ≡ segment_files (files_of files) (before segments) }
 {
-    let mut i = 0;
-    while i < segments.len() / Segment::WORDS {
-        let first = i * Segment::WORDS;
-        if !is_lent(files, segments[first + Segment::FILE]) {
-            return false;
-        }
-        i += 1;
-    }
-    true
+    every(segments.len() / Segment::WORDS, |i| {
+        is_lent(files, segments[i * Segment::WORDS + Segment::FILE])
+    })
 }
 
 // 7, of a record: is the name inside its file?
@@ -155,48 +144,33 @@ pub fn name_utf8(files: &[&[u8]], name: Text) -> bool
 }
 
 // 18: has the file number of every bind record's name a lent slice?
+#[tactic(auto, unfolding(crate::specs::Question::bind_files))]
 pub fn bind_files(files: &[&[u8]], binds: &[u64]) -> bool
     ensures { result ≡ bind_files (files_of files) (before binds) }
 {
-    let mut i = 0;
-    while i < binds.len() / Bind::WORDS {
-        let bind = Bind::at(binds, i);
-        if !is_lent(files, bind.name.file) {
-            return false;
-        }
-        i += 1;
-    }
-    true
+    every(binds.len() / Bind::WORDS, |i| {
+        is_lent(files, Bind::at(binds, i).name.file)
+    })
 }
 
 // 7: is the name of every bind record inside its file?
+#[tactic(auto, unfolding(crate::specs::Question::names_inside))]
 pub fn names_inside(files: &[&[u8]], binds: &[u64]) -> bool
     ensures { result ≡ names_inside (files_of files) (before binds) }
 {
-    let mut i = 0;
-    while i < binds.len() / Bind::WORDS {
-        let bind = Bind::at(binds, i);
-        if !name_inside(files, bind.name) {
-            return false;
-        }
-        i += 1;
-    }
-    true
+    every(binds.len() / Bind::WORDS, |i| {
+        name_inside(files, Bind::at(binds, i).name)
+    })
 }
 
 // 14: is the name of every bind record UTF-8?
+#[tactic(auto, unfolding(crate::specs::Question::names_utf8))]
 pub fn names_utf8(files: &[&[u8]], binds: &[u64]) -> bool
     ensures { result ≡ names_utf8 (files_of files) (before binds) }
 {
-    let mut i = 0;
-    while i < binds.len() / Bind::WORDS {
-        let bind = Bind::at(binds, i);
-        if !name_utf8(files, bind.name) {
-            return false;
-        }
-        i += 1;
-    }
-    true
+    every(binds.len() / Bind::WORDS, |i| {
+        name_utf8(files, Bind::at(binds, i).name)
+    })
 }
 
 // 8: has the index a word for each head and each record?

@@ -1,10 +1,24 @@
 // The rebase and bind tables, lent as words.
-ghost use Rattle.std.specs.Prelude.{◌≡◌, ◌<◌};
+ghost use Rattle.std.specs.Prelude.{ℕ, Bool, ◌≡◌, ◌<◌};
 ghost use Rattle.reads.specs.Reference.{before};
 ghost use Rattle.reads.specs.Table.{records};
 ghost use Rattle.pointers.specs.Tables.{rebase_words, bind_words, rebase_record, bind_record};
+ghost use Rattle.pointers.specs.Question.{every};
 
 use reads::text::Text;
+
+// Whether each of n rows passes a test of their numbers, counted from 0.
+pub(crate) fn every<F: Fn(usize) -> bool>(n: usize, passes: F) -> bool
+    requires { (i : _) → i < n → F.pre passes i }
+    ensures { (test : ℕ → Bool) → ((i : ℕ) (r : Bool) → i < n → F.post passes i r → r ≡ test i) → result ≡ every test n }
+{
+    for i in 0..n {
+        if !passes(i) {
+            return false;
+        }
+    }
+    true
+}
 
 // A rebase: the slot, and the address that it points to.
 #[derive(Clone, Copy)]
