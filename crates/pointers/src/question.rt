@@ -24,6 +24,7 @@ pub enum Asked {
 }
 
 // 1: is a file of the image at most 4,294,967,295 bytes long?
+#[tactic(auto, unfolding(crate::specs::Question::image_fits))]
 pub fn image_fits(n: u64) -> bool
     ensures { result ≡ image_fits n }
 {
@@ -31,14 +32,12 @@ pub fn image_fits(n: u64) -> bool
 }
 
 // 2, 5 and 6: do n words make whole rows of `width` words (at least one), and at most `most` of them?
+#[tactic(auto, unfolding(crate::specs::Question::whole_rows))]
 fn whole_rows(n: usize, width: usize, most: usize) -> bool
     requires { 1 ≤ width }
     ensures { result ≡ whole_rows width most n }
 {
-    if n % width != 0 {
-        return false;
-    }
-    n / width <= most
+    n % width == 0 && n / width <= most
 }
 
 // 2: is the segment table whole, with at most 64 segments?
@@ -49,16 +48,11 @@ pub fn segments_whole(n: usize) -> bool
 }
 
 // 3, of a row: is the presence word 0 or 1, and a present length at most n?
+#[tactic(auto, unfolding(crate::specs::Question::section_fits))]
 pub fn section_fits(n: u64, present: u64, len: u64) -> bool
     ensures { result ≡ section_fits n present len }
 {
-    if present == 0 {
-        return true;
-    }
-    if present != 1 {
-        return false;
-    }
-    len <= n
+    present == 0 || (present == 1 && len <= n)
 }
 
 // 3: is the section table 15 words long, and does each row fit?
@@ -74,6 +68,7 @@ pub fn section_table(sections: &[u64], n: u64) -> bool
 }
 
 // 4: is the image info at least 8 bytes long?
+#[tactic(auto, unfolding(crate::specs::Question::info_whole))]
 pub fn info_whole(n: usize) -> bool
     ensures { result ≡ info_whole n }
 {
@@ -105,14 +100,12 @@ pub fn segment_files(files: &[&[u8]], segments: &[u64]) -> bool
 }
 
 // 7, of a record: is the name inside its file?
+#[tactic(auto, unfolding(crate::specs::Question::name_inside))]
 pub fn name_inside(files: &[&[u8]], name: Text) -> bool
     ensures { result ≡ name_inside (files_of files) name }
 {
     let n = file_len(files, name.file);
-    if n < name.offset {
-        return false;
-    }
-    name.len <= n - name.offset
+    name.offset <= n && name.len <= n - name.offset
 }
 
 // A part of a file is UTF-8; of one that passes its end, the bytes that are there.
@@ -174,20 +167,15 @@ pub fn names_utf8(files: &[&[u8]], binds: &[u64]) -> bool
 }
 
 // 8: has the index a word for each head and each record?
+#[tactic(auto, unfolding(crate::specs::Question::index_fits))]
 pub fn index_fits(rebases: usize, binds: usize, words: usize) -> bool
     ensures { result ≡ index_fits rebases binds words }
 {
-    if words < HEADS {
-        return false;
-    }
-    let left = words - HEADS;
-    if left < rebases {
-        return false;
-    }
-    binds <= left - rebases
+    HEADS <= words && rebases <= words - HEADS && binds <= words - HEADS - rebases
 }
 
 // 1 to 6, in order; 18 of every segment after 2.
+#[tactic(auto, unfolding(crate::specs::Question::asked_tables), using(crate::proofs::Questions::after_yes, crate::proofs::Questions::after_no, crate::proofs::Questions::question_yes, crate::proofs::Questions::question_no))]
 pub fn ask_tables(
     files: &[&[u8]],
     segments: &[u64],
@@ -224,6 +212,7 @@ pub fn ask_tables(
 }
 
 // 8, of the tables.
+#[tactic(auto, unfolding(crate::specs::Question::question, reads::specs::Outcome::choose))]
 pub(crate) fn ask_index(rebases: &[u64], binds: &[u64], index: &[u32]) -> Asked
     ensures { asked_outcome result ≡ question 8 (index_fits (records rebase_words (before rebases)) (records bind_words (before binds)) (length (before index))) }
 {
@@ -236,6 +225,7 @@ pub(crate) fn ask_index(rebases: &[u64], binds: &[u64], index: &[u32]) -> Asked
 }
 
 // 1 to 6, 18 of every segment among them, and 8, in order: what every call after opening asks.
+#[tactic(auto, unfolding(crate::specs::Question::asked_lent, crate::specs::Question::asked_index), using(crate::proofs::Questions::asked_any_index, crate::proofs::Questions::asked_on, crate::proofs::Questions::asked_ends))]
 pub fn ask(
     files: &[&[u8]],
     segments: &[u64],
