@@ -59,6 +59,9 @@ pub asked_any_index : (files : List (List ℕ)) (segments sections info rebases 
 unfolding asked_tables
 asked_any_index files segments sections info rebases binds one other = refl
 
+-- Questions in order, and the code's answer to those before.
+pub ruleset in_order = (question_yes, question_no, after_yes, after_no, asked_on, asked_ends, asked_any_index)
+
 module _ (width most n : ℕ) where
   pub rows_split : (n % width ≡ 0 → ⊥) → false ≡ whole_rows width most n
   unfolding whole_rows

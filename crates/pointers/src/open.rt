@@ -13,6 +13,7 @@ use crate::question::{Asked, ask_index, ask_tables, bind_files, names_inside, na
 use reads::answer::Missing;
 
 // The questions 1 to 6, 18 of every segment among them, then 18 of every bind, 7 of every bind, 14 of every bind, and 8.
+#[tactic(auto, unfolding(crate::specs::Open::asked_opening, crate::specs::Question::asked_index), using(crate::proofs::Questions::in_order))]
 fn ask_opening(
     files: &[&[u8]],
     segments: &[u64],
@@ -43,6 +44,7 @@ fn ask_opening(
 }
 
 // The image info, with the index written; or the number of the first question that says no, with the index as it was.
+
 pub fn open(
     files: &[&[u8]],
     segments: &[u64],

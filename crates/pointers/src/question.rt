@@ -175,7 +175,7 @@ pub fn index_fits(rebases: usize, binds: usize, words: usize) -> bool
 }
 
 // 1 to 6, in order; 18 of every segment after 2.
-#[tactic(auto, unfolding(crate::specs::Question::asked_tables), using(crate::proofs::Questions::after_yes, crate::proofs::Questions::after_no, crate::proofs::Questions::question_yes, crate::proofs::Questions::question_no))]
+#[tactic(auto, unfolding(crate::specs::Question::asked_tables), using(crate::proofs::Questions::in_order))]
 pub fn ask_tables(
     files: &[&[u8]],
     segments: &[u64],
@@ -225,7 +225,7 @@ pub(crate) fn ask_index(rebases: &[u64], binds: &[u64], index: &[u32]) -> Asked
 }
 
 // 1 to 6, 18 of every segment among them, and 8, in order: what every call after opening asks.
-#[tactic(auto, unfolding(crate::specs::Question::asked_lent, crate::specs::Question::asked_index), using(crate::proofs::Questions::asked_any_index, crate::proofs::Questions::asked_on, crate::proofs::Questions::asked_ends))]
+#[tactic(auto, unfolding(crate::specs::Question::asked_lent, crate::specs::Question::asked_index), using(crate::proofs::Questions::in_order))]
 pub fn ask(
     files: &[&[u8]],
     segments: &[u64],
