@@ -23,15 +23,12 @@ pub fn chain(slot: u64) -> usize
 }
 
 // Empties every chain.
+#[tactic(auto, unfolding(crate::specs::IndexFold::cleared))]
 fn clear_heads(index: &mut [u32])
     requires { 2 * chains ≤ length index.old }
     ensures { index.new ≡ cleared (2 * chains) index.old }
 {
-    let mut i = 0;
-    while i < HEADS {
-        index[i] = 0;
-        i += 1;
-    }
+    index[..HEADS].fill(0);
 }
 
 // Puts the record `number` at the front of the chain of its slot.
@@ -51,10 +48,8 @@ fn link_all(table: &[u64], width: usize, index: &mut [u32], heads: usize, nexts:
     ensures { index.new ≡ chained width (before table) heads nexts (records width (before table)) index.old }
 {
     let count = table.len() / width;
-    let mut i = 0;
-    while i < count {
+    for i in 0..count {
         link(index, heads, nexts + i, (i + 1) as u32, table[i * width]);
-        i += 1;
     }
 }
 

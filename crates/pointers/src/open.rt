@@ -44,7 +44,6 @@ fn ask_opening(
 }
 
 // The image info, with the index written; or the number of the first question that says no, with the index as it was.
-
 pub fn open(
     files: &[&[u8]],
     segments: &[u64],
