@@ -1,13 +1,13 @@
 -- The index as the code builds it, record by record, is the one of document 01.
 use Prim.Native.Nat.{ℕ, zero, suc, ◌+◌, ◌-◌, ◌*◌, ◌≤◌, ◌<◌}
 use mathlib.Core.Path.{◌≡◌, refl, sym, ap, ◌∙◌}
-use mathlib.Core.List.{List, [], ◌∷◌}
+use mathlib.Core.List.{List, ◌++◌}
 use mathlib.Core.Logic.{⊎_elim}
 use native.Mathlib.Omega.{arith}
 use native.Mathlib.Decide.{ℕ_discrete}
 use native.Mathlib.Nat.{eq-or-lt_of_le, le_of_suc-le-suc}
 use native.Mathlib.Numerals.{add-one}
-use lib.ListN.{length, get_or, set, drop, replicate, length-set, length-append, length-drop, length-replicate, get_or-replicate}
+use lib.ListN.{length, get_or, set, take, drop, length-take, replicate, length-set, length-append, length-drop, length-replicate, get_or-replicate}
 use lib.Seq.{get_or-set_same, get_or-set_other, get_or-drop}
 use Rattle.reads.specs.Table.{records}
 use Rattle.pointers.specs.Tables.{slot_of, rebase_words, bind_words, chains}
@@ -21,6 +21,11 @@ module _ (n : ℕ) (index : List ℕ) where
   unfolding cleared
   length_cleared h = simp (length-append, length-replicate, length-drop) (omega arith)
 
+  -- A slice of the first n words, filled.
+  pub cleared_by : n ≤ length index → (front : List ℕ) → front ≡ replicate (length (take n index)) 0 → front ++ drop n index ≡ cleared n index
+  unfolding cleared
+  cleared_by h front e = rw (e, length-take) (ap (λ (k : ℕ). replicate k 0 ++ drop n index) (omega arith))
+
   cleared_zero : (p : ℕ) → p < n → get_or (cleared n index) p 0 ≡ 0
   unfolding cleared
   cleared_zero p h = front_word (replicate n 0) (drop n index) n (length-replicate n 0) p h ∙ get_or-replicate n p 0 0 h
@@ -31,13 +36,6 @@ module _ (n : ℕ) (index : List ℕ) where
       back_word (replicate n 0) (drop n index) n (length-replicate n 0) p (p - n) (omega arith)
       ∙ get_or-drop n index (p - n) 0
       ∙ ap (λ (k : ℕ). get_or index k 0) (omega arith)
-
--- One word more, as the code counts.
-pub cleared_more : (i : ℕ) (index : List ℕ) → i < length index → set (cleared i index) i 0 ≡ cleared (suc i) index
-unfolding cleared
-cleared_more i [] h = absurd (omega arith)
-cleared_more zero (x ∷ index) h = refl
-cleared_more (suc i) (x ∷ index) h = ap (λ (l : List ℕ). 0 ∷ l) (cleared_more i index (omega arith))
 
 -- A record's next word stored.
 abbrev nexted : ℕ → ℕ → ℕ → List ℕ → List ℕ

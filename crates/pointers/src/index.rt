@@ -23,7 +23,6 @@ pub fn chain(slot: u64) -> usize
 }
 
 // Empties every chain.
-#[tactic(auto, unfolding(crate::specs::IndexFold::cleared))]
 fn clear_heads(index: &mut [u32])
     requires { 2 * chains ≤ length index.old }
     ensures { index.new ≡ cleared (2 * chains) index.old }
@@ -32,6 +31,7 @@ fn clear_heads(index: &mut [u32])
 }
 
 // Puts the record `number` at the front of the chain of its slot.
+#[tactic(auto, unfolding(crate::specs::IndexFold::linked))]
 fn link(index: &mut [u32], heads: usize, next: usize, number: u32, slot: u64)
     requires { (heads + chains ≤ next) × (next < length index.old) }
     ensures { index.new ≡ linked heads next number slot index.old }
@@ -42,6 +42,7 @@ fn link(index: &mut [u32], heads: usize, next: usize, number: u32, slot: u64)
 }
 
 // Links every record of a table, in order.
+#[tactic(auto, unfolding(crate::specs::IndexFold::chained), using(crate::proofs::IndexFolds::chained_more))]
 fn link_all(table: &[u64], width: usize, index: &mut [u32], heads: usize, nexts: usize)
     requires { (0 < width) × (records width table.now ≤ 16777215) × (heads + chains ≤ nexts)
         × (nexts + records width table.now ≤ length index.old) }
@@ -54,6 +55,7 @@ fn link_all(table: &[u64], width: usize, index: &mut [u32], heads: usize, nexts:
 }
 
 // Writes the index over two tables that no question refuses.
+#[tactic(auto, unfolding(crate::specs::IndexFold::folded), using(crate::proofs::IndexFolds::folded_is_indexed))]
 pub(crate) fn fill_index(rebases: &[u64], binds: &[u64], index: &mut [u32])
     requires { (records rebase_words rebases.now ≤ 16777215) × (records bind_words binds.now ≤ 16777215)
         × (index_length rebases.now binds.now ≤ length index.old) }
@@ -76,6 +78,7 @@ fn index_word(index: &[u32], i: usize) -> usize
 }
 
 // No rebase stands in the chain of a slot.
+#[tactic(auto, unfolding(crate::specs::Chain::no_rebase))]
 pub(crate) fn no_rebase(index: &[u32], slot: u64) -> bool
     ensures { result ≡ no_rebase (before index) slot }
 {
