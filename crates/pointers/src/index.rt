@@ -86,6 +86,7 @@ pub(crate) fn no_rebase(index: &[u32], slot: u64) -> bool
 }
 
 // Follows the chain of a slot to its record, whose number counts from 1: 9 where a number is not below the one before it.
+#[tactic(auto, unfolding(crate::specs::Chain::follow), using(crate::proofs::Chains::follow_end, crate::proofs::Chains::follow_above, crate::proofs::Chains::follow_found, crate::proofs::Chains::follow_on, crate::proofs::RecordWords::slot_within))]
 pub(crate) fn find(
     table: &[u64],
     width: usize,
