@@ -1,5 +1,5 @@
 -- The lookup by halves: where slots ascend it finds the slot's only record, and so the last one.
-use Prim.Native.Nat.{ℕ, zero, suc, ◌+◌, ◌-◌, ◌/◌, ◌^◌, ◌≤◌, ◌<◌}
+use Prim.Native.Nat.{ℕ, zero, suc, ◌+◌, ◌-◌, ◌*◌, ◌%◌, ◌^◌, ◌≤◌, ◌<◌}
 use mathlib.Core.Path.{◌≡◌, refl, sym, ap, ◌∙◌}
 use mathlib.Core.Bool.{Bool, true, false, ◌&&◌}
 use mathlib.Core.List.{List}
@@ -7,6 +7,7 @@ use mathlib.Core.Logic.{◌⊎◌, inl, inr, ⊎_elim}
 use native.Mathlib.Omega.{arith}
 use native.Mathlib.Decide.{ℕ_discrete}
 use native.Mathlib.Nat.{eq-or-lt_of_le, le_of_suc-le-suc, pow-suc}
+use Rattle.std.proofs.Math.Pow.{pow-lt}
 use lib.Dec.{eqb, leb, ltb}
 use borrow.Author.Tests.{eq-eqb, ne_eqb, eqb-true, ltb-true, ltb-false, lt-ltb, le-ltb, leb-true, leb-false}
 use Rattle.reads.specs.Outcome.{Outcome, value, absent, Unrefused, a_value, an_absence}
@@ -50,9 +51,9 @@ module _ (width : ℕ) (table : List ℕ) (slot : ℕ) where
       ∙ one_last b n less e (λ j a c. f j a (omega arith)))
       (eq-or-lt_of_le (le_of_suc-le-suc h))
 
-pub half_power : (k step : ℕ) → 0 < k → step ≡ 2 ^ k → step / 2 ≡ 2 ^ (k - 1)
-half_power zero step h p = absurd (omega arith)
-half_power (suc k) step h p = let one : suc k - 1 ≡ k = omega arith in rw one (omega (arith, p, pow-suc 2 k))
+-- The step of the code.
+shifted : (k : ℕ) → k < 64 → 1 * 2 ^ k % 2 ^ 64 ≡ 2 ^ k
+shifted k h = omega (arith, pow-lt h)
 
 module _ (rebases : List ℕ) (slot : ℕ) where
   -- The code's tests.
@@ -68,24 +69,29 @@ module _ (rebases : List ℕ) (slot : ℕ) where
   unfolding at_most
   at_most_below i e = ltb-true i (records rebase_words rebases) (both_true (ltb i (records rebase_words rebases)) _ e).0
 
-  -- A step of the climb, of 2^(k-1) as the code has it.
-  pub climb_taken : (k step b : ℕ) → 0 < k → step ≡ 2 ^ k → at_most rebases slot (b + step / 2) ≡ true
-      → climb rebases slot (k - 1) (b + step / 2) ≡ climb rebases slot k b
+  -- A step of the climb, of 2^(k-1) as the code has it: taken, and not.
+  pub climb_taken : (k b : ℕ) → 0 < k → k ≤ 64 → at_most rebases slot (b + 1 * 2 ^ (k - 1) % 2 ^ 64) ≡ true
+      → climb rebases slot (k - 1) (b + 1 * 2 ^ (k - 1) % 2 ^ 64) ≡ climb rebases slot k b
   unfolding climb
-  climb_taken zero step b h p e = absurd (omega arith)
-  climb_taken (suc k) step b h p e =
+  climb_taken zero b some few e = absurd (omega arith)
+  climb_taken (suc k) b some few e =
       let one : suc k - 1 ≡ k = omega arith in
-      let half : step / 2 ≡ 2 ^ k = omega (arith, p, pow-suc 2 k) in
-      rw one (rw half (sym (ap (climb rebases slot k) (choose_true (b + 2 ^ k) b (rw half at e)))))
+      let step = shifted k (omega arith) in
+      rw (one, step) (sym (ap (climb rebases slot k) (choose_true (b + 2 ^ k) b (rw (one, step) at e))))
 
-  pub climb_left : (k step b : ℕ) → 0 < k → step ≡ 2 ^ k → at_most rebases slot (b + step / 2) ≡ false
+  pub climb_left : (k b : ℕ) → 0 < k → k ≤ 64 → at_most rebases slot (b + 1 * 2 ^ (k - 1) % 2 ^ 64) ≡ false
       → climb rebases slot (k - 1) b ≡ climb rebases slot k b
   unfolding climb
-  climb_left zero step b h p e = absurd (omega arith)
-  climb_left (suc k) step b h p e =
+  climb_left zero b some few e = absurd (omega arith)
+  climb_left (suc k) b some few e =
       let one : suc k - 1 ≡ k = omega arith in
-      let half : step / 2 ≡ 2 ^ k = omega (arith, p, pow-suc 2 k) in
-      rw one (sym (ap (climb rebases slot k) (choose_false (b + 2 ^ k) b (rw half at e))))
+      let step = shifted k (omega arith) in
+      rw one (sym (ap (climb rebases slot k) (choose_false (b + 2 ^ k) b (rw (one, step) at e))))
+
+  pub climb_end : (k b : ℕ) → k ≤ 0 → climb rebases slot k b ≡ b
+  unfolding climb
+  climb_end zero b h = refl
+  climb_end (suc k) b h = absurd (omega arith)
 
   pub sorted_here : (b : ℕ) → b < records rebase_words rebases → slot_of rebase_words rebases b ≡ slot → value (b + 1) ≡ sorted_at rebases slot b
   unfolding sorted_at
@@ -113,34 +119,6 @@ module _ (rebases : List ℕ) (slot : ℕ) where
   pub sorted_past : (b : ℕ) → records rebase_words rebases ≤ b → absent NoRecord ≡ sorted_at rebases slot b
   unfolding sorted_at
   sorted_past b h = rw (le-ltb b (records rebase_words rebases) h) (sym (choose_false _ _ refl))
-
--- The code's test of all slots.
-module _ (rebases : List ℕ) (i : ℕ) (some : 1 ≤ i) where
-  one_back : i - 1 + 1 ≡ i
-  one_back = omega arith
-
-  pub ascends_not : i < records rebase_words rebases → slot_of rebase_words rebases i ≤ slot_of rebase_words rebases (i - 1) → false ≡ ascending rebases
-  unfolding ascending
-  ascends_not h low = every_fails (rises rebases) (records rebase_words rebases - 1) (i - 1) (omega arith) falls
-    where
-      falls : rises rebases (i - 1) ≡ false
-      falls = unfold rises in rw one_back (le-ltb (slot_of rebase_words rebases (i - 1)) (slot_of rebase_words rebases i) low)
-
-  pub ascends_on : every (rises rebases) (i - 1) ≡ true → slot_of rebase_words rebases (i - 1) < slot_of rebase_words rebases i
-      → every (rises rebases) (i + 1 - 1) ≡ true
-  ascends_on e less =
-      let next : i + 1 - 1 ≡ i - 1 + 1 = omega arith in
-      rw next (every_more (rises rebases) (i - 1) e rising)
-    where
-      rising : rises rebases (i - 1) ≡ true
-      rising = unfold rises in rw one_back (lt-ltb (slot_of rebase_words rebases (i - 1)) (slot_of rebase_words rebases i) less)
-
-  pub ascends_all : records rebase_words rebases ≤ i → i - 1 ≤ records rebase_words rebases - 1 → every (rises rebases) (i - 1) ≡ true
-      → true ≡ ascending rebases
-  unfolding ascending
-  ascends_all past within e =
-      let last : i - 1 ≡ records rebase_words rebases - 1 = omega arith in
-      sym (rw last at e)
 
 module _ (rebases : List ℕ) (e : ascending rebases ≡ true) where
   rises_at : (i : ℕ) → i + 1 < records rebase_words rebases → slot_of rebase_words rebases i < slot_of rebase_words rebases (i + 1)

@@ -5,49 +5,39 @@ ghost use Rattle.reads.specs.Reference.{before};
 ghost use Rattle.reads.specs.Answer.{word_outcome};
 ghost use Rattle.pointers.specs.Sorted.{ascending, at_most, climb, halvings, sorted_at, sorted_record};
 
-use crate::table::Rebase;
+use crate::table::{Rebase, every};
 use reads::answer::{Missing, Reason, Word};
 
 // Is each slot below the next?
+#[tactic(auto, unfolding(crate::specs::Sorted::ascending, crate::specs::Sorted::rises))]
 pub fn ascends(rebases: &[u64]) -> bool
     ensures { result ≡ ascending (before rebases) }
 {
     let count = rebases.len() / Rebase::WORDS;
-    let mut i = 1;
-    while i < count {
-        if rebases[i * Rebase::WORDS] <= rebases[(i - 1) * Rebase::WORDS] {
-            return false;
-        }
-        i += 1;
-    }
-    true
+    every(count.saturating_sub(1), |i| {
+        rebases[i * Rebase::WORDS] < rebases[(i + 1) * Rebase::WORDS]
+    })
 }
 
 // Record i is there, and its slot is at most the slot.
+#[tactic(auto, unfolding(crate::specs::Sorted::at_most))]
 fn at_most(rebases: &[u64], slot: u64, i: usize) -> bool
     ensures { result ≡ at_most (before rebases) slot i }
 {
-    if i < rebases.len() / Rebase::WORDS {
-        return rebases[i * Rebase::WORDS] <= slot;
-    }
-    false
+    i < rebases.len() / Rebase::WORDS && rebases[i * Rebase::WORDS] <= slot
 }
 
 // How often the steps are halved: question 5 allows fewer than 2^24 records.
 const HALVINGS: u32 = 24;
 
-const FIRST_STEP: usize = 16_777_216;
-
 // The last record whose slot is at most the slot, where slots ascend; record 0 where there is none.
+#[tactic(auto, using(crate::proofs::SortedLookups::climb_taken, crate::proofs::SortedLookups::climb_left, crate::proofs::SortedLookups::climb_end, crate::proofs::SortedLookups::at_most_below))]
 fn climb(rebases: &[u64], slot: u64) -> usize
     ensures { result ≡ climb (before rebases) slot halvings 0 }
 {
-    let mut k = HALVINGS;
-    let mut step = FIRST_STEP;
     let mut b = 0;
-    while 0 < k {
-        k -= 1;
-        step /= 2;
+    for k in (0..HALVINGS).rev() {
+        let step = 1 << k;
         if at_most(rebases, slot, b + step) {
             b += step;
         }
@@ -56,13 +46,12 @@ fn climb(rebases: &[u64], slot: u64) -> usize
 }
 
 // The number of the slot's record, where record b has the slot.
+#[tactic(auto, unfolding(crate::specs::Sorted::sorted_at, reads::specs::Outcome::choose))]
 fn sorted_at(rebases: &[u64], slot: u64, b: usize) -> Word
     ensures { word_outcome result ≡ sorted_at (before rebases) slot b }
 {
-    if b < rebases.len() / Rebase::WORDS {
-        if rebases[b * Rebase::WORDS] == slot {
-            return Word::Value(b as u64 + 1);
-        }
+    if b < rebases.len() / Rebase::WORDS && rebases[b * Rebase::WORDS] == slot {
+        return Word::Value(b as u64 + 1);
     }
     Word::Missing(Missing::Absent(Reason::NoRecord))
 }

@@ -1,4 +1,4 @@
-use Prim.Native.Nat.{◌^◌, ◌≤◌}
+use Prim.Native.Nat.{◌≤◌}
 use mathlib.Core.Path.{◌≡◌}
 use Rattle.reads.specs.Table.{records}
 use Rattle.pointers.specs.Tables.{rebase_words}
@@ -7,10 +7,4 @@ use Rattle.pointers.proofs.sorted.climb.Given as goal
 
 -- The climb from here ends where the whole climb ends.
 abbrev pub invariant-loop-k : goal.invariant-loop-k
-invariant-loop-k l = (l.step ≤ 16777216)
-    × (l.step ≡ 2 ^ l.k)
-    × (l.b ≤ records rebase_words l.rebases)
-    × (climb l.rebases l.slot l.k l.b ≡ climb l.rebases l.slot halvings 0)
-
-abbrev pub decreases-loop-k : goal.decreases-loop-k
-decreases-loop-k l = l.k
+invariant-loop-k l = (l.b ≤ records rebase_words l.rebases) × (climb l.rebases l.slot l.k l.b ≡ climb l.rebases l.slot halvings 0)
