@@ -6,20 +6,24 @@ use mathlib.Core.List.{List, [], ◌∷◌}
 use native.Mathlib.Numerals.{add-one}
 use native.Mathlib.Omega.{arith}
 use lib.Dec.{eqb}
-use lib.ListN.{length, get_or, take, drop, drop_of_length-le, length-take, length-drop}
+use lib.ListN.{length, get_or, take, drop, drop_of_length-le, length-map, length-take, length-drop}
 use lib.Seq.{drop-cons, take_all, take-take}
 use borrow.Author.Tests.{eq-eqb, ne_eqb}
+use Rattle.std.specs.List.{starts_with}
+use Rattle.std.specs.Borrow.{Bor}
+use Rattle.std.specs.Prelude.{map}
 use Rattle.reads.specs.Outcome.{text_of}
 use Rattle.reads.specs.Place.{part}
 use Rattle.reads.specs.declared.text.Text.{Text}
 use Rattle.reads.proofs.Tests.{by_choose, choose_true, choose_false}
 use Rattle.pointers.specs.Symbol.{starts, fitting, prefixes, stripped_in}
 
-pub starts_short : (p s : List ℕ) → length s < length p → starts p s ≡ false
+-- The slice's own test.
+pub starts_is : (p s : List ℕ) → starts_with eqb s p ≡ starts p s
 unfolding starts
-starts_short [] s h = absurd (omega arith)
-starts_short (a ∷ p) [] h = refl
-starts_short (a ∷ p) (b ∷ s) h = simp (starts_short p s (omega arith), and-false)
+starts_is [] s = refl
+starts_is (a ∷ p) [] = refl
+starts_is (a ∷ p) (b ∷ s) = ap (λ t. eqb a b && t) (starts_is p s)
 
 -- What starts with p is as long.
 pub starts_length : (p s : List ℕ) → starts p s ≡ true → length p ≤ length s
@@ -32,36 +36,31 @@ starts_length (a ∷ p) (b ∷ s) e = go (eqb a b) (λ t. starts_length p s t) e
     go true f e' = omega (arith, f e')
     go false f e' = let z : ◌≡◌ {A = ℕ} 0 1 = cc in omega arith
 
-here : (s : List ℕ) (i : ℕ) → i < length s → drop i s ≡ get_or s i 0 ∷ drop (i + 1) s
-here s i h = rw (add-one, drop-cons s i 0)
+-- From prefix k of the code's table on.
+abbrev texts : List (Bor (List ℕ)) → List (List ℕ)
+texts rows = map (λ x. x.now) rows
 
--- From byte j on.
-module _ (p s : List ℕ) (j : ℕ) where
-  pub starts_differ : j < length p → j < length s → (get_or p j 0 ≡ get_or s j 0 → ⊥) → starts (drop j p) (drop j s) ≡ false
-  unfolding starts
-  starts_differ h k n = simp (here p j h, here s j k, ne_eqb (get_or p j 0) (get_or s j 0) n)
+pub fitting_here : (rows : List (Bor (List ℕ))) (s : List ℕ) (k : ℕ) (d : Bor (List ℕ)) → k < length rows → starts (get_or rows k d).now s ≡ true
+    → fitting (drop k (texts rows)) s ≡ length (get_or rows k d).now
+unfolding fitting
+fitting_here [] s k d h e = absurd (omega arith)
+fitting_here (x ∷ rows) s zero d h e = choose_true _ _ e
+fitting_here (x ∷ rows) s (suc k) d h e = fitting_here rows s k d (omega arith) e
 
-  pub starts_agree : j < length p → j < length s → get_or p j 0 ≡ get_or s j 0 → starts (drop j p) (drop j s) ≡ starts (drop (j + 1) p) (drop (j + 1) s)
-  unfolding starts
-  starts_agree h k e = simp (here p j h, here s j k, eq-eqb (get_or p j 0) (get_or s j 0) e)
+pub fitting_next : (rows : List (Bor (List ℕ))) (s : List ℕ) (k : ℕ) (d : Bor (List ℕ)) → k < length rows → starts (get_or rows k d).now s ≡ false
+    → fitting (drop k (texts rows)) s ≡ fitting (drop (k + 1) (texts rows)) s
+unfolding fitting
+fitting_next [] s k d h e = absurd (omega arith)
+fitting_next (x ∷ rows) s zero d h e = choose_false _ _ e
+fitting_next (x ∷ rows) s (suc k) d h e =
+    let on = fitting_next rows s k d (omega arith) e in
+    rw add-one (rw add-one at on)
 
-  pub starts_end : length p ≤ j → starts (drop j p) (drop j s) ≡ true
-  unfolding starts
-  starts_end h = rw (drop_of_length-le p h)
-
--- From prefix k on.
-module _ (ps : List (List ℕ)) (s : List ℕ) (k : ℕ) where
-  pub fitting_here : k < length ps → starts (get_or ps k []) s ≡ true → fitting (drop k ps) s ≡ length (get_or ps k [])
-  unfolding fitting
-  fitting_here h e = simp (drop-cons ps k [] h) (choose_true _ _ e)
-
-  pub fitting_next : k < length ps → starts (get_or ps k []) s ≡ false → fitting (drop k ps) s ≡ fitting (drop (k + 1) ps) s
-  unfolding fitting
-  fitting_next h e = simp (drop-cons ps k [] h, add-one) (choose_false _ _ e)
-
-  pub fitting_end : length ps ≤ k → fitting (drop k ps) s ≡ 0
-  unfolding fitting
-  fitting_end h = rw (drop_of_length-le ps h)
+pub fitting_end : (rows : List (Bor (List ℕ))) (s : List ℕ) (k : ℕ) → length rows ≤ k → fitting (drop k (texts rows)) s ≡ 0
+unfolding fitting
+fitting_end rows s k h =
+    let past : length (texts rows) ≤ k = simp length-map h in
+    rw (drop_of_length-le (texts rows) past)
 
 -- What fits is no longer than the bytes.
 pub fitting_length : (ps : List (List ℕ)) (s : List ℕ) → fitting ps s ≤ length s

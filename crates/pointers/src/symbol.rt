@@ -1,5 +1,5 @@
 // Symbol names of binds without the linker's prefix (mod.rs, strip_objc_symbol_prefix).
-ghost use Rattle.std.specs.Prelude.{◌≡◌};
+ghost use Rattle.std.specs.Prelude.{◌≡◌, map};
 ghost use Rattle.reads.specs.Reference.{before};
 ghost use Rattle.reads.specs.Files.{files_of};
 ghost use Rattle.pointers.specs.Symbol.{starts, fitting, prefixes, stripped_in, stripped_name};
@@ -7,46 +7,32 @@ ghost use Rattle.pointers.specs.Symbol.{starts, fitting, prefixes, stripped_in, 
 use reads::files::is_lent;
 use reads::text::Text;
 
-// In the order in which they are tried, padded with zeros.
-const PREFIXES: [[u8; 24]; 5] = [
-    *b"_OBJC_CLASS_$_\0\0\0\0\0\0\0\0\0\0",
-    *b"_OBJC_METACLASS_$_\0\0\0\0\0\0",
-    *b"_OBJC_PROTOCOL_$_\0\0\0\0\0\0\0",
-    *b"_OBJC_REF_$_\0\0\0\0\0\0\0\0\0\0\0\0",
-    *b"_OBJC_LABEL_PROTOCOL_$_\0",
+// In the order in which they are tried.
+const PREFIXES: [&[u8]; 5] = [
+    b"_OBJC_CLASS_$_",
+    b"_OBJC_METACLASS_$_",
+    b"_OBJC_PROTOCOL_$_",
+    b"_OBJC_REF_$_",
+    b"_OBJC_LABEL_PROTOCOL_$_",
 ];
 
-const PREFIX_LENGTHS: [usize; 5] = [14, 18, 17, 12, 23];
-
 // Whether s starts with p.
+#[tactic(auto, using(crate::proofs::Prefixes::starts_is))]
 pub fn starts_with(s: &[u8], p: &[u8]) -> bool
     ensures { result ≡ starts (before p) (before s) }
 {
-    if s.len() < p.len() {
-        return false;
-    }
-    let mut j = 0;
-    while j < p.len() {
-        if p[j] != s[j] {
-            return false;
-        }
-        j += 1;
-    }
-    true
+    s.starts_with(p)
 }
 
 // The length of the first of the prefixes that s starts with, 0 where it starts with none.
-fn prefix_length(s: &[u8]) -> usize
-    ensures { result ≡ fitting prefixes (before s) }
+#[tactic(auto, using(crate::proofs::Prefixes::fitting_here, crate::proofs::Prefixes::fitting_next, crate::proofs::Prefixes::fitting_end))]
+fn prefix_length(s: &[u8], prefixes: &[&[u8]]) -> usize
+    ensures { result ≡ fitting (map (λ p. p.now) (before prefixes)) (before s) }
 {
-    let mut k = 0;
-    while k < 5 {
-        let row = PREFIXES[k];
-        let n = PREFIX_LENGTHS[k];
-        if starts_with(s, &row[0..n]) {
-            return n;
+    for prefix in prefixes {
+        if starts_with(s, prefix) {
+            return prefix.len();
         }
-        k += 1;
     }
     0
 }
@@ -62,7 +48,7 @@ fn strip_in(bytes: &[u8], name: Text) -> Text
     let there = name.len.min(total - name.offset);
     let from = name.offset as usize;
     let end = (name.offset + there) as usize;
-    let n = prefix_length(&bytes[from..end]) as u64;
+    let n = prefix_length(&bytes[from..end], &PREFIXES) as u64;
     Text {
         file: name.file,
         offset: name.offset + n,
