@@ -8,7 +8,7 @@ use borrow.Author.Tests.{ne_eqb}
 use lib.Bits.{bit_and, and_high}
 use lib.Dec.{eqb}
 use lib.Pow.{pow_pos, high_ones, shl-shr}
-use Rattle.pointers.specs.ImageInfo.{bit}
+use Rattle.pointers.specs.ImageInfo.{bit, swift_unstable, swift_stable}
 
 scaled_zero : (d m : ℕ) → 0 < m → eqb (d * m) 0 ≡ eqb d 0
 scaled_zero zero m p = rw zero-mul
@@ -34,3 +34,21 @@ bit_by k flags =
     ap (λ mask. not (eqb (bit_and flags mask) 0)) (sym (high_ones 1 k ∙ one-mul (2 ^ k)))
     ∙ ap not (field_zero 1 k flags)
     ∙ digit_test (flags / 2 ^ k % 2) (omega arith)
+
+-- The same, from what the code's test says.
+pub bit_is : (k flags : ℕ) → bit k flags ≡ not (eqb (bit_and flags (2 ^ k)) 0)
+bit_is k flags = sym (bit_by k flags)
+
+pub unstable_is : (flags : ℕ) → swift_unstable flags ≡ bit_and flags 65280 / 256
+unfolding swift_unstable
+unstable_is flags = sym (field_by 8 8 flags)
+
+pub swift_is : (flags : ℕ) → eqb (swift_unstable flags) 0 ≡ eqb (bit_and flags 65280) 0
+unfolding swift_unstable
+swift_is flags = sym (field_zero 8 8 flags)
+
+pub stable_is : (flags : ℕ) → swift_stable flags ≡ bit_and flags 4294901760 / 65536
+unfolding swift_stable
+stable_is flags = sym (field_by 16 16 flags)
+
+pub ruleset flag_tests = (bit_is, unstable_is, swift_is, stable_is)

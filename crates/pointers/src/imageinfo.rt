@@ -1,4 +1,6 @@
 // The payload of __objc_imageinfo (objc-abi.h, objc_image_info).
+#![tactic(auto, using(crate::proofs::Flags::flag_tests, crate::proofs::Infos::info_short, crate::proofs::Infos::info_by))]
+
 ghost use Rattle.std.specs.Prelude.{not, ◌≡◌, eqb};
 ghost use Rattle.reads.specs.Reference.{before};
 ghost use Rattle.pointers.specs.ImageInfo.{info_outcome, image_info, bit, swift_unstable, swift_stable};
