@@ -27,6 +27,7 @@ impl ObjcSection {
     pub const PROTO_LIST: usize = 4;
 
     // Section i of the table; one past its end is absent.
+    #[tactic(auto, unfolding(crate::specs::Section::section_at, reads::specs::Outcome::choose))]
     pub fn at(sections: &[u64], i: usize) -> ObjcSection
         ensures { result ≡ section_at (before sections) i }
     {

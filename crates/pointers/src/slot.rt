@@ -35,6 +35,7 @@ fn rebase_number(rebases: &[u64], index: &[u32], setting: Setting, slot: u64) ->
 }
 
 // The target of a slot's rebase.
+#[tactic(auto, unfolding(crate::specs::Slot::rebase_at), using(reads::proofs::Outcomes::word_value, reads::proofs::Outcomes::word_missing))]
 pub fn rebase_at(rebases: &[u64], index: &[u32], setting: Setting, slot: u64) -> Word
     ensures { word_outcome result ≡ rebase_at (before rebases) (before index) setting slot }
 {
@@ -48,6 +49,7 @@ pub fn rebase_at(rebases: &[u64], index: &[u32], setting: Setting, slot: u64) ->
 }
 
 // The name of bind record i, counted from 0; the questions 18, 7 and 14 are asked of it.
+#[tactic(auto, unfolding(crate::specs::Slot::bind_name), using(crate::proofs::Questions::in_order))]
 fn bind_name(files: &[&[u8]], binds: &[u64], i: usize) -> TextAnswer
     requires { i < records bind_words binds.now }
     ensures { text_outcome result ≡ bind_name (files_of files) (before binds) i }
@@ -67,6 +69,7 @@ fn bind_name(files: &[&[u8]], binds: &[u64], i: usize) -> TextAnswer
 }
 
 // The name of a slot's bind.
+#[tactic(auto, unfolding(crate::specs::Slot::bind_at), using(reads::proofs::Outcomes::word_value, reads::proofs::Outcomes::word_missing))]
 pub fn bind_at(
     files: &[&[u8]],
     rebases: &[u64],
@@ -84,6 +87,7 @@ pub fn bind_at(
 }
 
 // The word in a slot, its low 48 bits.
+#[tactic(auto, unfolding(crate::specs::Slot::stored), using(reads::proofs::Outcomes::word_value, reads::proofs::Outcomes::word_missing))]
 fn stored(files: &[&[u8]], segments: &[u64], slot: u64) -> Word
     ensures { word_outcome result ≡ stored (lent_image files segments) slot }
 {
@@ -94,6 +98,7 @@ fn stored(files: &[&[u8]], segments: &[u64], slot: u64) -> Word
 }
 
 // The target of a slot's rebase, else the word there.
+#[tactic(auto, using(reads::proofs::Outcomes::when_absent, reads::proofs::Outcomes::when_present))]
 fn rebased_or_stored(
     files: &[&[u8]],
     segments: &[u64],
@@ -112,6 +117,7 @@ fn rebased_or_stored(
 }
 
 // The address in a pointer slot: a rebase target wins unmasked, mapped or not; else the word there; else it does not resolve.
+#[tactic(auto, unfolding(crate::specs::Slot::resolve), using(reads::proofs::Outcomes::because_of))]
 pub fn resolve_pointer(
     files: &[&[u8]],
     segments: &[u64],
@@ -143,6 +149,7 @@ pub fn slot_or_0(
 }
 
 // The pointer in the field at va + k.
+#[tactic(auto, unfolding(crate::specs::Slot::pointer_at), using(reads::proofs::Outcomes::word_value, reads::proofs::Outcomes::word_missing))]
 pub fn pointer(
     files: &[&[u8]],
     segments: &[u64],
@@ -161,6 +168,7 @@ pub fn pointer(
 }
 
 // The same, an absent slot counting as 0.
+#[tactic(auto, unfolding(crate::specs::Slot::pointer_or0_at), using(reads::proofs::Outcomes::word_value, reads::proofs::Outcomes::word_missing))]
 pub fn pointer_or_0(
     files: &[&[u8]],
     segments: &[u64],
@@ -192,6 +200,7 @@ fn is_unrebased(index: &[u32], setting: Setting, slot: u64) -> bool
 }
 
 // The slot lies in the spot's room, i bytes past its address, and no rebase stands in the slot's chain.
+#[tactic(auto, unfolding(crate::specs::Slot::is_near))]
 fn is_near(index: &[u32], setting: Setting, s: Spot, i: u64, slot: u64) -> bool
     ensures { result ≡ is_near (before index) setting s i slot }
 {
@@ -202,6 +211,7 @@ fn is_near(index: &[u32], setting: Setting, s: Spot, i: u64, slot: u64) -> bool
 }
 
 // The word at i bytes from a spot, its low 48 bits.
+#[tactic(auto, unfolding(crate::specs::Slot::word_there))]
 fn word_there(files: &[&[u8]], s: Spot, i: u64) -> u64
     ensures { (words : List ℕ) → result ≡ word_there (image_of (files_of files) words) s i }
 {
@@ -213,6 +223,7 @@ fn word_there(files: &[&[u8]], s: Spot, i: u64) -> u64
 }
 
 // The address in a pointer slot that lies i bytes past a spot's address: mostly without a lookup.
+#[tactic(auto, unfolding(crate::specs::Slot::resolve_near, reads::specs::Outcome::choose))]
 pub fn resolve_near(
     files: &[&[u8]],
     segments: &[u64],
@@ -232,6 +243,7 @@ pub fn resolve_near(
 }
 
 // The name of a slot's bind less its prefix.
+#[tactic(auto, unfolding(crate::specs::Slot::symbol_of), using(reads::proofs::Outcomes::text_value, reads::proofs::Outcomes::text_missing))]
 pub fn symbol_at(
     files: &[&[u8]],
     rebases: &[u64],
