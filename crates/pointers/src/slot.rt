@@ -35,7 +35,7 @@ fn rebase_number(rebases: &[u64], index: &[u32], setting: Setting, slot: u64) ->
 }
 
 // The target of a slot's rebase.
-#[tactic(auto, unfolding(crate::specs::Slot::rebase_at), using(reads::proofs::Outcomes::word_value, reads::proofs::Outcomes::word_missing))]
+#[tactic(auto, unfolding(crate::specs::Slot::rebase_at))]
 pub fn rebase_at(rebases: &[u64], index: &[u32], setting: Setting, slot: u64) -> Word
     ensures { word_outcome result ≡ rebase_at (before rebases) (before index) setting slot }
 {
@@ -69,7 +69,7 @@ fn bind_name(files: &[&[u8]], binds: &[u64], i: usize) -> TextAnswer
 }
 
 // The name of a slot's bind.
-#[tactic(auto, unfolding(crate::specs::Slot::bind_at), using(reads::proofs::Outcomes::word_value, reads::proofs::Outcomes::word_missing))]
+#[tactic(auto, unfolding(crate::specs::Slot::bind_at))]
 pub fn bind_at(
     files: &[&[u8]],
     rebases: &[u64],
@@ -87,7 +87,7 @@ pub fn bind_at(
 }
 
 // The word in a slot, its low 48 bits.
-#[tactic(auto, unfolding(crate::specs::Slot::stored), using(reads::proofs::Outcomes::word_value, reads::proofs::Outcomes::word_missing))]
+#[tactic(auto, unfolding(crate::specs::Slot::stored))]
 fn stored(files: &[&[u8]], segments: &[u64], slot: u64) -> Word
     ensures { word_outcome result ≡ stored (lent_image files segments) slot }
 {
@@ -98,7 +98,6 @@ fn stored(files: &[&[u8]], segments: &[u64], slot: u64) -> Word
 }
 
 // The target of a slot's rebase, else the word there.
-#[tactic(auto, using(reads::proofs::Outcomes::when_absent, reads::proofs::Outcomes::when_present))]
 fn rebased_or_stored(
     files: &[&[u8]],
     segments: &[u64],
@@ -117,7 +116,7 @@ fn rebased_or_stored(
 }
 
 // The address in a pointer slot: a rebase target wins unmasked, mapped or not; else the word there; else it does not resolve.
-#[tactic(auto, unfolding(crate::specs::Slot::resolve), using(reads::proofs::Outcomes::because_of))]
+#[tactic(auto, unfolding(crate::specs::Slot::resolve))]
 pub fn resolve_pointer(
     files: &[&[u8]],
     segments: &[u64],
@@ -149,7 +148,7 @@ pub fn slot_or_0(
 }
 
 // The pointer in the field at va + k.
-#[tactic(auto, unfolding(crate::specs::Slot::pointer_at), using(reads::proofs::Outcomes::word_value, reads::proofs::Outcomes::word_missing))]
+#[tactic(auto, unfolding(crate::specs::Slot::pointer_at))]
 pub fn pointer(
     files: &[&[u8]],
     segments: &[u64],
@@ -168,7 +167,7 @@ pub fn pointer(
 }
 
 // The same, an absent slot counting as 0.
-#[tactic(auto, unfolding(crate::specs::Slot::pointer_or0_at), using(reads::proofs::Outcomes::word_value, reads::proofs::Outcomes::word_missing))]
+#[tactic(auto, unfolding(crate::specs::Slot::pointer_or0_at))]
 pub fn pointer_or_0(
     files: &[&[u8]],
     segments: &[u64],
@@ -181,9 +180,7 @@ pub fn pointer_or_0(
     ensures { word_outcome result ≡ pointer_or0_at (lent_image files segments) (before rebases) (before index) setting va k }
 {
     match checked_add(va, k) {
-        Word::Value(slot) => or_zero(resolve_pointer(
-            files, segments, rebases, index, setting, slot,
-        )),
+        Word::Value(slot) => slot_or_0(files, segments, rebases, index, setting, slot),
         Word::Missing(m) => Word::Missing(m),
     }
 }
@@ -204,10 +201,7 @@ fn is_unrebased(index: &[u32], setting: Setting, slot: u64) -> bool
 fn is_near(index: &[u32], setting: Setting, s: Spot, i: u64, slot: u64) -> bool
     ensures { result ≡ is_near (before index) setting s i slot }
 {
-    if s.room <= i {
-        return false;
-    }
-    is_unrebased(index, setting, slot)
+    i < s.room && is_unrebased(index, setting, slot)
 }
 
 // The word at i bytes from a spot, its low 48 bits.
@@ -243,7 +237,7 @@ pub fn resolve_near(
 }
 
 // The name of a slot's bind less its prefix.
-#[tactic(auto, unfolding(crate::specs::Slot::symbol_of), using(reads::proofs::Outcomes::text_value, reads::proofs::Outcomes::text_missing))]
+#[tactic(auto, unfolding(crate::specs::Slot::symbol_of))]
 pub fn symbol_at(
     files: &[&[u8]],
     rebases: &[u64],
