@@ -15,6 +15,7 @@ pub mod OpenedTables
 pub mod LookupNumbers
 pub mod Resolves
 pub mod IndexCases
+pub mod Names
 pub mod Flags
 pub mod Infos
 pub mod SectionRows

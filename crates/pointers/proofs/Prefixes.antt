@@ -77,24 +77,11 @@ below_five (suc (suc (suc zero))) h f₀ f₁ f₂ f₃ f₄ = f₃ refl
 below_five (suc (suc (suc (suc zero)))) h f₀ f₁ f₂ f₃ f₄ = f₄ refl
 below_five (suc (suc (suc (suc (suc k))))) h f₀ f₁ f₂ f₃ f₄ = absurd (omega arith)
 
-pub fitting_part : (ps : List (List ℕ)) (bytes : List ℕ) (offset k : ℕ) → fitting ps (part bytes offset k) ≤ k
-fitting_part ps bytes offset k = omega (arith, fitting_length ps (part bytes offset k), length-take k (drop offset bytes))
+pub fitting_part : (ps : List (List ℕ)) (bytes : List ℕ) (offset k : ℕ) (there : List ℕ) → there ≡ part bytes offset k → fitting ps there ≤ k
+fitting_part ps bytes offset k there e = omega (arith, fitting_length ps there, ap length e, length-take k (drop offset bytes))
 
-take_there : (k n : ℕ) (l : List ℕ) → k ≡ min n (length l) → take k l ≡ take n l
-take_there k n l e = sym (take-take k n l (omega arith)) ∙ take_all k (take n l) (simp length-take (omega arith))
-
--- Of a name, k bytes are there: they decide.
-pub stripped_by : (bytes : List ℕ) (name : Text) (k n : ℕ) → k ≡ min name.len (length bytes - name.offset)
-    → n ≡ fitting prefixes (part bytes name.offset k) → text_of name.file (name.offset + n) (name.len - n) ≡ stripped_in bytes name
+-- A name by its bytes that are there.
+pub stripped_by : (bytes : List ℕ) (name : Text) (there : List ℕ) (n : ℕ) → there ≡ part bytes name.offset name.len
+    → n ≡ fitting prefixes there → text_of name.file (name.offset + n) (name.len - n) ≡ stripped_in bytes name
 unfolding stripped_in
-stripped_by bytes name k n there e =
-    ap (λ m. text_of name.file (name.offset + m) (name.len - m))
-    (e ∙ ap (fitting prefixes) (take_there k name.len (drop name.offset bytes) (simp length-drop there)))
-
--- None is there: the name stays.
-pub stripped_past : (bytes : List ℕ) (name : Text) → length bytes ≤ name.offset → name ≡ stripped_in bytes name
-stripped_past bytes name h =
-    let e : 0 ≡ fitting prefixes (part bytes name.offset 0) = omega (arith, fitting_part prefixes bytes name.offset 0) in
-    let p : name.offset ≡ name.offset + 0 = omega arith in
-    let q : name.len ≡ name.len - 0 = omega arith in
-    (λ i. text_of name.file (p i) (q i)) ∙ stripped_by bytes name 0 0 (omega arith) e
+stripped_by bytes name there n e h = rw (h, e)

@@ -10,6 +10,7 @@ ghost use Rattle.pointers.specs.Tables.{lent, tables_of, rebase_words, bind_word
 ghost use Rattle.pointers.specs.Question.{question, asked_outcome, image_fits, whole_rows, section_fits, section_table, info_whole, segment_files, name_inside, name_utf8, index_fits, asked_tables, asked, bind_files, names_inside, names_utf8};
 
 use crate::index::HEADS;
+use crate::name::name_bytes;
 use crate::section::ObjcSection;
 use crate::table::{Bind, Rebase, every};
 use reads::files::{file_len, is_lent, longest};
@@ -108,32 +109,12 @@ pub fn name_inside(files: &[&[u8]], name: Text) -> bool
     name.offset <= n && name.len <= n - name.offset
 }
 
-// A part of a file is UTF-8; of one that passes its end, the bytes that are there.
-fn part_utf8(bytes: &[u8], offset: u64, len: u64) -> bool
-    ensures { result ≡ utf8 (part (before bytes) offset len) }
-{
-    let n = bytes.len() as u64;
-    if n < offset {
-        return true;
-    }
-    let from = offset as usize;
-    if n - offset < len {
-        return utf8(&bytes[from..bytes.len()]);
-    }
-    let to = (offset + len) as usize;
-    utf8(&bytes[from..to])
-}
-
 // 14, of a record: is the name UTF-8? Of one outside its file, the bytes that are there; a file that is not lent has none.
+#[tactic(auto, unfolding(crate::specs::Question::name_utf8))]
 pub fn name_utf8(files: &[&[u8]], name: Text) -> bool
     ensures { result ≡ name_utf8 (files_of files) name }
 {
-    if !is_lent(files, name.file) {
-        return part_utf8(b"", name.offset, name.len);
-    }
-    let f = name.file as usize;
-    let bytes = files[f];
-    part_utf8(bytes, name.offset, name.len)
+    utf8(name_bytes(files, name))
 }
 
 // 18: has the file number of every bind record's name a lent slice?

@@ -4,7 +4,7 @@ ghost use Rattle.reads.specs.Reference.{before};
 ghost use Rattle.reads.specs.Files.{files_of};
 ghost use Rattle.pointers.specs.Symbol.{starts, fitting, prefixes, stripped_in, stripped_name};
 
-use reads::files::is_lent;
+use crate::name::name_bytes;
 use reads::text::Text;
 
 // In the order in which they are tried.
@@ -37,33 +37,15 @@ fn prefix_length(s: &[u8], prefixes: &[&[u8]]) -> usize
     0
 }
 
-// A name less the first of the prefixes that it starts with, by the bytes of its file; what lies past their end matches none.
-fn strip_in(bytes: &[u8], name: Text) -> Text
-    ensures { result ≡ stripped_in (before bytes) name }
+// A name of the image less the first of the prefixes that it starts with; what lies past its file's end matches none, and a file that is
+// not lent has no bytes.
+pub fn strip_objc_symbol_prefix(files: &[&[u8]], name: Text) -> Text
+    ensures { result ≡ stripped_name (files_of files) name }
 {
-    let total = bytes.len() as u64;
-    if total <= name.offset {
-        return name;
-    }
-    let there = name.len.min(total - name.offset);
-    let from = name.offset as usize;
-    let end = (name.offset + there) as usize;
-    let n = prefix_length(&bytes[from..end], &PREFIXES) as u64;
+    let n = prefix_length(name_bytes(files, name), &PREFIXES) as u64;
     Text {
         file: name.file,
         offset: name.offset + n,
         len: name.len - n,
     }
-}
-
-// A name of the image less the first of the prefixes that it starts with; a file that is not lent has no bytes.
-pub fn strip_objc_symbol_prefix(files: &[&[u8]], name: Text) -> Text
-    ensures { result ≡ stripped_name (files_of files) name }
-{
-    if !is_lent(files, name.file) {
-        return strip_in(b"", name);
-    }
-    let f = name.file as usize;
-    let bytes = files[f];
-    strip_in(bytes, name)
 }
