@@ -1,13 +1,13 @@
 -- The pointer in a slot beside the spot of bytes that can be read is the one that a lookup gives.
 use Prim.Native.Nat.{ℕ, ◌+◌, ◌*◌, ◌^◌, ◌≤◌, ◌<◌}
 use mathlib.Core.Path.{◌≡◌, refl, sym, ap, ◌∙◌}
-use mathlib.Core.Bool.{true, false}
+use mathlib.Core.Bool.{true}
 use mathlib.Core.List.{List}
 use native.Mathlib.Omega.{arith}
 use lib.Dec.{ltb}
 use lib.ListN.{get_or}
-use borrow.Author.Tests.{ltb-true, lt-ltb, le-ltb, eqb-true}
-use Rattle.reads.specs.Outcome.{Outcome, value, absent, because}
+use borrow.Author.Tests.{ltb-true, eqb-true}
+use Rattle.reads.specs.Outcome.{Outcome, absent, because}
 use Rattle.reads.specs.declared.answer.Reason.TheVariants.{Unresolved, NoRecord}
 use Rattle.reads.specs.Answer.{word_outcome}
 use Rattle.reads.specs.Table.{records}
@@ -17,7 +17,7 @@ use Rattle.reads.specs.Place.{Image}
 use Rattle.reads.specs.Spot.{readable_spot}
 use Rattle.reads.specs.declared.spot.Spot.{Spot}
 use Rattle.reads.proofs.Spots.{near_word_in}
-use Rattle.reads.proofs.Tests.{by_choose, choose_true, choose_false, both_true}
+use Rattle.reads.proofs.Tests.{by_choose, both_true}
 use Rattle.pointers.specs.Tables.{rebase_words, chains}
 use Rattle.pointers.specs.Chain.{no_rebase, follow}
 use Rattle.pointers.specs.Index.{chain_of}
@@ -27,25 +27,6 @@ use Rattle.pointers.specs.declared.setting.Lookup.TheVariants.{Chained, Sorted}
 use Rattle.pointers.specs.declared.setting.Setting.{Setting}
 use Rattle.pointers.proofs.Chains.{follow_end, found_record}
 use Rattle.pointers.proofs.SortedLookups.{sorted_value}
-
--- By the tests that the code makes.
-module _ (index : List ℕ) (setting : Setting) (s : Spot) (i slot : ℕ) where
-  pub near_not : s.room ≤ i → false ≡ is_near index setting s i slot
-  unfolding is_near
-  near_not h = rw (le-ltb i s.room h)
-
-  pub near_by : i < s.room → unrebased setting.lookup index slot ≡ is_near index setting s i slot
-  unfolding is_near
-  near_by h = rw (lt-ltb i s.room h)
-
-  module _ (m : Image) (rebases : List ℕ) where
-    pub near_there : is_near index setting s i slot ≡ true → value (word_there m s i) ≡ resolve_near m rebases index setting s i slot
-    unfolding resolve_near
-    near_there e = sym (choose_true _ _ e)
-
-    pub near_else : is_near index setting s i slot ≡ false → resolve m rebases index setting slot ≡ resolve_near m rebases index setting s i slot
-    unfolding resolve_near
-    near_else e = sym (choose_false _ _ e)
 
 -- A rebase record that is found is one of the table.
 pub number_record : (rebases index : List ℕ) (slot : ℕ) (l : Lookup) {w : Word} {n : ℕ}

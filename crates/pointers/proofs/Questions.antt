@@ -1,6 +1,6 @@
 -- Laws of the questions: what the code's tests come to, and tests of every row.
-use Prim.Native.Nat.{ℕ, zero, suc, ◌+◌, ◌-◌, ◌*◌, ◌/◌, ◌%◌, ◌≤◌, ◌<◌}
-use mathlib.Core.Path.{◌≡◌, refl, ap, sym, ◌∙◌}
+use Prim.Native.Nat.{ℕ, zero, suc, ◌+◌, ◌*◌, ◌/◌, ◌%◌, ◌≤◌, ◌<◌}
+use mathlib.Core.Path.{◌≡◌, refl}
 use mathlib.Core.Bool.{Bool, true, false, and-false}
 use mathlib.Core.List.{List}
 use mathlib.Core.Logic.{⊎_elim}
@@ -8,20 +8,14 @@ use native.Mathlib.Omega.{arith}
 use native.Mathlib.Nat.{eq-or-lt_of_le, le_of_suc-le-suc}
 use native.Mathlib.Numerals.{add-one}
 use lib.Dec.{leb, eqb}
-use lib.ListN.{length, drop, length-drop, drop_of_length-le}
-use lib.Seq.{take_all}
+use lib.ListN.{length}
 use borrow.Author.Tests.{lt-leb, leb-true, eq-eqb, ne_eqb, eqb-true}
 use Rattle.reads.specs.Outcome.{Outcome, value, number, and_then, choose}
 use Rattle.reads.specs.Table.{records}
-use Rattle.reads.specs.Files.{file_of}
-use Rattle.reads.specs.Place.{part}
-use Rattle.reads.specs.Utf8.{judge, utf8}
-use Rattle.reads.specs.declared.text.Text.{Text}
-use Rattle.reads.proofs.Tests.{le_same, both_true}
+use Rattle.reads.proofs.Tests.{both_true}
 use Rattle.reads.proofs.Outcomes.{on_value, on_number}
-use Rattle.pointers.specs.Tables.{tables_of, section_words, chains, bind_record, section_table_words}
-use Rattle.pointers.specs.Question.{question, asked_outcome, whole_rows, section_fits, every, section_row_fits, section_table, name_lent, name_inside, name_utf8, bind_lent, bind_inside, bind_utf8, index_fits, asked_tables}
-use Rattle.pointers.specs.declared.table.Bind.{Bind}
+use Rattle.pointers.specs.Tables.{tables_of, section_words, chains, section_table_words}
+use Rattle.pointers.specs.Question.{question, asked_outcome, whole_rows, section_fits, every, section_row_fits, section_table, index_fits, asked_tables}
 use Rattle.pointers.specs.declared.question.Asked.{Asked}
 use Rattle.pointers.specs.declared.question.Asked.TheVariants as asks
 
@@ -63,10 +57,6 @@ asked_any_index files segments sections info rebases binds one other = refl
 pub ruleset in_order = (question_yes, question_no, after_yes, after_no, asked_on, asked_ends, asked_any_index)
 
 module _ (width most n : ℕ) where
-  pub rows_split : (n % width ≡ 0 → ⊥) → false ≡ whole_rows width most n
-  unfolding whole_rows
-  rows_split h = simp (ne_eqb (n % width) 0 h)
-
   pub rows_whole : n % width ≡ 0 → leb (n / width) most ≡ whole_rows width most n
   unfolding whole_rows
   rows_whole h = simp (eq-eqb (n % width) 0 h)
@@ -76,14 +66,6 @@ module _ (width most n : ℕ) where
   rows_most e = leb-true (n / width) most (both_true (eqb (n % width) 0) (leb (n / width) most) e).1
 
 module _ (n present len : ℕ) where
-  pub section_none : present ≡ 0 → true ≡ section_fits n present len
-  unfolding section_fits
-  section_none h = simp (eq-eqb present 0 h)
-
-  pub section_wrong : (present ≡ 0 → ⊥) → (present ≡ 1 → ⊥) → false ≡ section_fits n present len
-  unfolding section_fits
-  section_wrong g h = simp (ne_eqb present 0 g, ne_eqb present 1 h)
-
   pub section_by : (present ≡ 0 → ⊥) → present ≡ 1 → leb len n ≡ section_fits n present len
   unfolding section_fits
   section_by g h = simp (ne_eqb present 0 g, eq-eqb present 1 h)
@@ -122,58 +104,10 @@ section_row n ws e i h =
     let both = both_true (eqb (length ws) section_table_words) (every (section_row_fits n ws) (records section_words ws)) e in
     every_at (section_row_fits n ws) (records section_words ws) both.1 i (omega (arith, eqb-true (length ws) section_table_words both.0))
 
-module _ (files : List (List ℕ)) (name : Text) (n : ℕ) (e : n ≡ length (file_of files name.file)) where
-  pub name_past : n < name.offset → false ≡ name_inside files name
-  unfolding name_inside
-  name_past h = rw (← e) (sym (lt-leb (name.offset + name.len) n (omega arith)))
-
-  pub name_by : name.offset ≤ n → leb name.len (n - name.offset) ≡ name_inside files name
-  unfolding name_inside
-  name_by h = rw (← e) (le_same name.len (n - name.offset) (name.offset + name.len) n (λ u. omega arith) (λ u. omega arith))
-
--- A name is UTF-8 by the bytes of its file.
-pub name_utf8_by : (files : List (List ℕ)) (name : Text) (bytes : List ℕ) {r : Bool} → bytes ≡ file_of files name.file
-    → r ≡ utf8 (part bytes name.offset name.len) → r ≡ name_utf8 files name
-unfolding name_utf8
-name_utf8_by files name bytes e g = g ∙ ap (λ (bs : List ℕ). utf8 (part bs name.offset name.len)) e
-
-module _ (bytes : List ℕ) (offset len : ℕ) where
-  -- Past the end there is no byte.
-  pub utf8_past : length bytes < offset → true ≡ utf8 (part bytes offset len)
-  unfolding utf8 judge
-  utf8_past h =
-      let past : length bytes ≤ offset = omega arith in
-      sym (ap utf8 (take_all len (drop offset bytes) (omega (arith, length-drop offset bytes)) ∙ drop_of_length-le bytes past))
-
-  -- The code takes k bytes from the offset on: all that the part has there.
-  pub utf8_by : (k : ℕ) {r : Bool} → part bytes offset k ≡ part bytes offset len → r ≡ utf8 (part bytes offset k) → r ≡ utf8 (part bytes offset len)
-  utf8_by k e g = g ∙ ap utf8 e
-
-  -- A part that passes the end has the bytes up to there.
-  pub part_cut : offset ≤ length bytes → length bytes - offset < len → part bytes offset (length bytes - offset) ≡ part bytes offset len
-  part_cut h l =
-      take_all (length bytes - offset) (drop offset bytes) (omega (arith, length-drop offset bytes))
-      ∙ sym (take_all len (drop offset bytes) (omega (arith, length-drop offset bytes)))
-
--- Bind record i, as the code has it.
-module _ (files : List (List ℕ)) (binds : List ℕ) (i : ℕ) (b : Bind) {r : Bool} (e : b ≡ bind_record binds i) where
-  pub lent_by : r ≡ name_lent files b.name → r ≡ bind_lent files binds i
-  lent_by g = g ∙ ap (λ (x : Bind). name_lent files x.name) e
-
-  pub inside_by : r ≡ name_inside files b.name → r ≡ bind_inside files binds i
-  inside_by g = g ∙ ap (λ (x : Bind). name_inside files x.name) e
-
-  pub bind_utf8_by : r ≡ name_utf8 files b.name → r ≡ bind_utf8 files binds i
-  bind_utf8_by g = g ∙ ap (λ (x : Bind). name_utf8 files x.name) e
-
 module _ (rebases binds words : ℕ) where
   pub index_short : words < 2 * chains + rebases + binds → false ≡ index_fits rebases binds words
   unfolding index_fits
   index_short h = simp (lt-leb (2 * chains + rebases + binds) words h)
-
-  pub index_by : (left : ℕ) → words ≡ 2 * chains + rebases + left → leb binds left ≡ index_fits rebases binds words
-  unfolding index_fits
-  index_by left h = le_same binds left (2 * chains + rebases + binds) words (λ u. omega arith) (λ u. omega arith)
 
   pub index_room : index_fits rebases binds words ≡ true → 2 * chains + rebases + binds ≤ words
   unfolding index_fits

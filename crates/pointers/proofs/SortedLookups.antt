@@ -16,10 +16,9 @@ use Rattle.reads.specs.declared.answer.Reason.TheVariants.{NoRecord}
 use Rattle.reads.proofs.Tests.{by_choose, choose_true, choose_false, both_true}
 use Rattle.reads.proofs.Unrefused.{unrefused_choose}
 use Rattle.pointers.specs.Tables.{rebase_words, slot_of}
-use Rattle.pointers.specs.Question.{every}
 use Rattle.pointers.specs.Chain.{last_among, last_record}
 use Rattle.pointers.specs.Sorted.{rises, ascending, at_most, climb, halvings, sorted_at, sorted_record}
-use Rattle.pointers.proofs.Questions.{every_at, every_more, every_fails}
+use Rattle.pointers.proofs.Questions.{every_at}
 
 pub sorted_unrefused : (rebases : List ℕ) (slot : ℕ) → Unrefused (sorted_record rebases slot)
 unfolding sorted_at
@@ -61,10 +60,6 @@ module _ (rebases : List ℕ) (slot : ℕ) where
   unfolding at_most
   at_most_there i h = rw (lt-ltb i (records rebase_words rebases) h)
 
-  pub at_most_past : (i : ℕ) → records rebase_words rebases ≤ i → false ≡ at_most rebases slot i
-  unfolding at_most
-  at_most_past i h = rw (le-ltb i (records rebase_words rebases) h)
-
   pub at_most_below : (i : ℕ) → at_most rebases slot i ≡ true → i < records rebase_words rebases
   unfolding at_most
   at_most_below i e = ltb-true i (records rebase_words rebases) (both_true (ltb i (records rebase_words rebases)) _ e).0
@@ -92,20 +87,6 @@ module _ (rebases : List ℕ) (slot : ℕ) where
   unfolding climb
   climb_end zero b h = refl
   climb_end (suc k) b h = absurd (omega arith)
-
-  pub sorted_here : (b : ℕ) → b < records rebase_words rebases → slot_of rebase_words rebases b ≡ slot → value (b + 1) ≡ sorted_at rebases slot b
-  unfolding sorted_at
-  sorted_here b h e =
-      let u = lt-ltb b (records rebase_words rebases) h in
-      let v = eq-eqb (slot_of rebase_words rebases b) slot e in
-      rw (u, v) (sym (choose_true _ _ refl))
-
-  pub sorted_other : (b : ℕ) → (slot_of rebase_words rebases b ≡ slot → ⊥) → absent NoRecord ≡ sorted_at rebases slot b
-  unfolding sorted_at
-  sorted_other b ne =
-      by_choose (λ (o : Outcome ℕ). absent NoRecord ≡ o)
-      (λ e. absurd (ne (eqb-true (slot_of rebase_words rebases b) slot (both_true (ltb b (records rebase_words rebases)) _ e).1)))
-      (λ e. refl)
 
   -- A record that is found is one of the table.
   pub sorted_value : (b n : ℕ) → sorted_at rebases slot b ≡ value n → (1 ≤ n) × (n ≤ records rebase_words rebases)

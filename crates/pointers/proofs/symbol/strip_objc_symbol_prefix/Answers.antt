@@ -1,4 +1,4 @@
-use Rattle.std.proofs.Common.{◌≡◌, ◌≤◌, arith}
+use Rattle.std.proofs.Common.{◌≡◌, arith}
 use Rattle.reads.specs.Files.{files_lent, file_of}
 use Rattle.pointers.specs.Symbol.{fitting, prefixes}
 use Rattle.pointers.proofs.Prefixes.{fitting_length, fitting_part, stripped_by}
