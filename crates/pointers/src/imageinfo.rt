@@ -55,6 +55,7 @@ impl ImageInfo {
         ImageInfoAnswer::Info(ImageInfo { version, flags })
     }
 
+    // Each flag has a method, as in the Rust; a helper that takes the mask would be no shorter than the `&`.
     pub fn dyld_categories_optimized(self) -> bool
         ensures { result ≡ bit 0 self.flags }
     {

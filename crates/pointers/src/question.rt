@@ -4,8 +4,6 @@ ghost use Rattle.reads.specs.Reference.{before};
 ghost use Rattle.reads.specs.Table.{records};
 ghost use Rattle.reads.specs.Files.{files_of};
 ghost use Rattle.reads.specs.Segment.{segment_words};
-ghost use Rattle.reads.specs.Place.{part};
-ghost use Rattle.reads.specs.Utf8.{utf8};
 ghost use Rattle.pointers.specs.Tables.{lent, tables_of, rebase_words, bind_words};
 ghost use Rattle.pointers.specs.Question.{question, asked_outcome, image_fits, whole_rows, section_fits, section_table, info_whole, segment_files, name_inside, name_utf8, index_fits, asked_tables, asked, bind_files, names_inside, names_utf8};
 
@@ -33,6 +31,7 @@ pub fn image_fits(n: u64) -> bool
 }
 
 // 2, 5 and 6: do n words make whole rows of `width` words (at least one), and at most `most` of them?
+// Not a trait with the width and the most as constants: its three `impl`s would be longer than the three calls.
 #[tactic(auto, unfolding(crate::specs::Question::whole_rows))]
 fn whole_rows(n: usize, width: usize, most: usize) -> bool
     requires { 1 ≤ width }

@@ -2,7 +2,7 @@
 ghost use Rattle.std.specs.Prelude.{◌≡◌, map};
 ghost use Rattle.reads.specs.Reference.{before};
 ghost use Rattle.reads.specs.Files.{files_of};
-ghost use Rattle.pointers.specs.Symbol.{starts, fitting, prefixes, stripped_in, stripped_name};
+ghost use Rattle.pointers.specs.Symbol.{starts, fitting, stripped_name};
 
 use crate::name::name_bytes;
 use reads::text::Text;
