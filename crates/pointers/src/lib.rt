@@ -3,7 +3,7 @@
 
 pub mod imageinfo;
 pub mod index;
-pub mod name;
+mod name;
 pub mod open;
 pub mod question;
 pub mod section;
