@@ -5,7 +5,6 @@ ghost use Rattle.reads.specs.Files.{files_of, file_of};
 ghost use Rattle.reads.specs.Place.{part};
 
 use reads::files::is_lent;
-use reads::order::least;
 use reads::text::Text;
 
 // The bytes of a part that are there.
@@ -15,8 +14,8 @@ fn part_of(bytes: &[u8], offset: u64, len: u64) -> &[u8]
     ensures fits { offset + length result.now < 2 ^ 64 }
 {
     let n = bytes.len() as u64;
-    let from = least(offset, n);
-    let to = from + least(len, n - from);
+    let from = offset.min(n);
+    let to = from + len.min(n - from);
     &bytes[from as usize..to as usize]
 }
 

@@ -71,7 +71,7 @@ fn be<const N: usize>(bytes: &[u8], at: usize) -> u64
 
 // The number of N bytes at an offset of one slice.
 #[tactic(auto, using(crate::proofs::Outcomes::outcomes), unfolding(crate::specs::Place::le_at))]
-pub fn read_le_at<const N: usize>(bytes: &[u8], offset: u64) -> Word
+pub(crate) fn read_le_at<const N: usize>(bytes: &[u8], offset: u64) -> Word
     requires { N ≤ 8 }
     ensures { word_outcome result ≡ le_at (before bytes) N offset }
 {
@@ -83,7 +83,7 @@ pub fn read_le_at<const N: usize>(bytes: &[u8], offset: u64) -> Word
 
 // The same in big-endian order.
 #[tactic(auto, using(crate::proofs::Outcomes::outcomes), unfolding(crate::specs::Place::be_at))]
-pub fn read_be_at<const N: usize>(bytes: &[u8], offset: u64) -> Word
+pub(crate) fn read_be_at<const N: usize>(bytes: &[u8], offset: u64) -> Word
     requires { N ≤ 8 }
     ensures { word_outcome result ≡ be_at (before bytes) N offset }
 {
@@ -95,7 +95,7 @@ pub fn read_be_at<const N: usize>(bytes: &[u8], offset: u64) -> Word
 
 // The number of N bytes at an address.
 #[tactic(auto, using(crate::proofs::Outcomes::outcomes, crate::proofs::Numbers::found_file, crate::proofs::Numbers::found_holds), unfolding(crate::specs::Place::word))]
-pub fn read<const N: usize>(files: &[&[u8]], segments: &[u64], va: u64) -> Word
+pub(crate) fn read<const N: usize>(files: &[&[u8]], segments: &[u64], va: u64) -> Word
     requires some { 0 < N }
     requires fits { N ≤ 8 }
     ensures { word_outcome result ≡ word (lent_image files segments) N va }
@@ -181,7 +181,7 @@ fn lies_in(n: u64, from: u64, i: u64, k: u64) -> bool
 
 // The number of N bytes at i bytes from an offset of one slice; 0 where they do not lie in it.
 #[tactic(auto, using(std::proofs::lemmas::Bool::Decides::nat_tests, crate::proofs::Numbers::positive_power), unfolding(crate::specs::Place::le_in, crate::specs::Outcome::choose))]
-pub fn le_from<const N: usize>(bytes: &[u8], offset: u64, i: u64) -> u64
+pub(crate) fn le_from<const N: usize>(bytes: &[u8], offset: u64, i: u64) -> u64
     requires { N ≤ 8 }
     ensures { (result ≡ le_in (before bytes) N (offset + i)) × (result < 256 ^ N) }
 {
@@ -206,7 +206,7 @@ pub fn u64_from(bytes: &[u8], offset: u64, i: u64) -> u64
 }
 
 // The number of N bytes at i bytes from a place; 0 where they do not lie in its file.
-pub fn le_in<const N: usize>(files: &[&[u8]], p: Place, i: u64) -> u64
+pub(crate) fn le_in<const N: usize>(files: &[&[u8]], p: Place, i: u64) -> u64
     requires some { 0 < N }
     requires fits { N ≤ 8 }
     ensures { (result ≡ word_in (files_of files) N p i) × (result < 256 ^ N) }
