@@ -1,7 +1,8 @@
 -- The parts of a declared property put into a buffer: an item, a letter that may be given, the front letters, the rows.
 use Prim.Native.Nat.{ℕ, zero, suc, ◌+◌, ◌≤◌, ◌<◌, ◌^◌}
-use mathlib.Core.Path.{◌≡◌, refl, ap, sym}
-use mathlib.Core.List.{List, [], ◌∷◌, ◌++◌, map, append_assoc, map-append}
+use mathlib.Core.Path.{◌≡◌, refl, ap, sym, ◌∙◌}
+use mathlib.Core.List.{List, [], ◌∷◌, ◌++◌, map, append_assoc, append-nil, map-append}
+use mathlib.Core.Logic.{◌⊎◌, inl, inr}
 use mathlib.Core.Option.{Option, none, some}
 use native.Mathlib.Omega.{arith}
 use native.Mathlib.Numerals.{add-one}
@@ -38,42 +39,69 @@ module _ (text : List ℕ) (letter : ℕ) {attribute : Attribute} {at : ℕ} {ou
   unfolding given
   put_not_given e h = rw e (put_no_part at out h)
 
-given_more : (ls : List ℕ) (vs : List (Option (List ℕ))) (k : ℕ) → k < length ls → k < length vs
-    → given (take (suc k) ls) (take (suc k) vs) ≡ given (take k ls) (take k vs) ++ given (get_or ls k 0 ∷ []) (get_or vs k none ∷ [])
+given_cons : (l : ℕ) (ls : List ℕ) (v : Option (List ℕ)) (vs : List (Option (List ℕ)))
+    → given (l ∷ ls) (v ∷ vs) ≡ given (l ∷ []) (v ∷ []) ++ given ls vs
 unfolding given
-given_more [] vs k h g = absurd (omega arith)
-given_more (l ∷ ls) [] k h g = absurd (omega arith)
-given_more (l ∷ ls) (none ∷ vs) zero h g = refl
-given_more (l ∷ ls) (some v ∷ vs) zero h g = refl
-given_more (l ∷ ls) (none ∷ vs) (suc k) h g = given_more ls vs k (omega arith) (omega arith)
-given_more (l ∷ ls) (some v ∷ vs) (suc k) h g =
-    ap (λ (ps : List Part). record { key = l; value = v } ∷ ps) (given_more ls vs k (omega arith) (omega arith))
+given_cons l ls none vs = refl
+given_cons l ls (some v) vs = refl
 
--- k of the front letters are put.
-abbrev pub Fronted : List ℕ → Declared → List ℕ → ℕ → ℕ → List ℕ → Type 0
-Fronted text d old k at out =
-    (k ≤ 11) × Put (behind 0 (given (take k front_letters) (take k (map (bytes_given text) (front_of d))))) 0 old at out
+given_none : (ls : List ℕ) → given ls [] ≡ []
+unfolding given
+given_none [] = refl
+given_none (l ∷ ls) = refl
 
-module _ (text : List ℕ) (d : Declared) {old : List ℕ} where
-  pub fronted_start : Fronted text d old 0 0 old
-  unfolding given
-  fronted_start = (omega arith, put_no_part 0 old (omega arith))
+-- No letters, or no values, are no parts.
+given_nothing : (text ls : List ℕ) (given_of : List Attribute) → (length ls ≡ 0) ⊎ (length given_of ≡ 0)
+    → given ls (map (bytes_given text) given_of) ≡ []
+unfolding given
+given_nothing text [] given_of h = refl
+given_nothing text (l ∷ ls) [] h = refl
+given_nothing text (l ∷ ls) (a ∷ given_of) (inl h) = absurd (omega arith)
+given_nothing text (l ∷ ls) (a ∷ given_of) (inr h) = absurd (omega arith)
 
-  pub fronted_next : {k at to : ℕ} {out left : List ℕ} {a : Attribute} → length old < 2 ^ 63 → k < 11 → Fronted text d old k at out
-      → a ≡ get_or (front_of d) k Nothing
-      → Put (behind at (given (get_or letters k 0 ∷ []) (bytes_given text a ∷ []))) at out to left → Fronted text d old (k + 1) to left
-  fronted_next {k} {a = a} small h f e p =
-      let values = map (bytes_given text) (front_of d) in
-      let letter : get_or front_letters k 0 ≡ get_or letters k 0 = sym (get_or-append front_letters back_letters 0 k h) in
-      let given_here : get_or values k none ≡ bytes_given text a = rw e (get_or-map (bytes_given text) (front_of d) k Nothing) in
-      let one : given (take (k + 1) front_letters) (take (k + 1) values)
-      ≡ given (take k front_letters) (take k values) ++ given (get_or letters k 0 ∷ []) (bytes_given text a ∷ []) =
-      rw (← letter, ← given_here, add-one) (given_more front_letters values k h h) in
-      (omega arith, rw one (put_parts (given (take k front_letters) (take k values)) _ small (omega arith) f.1 p))
+-- More letters than values are no more parts.
+given_enough : (ls more : List ℕ) (vs : List (Option (List ℕ))) → length vs ≤ length ls → given (ls ++ more) vs ≡ given ls vs
+unfolding given
+given_enough [] more [] h = given_none more
+given_enough [] more (v ∷ vs) h = absurd (omega arith)
+given_enough (l ∷ ls) more [] h = refl
+given_enough (l ∷ ls) more (none ∷ vs) h = given_enough ls more vs (omega arith)
+given_enough (l ∷ ls) more (some v ∷ vs) h =
+    ap (λ (ps : List Part). record { key = l; value = v } ∷ ps) (given_enough ls more vs (omega arith))
 
-  pub fronted_end : {k at : ℕ} {out : List ℕ} → 11 ≤ k → Fronted text d old k at out
-      → Put (joined (given front_letters (map (bytes_given text) (front_of d)))) 0 old at out
-  fronted_end {k} h f = let all : k ≡ 11 = omega (arith, f.0) in rw all at f.1
+module _ (text : List ℕ) (d : Declared) where
+  -- Some of the front letters are put, and ls with what is given of them are left.
+  pub record Fronted (old ls : List ℕ) (given_of : List Attribute) (at : ℕ) (out : List ℕ) : Type 0 where
+    parts : List Part
+    whole : parts ++ given ls (map (bytes_given text) given_of) ≡ given letters (map (bytes_given text) (front_of d))
+    pub put : Put (behind 0 parts) 0 old at out
+
+  module _ {old : List ℕ} where
+    pub fronted_start : {ls : List ℕ} {given_of : List Attribute} → ls ≡ letters → given_of ≡ front_of d → Fronted old ls given_of 0 old
+    fronted_start e g = record {
+      parts = [];
+      whole = rw (e, g);
+      put = put_no_part 0 old (omega arith);
+    }
+
+    module _ {ls : List ℕ} {given_of : List Attribute} {at : ℕ} {out : List ℕ} (f : Fronted old ls given_of at out) where
+      pub fronted_next : {l to : ℕ} {more left : List ℕ} {a : Attribute} {rest : List Attribute} → length old < 2 ^ 63
+          → ls ≡ l ∷ more → given_of ≡ a ∷ rest
+          → Put (behind at (given (l ∷ []) (bytes_given text a ∷ []))) at out to left → Fronted old more rest to left
+      fronted_next {l} {to} {more} {left} {a} {rest} small e g p =
+          let here = given (l ∷ []) (bytes_given text a ∷ []) in record {
+            parts = f.parts ++ here;
+            whole = rw (append_assoc, ← given_cons l more (bytes_given text a) (map (bytes_given text) rest)) (rw (e, g) at f.whole);
+            put = put_parts f.parts here small (omega arith) f.put p;
+          }
+
+      pub fronted_end : (length ls ≡ 0) ⊎ (length given_of ≡ 0)
+          → Put (joined (given front_letters (map (bytes_given text) (front_of d)))) 0 old at out
+      fronted_end h =
+          let all : f.parts ≡ given front_letters (map (bytes_given text) (front_of d)) =
+              sym (append-nil f.parts) ∙ rw (given_nothing text ls given_of h) at f.whole
+              ∙ given_enough front_letters back_letters (map (bytes_given text) (front_of d)) (omega arith) in
+          rw all at f.put
 
 -- k of the rows are put.
 abbrev pub Rowed : List ℕ → List Item → ℕ → List ℕ → ℕ → ℕ → List ℕ → Type 0

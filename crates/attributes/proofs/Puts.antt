@@ -4,37 +4,34 @@ use mathlib.Core.Path.{◌≡◌, refl, ap, sym, ◌∙◌}
 use mathlib.Core.List.{List, [], ◌∷◌, ◌++◌, append_assoc, append-nil}
 use native.Mathlib.Omega.{arith}
 use native.Mathlib.Numerals.{add-one}
-use lib.ListN.{length, get_or, set, drop, length-append, length-drop, length-set, drop_of_length-le}
-use lib.Seq.{take_all, take-nil, drop-cons, get_or-take, get_or-drop, sets, length-sets, length-take-le}
+use Rattle.std.proofs.lemmas.List.{take_min, drop_min}
+use lib.ListN.{length, get_or, set, take, drop, length-append, length-drop, length-set, drop_of_length-le}
+use borrow.Rule.Slice.PartMut.{put_mid, Post-is}
+use lib.Seq.{sets-eq, take_all, take-nil, drop-cons, get_or-take, get_or-drop, sets, length-sets, length-take-le}
 use Rattle.attributes.specs.Attributes.{value_of}
 use Rattle.attributes.specs.Written.{Part, bytes_of, following, joined}
-use Rattle.attributes.specs.Puts.{Put, comma_at, behind, Inside}
+use Rattle.attributes.specs.Puts.{Put, comma_at, behind}
 use Rattle.attributes.specs.declared.items.Value.{Value}
 
 -- What a text has of a value.
-module _ (text : List ℕ) (value : Value) where
-  pub inside_none : length text ≤ value.start → Inside text value (value_of 0 0)
-  unfolding bytes_of
-  inside_none h = record { bytes = rw (drop_of_length-le text h, take-nil); within = omega arith }
-
-  pub inside_cut : value.start < length text → length text - value.start < value.len
-      → Inside text value (value_of value.start (length text - value.start))
-  unfolding bytes_of
-  inside_cut h less =
-      let size = length-drop value.start text in record {
-        bytes =
-            take_all (length text - value.start) (drop value.start text) (omega arith)
-            ∙ sym (take_all value.len (drop value.start text) (omega arith));
-        within = omega arith;
-      }
+pub bytes_cut : (text : List ℕ) (v : Value) {start len : ℕ} → start ≡ min v.start (length text) → len ≡ min v.len (length text - start)
+    → take (start + len - start) (drop start text) ≡ bytes_of text v
+unfolding bytes_of
+bytes_cut text v {start} {len} s n =
+    let size : start + len - start ≡ min v.len (length (drop start text)) = omega (arith, length-drop start text) in
+    rw (size, take_min v.len (drop start text), s, drop_min v.start text)
 
 -- Bytes at a place: where they do not fit, and where they do.
 module _ {bytes : List ℕ} {at : ℕ} {out : List ℕ} {to : ℕ} (e : to ≡ min (at + length bytes) 0xFFFFFFFFFFFFFFFF) where
   pub put_not : length out < to → Put bytes at out to out
   put_not h = record { ends = e; holds = λ f. absurd (omega arith); same = refl }
 
-  pub put_there : {left : List ℕ} → left ≡ sets out at bytes → Put bytes at out to left
-  put_there w = record { ends = e; holds = λ f. w; same = ap length w ∙ length-sets out at bytes }
+  pub put_there : to ≤ length out → length out < 2 ^ 63 → {part : List ℕ} → part ≡ bytes → Put bytes at out to (put_mid at (to - at) out part)
+  put_there h small {part} p =
+      let w : put_mid at (to - at) out part ≡ sets out at bytes = 
+          let there : at + length bytes ≡ to = omega arith in
+          rw (p, Post-is at to out (omega arith), ← there, ← append_assoc) (sym (sets-eq bytes out at (omega arith))) in
+      record { ends = e; holds = λ f. w; same = ap length w ∙ length-sets out at bytes }
 
 pub put_nothing : (at : ℕ) (out : List ℕ) → at < 2 ^ 64 → Put [] at out at out
 put_nothing at out h = record { ends = omega arith; holds = λ f. refl; same = refl }
@@ -60,52 +57,6 @@ put_then {xs} {ys} {at} {mid} {to} {out} {between} {left} small p q =
           q.holds (omega arith) ∙ rw (p.holds (omega arith), here) (sym (sets_append out xs ys at));
       same = q.same ∙ p.same;
     }
-
--- A value is copied byte by byte: k bytes of it are there.
-pub record Copied (v : List ℕ) (at : ℕ) (old : List ℕ) (k : ℕ) (out : List ℕ) : Type 0 where
-  left : sets out (at + k) (drop k v) ≡ sets old at v
-  pub same : length out ≡ length old
-
-pub copied_start : (v : List ℕ) (at : ℕ) (out : List ℕ) → Copied v at out 0 out
-copied_start v at out = let here : at + 0 ≡ at = omega arith in record { left = rw here; same = refl }
-
-module _ {v : List ℕ} {at : ℕ} {old : List ℕ} {k : ℕ} {out : List ℕ} (c : Copied v at old k out) where
-  copied_next : {b : ℕ} → k < length v → b ≡ get_or v k 0 → Copied v at old (k + 1) (set out (at + k) b)
-  copied_next {b} h e =
-      let next : at + (k + 1) ≡ suc (at + k) = omega arith in
-      let one : drop k v ≡ b ∷ drop (k + 1) v = rw (add-one, e) (drop-cons v k 0 h) in
-      record { left = rw next (ap (sets out (at + k)) (sym one) ∙ c.left); same = simp length-set c.same }
-
-  copied_end : length v ≤ k → out ≡ sets old at v
-  copied_end h = rw (drop_of_length-le v h) at c.left
-
--- The bytes of a value that lies in the text.
-module _ (text : List ℕ) (v : Value) (h : v.start + v.len ≤ length text) where
-  length_bytes : length (bytes_of text v) ≡ v.len
-  unfolding bytes_of
-  length_bytes = length-take-le v.len (drop v.start text) (omega (arith, length-drop v.start text))
-
-  byte_at : (k : ℕ) → k < v.len → get_or text (v.start + k) 0 ≡ get_or (bytes_of text v) k 0
-  unfolding bytes_of
-  byte_at k l = sym (get_or-take v.len (drop v.start text) k 0 l ∙ get_or-drop v.start text k 0)
-
-  pub byte_copied : {at : ℕ} {old : List ℕ} {k : ℕ} {out : List ℕ} → Copied (bytes_of text v) at old k out → k < v.len
-      → Copied (bytes_of text v) at old (k + 1) (set out (at + k) (get_or text (v.start + k) 0))
-  byte_copied {k = k} c l = copied_next c (omega (arith, length_bytes)) (byte_at k l)
-
--- A value, by what the text has of it.
-module _ {text : List ℕ} {value v : Value} (i : Inside text value v) (at : ℕ) {to : ℕ}
-    (e : to ≡ min (at + v.len) 0xFFFFFFFFFFFFFFFF) where
-  ends_with : to ≡ min (at + length (bytes_of text value)) 0xFFFFFFFFFFFFFFFF
-  ends_with = rw (← i.bytes, length_bytes text v i.within) e
-
-  pub value_not : {out : List ℕ} → length out < to → Put (bytes_of text value) at out to out
-  value_not h = put_not ends_with h
-
-  pub value_there : {k : ℕ} {out left : List ℕ} → Copied (bytes_of text v) at out k left → v.len ≤ k
-      → Put (bytes_of text value) at out to left
-  value_there {out = out} c h =
-      put_there ends_with (copied_end c (omega (arith, length_bytes text v i.within)) ∙ ap (sets out at) i.bytes)
 
 -- A comma in front of all but the first item.
 pub no_comma : (at : ℕ) (out : List ℕ) → at ≡ 0 → Put (comma_at at) at out at out

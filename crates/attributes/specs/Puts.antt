@@ -22,11 +22,6 @@ abbrev pub behind : ℕ → List Part → List ℕ
 behind zero ps = joined ps
 behind (suc at) ps = following ps
 
--- v is what the text has of a value.
-pub record Inside (text : List ℕ) (value v : Value) : Type 0 where
-  pub bytes : bytes_of text v ≡ bytes_of text value
-  pub within : v.start + v.len ≤ length text
-
 -- The item of row k.
 abbrev pub item_at : List ℕ → ℕ → Item
 item_at rows k = record { key = get_or rows (3 * k) 0 % 256; value = value_of (get_or rows (3 * k + 1) 0) (get_or rows (3 * k + 2) 0) }

@@ -31,20 +31,15 @@ fn value_end(text: &[u8], start: usize) -> usize
     ensures { result ≡ start + value_length (drop start (before text)) }
 {
     let mut quoted = false;
-    let mut i = start;
-    while i < text.len() {
+    for i in start..text.len() {
         let b = text[i];
-        let next = i + 1;
         if b == b'"' {
             quoted = !quoted;
-        } else if b == b',' {
-            if !quoted {
-                return i;
-            }
+        } else if b == b',' && !quoted {
+            return i;
         }
-        i = next;
     }
-    i
+    text.len()
 }
 
 // The item of a key byte whose value runs from `start` to `end`.
@@ -87,14 +82,7 @@ fn item_at(text: &[u8], i: usize) -> Step
 fn is_unknown(letter: u8) -> bool
     ensures { result ≡ not (among letters letter) }
 {
-    let mut k = 0;
-    while k < 12 {
-        if LETTERS[k] == letter {
-            return false;
-        }
-        k += 1;
-    }
-    true
+    !LETTERS.contains(&letter)
 }
 
 // An item of this letter is handed out.

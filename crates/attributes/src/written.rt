@@ -1,9 +1,9 @@
 // The text of a declared property: its letters in a fixed order, the unknown ones among them, with commas between them.
-ghost use Rattle.std.specs.Prelude.{◌≡◌, [], ◌∷◌, map, ◌+◌, ◌*◌, ◌≤◌, ◌<◌, min, length, get_or};
+ghost use Rattle.std.specs.Prelude.{◌≡◌, [], ◌∷◌, map, ◌+◌, ◌*◌, ◌≤◌, ◌<◌, length, get_or};
 ghost use Rattle.reads.specs.Reference.{before};
 ghost use Rattle.reads.specs.Answer.{word_outcome};
 ghost use Rattle.attributes.specs.Written.{bytes_of, bytes_given, part_of, front_letters, front_of, given, joined, items_in, written_text, written_of, written_left};
-ghost use Rattle.attributes.specs.Puts.{Put, Inside, comma_at, behind, item_at};
+ghost use Rattle.attributes.specs.Puts.{Put, comma_at, behind, item_at};
 ghost use Rattle.attributes.specs.declared.property.Attribute.TheVariants.{Nothing};
 
 use crate::items::{Item, Value};
@@ -11,60 +11,23 @@ use crate::pass::LETTERS;
 use crate::property::{Attribute, Declared};
 use reads::answer::{Missing, Word};
 
-// What the text has of a value.
-fn inside(text: &[u8], value: Value) -> Value
-    ensures { Inside (before text) value result }
+// The bytes that the text has of a value.
+fn inside(text: &[u8], value: Value) -> &[u8]
+    ensures { result.now ≡ bytes_of (before text) value }
 {
-    let n = text.len() as u64;
-    if n <= value.start {
-        return Value { start: 0, len: 0 };
-    }
-    if n - value.start < value.len {
-        return Value {
-            start: value.start,
-            len: n - value.start,
-        };
-    }
-    value
+    let size = text.len() as u64;
+    let start = value.start.min(size);
+    let end = start + value.len.min(size - start);
+    &text[start as usize..end as usize]
 }
 
-// The end of `len` bytes that start at `at`, 2^64 - 1 at most.
-fn end_of(at: usize, len: usize) -> usize
-    ensures { result ≡ min (at + len) 0xFFFFFFFFFFFFFFFF }
+// Puts bytes at `at`, if they fit. The answer of this and what follows is where the next byte goes, 2^64 - 1 at most.
+fn put(bytes: &[u8], out: &mut [u8], at: usize) -> usize
+    ensures { Put (before bytes) at out.old result out.new }
 {
-    if 0xFFFF_FFFF_FFFF_FFFF - at < len {
-        return 0xFFFF_FFFF_FFFF_FFFF;
-    }
-    at + len
-}
-
-// Puts a byte at `at`, if it fits. The answer of this and what follows is where the next byte goes.
-fn put_byte(b: u8, out: &mut [u8], at: usize) -> usize
-    ensures { Put (b ∷ []) at out.old result out.new }
-{
-    let end = end_of(at, 1);
-    if out.len() < end {
-        return end;
-    }
-    out[at] = b;
-    end
-}
-
-// Puts a value at `at`, if it fits.
-fn put_value(text: &[u8], value: Value, out: &mut [u8], at: usize) -> usize
-    ensures { Put (bytes_of (before text) value) at out.old result out.new }
-{
-    let bytes = inside(text, value);
-    let start = bytes.start as usize;
-    let len = bytes.len as usize;
-    let end = end_of(at, len);
-    if out.len() < end {
-        return end;
-    }
-    let mut k = 0;
-    while k < len {
-        out[at + k] = text[start + k];
-        k += 1;
+    let end = at.saturating_add(bytes.len());
+    if end <= out.len() {
+        out[at..end].copy_from_slice(bytes);
     }
     end
 }
@@ -76,17 +39,16 @@ fn put_comma(out: &mut [u8], at: usize) -> usize
     if at == 0 {
         return at;
     }
-    put_byte(b',', out, at)
+    put(b",", out, at)
 }
 
 // Puts an item behind `at` bytes.
 fn put_item(text: &[u8], item: Item, out: &mut [u8], at: usize) -> usize
     ensures { Put (behind at (part_of (before text) item ∷ [])) at out.old result out.new }
 {
-    let value = item.value;
     let key_at = put_comma(out, at);
-    let value_at = put_byte(item.key, out, key_at);
-    put_value(text, value, out, value_at)
+    let value_at = put(&[item.key], out, key_at);
+    put(inside(text, item.value), out, value_at)
 }
 
 // Puts a letter behind `at` bytes, if it is given.
@@ -99,35 +61,33 @@ fn put_attribute(text: &[u8], letter: u8, attribute: Attribute, out: &mut [u8], 
     }
 }
 
-// What is given of the k-th front letter.
-fn attribute_at(declared: Declared, k: usize) -> Attribute
-    requires { k < 11 }
-    ensures { result ≡ get_or (front_of declared) k Nothing }
+// What is given of the front letters.
+fn front(declared: Declared) -> [Attribute; 11]
+    ensures { result ≡ front_of declared }
 {
-    match k {
-        0 => declared.type_encoding,
-        1 => declared.readonly,
-        2 => declared.copy,
-        3 => declared.retain,
-        4 => declared.nonatomic,
-        5 => declared.dynamic,
-        6 => declared.weak,
-        7 => declared.collectable,
-        8 => declared.getter,
-        9 => declared.setter,
-        _ => declared.old_type_encoding,
-    }
+    [
+        declared.type_encoding,
+        declared.readonly,
+        declared.copy,
+        declared.retain,
+        declared.nonatomic,
+        declared.dynamic,
+        declared.weak,
+        declared.collectable,
+        declared.getter,
+        declared.setter,
+        declared.old_type_encoding,
+    ]
 }
 
 // Puts the letters that come before the unknown ones.
 fn put_front(text: &[u8], declared: Declared, out: &mut [u8]) -> usize
     ensures { Put (joined (given front_letters (map (bytes_given (before text)) (front_of declared)))) 0 out.old result out.new }
 {
+    let front = front(declared);
     let mut at = 0;
-    let mut k = 0;
-    while k < 11 {
-        at = put_attribute(text, LETTERS[k], attribute_at(declared, k), out, at);
-        k += 1;
+    for (letter, attribute) in LETTERS.iter().zip(front.iter()) {
+        at = put_attribute(text, *letter, *attribute, out, at);
     }
     at
 }

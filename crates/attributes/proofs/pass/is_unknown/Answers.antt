@@ -1,22 +1,17 @@
+use Prim.Native.Nat.{ℕ}
+use mathlib.Core.Bool.{◌||◌}
+use mathlib.Core.List.{List, [], ◌∷◌}
 use mathlib.Core.Bool.{not}
-use mathlib.Core.Path.{refl, ap, sym, ◌∙◌}
-use Rattle.attributes.specs.Property.{letters}
-use Rattle.attributes.proofs.Letters.{among_here, among_next, among_none}
-use borrow.Author.Rules.{rules}
+use mathlib.Core.Path.{◌≡◌, refl, ap, ◌∙◌}
+use Rattle.std.specs.List.{list_any}
+use lib.Dec.{eqb}
+use Rattle.attributes.specs.Property.{letters, among}
 use Rattle.attributes.proofs.pass.is_unknown.Goals as goal
 
-pub loop-k-init : goal.loop-k-init
-loop-k-init c = refl
-
-pub returns-then-k-letter : goal.returns-then-k-letter
-returns-then-k-letter c =
-    ap not
-    (sym (among_here letters c.args.letter c.loop-k.k (search rules) c.if-k-letter.true) ∙ c.loop-k.invariant)
-
-pub loop-k-preserved : goal.loop-k-preserved
-loop-k-preserved c =
-    sym (among_next letters c.args.letter c.loop-k.k (search rules) c.if-k-letter.false)
-    ∙ c.loop-k.invariant
+any_among : (ls : List ℕ) (b : ℕ) → list_any (λ l. eqb l b) ls ≡ among ls b
+unfolding among
+any_among [] b = refl
+any_among (l ∷ ls) b = ap (λ t. eqb l b || t) (any_among ls b)
 
 pub returns : goal.returns
-returns c = ap not (sym (among_none letters c.args.letter c.loop-k.k (search rules)) ∙ c.loop-k.invariant)
+returns c = ap not (c.contains.ensures.value ∙ any_among letters c.args.letter)

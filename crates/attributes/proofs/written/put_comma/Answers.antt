@@ -7,4 +7,4 @@ returns-then-at-eq0 c = no_comma c.args.at c.args.out.now c.if-at-eq0.true
 pub returns : goal.returns
 returns c =
     let a = c.args in
-    comma a.at c.if-at-eq0.false c.put_byte.ensures
+    comma a.at c.if-at-eq0.false c.put.ensures

@@ -1,10 +1,6 @@
--- The invariant: k of the front letters are put.
-use Prim.Native.Nat.{◌-◌}
+-- The invariant: all are put but the letters that are left.
 use Rattle.attributes.proofs.PutParts.{Fronted}
 use Rattle.attributes.proofs.written.put_front.Given as goal
 
-abbrev pub invariant-loop-k : goal.invariant-loop-k
-invariant-loop-k l = Fronted l.text l.declared l.initial.out l.k l.at l.out
-
-abbrev pub decreases-loop-k : goal.decreases-loop-k
-decreases-loop-k l = 11 - l.k
+abbrev pub invariant-loop-letter : goal.invariant-loop-letter
+invariant-loop-letter l = Fronted l.text l.fn.declared l.initial.out l.letter-iterator.a.rest.now l.letter-iterator.b.rest.now l.at l.out
