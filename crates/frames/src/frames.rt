@@ -1,5 +1,5 @@
 // Crash frames known within a range (note 11): the possible unslid addresses, the starts met, and the mark of a start.
-ghost use Rattle.std.specs.Prelude.{◌≡◌, ◌-◌};
+ghost use Rattle.std.specs.Prelude.{◌≡◌};
 ghost use Rattle.frames.specs.Frames.{no_ranges};
 ghost use Rattle.frames.specs.Marks.{frames_outcome, frames_of, no_frames, raised, is_at, met, mark_of};
 
@@ -49,16 +49,6 @@ impl Ranges {
     }
 }
 
-// 0 where b is the greater.
-fn less(a: u64, b: u64) -> u64
-    ensures { result ≡ a - b }
-{
-    if a < b {
-        return 0;
-    }
-    a - b
-}
-
 impl Floor {
     // One more start, which counts if it is at or before the limit.
     fn raised(self, limit: u64, start: u64) -> Floor
@@ -101,8 +91,8 @@ impl Frames {
         }
         FramesAnswer::Frames(Frames {
             any: ranges.first_slide <= ranges.last_frame,
-            low: less(ranges.first_frame, ranges.last_slide),
-            high: less(ranges.last_frame, ranges.first_slide),
+            low: ranges.first_frame.saturating_sub(ranges.last_slide),
+            high: ranges.last_frame.saturating_sub(ranges.first_slide),
             low_floor: Floor::Nothing,
             high_floor: Floor::Nothing,
         })
@@ -125,14 +115,10 @@ impl Frames {
     pub fn meet(self, start: u64) -> Frames
         ensures { result ≡ met self start }
     {
-        let low_floor = self.low_floor;
-        let high_floor = self.high_floor;
         Frames {
-            any: self.any,
-            low: self.low,
-            high: self.high,
-            low_floor: low_floor.raised(self.low, start),
-            high_floor: high_floor.raised(self.high, start),
+            low_floor: self.low_floor.raised(self.low, start),
+            high_floor: self.high_floor.raised(self.high, start),
+            ..self
         }
     }
 
@@ -149,12 +135,10 @@ impl Frames {
         if start > self.low {
             return 1;
         }
-        let last_to_high = self.high_floor;
-        if last_to_high.is_at(start) {
+        if self.high_floor.is_at(start) {
             return 2;
         }
-        let last_to_low = self.low_floor;
-        if last_to_low.is_at(start) {
+        if self.low_floor.is_at(start) {
             return 1;
         }
         0

@@ -1,5 +1,5 @@
 -- Laws of a sweep: one for each branch of its code, and what is put out when bytes are passed.
-use Prim.Native.Nat.{ℕ, zero, suc, ◌+◌, ◌-◌, ◌*◌, ◌/◌, ◌≤◌, ◌<◌, min, max}
+use Prim.Native.Nat.{ℕ, zero, suc, ◌+◌, ◌-◌, ◌*◌, ◌/◌, ◌≤◌, ◌<◌, ◌^◌, min, max}
 use mathlib.Core.Path.{◌≡◌, refl, ap}
 use mathlib.Core.Bool.{Bool, true, false}
 use mathlib.Core.List.{List, [], ◌∷◌, ◌++◌}
@@ -22,10 +22,10 @@ pub put_full : (out : List ℕ) (i file offset len : ℕ) → length out / 3 ≤
 unfolding put_at choose
 put_full out i file offset len h = rw (le-ltb i (length out / 3) h)
 
-pub closed_run : (file b start count c : ℕ) (out out' : List ℕ) → start < b → out' ≡ put_at out count (range file start (b - start)) → c ≡ more count
+pub closed_run : (file b start count c : ℕ) (out out' : List ℕ) → start < b → out' ≡ put_at out count (range file start (b - start)) → c ≡ min (count + 1) (2 ^ 64 - 1)
     → output c out' ≡ closed_at file b (progress_of start (output count out))
-unfolding closed_at tell run choose
-closed_run file b start count c out out' h e d = rw (lt-ltb start b h, e, d)
+unfolding closed_at tell run choose more
+closed_run file b start count c out out' h e d = rw (lt-ltb start b h, e, d, add-one)
 
 pub closed_none : (file b start count : ℕ) (out : List ℕ) → b ≤ start → output count out ≡ closed_at file b (progress_of start (output count out))
 unfolding closed_at tell run choose

@@ -2,6 +2,5 @@
 #![tactic(auto)]
 
 pub mod answer;
-pub mod number;
 pub mod sheet;
 pub mod sweep;

@@ -5,8 +5,6 @@ ghost use Rattle.reads.specs.Reference.{before};
 ghost use Rattle.ranges.specs.Range.{range};
 ghost use Rattle.ranges.specs.Sheet.{window, marked_at, with_bit, with_bits, lowered_to, noted_from, noted};
 
-use crate::number::less;
-
 pub const WORDS: usize = 32771;
 
 // The bytes of a window: 64 for each word but the first three.
@@ -34,17 +32,15 @@ fn set_bit(sheet: &mut [u64; WORDS], k: u64)
     ensures { sheet.new ≡ with_bit sheet.old k }
 {
     let i = word_of(k);
-    sheet[i] = sheet[i] | 1 << (k % 64);
+    sheet[i] |= 1 << (k % 64);
 }
 
 fn set_bits(sheet: &mut [u64; WORDS], k: u64, n: u64)
     requires { n ≤ window - k }
     ensures { sheet.new ≡ with_bits sheet.old k n }
 {
-    let mut i = 0;
-    while i < n {
+    for i in 0..n {
         set_bit(sheet, k + i);
-        i += 1;
     }
 }
 
@@ -59,7 +55,7 @@ fn lower(sheet: &mut [u64; WORDS], x: u64)
 fn note_from(sheet: &mut [u64; WORDS], first: u64, left: u64)
     ensures { sheet.new ≡ noted_from first left sheet.old }
 {
-    let room = less(WINDOW, first);
+    let room = WINDOW.saturating_sub(first);
     if left <= room {
         set_bits(sheet, first, left);
         return;
@@ -76,5 +72,6 @@ pub fn note(sheet: &mut [u64; WORDS], file: u64, offset: u64, len: u64)
         return;
     }
     let from = sheet[1];
-    note_from(sheet, less(offset, from), less(len, less(from, offset)));
+    let before = from.saturating_sub(offset);
+    note_from(sheet, offset.saturating_sub(from), len.saturating_sub(before));
 }

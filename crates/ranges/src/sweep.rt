@@ -5,7 +5,6 @@ ghost use Rattle.ranges.specs.Range.{range};
 ghost use Rattle.ranges.specs.Sheet.{window, shown, headed};
 ghost use Rattle.ranges.specs.Sweep.{output, progress, put_at, closed_at, passed, swept, leapt, first_byte, reached, over_window, over_end};
 
-use crate::number::{less, more};
 use crate::sheet::{WINDOW, WORDS, marked};
 
 // All bytes from `start` on are used, and belong to a run that is not yet put out; `count` runs are.
@@ -42,7 +41,7 @@ fn close(out: &mut [u64], file: u64, run: Open, b: u64) -> u64
 {
     if run.start < b {
         put(out, run.count, file, run.start, b - run.start);
-        return more(run.count);
+        return run.count.saturating_add(1);
     }
     run.count
 }
@@ -68,10 +67,8 @@ fn scan(sheet: &[u64; WORDS], file: u64, from: u64, n: u64, run: Open, out: &mut
     ensures { progress result out.new ≡ swept file (shown from (before sheet)) n from (progress run out.old) }
 {
     let mut run = run;
-    let mut k = 0;
-    while k < n {
+    for k in 0..n {
         run = pass(out, file, run, from + k, marked(sheet, k));
-        k += 1;
     }
     run
 }
@@ -110,7 +107,7 @@ impl Sweep {
     {
         sheet[0] = self.file;
         sheet[1] = self.at;
-        sheet[2] = less(size, self.at);
+        sheet[2] = size.saturating_sub(self.at);
     }
 
     // Passes that window, and the bytes past it to the next that the sheet knows to be used.
@@ -119,7 +116,7 @@ impl Sweep {
     {
         let file = self.file;
         let at = self.at;
-        let left = less(size, at);
+        let left = size.saturating_sub(at);
         let n = WINDOW.min(left);
         let next = sheet[2].min(left);
         let run = scan(sheet, file, at, n, self.run, out);
@@ -134,7 +131,7 @@ impl Sweep {
     {
         let count = close(out, self.file, self.run, size);
         let run = Open { start: 0, count };
-        let file = more(self.file);
+        let file = self.file.saturating_add(1);
         Sweep { file, at: 0, run }
     }
 }

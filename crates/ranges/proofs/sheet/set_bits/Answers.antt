@@ -6,16 +6,13 @@ use Rattle.ranges.proofs.sheet.set_bits.Goals as goal
 
 pub loop-i-init : goal.loop-i-init
 unfolding with_bits
-loop-i-init c = (omega arith, refl)
-
-pub loop-i-smaller : goal.loop-i-smaller
-loop-i-smaller c = omega arith
+loop-i-init c = refl
 
 pub loop-i-preserved : goal.loop-i-preserved
 unfolding with_bits
-loop-i-preserved c = (omega arith, rw (c.set_bit.ensures, add-one c.loop-i.i, ← c.loop-i.invariant.1))
+loop-i-preserved c = rw (c.set_bit.ensures, add-one c.loop-i.i, ← c.loop-i.invariant)
 
 pub returns : goal.returns
 returns c =
     let past : c.loop-i.i ≡ c.args.n = omega arith in
-    rw past at c.loop-i.invariant.1
+    rw past at c.loop-i.invariant

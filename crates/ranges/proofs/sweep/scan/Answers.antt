@@ -11,10 +11,7 @@ loop-k-init c =
     let a = c.args in
     let all : a.n - 0 ≡ a.n = omega arith in
     let here : a.from + 0 ≡ a.from = omega arith in
-    (omega arith, rw (all, here) refl, refl)
-
-pub loop-k-smaller : goal.loop-k-smaller
-loop-k-smaller c = omega arith
+    (rw (all, here) refl, refl)
 
 pub loop-k-preserved : goal.loop-k-preserved
 loop-k-preserved c =
@@ -23,13 +20,12 @@ loop-k-preserved c =
     let done = c.pass-run in
     let seen : progress done.result done.new.out ≡ passed a.file (shown a.from a.sheet.now (a.from + at.k)) (a.from + at.k) (progress at.run at.out) =
     rw (laws.shown_at a.from at.k a.sheet.now, ← c.marked.ensures) done.ensures in (
-      omega arith,
-      laws.swept_more a.file (shown a.from a.sheet.now) a.from a.n at.k (progress at.run at.out) (progress done.result done.new.out) (omega arith) seen ∙ at.invariant.1,
-      done.auto.out ∙ at.invariant.2,
+      laws.swept_more a.file (shown a.from a.sheet.now) a.from a.n at.k (progress at.run at.out) (progress done.result done.new.out) (omega arith) seen ∙ at.invariant.0,
+      done.auto.out ∙ at.invariant.1,
     )
 
 pub shape_of-out : goal.shape_of-out
-shape_of-out c = c.loop-k.invariant.2
+shape_of-out c = c.loop-k.invariant.1
 
 pub returns : goal.returns
 unfolding swept
@@ -38,4 +34,4 @@ returns c =
     let a = c.args in
     let past : at.k ≡ a.n = omega arith in
     let none : a.n - a.n ≡ 0 = omega arith in
-    rw (past, none) at at.invariant.1
+    rw (past, none) at at.invariant.0

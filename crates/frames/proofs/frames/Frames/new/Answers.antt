@@ -11,4 +11,4 @@ returns-then-ranges-2 c = slides_unordered _ (search rules) (search rules)
 
 pub returns : goal.returns
 unfolding addresses
-returns c = ordered _ (search rules) (search rules) _ (rw (c.less.ensures, c.less-2.ensures))
+returns c = ordered _ (search rules) (search rules) _ (rw (c.saturating_sub.ensures, c.saturating_sub-2.ensures))

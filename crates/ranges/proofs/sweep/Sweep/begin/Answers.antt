@@ -4,4 +4,4 @@ use Rattle.ranges.proofs.sweep.Sweep.begin.Goals as goal
 
 pub returns : goal.returns
 unfolding headed
-returns c = rw (← c.less.ensures) refl
+returns c = rw (← c.saturating_sub.ensures) refl
