@@ -1,8 +1,10 @@
 -- Floors, frames and marks, by the branches of the code.
-use Prim.Native.Nat.{ℕ, ◌≤◌, ◌<◌}
-use mathlib.Core.Path.{◌≡◌}
-use mathlib.Core.Bool.{true, false}
-use borrow.Author.Tests.{le-leb, lt-leb, lt-ltb, le-ltb}
+use Prim.Native.Nat.{ℕ, ◌≤◌, ◌<◌, max}
+use mathlib.Core.Path.{◌≡◌, refl, ap}
+use mathlib.Core.Bool.{Bool, true, false}
+use native.Mathlib.Omega.{arith}
+use lib.Dec.{ltb}
+use borrow.Author.Tests.{le-leb, lt-leb, lt-ltb, le-ltb, ltb-true, ltb-false}
 use Rattle.reads.specs.Outcome.{value, number, choose}
 use Rattle.frames.specs.Marks.{raised, is_at, addresses, in_order, frames_of, mark_of}
 use Rattle.frames.specs.declared.frames.Floor.{Floor}
@@ -19,13 +21,13 @@ module _ (limit : ℕ) (f : Floor) (start : ℕ) where
   unfolding raised choose
   raised_first h e = simp (le-leb start limit h, e)
 
-  pub raised_later : (a : ℕ) → start ≤ limit → f ≡ At a → a < start → At start ≡ raised limit f start
+  pub raised_met : (a : ℕ) → start ≤ limit → f ≡ At a → {m : ℕ} → m ≡ max a start → At m ≡ raised limit f start
   unfolding raised choose
-  raised_later a h e l = simp (le-leb start limit h, e, lt-ltb a start l)
-
-  pub raised_kept : (a : ℕ) → start ≤ limit → f ≡ At a → start ≤ a → At a ≡ raised limit f start
-  unfolding raised choose
-  raised_kept a h e l = simp (le-leb start limit h, e, le-ltb a start l)
+  raised_met a h e {m} g = simp (le-leb start limit h, e) (go (ltb a start) refl)
+    where
+      go : (t : Bool) → ltb a start ≡ t → At m ≡ choose t (At start) (At a)
+      go true d = ap At (omega (arith, ltb-true a start d))
+      go false d = ap At (omega (arith, ltb-false a start d))
 
 module _ (w : Frames) (start : ℕ) where
   pub mark_no_pair : w.any ≡ false → 0 ≡ mark_of w start

@@ -59,12 +59,7 @@ impl Floor {
         }
         match self {
             Floor::Nothing => Floor::At(start),
-            Floor::At(a) => {
-                if a < start {
-                    return Floor::At(start);
-                }
-                Floor::At(a)
-            }
+            Floor::At(a) => Floor::At(a.max(start)),
         }
     }
 
