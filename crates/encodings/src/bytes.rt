@@ -38,7 +38,7 @@ pub fn class_of(byte: u8) -> Class
 pub fn is_digit(byte: u8) -> bool
     ensures { result ≡ digit_byte byte }
 {
-    b'0' <= byte && byte <= b'9'
+    byte.is_ascii_digit()
 }
 
 // A name holds no `=`, `"` or any of `[]{}()`.

@@ -97,9 +97,7 @@ fn open(p: Parser, kind: u64, mode: Mode) -> Next
     let q = Parser {
         depth: p.depth + 1,
         levels: p.levels % 0x4000_0000_0000_0000 * 4 + kind,
-        types: p.types,
-        start: p.start,
-        offset: p.offset,
+        ..p
     };
     Next::On(mode, q)
 }
@@ -112,9 +110,7 @@ fn close(p: Parser) -> Next
     let q = Parser {
         depth: p.depth - 1,
         levels: p.levels / 4,
-        types: p.types,
-        start: p.start,
-        offset: p.offset,
+        ..p
     };
     Next::On(Mode::Ended, q)
 }
@@ -136,19 +132,14 @@ fn below_pointers(p: Parser) -> Parser
 {
     let mut depth = p.depth;
     let mut levels = p.levels;
-    while 0 < depth {
-        if levels % 4 != POINTER {
-            break;
-        }
+    while 0 < depth && levels % 4 == POINTER {
         depth -= 1;
         levels /= 4;
     }
     Parser {
         depth,
         levels,
-        types: p.types,
-        start: p.start,
-        offset: p.offset,
+        ..p
     }
 }
 
@@ -193,9 +184,8 @@ fn between(p: Parser, byte: u8, at: usize) -> Next
         let q = Parser {
             depth: 0,
             levels: 0,
-            types: p.types,
-            start: p.start,
             offset: at,
+            ..p
         };
         return Next::On(Mode::Offset, q);
     }
@@ -362,16 +352,9 @@ pub fn finish(mode: Mode, p: Parser) -> Word
     ensures { word_outcome result ≡ finish_as mode p }
 {
     match mode {
-        Mode::Wanted => malformed(),
-        Mode::Counting => malformed(),
-        Mode::Counted => malformed(),
-        Mode::Naming => malformed(),
-        Mode::Named => malformed(),
-        Mode::Quoting => malformed(),
-        Mode::Sizing => malformed(),
-        Mode::Sized => end(p),
-        Mode::AtSign => end(p),
-        Mode::Ended => end(p),
+        Mode::Wanted | Mode::Counting | Mode::Counted | Mode::Naming => malformed(),
+        Mode::Named | Mode::Quoting | Mode::Sizing => malformed(),
+        Mode::Sized | Mode::AtSign | Mode::Ended => end(p),
         Mode::Offset => Word::Value((p.types + 1) as u64),
     }
 }

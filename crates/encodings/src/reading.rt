@@ -27,10 +27,8 @@ fn put_row(p: Parser, end: usize, buffer: &mut [u64])
     }
     let k = 4 * p.types;
     let mid = type_end(p.offset, end);
-    buffer[k] = p.start as u64;
-    buffer[k + 1] = (mid - p.start) as u64;
-    buffer[k + 2] = p.offset as u64;
-    buffer[k + 3] = (end - mid) as u64;
+    let row = [p.start as u64, (mid - p.start) as u64, p.offset as u64, (end - mid) as u64];
+    buffer[k..k + 4].copy_from_slice(&row);
 }
 
 // Puts the words of a parser's type where the next one begins.
@@ -50,9 +48,8 @@ pub fn read_types(text: &[u8], buffer: &mut [u64]) -> Word
 {
     let mut mode = Mode::Wanted;
     let mut p = first();
-    let mut i = 0;
-    while i < text.len() {
-        match step(mode, p, text[i], i) {
+    for (i, byte) in text.iter().enumerate() {
+        match step(mode, p, *byte, i) {
             Next::On(next_mode, next) => {
                 put_before(p, next, i, buffer);
                 mode = next_mode;
@@ -62,11 +59,10 @@ pub fn read_types(text: &[u8], buffer: &mut [u64]) -> Word
                 return Word::Missing(m);
             }
         }
-        i += 1;
     }
     match finish(mode, p) {
         Word::Value(count) => {
-            put_row(p, i, buffer);
+            put_row(p, text.len(), buffer);
             Word::Value(count)
         }
         Word::Missing(m) => Word::Missing(m),

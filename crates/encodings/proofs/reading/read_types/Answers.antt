@@ -1,5 +1,6 @@
-use mathlib.Core.Path.{◌∙◌}
+use mathlib.Core.Path.{◌≡◌, ◌∙◌}
 use native.Mathlib.Omega.{arith}
+use lib.ListN.{length}
 use Rattle.encodings.proofs.Reached.{reached_first, reached_types, reached_ordered, reached_next, reached_missing, reached_end, reached_end_missing}
 use Rattle.encodings.proofs.reading.read_types.Goals as goal
 
@@ -7,24 +8,13 @@ pub loop-i-init : goal.loop-i-init
 loop-i-init c = reached_first _ _ _ c.first-p.ensures
 
 pub step-requires : goal.step-requires
-step-requires c =
-    let l = c.loop-i in
-    reached_types l.invariant (omega (arith, l.invariant.within))
+step-requires c = reached_types c.loop-i.invariant (omega (arith, c.loop-i.invariant.within))
 
 pub put_before-requires : goal.put_before-requires
-put_before-requires c =
-    let l = c.loop-i in
-    reached_ordered l.invariant
-
-pub shape_of-buffer-in-Missing : goal.shape_of-buffer-in-Missing
-shape_of-buffer-in-Missing c = c.loop-i.invariant.same
+put_before-requires c = reached_ordered c.loop-i.invariant
 
 pub returns-in-Missing : goal.returns-in-Missing
-returns-in-Missing c =
-    reached_missing c.loop-i.invariant c.loop-i-test.true c.in-Missing.m c.in-Missing.ensures
-
-pub loop-i-smaller : goal.loop-i-smaller
-loop-i-smaller c = omega arith
+returns-in-Missing c = reached_missing c.loop-i.invariant c.loop-i-test.true c.in-Missing.m c.in-Missing.ensures
 
 pub loop-i-preserved : goal.loop-i-preserved
 loop-i-preserved c =
@@ -35,21 +25,17 @@ pub finish-requires : goal.finish-requires
 finish-requires c = reached_types c.loop-i.invariant (omega (arith, c.loop-i.invariant.within))
 
 pub put_row-requires : goal.put_row-requires
-put_row-requires c = reached_ordered c.loop-i.invariant
-
-pub shape_of-buffer-in-Value : goal.shape_of-buffer-in-Value
-shape_of-buffer-in-Value c =
+put_row-requires c =
     let l = c.loop-i in
-    let put-row = c.put_row in
-    put-row.ensures.same ∙ l.invariant.same
+    let all : length c.args.text.now ≡ l.i = omega arith in
+    rw all (reached_ordered l.invariant)
 
 pub returns-in-Value : goal.returns-in-Value
 returns-in-Value c =
+    let l = c.loop-i in
     let value = c.in-Value in
-    reached_end c.loop-i.invariant c.loop-i-test.false value.count value.ensures c.put_row.ensures
-
-pub shape_of-buffer-in-Missing-finish : goal.shape_of-buffer-in-Missing-finish
-shape_of-buffer-in-Missing-finish c = c.loop-i.invariant.same
+    let all : length c.args.text.now ≡ l.i = omega arith in
+    reached_end l.invariant c.loop-i-test.false value.count value.ensures (rw all at c.put_row.ensures)
 
 pub returns-in-Missing-finish : goal.returns-in-Missing-finish
 returns-in-Missing-finish c =
