@@ -47,20 +47,12 @@ fn item_of(key: u8, start: usize, end: usize) -> Item
     requires { start ≤ end }
     ensures { result ≡ item_of key start (end - start) }
 {
-    if key < 0x80 {
-        return Item {
-            key,
-            value: Value {
-                start: start as u64,
-                len: (end - start) as u64,
-            },
-        };
-    }
+    let len = if key < 0x80 { end - start } else { 0 };
     Item {
         key,
         value: Value {
             start: start as u64,
-            len: 0,
+            len: len as u64,
         },
     }
 }

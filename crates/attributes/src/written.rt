@@ -110,23 +110,16 @@ fn item_in(rows: &[u64], k: usize) -> Item
 fn rows_in(rows: &[u64], count: u64) -> usize
     ensures { result ≡ length (items_in count (before rows)) }
 {
-    let whole = rows.len() / 3;
-    if count < whole as u64 {
-        return count as usize;
-    }
-    whole
+    count.min((rows.len() / 3) as u64) as usize
 }
 
 // Puts the items of `count` rows behind `start` bytes.
 fn put_unknown(text: &[u8], count: u64, rows: &[u64], out: &mut [u8], start: usize) -> usize
     ensures { Put (behind start (map (part_of (before text)) (items_in count (before rows)))) start out.old result out.new }
 {
-    let many = rows_in(rows, count);
     let mut at = start;
-    let mut k = 0;
-    while k < many {
+    for k in 0..rows_in(rows, count) {
         at = put_item(text, item_in(rows, k), out, at);
-        k += 1;
     }
     at
 }

@@ -7,6 +7,6 @@ pub returns-then-key-lt128 : goal.returns-then-key-lt128
 unfolding item_of choose
 returns-then-key-lt128 c = simp (lt-ltb c.args.key 0x80 c.if-key-lt128.true)
 
-pub returns : goal.returns
+pub returns-else-key-lt128 : goal.returns-else-key-lt128
 unfolding item_of choose
-returns c = simp (le-ltb c.args.key 0x80 c.if-key-lt128.false)
+returns-else-key-lt128 c = simp (le-ltb c.args.key 0x80 c.if-key-lt128.false)

@@ -10,15 +10,14 @@ loop-k-init c = put_no_part c.args.start c.args.out.now (omega arith)
 pub item_in-requires : goal.item_in-requires
 item_in-requires c =
     let a = c.args in
-    omega (arith, c.rows_in-many.ensures, length_items_in a.count a.rows.now)
+    omega (arith, c.rows_in-k-end.ensures, length_items_in a.count a.rows.now)
 
 pub loop-k-preserved : goal.loop-k-preserved
 loop-k-preserved c =
     let test = c.loop-k-test in
     let l = c.loop-k in
-    let rows = c.rows_in-many in
     let a = c.args in
-    rowed_next a.text.now a.count a.rows.now (omega arith) (omega arith) (omega (arith, rows.ensures, test.true))
+    rowed_next a.text.now a.count a.rows.now (omega arith) (omega arith) (omega (arith, c.rows_in-k-end.ensures, test.true))
     l.invariant c.item_in.ensures c.put_item-at.ensures
 
 pub shape_of-out : goal.shape_of-out
@@ -28,4 +27,4 @@ pub returns : goal.returns
 returns c =
     let a = c.args in
     rowed_end a.text.now a.count a.rows.now c.loop-k.k
-    (omega (arith, c.rows_in-many.ensures, c.loop-k-test.false)) c.loop-k.invariant
+    (omega (arith, c.rows_in-k-end.ensures, c.loop-k-test.false)) c.loop-k.invariant
