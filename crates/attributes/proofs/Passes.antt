@@ -1,105 +1,64 @@
--- The invariants of the passes that count items and that write them.
-use Prim.Native.Nat.{ℕ, suc, ◌+◌, ◌*◌, ◌≤◌}
+-- The invariant of the pass that writes items.
+use Prim.Native.Nat.{ℕ, suc, ◌+◌, ◌-◌, ◌*◌, ◌≤◌}
 use mathlib.Core.Path.{◌≡◌, refl, ap, sym, ◌∙◌}
-use mathlib.Core.Bool.{Bool, true, false, not}
+use mathlib.Core.Bool.{Bool, true, false}
 use mathlib.Core.List.{List, [], ◌∷◌, ◌++◌}
 use native.Mathlib.Omega.{arith}
-use lib.ListN.{length, set, drop, length-set}
-use lib.Seq.{sets, sets-eq}
-use Rattle.attributes.specs.Attributes.{items, words, filled}
-use Rattle.attributes.specs.Pass.{items_at, Stepped, wanted, chosen}
+use lib.ListN.{length, drop}
+use lib.Seq.{sets, sets-eq, length-sets}
+use borrow.Rule.Slice.PartMut.{put_mid}
+use Rattle.std.proofs.Common.{cond}
+use Rattle.attributes.specs.Attributes.{words, filled}
+use Rattle.attributes.specs.Pass.{wanted, chosen}
 use Rattle.attributes.specs.declared.items.Item.{Item}
-use Rattle.attributes.specs.declared.pass.Step.{Step}
 use Rattle.attributes.specs.declared.pass.Which.{Which}
-use Rattle.attributes.proofs.AttributeItems.{items_start, item_chosen, item_passed, chosen_none}
-
--- A pass that counts stands at i, past `count` of the chosen items.
-pub record Counted (text : List ℕ) (which : Which) (i count : ℕ) : Type 0 where
-  whole : count + length (chosen which (items_at text i)) ≡ length (chosen which (items text))
-  pub few : count ≤ i
-
-pub counted_start : (text : List ℕ) (which : Which) → Counted text which 0 0
-counted_start text which = record {
-  whole = omega (arith, ap (λ (is : List Item). length (chosen which is)) (items_start text));
-  few = omega arith;
-}
-
-module _ {text : List ℕ} {which : Which} {i count : ℕ} (at : Counted text which i count) where
-  module _ {s : Step} (step : Stepped text i s) {asked : Bool} (w : asked ≡ wanted which s.item.key) where
-    pub counted_one : not asked ≡ false → Counted text which s.next (count + 1)
-    counted_one h = record {
-      whole = omega (arith, ap (λ (is : List Item). length is) (item_chosen step which w h), at.whole);
-      few = omega (arith, at.few, step.on);
-    }
-
-    pub counted_none : not asked ≡ true → Counted text which s.next count
-    counted_none h = record {
-      whole = omega (arith, ap (λ (is : List Item). length is) (item_passed step which w h), at.whole);
-      few = omega (arith, at.few, step.on);
-    }
-
-  pub counted_end : length text ≤ i → count ≡ length (chosen which (items text))
-  counted_end h = omega (arith, ap (λ (is : List Item). length is) (chosen_none text i h which), at.whole)
+use Rattle.attributes.proofs.Puts.{sets_append, part_put}
 
 pub length_words : (is : List Item) → length (words is) ≡ 3 * length is
 unfolding words
 length_words [] = refl
 length_words (i ∷ is) = omega (arith, length_words is)
 
-sets_three : (l : List ℕ) (k a b c : ℕ) (rest : List ℕ)
-    → sets (set (set (set l k a) (k + 1) b) (k + 2) c) (k + 3) rest ≡ sets l k (a ∷ b ∷ c ∷ rest)
-sets_three l k a b c rest =
-    let p : k + 1 ≡ suc k = omega arith in
-    let q : k + 2 ≡ suc (suc k) = omega arith in
-    let r : k + 3 ≡ suc (suc (suc k)) = omega arith in
-    rw (p, q, r)
-
--- A pass that writes stands at i, and the words of the chosen items from there on are due at k: with them stored, the buffer
--- is the old one with the words of all chosen items.
-pub record Filling (text : List ℕ) (which : Which) (old : List ℕ) (i k : ℕ) (buffer : List ℕ) : Type 0 where
-  left : sets buffer k (words (chosen which (items_at text i))) ≡ sets old 0 (words (chosen which (items text)))
-  pub room : k + 3 * length (chosen which (items_at text i)) ≤ length buffer
+-- The words of the chosen ones of `rest` are due at k: with them stored, the buffer is the old one with the words of all chosen items.
+pub record Filling (which : Which) (all : List Item) (old : List ℕ) (rest : List Item) (k : ℕ) (buffer : List ℕ) : Type 0 where
+  left : sets buffer k (words (chosen which rest)) ≡ sets old 0 (words (chosen which all))
+  pub room : k + 3 * length (chosen which rest) ≤ length buffer
   pub same : length buffer ≡ length old
 
-module _ (text : List ℕ) (which : Which) (old : List ℕ) (h : 3 * length (chosen which (items text)) ≤ length old) where
-  pub filling_start : Filling text which old 0 0 old
-  filling_start = record {
-    left = rw (items_start text);
-    room = omega (arith, ap (λ (is : List Item). length (chosen which is)) (items_start text));
-    same = refl;
-  }
+module _ (which : Which) (all : List Item) (old : List ℕ) (h : 3 * length (chosen which all) ≤ length old) where
+  pub filling_start : {rest : List Item} → rest ≡ all → Filling which all old rest 0 old
+  filling_start e = rw e (record { left = refl; room = omega arith; same = refl })
 
-  pub filling_end : {i k : ℕ} {buffer : List ℕ} → Filling text which old i k buffer → length text ≤ i
-      → buffer ≡ filled (chosen which (items text)) old
+  pub filling_end : {rest : List Item} {k : ℕ} {buffer : List ℕ} → Filling which all old rest k buffer → rest ≡ []
+      → buffer ≡ filled (chosen which all) old
   unfolding filled words
-  filling_end {i} {k} {buffer} at g =
-      let all = chosen which (items text) in
-      let size : 0 + length (words all) ≡ 3 * length all = omega (arith, length_words all) in
-      ap (λ (is : List Item). sets buffer k (words is)) (sym (chosen_none text i g which)) ∙ at.left
-      ∙ sets-eq (words all) old 0 (omega arith)
-      ∙ ap (λ (n : ℕ). words all ++ drop n old) size
+  filling_end {rest} {k} {buffer} at g =
+      let size : 0 + length (words (chosen which all)) ≡ 3 * length (chosen which all) = omega (arith, length_words (chosen which all)) in
+      (rw g at at.left) ∙ sets-eq (words (chosen which all)) old 0 (omega arith)
+      ∙ ap (λ (n : ℕ). words (chosen which all) ++ drop n old) size
 
-module _ {text : List ℕ} {which : Which} {old : List ℕ} {i k : ℕ} {buffer : List ℕ} (at : Filling text which old i k buffer)
-    {s : Step} (step : Stepped text i s) {asked : Bool} (w : asked ≡ wanted which s.item.key) where
-  pub filling_none : not asked ≡ true → Filling text which old s.next k buffer
-  filling_none h =
-      let e = item_passed step which w h in record {
-        left = ap (λ (is : List Item). sets buffer k (words is)) (sym e) ∙ at.left;
-        room = omega (arith, ap (λ (is : List Item). length is) e, at.room);
-        same = at.same;
-      }
+module _ {which : Which} {all : List Item} {old : List ℕ} {i : Item} {rest more : List Item} {k : ℕ} {buffer : List ℕ}
+    (at : Filling which all old rest k buffer) (e : rest ≡ i ∷ more) where
+  pub filling_none : wanted which i.key ≡ false → Filling which all old more k buffer
+  filling_none w =
+      let same : chosen which rest ≡ chosen which more = rw (e, w) in
+      record { left = rw same at at.left; room = omega (arith, ap length same, at.room); same = at.same }
 
-  module _ (h : not asked ≡ false) where
+  module _ (w : wanted which i.key ≡ true) where
+    one : chosen which rest ≡ i ∷ chosen which more
+    one = rw (e, w)
+
     pub filling_room : k + 3 ≤ length buffer
-    filling_room = omega (arith, ap (λ (is : List Item). length is) (item_chosen step which w h), at.room)
+    filling_room = omega (arith, ap length one, at.room)
 
-    pub filling_one : Filling text which old s.next (k + 3)
-        (set (set (set buffer k s.item.key) (k + 1) s.item.value.start) (k + 2) s.item.value.len)
+    pub filling_one : {part : List ℕ} → part ≡ i.key ∷ i.value.start ∷ i.value.len ∷ []
+        → Filling which all old more (k + 3) (put_mid k (k + 3 - k) buffer part)
     unfolding words
-    filling_one =
-        let e = item_chosen step which w h in record {
-          left = sets_three buffer k s.item.key s.item.value.start s.item.value.len (words (chosen which (items_at text s.next)))
-              ∙ ap (λ (is : List Item). sets buffer k (words is)) (sym e) ∙ at.left;
-          room = simp length-set (omega (arith, ap (λ (is : List Item). length is) e, at.room));
-          same = simp length-set at.same;
+    filling_one {part} p =
+        let row = i.key ∷ i.value.start ∷ i.value.len ∷ [] in
+        let put : put_mid k (k + 3 - k) buffer part ≡ sets buffer k row = part_put buffer row k (k + 3) refl (filling_room) p in
+        record {
+          left = rw put (sym (sets_append buffer row (words (chosen which more)) k) ∙ (rw one at at.left));
+          room = rw put (omega (arith, ap length one, at.room, length-sets buffer k row));
+          same = rw put (length-sets buffer k row ∙ at.same);
         }

@@ -21,22 +21,26 @@ bytes_cut text v {start} {len} s n =
     let size : start + len - start ≡ min v.len (length (drop start text)) = omega (arith, length-drop start text) in
     rw (size, take_min v.len (drop start text), s, drop_min v.start text)
 
+-- A part of a list written over.
+pub part_put : (out bytes : List ℕ) (at to : ℕ) → to ≡ at + length bytes → to ≤ length out → {part : List ℕ} → part ≡ bytes
+    → put_mid at (to - at) out part ≡ sets out at bytes
+part_put out bytes at to e h p =
+    rw (p, Post-is at to out (omega arith), e, ← append_assoc) (sym (sets-eq bytes out at (omega arith)))
+
 -- Bytes at a place: where they do not fit, and where they do.
 module _ {bytes : List ℕ} {at : ℕ} {out : List ℕ} {to : ℕ} (e : to ≡ min (at + length bytes) 0xFFFFFFFFFFFFFFFF) where
   pub put_not : length out < to → Put bytes at out to out
   put_not h = record { ends = e; holds = λ f. absurd (omega arith); same = refl }
 
   pub put_there : to ≤ length out → length out < 2 ^ 63 → {part : List ℕ} → part ≡ bytes → Put bytes at out to (put_mid at (to - at) out part)
-  put_there h small {part} p =
-      let w : put_mid at (to - at) out part ≡ sets out at bytes = 
-          let there : at + length bytes ≡ to = omega arith in
-          rw (p, Post-is at to out (omega arith), ← there, ← append_assoc) (sym (sets-eq bytes out at (omega arith))) in
+  put_there h small p =
+      let w = part_put out bytes at to (omega arith) h p in
       record { ends = e; holds = λ f. w; same = ap length w ∙ length-sets out at bytes }
 
 pub put_nothing : (at : ℕ) (out : List ℕ) → at < 2 ^ 64 → Put [] at out at out
 put_nothing at out h = record { ends = omega arith; holds = λ f. refl; same = refl }
 
-sets_append : (l a b : List ℕ) (i : ℕ) → sets l i (a ++ b) ≡ sets (sets l i a) (i + length a) b
+pub sets_append : (l a b : List ℕ) (i : ℕ) → sets l i (a ++ b) ≡ sets (sets l i a) (i + length a) b
 sets_append l [] b i = let same : i + 0 ≡ i = omega arith in rw same
 sets_append l (x ∷ a) b i =
     let same : i + suc (length a) ≡ suc i + length a = omega arith in

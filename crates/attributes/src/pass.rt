@@ -3,7 +3,8 @@ ghost use Rattle.std.specs.Prelude.{◌≡◌, not, ◌+◌, ◌*◌, ◌-◌, �
 ghost use Rattle.reads.specs.Reference.{before};
 ghost use Rattle.attributes.specs.Attributes.{value_length, item_of, items, items_fit, filled};
 ghost use Rattle.attributes.specs.Property.{letters, among, first_value};
-ghost use Rattle.attributes.specs.Pass.{Stepped, wanted, chosen};
+ghost use Rattle.std.specs.Iterator.{YieldsFirst, item_count};
+ghost use Rattle.attributes.specs.Pass.{items_left_of, wanted, chosen};
 
 use crate::items::{Item, Value};
 use crate::property::Attribute;
@@ -11,11 +12,11 @@ use crate::property::Attribute;
 // The letters of Apple's list, in the order in which they are written: T, the flags, G, S, t, and V after the unknown letters.
 pub const LETTERS: [u8; 12] = *b"TRC&NDWPGStV";
 
-// An item, and where the next one begins.
-#[derive(Clone, Copy)]
-pub struct Step {
-    pub item: Item,
-    pub next: usize,
+// The items of a text that begin at byte `at` or behind it.
+#[derive(Drop)]
+pub struct Items<'a> {
+    text: &'a [u8],
+    at: usize,
 }
 
 // Which items are handed out: all, or those of unknown letters.
@@ -57,17 +58,27 @@ fn item_of(key: u8, start: usize, end: usize) -> Item
     }
 }
 
-// The item that begins at i.
-fn item_at(text: &[u8], i: usize) -> Step
-    requires { i < length text.now }
-    ensures { Stepped (before text) i result }
-{
-    let start = i + 1;
-    let end = value_end(text, start);
-    Step {
-        item: item_of(text[i], start, end),
-        next: end + 1,
+impl<'a> Iterator for Items<'a> {
+    type Item = Item;
+
+    ghost next_gives = { YieldsFirst items_left_of };
+
+    ghost remaining = { item_count items_left_of };
+
+    fn next(&mut self) -> Option<Item> {
+        let key = *self.text.get(self.at)?;
+        let start = self.at + 1;
+        let end = value_end(self.text, start);
+        self.at = end + 1;
+        Some(item_of(key, start, end))
     }
+}
+
+// All items of a text.
+pub fn items_of(text: &[u8]) -> Items<'_>
+    ensures { items_left_of result ≡ items (before text) }
+{
+    Items { text, at: 0 }
 }
 
 // A letter is none of Apple's list.
@@ -91,18 +102,7 @@ fn wanted(which: Which, letter: u8) -> bool
 pub fn count_items(text: &[u8], which: Which) -> u64
     ensures { result ≡ length (chosen which (items (before text))) }
 {
-    let mut count = 0;
-    let mut i = 0;
-    while i < text.len() {
-        let step = item_at(text, i);
-        let item = step.item;
-        i = step.next;
-        if !wanted(which, item.key) {
-            continue;
-        }
-        count += 1;
-    }
-    count
+    items_of(text).filter(|item| wanted(which, item.key)).count() as u64
 }
 
 // 12: do the items fit?
@@ -118,19 +118,11 @@ pub fn write_items(text: &[u8], which: Which, buffer: &mut [u64])
     ensures { buffer.new ≡ filled (chosen which (items (before text))) buffer.old }
 {
     let mut k = 0;
-    let mut i = 0;
-    while i < text.len() {
-        let step = item_at(text, i);
-        let item = step.item;
-        i = step.next;
-        if !wanted(which, item.key) {
-            continue;
+    for item in items_of(text) {
+        if wanted(which, item.key) {
+            buffer[k..k + 3].copy_from_slice(&[item.key as u64, item.value.start, item.value.len]);
+            k += 3;
         }
-        let value = item.value;
-        buffer[k] = item.key as u64;
-        buffer[k + 1] = value.start;
-        buffer[k + 2] = value.len;
-        k += 3;
     }
 }
 
@@ -138,19 +130,8 @@ pub fn write_items(text: &[u8], which: Which, buffer: &mut [u64])
 pub fn first_value(text: &[u8], letter: u8, least: u64) -> Attribute
     ensures { result ≡ first_value letter least (items (before text)) }
 {
-    let mut i = 0;
-    while i < text.len() {
-        let step = item_at(text, i);
-        let item = step.item;
-        let value = item.value;
-        i = step.next;
-        if item.key != letter {
-            continue;
-        }
-        if value.len < least {
-            continue;
-        }
-        return Attribute::Given(value);
+    match items_of(text).find(|item| item.key == letter && least <= item.value.len) {
+        Some(item) => Attribute::Given(item.value),
+        None => Attribute::Nothing,
     }
-    Attribute::Nothing
 }

@@ -1,32 +1,15 @@
+use mathlib.Core.Logic.{inl}
+use mathlib.Core.Path.{◌≡◌, ap, ◌∙◌}
 use native.Mathlib.Omega.{arith}
-use Rattle.attributes.proofs.Passes.{counted_start, counted_one, counted_none, counted_end}
-use Rattle.std.proofs.Common.{ap, not}
+use lib.ListN.{length}
+use Rattle.attributes.specs.Attributes.{items}
+use Rattle.attributes.specs.Pass.{items_left_of}
+use Rattle.attributes.proofs.AttributeItems.{items_few}
 use Rattle.attributes.proofs.pass.count_items.Goals as goal
 
-pub loop-i-init : goal.loop-i-init
-loop-i-init c = counted_start c.args.text.now c.args.which
-
-pub loop-i-smaller-then-not-wanted : goal.loop-i-smaller-then-not-wanted
-loop-i-smaller-then-not-wanted c = omega (arith, c.item_at-step.ensures.on)
-
-pub loop-i-preserved-then-not-wanted : goal.loop-i-preserved-then-not-wanted
-loop-i-preserved-then-not-wanted c =
-    let l = c.loop-i in
-    counted_none l.invariant c.item_at-step.ensures c.wanted.ensures (ap not c.if-not-wanted.true)
-
-pub overflow_add-count : goal.overflow_add-count
-overflow_add-count c =
-    let l = c.loop-i in
-    let good = c.well_formed in
-    omega (arith, l.invariant.few, good.0)
-
-pub loop-i-smaller : goal.loop-i-smaller
-loop-i-smaller c = omega (arith, c.item_at-step.ensures.on)
-
-pub loop-i-preserved : goal.loop-i-preserved
-loop-i-preserved c =
-    let l = c.loop-i in
-    counted_one l.invariant c.item_at-step.ensures c.wanted.ensures (ap not c.if-not-wanted.false)
-
-pub returns : goal.returns
-returns c = counted_end c.loop-i.invariant c.loop-i-test.false
+pub count-requires-clause-fits : goal.count-requires-clause-fits
+count-requires-clause-fits c =
+    let text = c.args.text.now in
+    let all : length (items_left_of c.filter.result.iter) ≡ length (items text) =
+        ap (λ s. length (items_left_of s)) c.filter.ensures.source ∙ ap length c.items_of.ensures in
+    inl (omega (arith, all, items_few text))

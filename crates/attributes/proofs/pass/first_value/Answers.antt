@@ -1,39 +1,27 @@
-use mathlib.Core.Path.{ap, sym, ◌∙◌}
-use native.Mathlib.Omega.{arith}
-use Rattle.attributes.specs.Property.{first_value}
-use Rattle.attributes.proofs.AttributeItems.{items_start, value_found, value_of_other, value_too_short, value_none}
+use mathlib.Core.Bool.{◌&&◌}
+use mathlib.Core.Path.{◌≡◌, ap, sym, ◌∙◌}
+use borrow.Author.Rules.{rules}
+use borrow.Author.Tests.{tests}
+use lib.Dec.{eqb, leb}
+use Rattle.std.proofs.lemmas.Iterator.Consumers.{YieldsList-from_first}
+use Rattle.std.proofs.lemmas.Iterator.Search.{find_from_yields_List}
+use Rattle.attributes.specs.Attributes.{items}
+use Rattle.attributes.specs.Pass.{items_left_of}
+use Rattle.attributes.proofs.AttributeItems.{value_in, value_found}
 use Rattle.attributes.proofs.pass.first_value.Goals as goal
 
-pub loop-i-init : goal.loop-i-init
-loop-i-init c = ap (first_value c.args.letter c.args.least) (items_start c.args.text.now)
-
-pub loop-i-smaller-then-item-letter : goal.loop-i-smaller-then-item-letter
-loop-i-smaller-then-item-letter c = omega (arith, c.item_at-step.ensures.on)
-
-pub loop-i-preserved-then-item-letter : goal.loop-i-preserved-then-item-letter
-loop-i-preserved-then-item-letter c =
-    let l = c.loop-i in
+pub returns-in-Some : goal.returns-in-Some
+returns-in-Some c =
     let a = c.args in
-    sym (value_of_other c.item_at-step.ensures a.letter a.least c.if-item-letter.true) ∙ l.invariant
+    let found =
+        find_from_yields_List (λ i. eqb i.key a.letter && leb a.least i.value.len) c.find.new.self _ c.find.result c.find.ensures.ran
+        (YieldsList-from_first (λ i. i) items_left_of (items a.text.now) c.items_of.ensures) (λ x b q k. search (rules, tests)) in
+    ap value_in (rw c.in-Some.is at found) ∙ value_found a.letter a.least (items a.text.now)
 
-pub loop-i-smaller : goal.loop-i-smaller
-loop-i-smaller c = omega (arith, c.item_at-step.ensures.on)
-
-pub loop-i-preserved : goal.loop-i-preserved
-loop-i-preserved c =
-    let step = c.item_at-step in
-    let l = c.loop-i in
+pub returns-in-None : goal.returns-in-None
+returns-in-None c =
     let a = c.args in
-    sym (value_too_short step.ensures a.letter a.least (omega arith) c.if-value-least.true) ∙ l.invariant
-
-pub returns-in-loop-i : goal.returns-in-loop-i
-returns-in-loop-i c =
-    let step = c.item_at-step in
-    let l = c.loop-i in
-    let a = c.args in
-    sym (value_found step.ensures a.letter a.least (omega arith) c.if-value-least.false) ∙ l.invariant
-
-pub returns : goal.returns
-returns c =
-    let a = c.args in
-    sym (value_none a.text.now c.loop-i.i c.loop-i-test.false a.letter a.least) ∙ c.loop-i.invariant
+    let found =
+        find_from_yields_List (λ i. eqb i.key a.letter && leb a.least i.value.len) c.find.new.self _ c.find.result c.find.ensures.ran
+        (YieldsList-from_first (λ i. i) items_left_of (items a.text.now) c.items_of.ensures) (λ x b q k. search (rules, tests)) in
+    ap value_in (rw c.in-None.is at found) ∙ value_found a.letter a.least (items a.text.now)
