@@ -1,11 +1,13 @@
 -- Laws of a sweep: one for each branch of its code, and what is put out when bytes are passed.
 use Prim.Native.Nat.{ℕ, zero, suc, ◌+◌, ◌-◌, ◌*◌, ◌/◌, ◌≤◌, ◌<◌, ◌^◌, min, max}
-use mathlib.Core.Path.{◌≡◌, refl, ap}
+use mathlib.Core.Path.{◌≡◌, refl, ap, sym, ◌∙◌}
 use mathlib.Core.Bool.{Bool, true, false}
-use mathlib.Core.List.{List, [], ◌∷◌, ◌++◌}
-use native.Mathlib.Numerals.{add-one}
+use mathlib.Core.List.{List, [], ◌∷◌, ◌++◌, append_assoc}
+use native.Mathlib.Numerals.{add-one, add-two}
 use native.Mathlib.Omega.{arith}
-use lib.ListN.{length, set}
+use lib.ListN.{length, set, take, drop}
+use lib.Seq.{sets-eq}
+use borrow.Rule.Slice.PartMut.{put_mid, Post-is}
 use borrow.Author.Tests.{lt-ltb, le-ltb}
 use Rattle.reads.specs.Outcome.{choose}
 use Rattle.ranges.specs.Range.{Range, range}
@@ -13,10 +15,13 @@ use Rattle.ranges.specs.Runs.{run, ended, begun, runs}
 use Rattle.ranges.specs.Sheet.{window, sheet_next, marked_at, shown}
 use Rattle.ranges.specs.Sweep.{more, Output, output, put_at, tell, Progress, progress_of, closed_at, passed, swept, leapt, reached_at, over_window}
 
-pub put_room : (out : List ℕ) (i file offset len : ℕ) → i < length out / 3
-    → set (set (set out (i * 3) file) (i * 3 + 1) offset) (i * 3 + 2) len ≡ put_at out i (range file offset len)
+pub put_room : (out : List ℕ) (i file offset len : ℕ) → i < length out / 3 → {part : List ℕ} → part ≡ file ∷ offset ∷ len ∷ []
+    → put_mid (i * 3) (i * 3 + 3 - i * 3) out part ≡ put_at out i (range file offset len)
 unfolding put_at choose
-put_room out i file offset len h = rw (lt-ltb i (length out / 3) h)
+put_room out i file offset len h p =
+    rw (p, lt-ltb i (length out / 3) h, Post-is (i * 3) (i * 3 + 3) out (omega arith), add-one (i * 3), add-two (i * 3))
+    (sym (append_assoc (take (i * 3) out) (file ∷ offset ∷ len ∷ []) (drop (i * 3 + 3) out))
+    ∙ sym (sets-eq (file ∷ offset ∷ len ∷ []) out (i * 3) (omega arith)))
 
 pub put_full : (out : List ℕ) (i file offset len : ℕ) → length out / 3 ≤ i → out ≡ put_at out i (range file offset len)
 unfolding put_at choose

@@ -29,9 +29,7 @@ fn put(out: &mut [u64], i: u64, file: u64, offset: u64, len: u64)
     let room = (out.len() / 3) as u64;
     if i < room {
         let k = i as usize * 3;
-        out[k] = file;
-        out[k + 1] = offset;
-        out[k + 2] = len;
+        out[k..k + 3].copy_from_slice(&[file, offset, len]);
     }
 }
 
