@@ -1,5 +1,6 @@
 // A parser of type encodings: what it keeps of the text before, and a step for each byte.
 ghost use Rattle.std.specs.Prelude.{◌≡◌, [], ◌+◌, ◌^◌, ◌<◌, get_or};
+ghost use Rattle.std.specs.Bool.{OnTrue, OnFalse};
 ghost use Rattle.reads.specs.Outcome.{value, choose};
 ghost use Rattle.reads.specs.Answer.{word_outcome};
 ghost use Rattle.encodings.specs.Grammar.{digit_byte};
@@ -218,24 +219,16 @@ fn after(p: Parser, byte: u8, at: usize) -> Next
     inside(q, byte)
 }
 
-// A digit must come, as after `[` and `b`.
-fn digit(p: Parser, byte: u8, mode: Mode) -> Next
-    ensures { step_outcome result ≡ choose (digit_byte byte) (value (kept_in mode p)) outside }
+// A digit goes on in `mode`; what another byte leads to, `other` says.
+fn digit_or<F: FnOnce() -> Next>(p: Parser, byte: u8, mode: Mode, other: F) -> Next
+    requires { F.IsAlwaysCallable other }
+    ensures digit { OnTrue (digit_byte byte) (step_outcome result ≡ value (kept_in mode p)) }
+    ensures other { OnFalse (digit_byte byte) (F.post other result) }
 {
     if is_digit(byte) {
         return Next::On(mode, p);
     }
-    outside()
-}
-
-// In an array's count: a digit more, or the array's type.
-fn in_counted(p: Parser, byte: u8) -> Next
-    ensures { step_outcome result ≡ step_as Mode.Counted p byte 0 }
-{
-    if is_digit(byte) {
-        return Next::On(Mode::Counted, p);
-    }
-    begin(p, byte)
+    other()
 }
 
 // In a name: a byte more, its `=`, or the closing bracket.
@@ -274,17 +267,6 @@ fn in_quoting(p: Parser, byte: u8) -> Next
     Next::On(Mode::Ended, p)
 }
 
-// In a bit field's digits: a digit more, or what comes after a type.
-fn in_sized(p: Parser, byte: u8, at: usize) -> Next
-    requires { p.types < 2 ^ 63 }
-    ensures { step_outcome result ≡ step_as Mode.Sized p byte at }
-{
-    if is_digit(byte) {
-        return Next::On(Mode::Sized, p);
-    }
-    after(p, byte, at)
-}
-
 // After `@`: a quoted class, or what comes after a type.
 fn at_sign(p: Parser, byte: u8, at: usize) -> Next
     requires { p.types < 2 ^ 63 }
@@ -296,17 +278,6 @@ fn at_sign(p: Parser, byte: u8, at: usize) -> Next
     Next::On(Mode::Quoting, p)
 }
 
-// In a frame offset: a digit more, or the next type.
-fn in_offset(p: Parser, byte: u8, at: usize) -> Next
-    requires { p.types < 2 ^ 63 }
-    ensures { step_outcome result ≡ step_as Mode.Offset p byte at }
-{
-    if is_digit(byte) {
-        return Next::On(Mode::Offset, p);
-    }
-    next_type(p, byte, at)
-}
-
 // The byte at `at` is read.
 pub fn step(mode: Mode, p: Parser, byte: u8, at: usize) -> Next
     requires { p.types < 2 ^ 63 }
@@ -314,16 +285,16 @@ pub fn step(mode: Mode, p: Parser, byte: u8, at: usize) -> Next
 {
     match mode {
         Mode::Wanted => begin(p, byte),
-        Mode::Counting => digit(p, byte, Mode::Counted),
-        Mode::Counted => in_counted(p, byte),
+        Mode::Counting => digit_or(p, byte, Mode::Counted, outside),
+        Mode::Counted => digit_or(p, byte, Mode::Counted, || begin(p, byte)),
         Mode::Naming => in_naming(p, byte),
         Mode::Named => in_named(p, byte),
         Mode::Quoting => in_quoting(p, byte),
-        Mode::Sizing => digit(p, byte, Mode::Sized),
-        Mode::Sized => in_sized(p, byte, at),
+        Mode::Sizing => digit_or(p, byte, Mode::Sized, outside),
+        Mode::Sized => digit_or(p, byte, Mode::Sized, || after(p, byte, at)),
         Mode::AtSign => at_sign(p, byte, at),
         Mode::Ended => after(p, byte, at),
-        Mode::Offset => in_offset(p, byte, at),
+        Mode::Offset => digit_or(p, byte, Mode::Offset, || next_type(p, byte, at)),
     }
 }
 
