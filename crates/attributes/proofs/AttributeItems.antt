@@ -1,6 +1,6 @@
 -- The items of a text, one after another, and those of them that are handed out.
 use Prim.Native.Nat.{ℕ, zero, suc, ◌+◌, ◌-◌, ◌≤◌, ◌<◌}
-use mathlib.Core.Path.{◌≡◌, refl, ap, sym, ◌∙◌}
+use mathlib.Core.Path.{◌≡◌, refl, ap, ◌∙◌}
 use mathlib.Core.Bool.{Bool, true, false, not, ◌&&◌}
 use mathlib.Core.List.{List, [], ◌∷◌}
 use native.Mathlib.Omega.{arith}
@@ -10,9 +10,7 @@ use Rattle.std.specs.List.{find}
 use lib.Dec.{eqb, ltb, leb}
 use lib.ListN.{length, get_or, drop, length-drop, drop_of_length-le}
 use lib.Seq.{drop-drop, drop-cons}
-use borrow.Author.Tests.{eq-eqb, ne_eqb, le-leb, lt-leb, not-true, not-false}
 use Rattle.reads.specs.Outcome.{choose}
-use Rattle.reads.proofs.Tests.{choose_true, choose_false}
 use Rattle.attributes.specs.Attributes.{value_length, item_of, items_from, items, is_type, type_among, value_of}
 use Rattle.attributes.specs.Property.{letters, among, unknowns, first_value}
 use Rattle.attributes.specs.Pass.{items_at, chosen}
@@ -21,7 +19,6 @@ use Rattle.attributes.specs.declared.items.Value.{Value}
 use Rattle.attributes.specs.declared.pass.Which.TheVariants.{All, Unknown}
 use Rattle.attributes.specs.declared.property.Attribute.{Attribute}
 use Rattle.attributes.specs.declared.property.Attribute.TheVariants.{Given, Nothing}
-use Rattle.attributes.proofs.ValueEnds.{value_inside}
 
 -- An item takes a byte at least, so as many items as bytes are enough.
 pub items_enough : (n m at : ℕ) (s : List ℕ) → length s ≤ n → length s ≤ m → items_from n at s ≡ items_from m at s

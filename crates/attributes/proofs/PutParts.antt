@@ -1,12 +1,12 @@
 -- The parts of a declared property put into a buffer: an item, a letter that may be given, the front letters, the rows.
-use Prim.Native.Nat.{ℕ, zero, suc, ◌+◌, ◌≤◌, ◌<◌, ◌^◌}
+use Prim.Native.Nat.{ℕ, ◌+◌, ◌≤◌, ◌<◌, ◌^◌}
 use mathlib.Core.Path.{◌≡◌, refl, ap, sym, ◌∙◌}
 use mathlib.Core.List.{List, [], ◌∷◌, ◌++◌, map, append_assoc, append-nil, map-append}
 use mathlib.Core.Logic.{◌⊎◌, inl, inr}
 use mathlib.Core.Option.{Option, none, some}
 use native.Mathlib.Omega.{arith}
 use native.Mathlib.Numerals.{add-one}
-use lib.ListN.{length, get_or, take, get_or-append, get_or-map}
+use lib.ListN.{length, take}
 use lib.Seq.{take-suc, take_all}
 use Rattle.attributes.specs.Property.{letters}
 use Rattle.attributes.specs.Written.{Part, bytes_given, part_of, front_letters, back_letters, front_of, declaration_in, given, in_order, joined, written, items_in, written_text}
@@ -99,8 +99,8 @@ module _ (text : List ℕ) (d : Declared) where
           → Put (joined (given front_letters (map (bytes_given text) (front_of d)))) 0 old at out
       fronted_end h =
           let all : f.parts ≡ given front_letters (map (bytes_given text) (front_of d)) =
-              sym (append-nil f.parts) ∙ rw (given_nothing text ls given_of h) at f.whole
-              ∙ given_enough front_letters back_letters (map (bytes_given text) (front_of d)) (omega arith) in
+          sym (append-nil f.parts) ∙ rw (given_nothing text ls given_of h) at f.whole
+          ∙ given_enough front_letters back_letters (map (bytes_given text) (front_of d)) (omega arith) in
           rw all at f.put
 
 -- k of the rows are put.

@@ -3,12 +3,10 @@ use Prim.Native.Nat.{ℕ, zero, suc, ◌+◌, ◌-◌, ◌≤◌, ◌<◌, ◌^�
 use mathlib.Core.Path.{◌≡◌, refl, ap, sym, ◌∙◌}
 use mathlib.Core.List.{List, [], ◌∷◌, ◌++◌, append_assoc, append-nil}
 use native.Mathlib.Omega.{arith}
-use native.Mathlib.Numerals.{add-one}
 use Rattle.std.proofs.lemmas.List.{take_min, drop_min}
-use lib.ListN.{length, get_or, set, take, drop, length-append, length-drop, length-set, drop_of_length-le}
+use lib.ListN.{length, set, take, drop, length-append, length-drop}
 use borrow.Rule.Slice.PartMut.{put_mid, Post-is}
-use lib.Seq.{sets-eq, take_all, take-nil, drop-cons, get_or-take, get_or-drop, sets, length-sets, length-take-le}
-use Rattle.attributes.specs.Attributes.{value_of}
+use lib.Seq.{sets-eq, sets, length-sets}
 use Rattle.attributes.specs.Written.{Part, bytes_of, following, joined}
 use Rattle.attributes.specs.Puts.{Put, comma_at, behind}
 use Rattle.attributes.specs.declared.items.Value.{Value}

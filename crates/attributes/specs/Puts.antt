@@ -2,9 +2,8 @@
 use Rattle.std.specs.Prelude.{ℕ, zero, suc, ◌+◌, ◌*◌, ◌%◌, ◌≤◌, min, ◌≡◌, List, [], ◌∷◌, length, get_or}
 use Rattle.std.proofs.lemmas.List.Edits.{sets}
 use Rattle.attributes.specs.Attributes.{value_of}
-use Rattle.attributes.specs.Written.{Part, bytes_of, following, joined}
+use Rattle.attributes.specs.Written.{Part, following, joined}
 use Rattle.attributes.specs.declared.items.Item.{Item}
-use Rattle.attributes.specs.declared.items.Value.{Value}
 
 -- Bytes are put at `at` of a buffer: `to` is where they end, or would, 2^64 - 1 at most; where they fit, the buffer holds them.
 pub record Put (bytes : List ℕ) (at : ℕ) (out : List ℕ) (to : ℕ) (left : List ℕ) : Type 0 where

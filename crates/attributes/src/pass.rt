@@ -19,7 +19,8 @@ pub struct Items<'a> {
     at: usize,
 }
 
-// Which items are handed out: all, or those of unknown letters.
+// Which items are handed out: all, or those of unknown letters. No closure: what it keeps would have to stand in the contracts of both
+// passes, and there are these two.
 #[derive(Clone, Copy)]
 pub enum Which {
     All,
@@ -102,7 +103,9 @@ fn wanted(which: Which, letter: u8) -> bool
 pub fn count_items(text: &[u8], which: Which) -> u64
     ensures { result ≡ length (chosen which (items (before text))) }
 {
-    items_of(text).filter(|item| wanted(which, item.key)).count() as u64
+    items_of(text)
+        .filter(|item| wanted(which, item.key))
+        .count() as u64
 }
 
 // 12: do the items fit?

@@ -10,7 +10,7 @@ ghost use Rattle.encodings.specs.Parser.{closers, levels_of, kept, kept_in, step
 use crate::bytes::{Class, class_of, in_name, in_quotes, is_digit};
 use reads::answer::{Missing, Reason, Word};
 
-// What was read last, and so what may come.
+// What was read last, and so what may come. Data and no closure: it is kept from byte to byte, and the end of the text asks it too.
 #[derive(Clone, Copy)]
 pub enum Mode {
     // a type must begin
@@ -56,7 +56,8 @@ pub enum Next {
     Missing(Missing),
 }
 
-// The kinds of levels, and what closes each: a pointer ends with the type that it points to.
+// The kinds of levels, and what closes each: a pointer ends with the type that it points to. Numbers and no enum: two bits of `levels`
+// hold one.
 const POINTER: u64 = 0;
 
 const ARRAY: u64 = 1;
@@ -68,6 +69,7 @@ const UNION: u64 = 3;
 const CLOSERS: [u8; 4] = *b"^]})";
 
 // Before the first byte.
+#[tactic(auto, unfolding(crate::specs::Parser::levels_in))]
 pub fn first() -> Parser
     ensures { kept_in Mode.Wanted result ≡ kept Mode.Wanted [] 0 0 0 }
 {
@@ -162,6 +164,7 @@ fn begin(p: Parser, byte: u8) -> Next
 }
 
 // The next outermost type begins, at `at`.
+#[tactic(auto, unfolding(crate::specs::Parser::levels_in))]
 fn next_type(p: Parser, byte: u8, at: usize) -> Next
     requires { p.types < 2 ^ 63 }
     ensures { step_outcome result ≡ begun [] (p.types + 1) at 0 (class_of byte) }
@@ -177,6 +180,7 @@ fn next_type(p: Parser, byte: u8, at: usize) -> Next
 }
 
 // After an outermost type: its frame offset, or the next type.
+#[tactic(auto, using(crate::proofs::Choices::choices), unfolding(crate::specs::Parser::levels_in))]
 fn between(p: Parser, byte: u8, at: usize) -> Next
     requires { p.types < 2 ^ 63 }
     ensures { step_outcome result ≡ followed [] p.types p.start p.offset byte at }
@@ -194,6 +198,7 @@ fn between(p: Parser, byte: u8, at: usize) -> Next
 }
 
 // After a type in an array, a structure or a union.
+#[tactic(auto, using(crate::proofs::Choices::choices))]
 fn inside(p: Parser, byte: u8) -> Next
     requires { 0 < p.depth }
     ensures { step_outcome result ≡ inside (levels_of p) p.types p.start p.offset byte }
@@ -248,6 +253,7 @@ fn in_naming(p: Parser, byte: u8) -> Next
 }
 
 // After a name's `=`: the closing bracket, or the first type inside.
+#[tactic(auto, using(crate::proofs::Choices::choices))]
 fn in_named(p: Parser, byte: u8) -> Next
     ensures { step_outcome result ≡ step_as Mode.Named p byte 0 }
 {
@@ -258,6 +264,7 @@ fn in_named(p: Parser, byte: u8) -> Next
 }
 
 // In a quoted class: a byte more, or the closing quote.
+#[tactic(auto, using(crate::proofs::Choices::choices))]
 fn in_quoting(p: Parser, byte: u8) -> Next
     ensures { step_outcome result ≡ step_as Mode.Quoting p byte 0 }
 {
@@ -268,6 +275,7 @@ fn in_quoting(p: Parser, byte: u8) -> Next
 }
 
 // After `@`: a quoted class, or what comes after a type.
+#[tactic(auto, using(crate::proofs::Choices::choices))]
 fn at_sign(p: Parser, byte: u8, at: usize) -> Next
     requires { p.types < 2 ^ 63 }
     ensures { step_outcome result ≡ step_as Mode.AtSign p byte at }

@@ -107,6 +107,7 @@ impl Frames {
     }
 
     // One more start is met.
+    #[tactic(auto, unfolding(crate::specs::Marks::met))]
     pub fn meet(self, start: u64) -> Frames
         ensures { result ≡ met self start }
     {

@@ -1,5 +1,6 @@
 // A sheet: which bytes of a window of a file are used. Word 0 is the file, word 1 the window's first byte; word 2 counts from there to the
-// least byte past the window that is known to be used; from word 3 on each bit stands for a byte.
+// least byte past the window that is known to be used; from word 3 on each bit stands for a byte. It is an array of words and no struct,
+// since the caller lends it.
 ghost use Rattle.std.specs.Prelude.{◌≡◌, ◌+◌, ◌-◌, ◌/◌, ◌<◌, ◌≤◌};
 ghost use Rattle.reads.specs.Reference.{before};
 ghost use Rattle.ranges.specs.Range.{range};
@@ -45,6 +46,7 @@ fn set_bits(sheet: &mut [u64; WORDS], k: u64, n: u64)
 }
 
 // The least byte past the window is at most x.
+#[tactic(auto, unfolding(crate::specs::Sheet::lowered_to))]
 fn lower(sheet: &mut [u64; WORDS], x: u64)
     ensures { sheet.new ≡ lowered_to sheet.old x }
 {
@@ -73,5 +75,9 @@ pub fn note(sheet: &mut [u64; WORDS], file: u64, offset: u64, len: u64)
     }
     let from = sheet[1];
     let before = from.saturating_sub(offset);
-    note_from(sheet, offset.saturating_sub(from), len.saturating_sub(before));
+    note_from(
+        sheet,
+        offset.saturating_sub(from),
+        len.saturating_sub(before),
+    );
 }

@@ -100,6 +100,7 @@ impl Sweep {
     }
 
     // Begins the sheet of the window that comes next, of a file of `size` bytes.
+    #[tactic(auto, unfolding(crate::specs::Sheet::headed))]
     pub fn begin(self, size: u64, sheet: &mut [u64; WORDS])
         ensures { sheet.new ≡ headed self.file self.at (size - self.at) sheet.old }
     {
@@ -124,6 +125,7 @@ impl Sweep {
     }
 
     // Passes the end of a file of `size` bytes: a run ends with its file.
+    #[tactic(auto, unfolding(crate::specs::Sweep::over_end, crate::specs::Sweep::more))]
     pub fn over_end(self, size: u64, out: &mut [u64]) -> Sweep
         ensures { reached result out.new ≡ over_end size (reached self out.old) }
     {

@@ -11,5 +11,5 @@ pub count-requires-clause-fits : goal.count-requires-clause-fits
 count-requires-clause-fits c =
     let text = c.args.text.now in
     let all : length (items_left_of c.filter.result.iter) ≡ length (items text) =
-        ap (λ s. length (items_left_of s)) c.filter.ensures.source ∙ ap length c.items_of.ensures in
+    ap (λ s. length (items_left_of s)) c.filter.ensures.source ∙ ap length c.items_of.ensures in
     inl (omega (arith, all, items_few text))

@@ -16,10 +16,10 @@ loop-i-preserved c =
     let at = c.loop-i.invariant in
     let h = c.loop-i-test.true in
     elim c.if-b-eq34.branch [
-      then-b-eq34 w ↦ rw w.quoted-is (reached_quote at h w.if-b-eq34.true)
-    | else-b-eq34+else-b-eq44 w ↦ rw w.quoted-is (elim w.else-b-eq44.branch [
-        else-b-eq44-via-then-b-eq44+else-not-quoted v ↦ reached_quoted at h v.if-b-eq44.true (ap not v.if-not-quoted.false)
-      | else-b-eq44-via-else-b-eq44 v ↦ reached_other at h w.if-b-eq34.false v.if-b-eq44.false
+      | then-b-eq34 w ↦ rw w.quoted-is (reached_quote at h w.if-b-eq34.true)
+      | else-b-eq34+else-b-eq44 w ↦ rw w.quoted-is (elim w.else-b-eq44.branch [
+        | else-b-eq44-via-then-b-eq44+else-not-quoted v ↦ reached_quoted at h v.if-b-eq44.true (ap not v.if-not-quoted.false)
+        | else-b-eq44-via-else-b-eq44 v ↦ reached_other at h w.if-b-eq34.false v.if-b-eq44.false
       ])
     ]
 

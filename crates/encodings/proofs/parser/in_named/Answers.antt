@@ -9,9 +9,3 @@ close-requires c =
     let a = c.args in
     let closes = c.closes in
     closes_open a.p.depth a.p.levels a.byte (sym closes.ensures ∙ c.if-closes.true)
-
-pub returns-then-closes : goal.returns-then-closes
-returns-then-closes c = search (choices, rules)
-
-pub returns : goal.returns
-returns c = search (choices, rules)

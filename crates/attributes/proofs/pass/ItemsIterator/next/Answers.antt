@@ -1,10 +1,9 @@
-use Prim.Native.Nat.{◌+◌, ◌<◌, ◌≤◌}
-use mathlib.Core.Path.{◌≡◌, ap, sym}
-use mathlib.Core.List.{[], ◌∷◌}
+use Prim.Native.Nat.{◌+◌, ◌<◌}
+use mathlib.Core.Path.{◌≡◌, ap}
+use mathlib.Core.List.{[]}
 use borrow.Author.Rules.{rules}
 use native.Mathlib.Omega.{arith}
 use lib.ListN.{length, get_or}
-use borrow.Author.Tests.{ltb-true, ltb-false}
 use Rattle.attributes.specs.Pass.{items_left_of}
 use Rattle.attributes.proofs.ValueEnds.{value_inside}
 use Rattle.attributes.proofs.AttributeItems.{items_next, items_end}

@@ -1,7 +1,0 @@
-use Rattle.frames.proofs.frames.Floor.is_at.Goals as goal
-
-pub returns-in-Nothing : goal.returns-in-Nothing
-returns-in-Nothing c = rw c.in-Nothing.is
-
-pub returns-in-At : goal.returns-in-At
-returns-in-At c = rw c.in-At.is
