@@ -1,9 +1,9 @@
 // Passes over the items of a text, which parsing and decoding share.
-ghost use Rattle.std.specs.Prelude.{◌≡◌, not, ◌+◌, ◌*◌, ◌-◌, ◌≤◌, ◌<◌, length, drop};
+ghost use Rattle.std.specs.Prelude.{◌≡◌, not, ◌+◌, ◌*◌, ◌-◌, ◌≤◌, length, drop};
+ghost use Rattle.std.specs.Iterator.{YieldsFirst, item_count};
 ghost use Rattle.reads.specs.Reference.{before};
 ghost use Rattle.attributes.specs.Attributes.{value_length, item_of, items, items_fit, filled};
 ghost use Rattle.attributes.specs.Property.{letters, among, first_value};
-ghost use Rattle.std.specs.Iterator.{YieldsFirst, item_count};
 ghost use Rattle.attributes.specs.Pass.{items_left_of, wanted, chosen};
 
 use crate::items::{Item, Value};

@@ -1,10 +1,9 @@
 // The text of a declared property: its letters in a fixed order, the unknown ones among them, with commas between them.
-ghost use Rattle.std.specs.Prelude.{◌≡◌, [], ◌∷◌, map, ◌+◌, ◌*◌, ◌≤◌, ◌<◌, length, get_or};
+ghost use Rattle.std.specs.Prelude.{◌≡◌, [], ◌∷◌, map, ◌+◌, ◌*◌, ◌≤◌, length};
 ghost use Rattle.reads.specs.Reference.{before};
 ghost use Rattle.reads.specs.Answer.{word_outcome};
 ghost use Rattle.attributes.specs.Written.{bytes_of, bytes_given, part_of, front_letters, front_of, given, joined, items_in, written_text, written_of, written_left};
 ghost use Rattle.attributes.specs.Puts.{Put, comma_at, behind, item_at};
-ghost use Rattle.attributes.specs.declared.property.Attribute.TheVariants.{Nothing};
 
 use crate::items::{Item, Value};
 use crate::pass::LETTERS;

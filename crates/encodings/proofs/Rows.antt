@@ -14,7 +14,7 @@ pub row_put : (l : List ℕ) (k from offset end : ℕ) {mid : ℕ} {part : List 
     → RowPut k from offset end l (put_mid (4 * k) (4 * k + 4 - 4 * k) l part)
 row_put l k from offset end {part = part} h e p =
     let w : put_mid (4 * k) (4 * k + 4 - 4 * k) l part ≡ sets l (4 * k) (row from offset end) =
-        rw (p, e, Post-is (4 * k) (4 * k + 4) l (omega arith))
-        (sym (append_assoc (take (4 * k) l) (row from offset end) (drop (4 * k + 4) l))
-        ∙ sym (sets-eq (row from offset end) l (4 * k) (omega arith))) in
+    rw (p, e, Post-is (4 * k) (4 * k + 4) l (omega arith))
+    (sym (append_assoc (take (4 * k) l) (row from offset end) (drop (4 * k + 4) l))
+    ∙ sym (sets-eq (row from offset end) l (4 * k) (omega arith))) in
     record { holds = λ f. w; same = ap length w ∙ length-sets l (4 * k) (row from offset end) }

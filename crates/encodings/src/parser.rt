@@ -1,7 +1,7 @@
 // A parser of type encodings: what it keeps of the text before, and a step for each byte.
 ghost use Rattle.std.specs.Prelude.{◌≡◌, [], ◌+◌, ◌^◌, ◌<◌, get_or};
 ghost use Rattle.std.specs.Bool.{OnTrue, OnFalse};
-ghost use Rattle.reads.specs.Outcome.{value, choose};
+ghost use Rattle.reads.specs.Outcome.{value};
 ghost use Rattle.reads.specs.Answer.{word_outcome};
 ghost use Rattle.encodings.specs.Grammar.{digit_byte};
 ghost use Rattle.encodings.specs.Machine.{outside, class_of};
@@ -139,11 +139,7 @@ fn below_pointers(p: Parser) -> Parser
         depth -= 1;
         levels /= 4;
     }
-    Parser {
-        depth,
-        levels,
-        ..p
-    }
+    Parser { depth, levels, ..p }
 }
 
 // A type begins.

@@ -27,7 +27,12 @@ fn put_row(p: Parser, end: usize, buffer: &mut [u64])
     }
     let k = 4 * p.types;
     let mid = type_end(p.offset, end);
-    let row = [p.start as u64, (mid - p.start) as u64, p.offset as u64, (end - mid) as u64];
+    let row = [
+        p.start as u64,
+        (mid - p.start) as u64,
+        p.offset as u64,
+        (end - mid) as u64,
+    ];
     buffer[k..k + 4].copy_from_slice(&row);
 }
 

@@ -1,7 +1,5 @@
 use mathlib.Core.Path.{sym, ◌∙◌}
-use Rattle.encodings.proofs.Choices.{choices}
 use Rattle.encodings.proofs.Levels.{closes_open}
-use borrow.Author.Rules.{rules}
 use Rattle.encodings.proofs.parser.in_named.Goals as goal
 
 pub close-requires : goal.close-requires

@@ -1,8 +1,5 @@
-use mathlib.Core.Path.{refl, ap, ◌∙◌}
-use lib.ListN.{length}
-use lib.Seq.{length-sets}
+use mathlib.Core.Path.{refl}
 use native.Mathlib.Omega.{arith}
-use Rattle.encodings.specs.Parser.{row}
 use Rattle.encodings.proofs.Rows.{row_put}
 use Rattle.encodings.proofs.reading.put_row.Goals as goal
 

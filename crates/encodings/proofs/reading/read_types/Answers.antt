@@ -1,4 +1,4 @@
-use mathlib.Core.Path.{◌≡◌, ◌∙◌}
+use mathlib.Core.Path.{◌≡◌}
 use native.Mathlib.Omega.{arith}
 use lib.ListN.{length}
 use Rattle.encodings.proofs.Reached.{reached_first, reached_types, reached_ordered, reached_next, reached_missing, reached_end, reached_end_missing}
