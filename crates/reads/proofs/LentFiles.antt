@@ -1,5 +1,5 @@
 -- Laws of the files that are lent, and of the longest of them.
-use Rattle.std.proofs.Common.{◌≡◌, ℕ, zero, suc, ◌+◌, ◌<◌, ◌≤◌, min, max, Bool, true, false, not, ltb, List, [], ◌∷◌, map, length, get_or, drop, sym, refl, ap, ◌∙◌, subst, arith, length-drop, length-take, get_or-take, Bor, ltb-false, ltb-true, le-ltb, lt-ltb}
+use Rattle.std.proofs.Common.{◌≡◌, ℕ, zero, suc, ◌+◌, ◌<◌, ◌≤◌, min, max, Bool, true, false, not, List, [], ◌∷◌, map, length, get_or, drop, sym, refl, ap, ◌∙◌, subst, arith, length-drop, length-take, get_or-take, Bor, ltb-false, ltb-true}
 use native.Mathlib.Decide.{dec_le}
 use borrow.Author.Tests.{not-true, not-false}
 use lib.ListN.{length-map, get_or-map, get_or-eq_default}
@@ -42,17 +42,6 @@ module _ (fs : List (Bor (List ℕ))) where
 
       pub said_not : not b ≡ true → length (files_lent fs) ≤ f
       said_not y = ltb-false f (length (files_lent fs)) (sym e ∙ not-true b y)
-
-    -- How the code finds it out.
-    pub past_fourth : 4 ≤ f → false ≡ is_lent (files_lent fs) f
-    past_fourth h = sym (le-ltb f (length (files_lent fs)) (omega (arith, length_lent)))
-
-    pub below_fourth : f < 4 → ltb f (length fs) ≡ is_lent (files_lent fs) f
-    below_fourth h = go (ltb f (length fs)) refl
-      where
-        go : (b : Bool) → ltb f (length fs) ≡ b → b ≡ is_lent (files_lent fs) f
-        go true e = sym (lt-ltb f (length (files_lent fs)) (omega (arith, length_lent, ltb-true f (length fs) e)))
-        go false e = sym (le-ltb f (length (files_lent fs)) (omega (arith, length_lent, ltb-false f (length fs) e)))
 
   -- No file stands behind the fourth.
   pub longest_past : longest (drop 4 (files_lent fs)) ≡ 0

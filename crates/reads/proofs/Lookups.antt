@@ -1,5 +1,5 @@
 -- What a segment answers, by the tests that the code makes, and the walk over the rows from row i on.
-use Rattle.std.proofs.Common.{◌≡◌, ℕ, suc, ◌+◌, ◌-◌, ◌^◌, ◌<◌, ◌≤◌, true, false, ◌&&◌, eqb, ltb, leb, List, arith, ltb-true, le-ltb, lt-ltb, eq-eqb, ne_eqb, le-leb, leb-false, leb-true}
+use Rattle.std.proofs.Common.{◌≡◌, ℕ, suc, ◌+◌, ◌-◌, ◌^◌, ◌<◌, ◌≤◌, true, false, ◌&&◌, eqb, ltb, leb, List, arith, ltb-true, le-ltb, le-leb, leb-false, leb-true}
 use mathlib.Core.Bool.{and-false}
 use borrow.Author.Tests.{lt-leb}
 use Rattle.reads.specs.Outcome.{value, absent, because, choose, sum64}
@@ -11,20 +11,12 @@ use Rattle.reads.proofs.Outcomes.{sum_fits, sum_over}
 use Rattle.reads.proofs.SegmentRows.{rows_from, rows_read, rows_none}
 use Rattle.reads.proofs.Tests.{le_same, both_true}
 
--- A sum over 64 bits, as the code tests it.
-pub over_by : (a b : ℕ) → a < 2 ^ 64 → ltb (2 ^ 64 - 1 - a) b ≡ leb (2 ^ 64) (a + b)
-over_by a b h = le_same (suc (2 ^ 64 - 1 - a)) b (2 ^ 64) (a + b) (λ u. omega arith) (λ u. omega arith)
-
 -- A number in [from, from + size), as the code tests it.
 pub inside_by : (from size x : ℕ) → from ≤ x → ltb (x - from) size ≡ leb from x && ltb x (from + size)
 inside_by from size x h =
     simp (le-leb from x h) (le_same (suc (x - from)) size (suc x) (from + size) (λ u. omega arith) (λ u. omega arith))
 
 module _ (s : Segment) where
-  pub ends_by : s.vmaddr < 2 ^ 64 → ltb (2 ^ 64 - 1 - s.vmaddr) s.vmsize ≡ ends s
-  unfolding ends
-  ends_by h = over_by s.vmaddr s.vmsize h
-
   pub ends_not : ends s ≡ false → s.vmaddr + s.vmsize < 2 ^ 64
   unfolding ends
   ends_not e = leb-false (2 ^ 64) (s.vmaddr + s.vmsize) e
@@ -36,10 +28,6 @@ module _ (s : Segment) where
   pub holds_before : (va : ℕ) → va < s.vmaddr → false ≡ holds s va
   unfolding holds
   holds_before va l = simp (lt-leb s.vmaddr va l, and-false)
-
-  pub holds_by : (va : ℕ) → (s.filesize ≡ 0 → ⊥) → s.vmaddr ≤ va → ltb (va - s.vmaddr) s.vmsize ≡ holds s va
-  unfolding holds
-  holds_by va p l = simp (lt-ltb 0 s.filesize (omega arith)) (inside_by s.vmaddr s.vmsize va l)
 
   -- An address that the segment holds is at or above vmaddr and below its end, and the segment has bytes in the file.
   pub holds_is : (va : ℕ) → holds s va ≡ true → (0 < s.filesize) × (s.vmaddr ≤ va) × (va < s.vmaddr + s.vmsize)
@@ -62,34 +50,10 @@ module _ (s : Segment) where
   unfolding placed choose
   placed_at va h l = simp (lt-leb s.filesize (va - s.vmaddr) h, sum_fits s.fileoff (va - s.vmaddr) l)
 
-  pub mapped_vm : s.vmsize < s.filesize → s.vmsize ≡ mapped_size s
-  unfolding mapped_size
-  mapped_vm h = omega arith
-
-  pub mapped_file : s.filesize ≤ s.vmsize → s.filesize ≡ mapped_size s
-  unfolding mapped_size
-  mapped_file h = omega arith
-
-  pub carries_other : (file offset : ℕ) → (s.file ≡ file → ⊥) → false ≡ carries s file offset
-  unfolding carries
-  carries_other file offset n = simp (ne_eqb s.file file n)
-
-  pub carries_before : (file offset : ℕ) → offset < s.fileoff → false ≡ carries s file offset
-  unfolding carries
-  carries_before file offset l = simp (lt-leb s.fileoff offset l, and-false)
-
-  pub carries_by : (file offset m : ℕ) → m ≡ mapped_size s → s.file ≡ file → s.fileoff ≤ offset → ltb (offset - s.fileoff) m ≡ carries s file offset
-  unfolding carries
-  carries_by file offset m e f l = rw (e, eq-eqb s.file file f) (inside_by s.fileoff (mapped_size s) offset l)
-
   pub carries_is : (file offset : ℕ) → carries s file offset ≡ true → s.fileoff ≤ offset
   unfolding carries
   carries_is file offset e =
       leb-true _ _ (both_true (leb s.fileoff offset) (ltb offset (s.fileoff + mapped_size s)) (both_true (eqb s.file file) _ e).1).0
-
-  pub ends_in_file_by : (m : ℕ) → m ≡ mapped_size s → s.fileoff < 2 ^ 64 → ltb (2 ^ 64 - 1 - s.fileoff) m ≡ ends_in_file s
-  unfolding ends_in_file
-  ends_in_file_by m e h = rw e (over_by s.fileoff (mapped_size s) h)
 
 pub lookup_out : (ws : List ℕ) (i va : ℕ) → records segment_words ws ≤ i → lookup (rows_from ws i) va ≡ absent Unmapped
 unfolding lookup

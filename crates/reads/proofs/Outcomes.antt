@@ -1,7 +1,7 @@
 -- Laws of outcomes, in the form in which a proof of code uses them: w is an answer of the code whose outcome is x.
 use Rattle.std.proofs.Common.{◌≡◌, ℕ, ◌+◌, ◌^◌, ◌<◌, ◌≤◌, Bool, true, false, refl, ap, ◌∙◌, arith, le-ltb, lt-ltb, ne_eqb}
 use Rattle.reads.specs.Outcome.{Outcome, value, absent, number, and_then, because, or_else, or_first, is_absent, or_zero, or_empty, choose, sum64, nonzero}
-use Rattle.reads.specs.Answer.{missed, missing_because, word_outcome, place_outcome, text_outcome}
+use Rattle.reads.specs.Answer.{missed, word_outcome, place_outcome, text_outcome}
 use Rattle.reads.specs.declared.answer.Reason.{Reason}
 use Rattle.reads.specs.declared.answer.Reason.TheVariants.{NullAddress, FieldOverflow}
 use Rattle.reads.specs.declared.answer.Missing.{Missing}
@@ -53,11 +53,6 @@ then_came (number k) f b e = let z : ◌≡◌ {A = ℕ} 0 1 = cc in absurd (ome
 pub missed_then : {A B : Type 0} (m : Missing) (f : A → Outcome B) → missed m ≡ and_then (missed m) f
 missed_then (Absent r) f = refl
 missed_then (Refused k) f = refl
-
--- An absence for another reason.
-pub missed_because : {A : Type 0} (why : Reason) (m : Missing) → missed {A = A} (missing_because why m) ≡ because why (missed m)
-missed_because why (Absent r) = refl
-missed_because why (Refused k) = refl
 
 -- An answer that was matched takes a chain of lookups one further.
 module _ {W A B : Type 0} (out : W → Outcome A) (f : A → Outcome B) where

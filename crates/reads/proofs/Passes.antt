@@ -1,5 +1,5 @@
 -- One pass over bytes: what its steps say of the text, one law for each of their cases.
-use Rattle.std.proofs.Common.{◌≡◌, ℕ, suc, ◌+◌, ◌<◌, ◌≤◌, min, Bool, true, false, ◌&&◌, eqb, ltb, leb, List, [], ◌∷◌, length, get_or, drop, sym, refl, ap, ◌∙◌, subst, true≢false, arith, drop_of_length-le, drop-cons, ltb-true, le-ltb, lt-ltb, eq-eqb, ne_eqb, le-leb, leb-true}
+use Rattle.std.proofs.Common.{◌≡◌, ℕ, suc, ◌+◌, ◌<◌, ◌≤◌, min, Bool, true, false, eqb, ltb, leb, List, [], ◌∷◌, length, get_or, drop, sym, refl, ap, ◌∙◌, subst, true≢false, arith, drop_of_length-le, drop-cons, ltb-true, le-ltb, lt-ltb, eq-eqb, ne_eqb, leb-true}
 use mathlib.Core.Option.{Option, none, some}
 use native.Mathlib.Decide.{dec_le}
 use lib.ListN.{get_or-eq_default}
@@ -11,7 +11,7 @@ use Rattle.reads.specs.declared.text.ByteRead.{ByteRead}
 use Rattle.reads.specs.declared.text.Step.{Step}
 use Rattle.reads.specs.declared.text.Verdict.TheVariants.{Bad}
 use Rattle.reads.proofs.Tests.{both_true}
-use Rattle.reads.proofs.Rows.{all, begun_all, inside_between, inside_under, inside_over, multi_row, multi_under, multi_over}
+use Rattle.reads.proofs.Rows.{all, begun_all, inside_between, inside_over, multi_row, multi_under, multi_over}
 
 module _ (b : ℕ) (s : List ℕ) where
   pub text_zero : b ≡ 0 → text (b ∷ s) ≡ []
@@ -65,9 +65,6 @@ pub record FoundBad (z : Bool) (s : List ℕ) (k : ℕ) : Type 0 where
   pub within : k ≤ length s
   pub long : k + length (up_to z (drop k s)) ≡ length (up_to z s)
   pub judged : Bad k ≡ verdict (up_to z s)
-
-pub left_start : (z : Bool) (s : List ℕ) → Left z s [] 0
-left_start z s = record { within = omega arith; long = omega arith; judged = refl }
 
 -- At offset i, by the byte that stands there.
 module _ {z : Bool} {s : List ℕ} {w : List Range} {i : ℕ} (l : Left z s w i) where
@@ -229,28 +226,7 @@ module _ {z : Bool} {s : List ℕ} {i : ℕ} (l : Left z s [] i) {b : ByteRead} 
   left_character {p} h q = subst (Stands z s i []) (sym (q ∙ ap (character s) e)) (stands_character l (omega (arith, byte_is)))
 
 -- The code's steps are those of the definitions
-module _ (s : List ℕ) (i : ℕ) where
-  pub byte_end : length s ≤ i → record { at = i; byte = 0; read = i } ≡ byte_after s i
-  byte_end h = rw (read_none s i h, get_or-eq_default s 0 h)
-
-  pub byte_there : i < length s → record { at = i; byte = get_or s i 0; read = i + 1 } ≡ byte_after s i
-  byte_there h = let n : i + 1 ≡ suc i = omega arith in rw (read_there s i h, n)
-
-module _ (s : List ℕ) (last : ByteRead) (lo hi : ℕ) {b : ByteRead} (e : b ≡ byte_after s last.read) where
-  by_range : record { fits = inside (lo to hi) b.byte; last = b } ≡ due s last (lo to hi)
-  by_range = ap (λ (x : ByteRead). record { fits = inside (lo to hi) x.byte; last = x }) e
-
-  pub due_under : b.byte < lo → record { fits = false; last = b } ≡ due s last (lo to hi)
-  due_under h = ap (λ (x : Bool). record { fits = x; last = b }) (sym (inside_under lo hi b.byte h)) ∙ by_range
-
-  pub due_over : lo ≤ b.byte → record { fits = leb b.byte hi; last = b } ≡ due s last (lo to hi)
-  due_over h = ap (λ (x : Bool). record { fits = x && leb b.byte hi; last = b }) (sym (le-leb lo b.byte h)) ∙ by_range
-
 module _ (s : List ℕ) (p : Step) (r : Range) where
-  pub follow_stopped : p.fits ≡ false → p ≡ follow s p r
-  unfolding choose
-  follow_stopped e = ap (λ (x : Bool). choose x (due s p.last r) p) (sym e)
-
   pub follow_on : p.fits ≡ true → due s p.last r ≡ follow s p r
   unfolding choose
   follow_on e = ap (λ (x : Bool). choose x (due s p.last r) p) (sym e)

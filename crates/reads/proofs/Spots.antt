@@ -1,5 +1,5 @@
 -- Spots, by the tests that the code makes; and what is read near one is what a lookup gives.
-use Rattle.std.proofs.Common.{◌≡◌, ℕ, ◌%◌, ◌+◌, ◌-◌, ◌^◌, ◌<◌, ◌≤◌, min, max, Bool, true, false, ◌&&◌, ◌||◌, eqb, ltb, leb, List, [], ◌∷◌, length, sym, refl, ap, ◌∙◌, subst, true≢false, arith, ltb-false, lt-ltb, eq-eqb, ne_eqb, eqb-true, le-leb, leb-false, leb-true}
+use Rattle.std.proofs.Common.{◌≡◌, ℕ, ◌+◌, ◌-◌, ◌^◌, ◌<◌, ◌≤◌, min, max, Bool, true, false, ◌&&◌, ◌||◌, eqb, ltb, leb, List, [], ◌∷◌, length, sym, refl, ap, ◌∙◌, subst, true≢false, arith, ltb-false, lt-ltb, eq-eqb, ne_eqb, eqb-true, le-leb, leb-false, leb-true}
 use mathlib.Core.Bool.{and-true, or-true}
 use borrow.Author.Tests.{lt-leb, eqb-false}
 use Rattle.reads.specs.Outcome.{Outcome, value, absent, and_then, because, choose}
@@ -28,23 +28,8 @@ module _ (s : Segment) (va : ℕ) where
   unfolding distance
   distance_before h = choose_false _ _ (lt-leb s.vmaddr va h)
 
-  -- The number that vmaddr added to wraps to the address.
-  pub distance_wraps : s.vmaddr < 2 ^ 64 → va < 2 ^ 64 → (va + (2 ^ 64 - s.vmaddr)) % 2 ^ 64 ≡ distance s va
-  distance_wraps g h = go (leb s.vmaddr va) refl
-    where
-      go : (b : Bool) → leb s.vmaddr va ≡ b → (va + (2 ^ 64 - s.vmaddr)) % 2 ^ 64 ≡ distance s va
-      go true p = let q = leb-true s.vmaddr va p in rw (distance_past q) (omega arith)
-      go false p = let q = leb-false s.vmaddr va p in rw (distance_before q) (omega arith)
-
 -- A segment that does not end a lookup holds an address exactly below its vmsize, if it has bytes in the file.
 module _ (s : Segment) (va : ℕ) (e : ends s ≡ false) where
-  pub held_not : s.vmsize ≤ distance s va → false ≡ holds s va
-  held_not h = go (leb s.vmaddr va) refl
-    where
-      go : (b : Bool) → leb s.vmaddr va ≡ b → false ≡ holds s va
-      go true p = let q = leb-true s.vmaddr va p in sym (holds_not_past s va (omega (arith, distance_past s va q)))
-      go false p = holds_before s va (leb-false s.vmaddr va p)
-
   pub held_by : distance s va < s.vmsize → ltb 0 s.filesize ≡ holds s va
   unfolding holds
   held_by h = go (leb s.vmaddr va) refl
@@ -155,17 +140,6 @@ module _ (ws : List ℕ) (i : ℕ) (fits : i < records segment_words ws) (s : Se
   pub spot_on : ends s ≡ false → holds s va ≡ false → spot_from far (rows_from ws i) va ≡ spot_from (max far (distance s va)) (rows_from ws (i + 1)) va
   unfolding spot_from choose
   spot_on e h = simp (rows_read ws i fits s at, e, h)
-
--- The spot of bytes that can be read, by the tests that the code makes.
-module _ (m : Image) (va k : ℕ) (s : Spot) (is : s ≡ spot_in m.words va) where
-  module _ (n : ℕ) (long : n ≡ length (file_of m.files s.file)) where
-    pub spot_read : s.offset + k ≤ n → s ≡ readable_spot m va k
-    unfolding readable_spot
-    spot_read h = rw (← is, ← long) (sym (choose_true _ _ (le-leb (s.offset + k) n h)))
-
-    pub spot_unread : n < s.offset + k → nowhere ≡ readable_spot m va k
-    unfolding readable_spot
-    spot_unread h = rw (← is, ← long) (sym (choose_false _ _ (lt-leb (s.offset + k) n h)))
 
 -- The place of a spot, by the test that the code makes; one that has a place has room.
 module _ (s : Spot) where

@@ -1,5 +1,5 @@
 -- The text in front of a list: where a pass over it ends, and what the answers come to.
-use Rattle.std.proofs.Common.{◌≡◌, ℕ, suc, ◌+◌, ◌-◌, ◌<◌, ◌≤◌, min, Bool, true, false, eqb, leb, List, [], ◌∷◌, length, get_or, take, drop, sym, refl, ap, ◌∙◌, subst, arith, length-drop, drop_of_length-le, take_all, drop-cons, le-leb, leb-true}
+use Rattle.std.proofs.Common.{◌≡◌, ℕ, suc, ◌+◌, ◌<◌, ◌≤◌, min, Bool, true, false, eqb, leb, List, [], ◌∷◌, length, get_or, drop, sym, refl, ap, ◌∙◌, subst, arith, length-drop, drop_of_length-le, drop-cons, leb-true}
 use native.Mathlib.Decide.{dec_le}
 use borrow.Author.Tests.{lt-leb}
 use Rattle.reads.specs.Outcome.{Outcome, value, absent, number, and_then, choose, nonzero, text_of}
@@ -7,20 +7,16 @@ use Rattle.reads.specs.Files.{file_of}
 use Rattle.reads.specs.Segment.{rows, lookup}
 use Rattle.reads.specs.Place.{Image}
 use Rattle.reads.specs.declared.place.Place.{Place}
-use Rattle.reads.specs.Answer.{missed}
-use Rattle.reads.specs.Utf8.{judge, verdict, is_good, utf8}
-use Rattle.reads.specs.Text.{text, scanned, scan_of, if_good, good_text, ended, if_ended, text_of_scan, text_from, text_at, text_in, read_from, or_none, length_plus_one, fixed_length}
+use Rattle.reads.specs.Utf8.{judge, verdict}
+use Rattle.reads.specs.Text.{text, scanned, scan_of, if_good, good_text, ended, if_ended, text_from, text_at, text_in}
 use Rattle.reads.specs.Pass.{byte_after, broken_at}
 use Rattle.reads.specs.declared.text.ByteRead.{ByteRead}
 use Rattle.reads.specs.declared.text.Reading.{Reading}
 use Rattle.reads.specs.declared.text.Reading.TheVariants.{Old, New}
-use Rattle.reads.specs.declared.text.Scan.{Scan}
 use Rattle.reads.specs.declared.text.Text.{Text}
 use Rattle.reads.specs.declared.text.Verdict.{Verdict}
 use Rattle.reads.specs.declared.text.Verdict.TheVariants.{Good, Bad}
-use Rattle.reads.specs.declared.answer.Reason.TheVariants.{PastEnd, Unterminated, NotUtf8}
-use Rattle.reads.specs.declared.answer.Missing.{Missing}
-use Rattle.reads.specs.declared.answer.Missing.TheVariants.{Absent, Refused}
+use Rattle.reads.specs.declared.answer.Reason.TheVariants.{PastEnd}
 use Rattle.reads.proofs.Passes.{text_zero, text_next, stands_inside, read_there, read_of_all, Left, FoundBad}
 
 -- The end of a pass over s
@@ -38,9 +34,6 @@ pub record Ahead (s : List ℕ) (k : ℕ) (b : ByteRead) : Type 0 where
   pub is : b ≡ byte_after s b.at
   pub within : b.at ≤ length s
   pub long : b.at + length (text (drop b.at s)) ≡ k + length (text (drop k s))
-
-pub ahead_start : {s : List ℕ} {b : ByteRead} → b.at ≤ length s → b ≡ byte_after s b.at → Ahead s b.at b
-ahead_start h e = record { is = e; within = h; long = refl }
 
 module _ {s : List ℕ} {k : ℕ} {b : ByteRead} (l : Ahead s k b) where
   -- Where it is no zero byte, the text goes on behind it.
@@ -80,73 +73,14 @@ scan_good {s} {i} {b} l q z =
 pub scan_broken : {s : List ℕ} {k : ℕ} → FoundBad true s k → broken_at s k ≡ scan_of s
 scan_broken {s} {k} b = rw (b.long, b.judged)
 
--- What the answers come to
-
-module _ (p : Place) (c : Scan) where
-  pub scan_found : c.verdict ≡ Good → value (text_of p.file p.offset c.len) ≡ good_text p c
-  scan_found e = ap (λ (v : Verdict). and_then (if_good v c.len) (λ n. value (text_of p.file p.offset n))) (sym e)
-
-  pub scan_missed : (k : ℕ) → c.verdict ≡ Bad k → absent (NotUtf8 k) ≡ good_text p c
-  scan_missed k e = ap (λ (v : Verdict). and_then (if_good v c.len) (λ n. value (text_of p.file p.offset n))) (sym e)
-
-  pub scan_old : {r : Reading} → r ≡ Old → good_text p c ≡ text_of_scan r p c
-  scan_old q = ap (λ (r : Reading). text_of_scan r p c) (sym q)
-
-  pub scan_ended : {r : Reading} → r ≡ New → ended c ≡ true → good_text p c ≡ text_of_scan r p c
-  scan_ended q e = ap (λ (x : Bool). if_ended New x (good_text p c)) (sym e) ∙ ap (λ (r : Reading). text_of_scan r p c) (sym q)
-
-  pub scan_endless : {r : Reading} → r ≡ New → ended c ≡ false → absent Unterminated ≡ text_of_scan r p c
-  scan_endless q e = ap (λ (x : Bool). if_ended New x (good_text p c)) (sym e) ∙ ap (λ (r : Reading). text_of_scan r p c) (sym q)
-
-module _ (r : Reading) (bytes : List ℕ) (p : Place) where
-  module _ (h : length bytes < p.offset) where
-    pub text_beyond : absent PastEnd ≡ text_from r bytes p
-    unfolding text_from choose
-    text_beyond = simp (lt-leb p.offset (length bytes) h)
-
-    pub read_beyond : 0 ≡ read_from bytes p.offset
-    unfolding read_from text
-    read_beyond = let k : length bytes ≤ p.offset = omega arith in rw (drop_of_length-le bytes k)
-
-  -- Within the file, by the scan of the rest of it.
-  module _ (h : p.offset ≤ length bytes) {c : Scan} (e : c ≡ scan_of (take (length bytes - p.offset) (drop p.offset bytes))) where
-    all_taken : take (length bytes - p.offset) (drop p.offset bytes) ≡ drop p.offset bytes
-    all_taken = take_all (length bytes - p.offset) (drop p.offset bytes) (omega (arith, length-drop p.offset bytes))
-
-    scan_rest : c ≡ scan_of (drop p.offset bytes)
-    scan_rest = e ∙ ap scan_of all_taken
-
-    pub text_scanned : text_of_scan r p c ≡ text_from r bytes p
-    unfolding text_from choose
-    text_scanned = ap (text_of_scan r p) scan_rest ∙ simp (le-leb p.offset (length bytes) h)
-
-    pub read_scanned : c.read ≡ read_from bytes p.offset
-    unfolding read_from
-    read_scanned = ap (λ (x : Scan). x.read) scan_rest
-
-pub none_read : (m : Missing) → 0 ≡ or_none (missed m)
-none_read (Absent r) = refl
-none_read (Refused k) = refl
-
-pub length_plus_one_missed : (m : Missing) → 0 ≡ length_plus_one (missed m)
-unfolding length_plus_one
-length_plus_one_missed (Absent r) = refl
-length_plus_one_missed (Refused k) = refl
-
-module _ (s : List ℕ) {c : Scan} (e : c ≡ scan_of s) where
-  fixed_by : choose (is_good c.verdict) c.len 0 ≡ fixed_length s
-  unfolding fixed_length utf8
-  fixed_by = ap (λ (x : Scan). choose (is_good x.verdict) x.len 0) e
-
-  pub fixed_good : c.verdict ≡ Good → c.len ≡ fixed_length s
-  unfolding choose
-  fixed_good v = ap (λ (x : Verdict). choose (is_good x) c.len 0) (sym v) ∙ fixed_by
-
-  pub fixed_bad : (k : ℕ) → c.verdict ≡ Bad k → 0 ≡ fixed_length s
-  unfolding choose
-  fixed_bad k v = ap (λ (x : Verdict). choose (is_good x) c.len 0) (sym v) ∙ fixed_by
+-- Past its file's end a text is absent.
+module _ (r : Reading) (bytes : List ℕ) (p : Place) (h : length bytes < p.offset) where
+  pub text_beyond : absent PastEnd ≡ text_from r bytes p
+  unfolding text_from choose
+  text_beyond = simp (lt-leb p.offset (length bytes) h)
 
 -- A text lies in its file
+
 -- What is there under a reading is there under the old one.
 ended_value : (r : Reading) (e x : Bool) (t : Text) (o : Outcome Text) → value t ≡ choose x (if_ended r e o) (absent PastEnd)
     → value t ≡ choose x o (absent PastEnd)

@@ -1,17 +1,10 @@
 -- Laws of two's complement, over the width.
-use Rattle.std.proofs.Common.{◌≡◌, ℕ, zero, suc, ◌-◌, ◌^◌, ◌<◌, ◌≤◌, Bool, true, false, ltb, pos, negsuc, ◌-ℤ◌, sym, refl, ap, ◌∙◌, zero-add, arith, to_z-of_z, w32, SFits, to_z, of_z, ltb-false, ltb-true, lt-ltb, le-leb}
+use Rattle.std.proofs.Common.{◌≡◌, ℕ, zero, suc, ◌-◌, ◌^◌, ◌<◌, ◌≤◌, Bool, true, false, ltb, pos, negsuc, ◌-ℤ◌, sym, refl, ◌∙◌, arith, w32, to_z, ltb-false, ltb-true, lt-ltb, le-leb}
 use borrow.Author.Tests.{lt-leb}
-use mir.Syntax.{Width}
-use mir.Val.{hbits}
 use mir.Facts.{to_z_pos}
 use Rattle.reads.specs.Outcome.{choose}
 use Rattle.reads.specs.Signed.{twos}
 use Rattle.reads.specs.Relative.{signed32}
-
--- -1 - k is negsuc k.
-minus_one_less : (k : ℕ) → negsuc 0 -ℤ pos k ≡ negsuc k
-minus_one_less zero = refl
-minus_one_less (suc m) = ap (λ n. negsuc (suc n)) (zero-add m)
 
 -- A number below another, less that, is below zero.
 less_greater : (n size : ℕ) → n < size → pos n -ℤ pos size ≡ negsuc (size - suc n)
@@ -25,17 +18,6 @@ twos_negative n size h = less_greater n size h
 pub twos_positive : (n size : ℕ) → twos false n size ≡ pos n
 unfolding twos choose
 twos_positive n size = refl
-
--- What the code's -1 - k is, in bits of any width.
-module _ (w : Width) (k : ℕ) (h : k < 2 ^ hbits w) where
-  less : negsuc 0 -ℤ to_z w k ≡ negsuc k
-  less = rw (to_z_pos w h) (minus_one_less k)
-
-  pub code_less_fits : SFits w (negsuc 0 -ℤ to_z w k)
-  code_less_fits = rw less (record { sfits = h })
-
-  pub code_less : to_z w (of_z w (negsuc 0 -ℤ to_z w k)) ≡ negsuc k
-  code_less = rw (to_z-of_z code_less_fits) less
 
 signed32_low : (n : ℕ) → n < 2 ^ 31 → signed32 n ≡ pos n
 unfolding signed32
