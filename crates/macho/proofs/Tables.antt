@@ -2,11 +2,14 @@
 use Prim.Native.Nat.{ℕ, suc, ◌+◌, ◌-◌, ◌*◌, ◌≤◌, ◌<◌}
 use mathlib.Core.Path.{◌≡◌, refl, sym, ◌∙◌, ap}
 use mathlib.Core.Bool.{Bool, true, false}
-use mathlib.Core.List.{List, [], ◌∷◌, ◌++◌, append-nil}
+use mathlib.Core.List.{List, [], ◌∷◌, ◌++◌, append-nil, append_assoc}
 use native.Mathlib.Omega.{arith}
 use native.Mathlib.Numerals.{add-one, towards_suc}
 use lib.ListN.{length, get_or, take, drop, set, drop_of_length-le}
 use lib.Seq.{sets, sets-eq, drop-cons, take_at}
+use borrow.Rule.Slice.PartMut.{put_mid}
+use Rattle.std.proofs.lemmas.Slice.{put_mid-paste}
+use Rattle.std.proofs.lemmas.List.Edits.{paste_all}
 use Rattle.reads.specs.Outcome.{choose}
 use Rattle.reads.proofs.Tests.{choose_true, choose_false}
 use Rattle.reads.specs.Segment.{segment_words}
@@ -16,11 +19,9 @@ use Rattle.macho.specs.Segments.{segment_row, segment_rows, written}
 use Rattle.macho.specs.Sections.{headers_from, sections_of, section_at, section_none, named, first_named, section_row, section_rows}
 use Rattle.macho.specs.declared.section.Section.{Section}
 
-pub five_put : (t : List ℕ) (i a b c d e : ℕ) → set (set (set (set (set t i a) (i + 1) b) (i + 2) c) (i + 3) d) (i + 4) e ≡ sets t i (a ∷ b ∷ c ∷ d ∷ e ∷ [])
-five_put t i a b c d e = simp towards_suc
-
-pub three_put : (t : List ℕ) (i a b c : ℕ) → set (set (set t i a) (i + 1) b) (i + 2) c ≡ sets t i (a ∷ b ∷ c ∷ [])
-three_put t i a b c = simp towards_suc
+-- Words copied into a part of a table.
+pub part_put : (t : List ℕ) (i n : ℕ) (ws part : List ℕ) → part ≡ ws → n ≡ length ws → i + n ≤ length t → put_mid i n t part ≡ sets t i ws
+part_put t i n ws part e k h = put_mid-paste i n t part ws n e refl k ∙ paste_all t i ws n k ∙ rw (k, ← append_assoc) (sym (sets-eq ws t i (omega arith)))
 
 -- Words put from the start.
 pub put_whole : (ws t : List ℕ) → length ws ≤ length t → sets t 0 ws ≡ written ws t

@@ -50,14 +50,12 @@ fn command_fits(cmds: &[u8], at: u64) -> bool
 fn commands_fit(cmds: &[u8], count: u64) -> bool
     ensures { result ≡ all_fit (before cmds) count 0 }
 {
-    let mut left = count;
     let mut at = 0;
-    while left > 0 {
+    for _ in 0..count {
         if !command_fits(cmds, at) {
             return false;
         }
         at += field32(cmds, at, CMDSIZE);
-        left -= 1;
     }
     true
 }
@@ -79,19 +77,12 @@ pub fn ask_commands(file: &[u8]) -> Asked
 pub fn find(cmds: &[u8], kind: u64, count: u64, from: u64) -> Found
     ensures { result ≡ first_of kind (before cmds) count from }
 {
-    let mut left = count;
     let mut at = from;
-    while left > 0 {
+    for left in (0..count).rev() {
         if !command_fits(cmds, at) {
-            return Found {
-                here: false,
-                at: 0,
-                left: 0,
-                next: 0,
-            };
+            break;
         }
         let next = at + field32(cmds, at, CMDSIZE);
-        left -= 1;
         if field32(cmds, at, CMD) == kind {
             return Found {
                 here: true,

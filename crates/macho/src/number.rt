@@ -5,12 +5,6 @@ ghost use Rattle.macho.specs.Number.{u16_at, u32_at};
 
 use reads::place::u32_from;
 
-fn wide(x: u8) -> u16
-    ensures { (result ≡ x) × (result < 256) }
-{
-    x as u16
-}
-
 // The number of two bytes.
 pub fn u16_at(bytes: &[u8], at: u64, i: u64) -> u16
     ensures { result ≡ u16_at (before bytes) (at + i) }
@@ -26,12 +20,12 @@ pub fn u16_at(bytes: &[u8], at: u64, i: u64) -> u16
         return 0;
     }
     let first = (at + i) as usize;
-    wide(bytes[first]) + wide(bytes[first + 1]) * 0x100
+    u16::from_le_bytes([bytes[first], bytes[first + 1]])
 }
 
 // The number of four, in a word of 64 bits.
 pub fn field32(bytes: &[u8], at: u64, i: u64) -> u64
     ensures { (result ≡ u32_at (before bytes) (at + i)) × (result < 2 ^ 32) }
 {
-    u32_from(bytes, at, i) as u64
+    u64::from(u32_from(bytes, at, i))
 }

@@ -60,14 +60,11 @@ fn section_in(cmds: &[u8], from: u64, count: u64, name: &[u8]) -> Section
     requires { from + 80 * count ≤ length cmds.now }
     ensures { result ≡ first_named (before cmds) (before name) (headers_from count from) }
 {
-    let mut at = from;
-    let mut left = count;
-    while left > 0 {
+    for i in 0..count {
+        let at = from + SIZEOF_SECTION_64 * i;
         if has_name(cmds, at, name) {
             return section_at(cmds, at);
         }
-        at += SIZEOF_SECTION_64;
-        left -= 1;
     }
     Section {
         present: 0,
@@ -112,9 +109,7 @@ fn put_section(s: Section, table: &mut [u64], i: usize)
     requires { i + section_words ≤ length table.old }
     ensures { table.new ≡ sets table.old i (section_row s) }
 {
-    table[i] = s.present;
-    table[i + 1] = s.addr;
-    table[i + 2] = s.size;
+    table[i..i + ObjcSection::WORDS].copy_from_slice(&[s.present, s.addr, s.size]);
 }
 
 // Writes the rows of the five sections.
@@ -122,14 +117,12 @@ pub(crate) fn write_sections(cmds: &[u8], count: u64, table: &mut [u64])
     requires { length table.old ≡ section_table_words }
     ensures { table.new ≡ section_table_of (before cmds) count }
 {
-    let mut k = 0;
-    while k < 5 {
-        let name = SECTION_NAMES[k];
+    let names = SECTION_NAMES;
+    for (k, name) in names.iter().enumerate() {
         put_section(
-            section_named(cmds, count, &name),
+            section_named(cmds, count, name),
             table,
             ObjcSection::WORDS * k,
         );
-        k += 1;
     }
 }

@@ -37,11 +37,13 @@ fn put_segment(cmds: &[u8], at: u64, table: &mut [u64], i: usize)
     requires { i + segment_words ≤ length table.old }
     ensures { table.new ≡ sets table.old i (segment_row (before cmds) at) }
 {
-    table[i] = u64_from(cmds, at, VMADDR);
-    table[i + 1] = u64_from(cmds, at, VMSIZE);
-    table[i + 2] = u64_from(cmds, at, FILEOFF);
-    table[i + 3] = u64_from(cmds, at, FILESIZE);
-    table[i + 4] = FILE;
+    table[i..i + Segment::WORDS].copy_from_slice(&[
+        u64_from(cmds, at, VMADDR),
+        u64_from(cmds, at, VMSIZE),
+        u64_from(cmds, at, FILEOFF),
+        u64_from(cmds, at, FILESIZE),
+        FILE,
+    ]);
 }
 
 // Writes the row of each segment, in command order.

@@ -4,6 +4,3 @@ use Rattle.macho.proofs.command.find.Given as goal
 
 abbrev pub invariant-loop-left : goal.invariant-loop-left
 invariant-loop-left l = first_of l.kind l.cmds l.count l.from ≡ first_of l.kind l.cmds l.left l.at
-
-abbrev pub decreases-loop-left : goal.decreases-loop-left
-decreases-loop-left l = l.left

@@ -1,6 +1,6 @@
 use mathlib.Core.Path.{◌≡◌}
-use Prim.Native.Nat.{◌-◌, ◌*◌, ◌≤◌}
-use lib.ListN.{length, drop}
+use Prim.Native.Nat.{◌*◌}
+use lib.ListN.{drop}
 use lib.Seq.{sets}
 use Rattle.macho.specs.Commands.{segments_of}
 use Rattle.pointers.specs.Tables.{section_words}
@@ -8,7 +8,4 @@ use Rattle.macho.specs.Sections.{sections_of, section_names, section_rows, secti
 use Rattle.macho.proofs.section.write_sections.Given as goal
 
 abbrev pub invariant-loop-k : goal.invariant-loop-k
-invariant-loop-k l = (l.k ≤ 5) × (sets l.table (section_words * l.k) (section_rows l.cmds (sections_of l.cmds (segments_of l.cmds l.count)) (drop l.k section_names)) ≡ sets l.initial.table 0 (section_table_of l.cmds l.count)) × (length l.table ≡ length l.initial.table)
-
-abbrev pub decreases-loop-k : goal.decreases-loop-k
-decreases-loop-k l = 5 - l.k
+invariant-loop-k l = sets l.table (section_words * l.k) (section_rows l.cmds (sections_of l.cmds (segments_of l.cmds l.count)) (drop l.k section_names)) ≡ sets l.initial.table 0 (section_table_of l.cmds l.count)
