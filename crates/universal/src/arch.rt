@@ -66,14 +66,12 @@ fn first_arch(file: &[u8], wide: bool, count: u64, s: Sought) -> u64
     requires { arch_offset wide count ≤ length file.now }
     ensures { result ≡ first_arch (before file) wide s count 0 }
 {
-    let mut i = 0;
-    while i < count {
+    for i in 0..count {
         if is_sought(s, arch_at(file, wide, i)) {
             return i;
         }
-        i += 1;
     }
-    i
+    count
 }
 
 // The entry that is wanted.

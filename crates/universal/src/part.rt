@@ -28,8 +28,8 @@ fn thin_part(file: &[u8]) -> Part
     ensures { result ≡ thin_part (before file) }
 {
     Part {
-        cputype: u32_from(file, 0, HEADER_CPUTYPE) as u64,
-        cpusubtype: u32_from(file, 0, HEADER_CPUSUBTYPE) as u64,
+        cputype: u64::from(u32_from(file, 0, HEADER_CPUTYPE)),
+        cpusubtype: u64::from(u32_from(file, 0, HEADER_CPUSUBTYPE)),
         offset: 0,
         size: file.len() as u64,
     }
