@@ -1,6 +1,7 @@
 -- Rows put into a table one after the other: how many are counted, and what the table then holds.
 use Rattle.std.proofs.Common.{◌≡◌, ℕ, suc, ◌+◌, ◌-◌, ◌*◌, ◌/◌, ◌^◌, ◌<◌, ◌≤◌, min, Bool, true, false, ltb, List, [], ◌∷◌, ◌++◌, length, set, sym, refl, ap, ◌∙◌, arith, length-append, ltb-false, ltb-true, le-ltb, lt-ltb, le-leb}
 use native.Mathlib.Numerals.{towards_suc}
+use Rattle.std.proofs.Math.Nat.{le-div_iff_mul-le, div-lt_iff_lt-mul, add-mul, mul_comm}
 use lib.Seq.{sets, length-sets}
 use borrow.Author.Tests.{lt-leb}
 use Rattle.reads.specs.Outcome.{choose}
@@ -27,24 +28,24 @@ up_min n h = go (ltb n (2 ^ 64 - 1)) refl
     go true e = let l = ltb-true n (2 ^ 64 - 1) e in omega (arith, up_one n l)
     go false e = let l = ltb-false n (2 ^ 64 - 1) e in omega (arith, up_full n l)
 
--- A rebase and a bind, as the code puts them.
-module _ (t : List ℕ) (n a b : ℕ) (m : ℕ) (e : m ≡ up n) where
-  pub rebase_in : 2 * n + 2 ≤ length t → part m (set (set t (2 * n) a) (2 * n + 1) b) ≡ put_row (a ∷ b ∷ []) (part n t)
+-- Whether there is room for row n of k words.
+pub room : (k n l : ℕ) → 1 ≤ k → n < l / k → k * n + k ≤ l
+room k n l s h = let p : (n + 1) * k ≤ l = (le-div_iff_mul-le {k = k} {x = n + 1} {y = l} (omega arith)).0 (omega arith) in omega (arith, add-mul n 1 k, mul_comm n k)
+
+pub no_room : (k n l : ℕ) → 1 ≤ k → l / k ≤ n → l < k * n + k
+no_room k n l s h = let p : l < (n + 1) * k = (div-lt_iff_lt-mul {k = k} {x = l} {y = n + 1} (omega arith)).0 (omega arith) in omega (arith, add-mul n 1 k, mul_comm n k)
+
+-- A row of k words, put where there is room for it.
+module _ (t : List ℕ) (n m k : ℕ) (some : 1 ≤ k) (g : m ≡ min (n + 1) (2 ^ 64 - 1)) (h : n ≤ 2 ^ 64 - 1) where
+  pub row_in : (row : List ℕ) → length row ≡ k → k * n + k ≤ length t → part m (sets t (k * n) row) ≡ put_row row (part n t)
   unfolding put_row
-  rebase_in h = rw (e, choose_true (sets t (2 * n) (a ∷ b ∷ [])) t (le-leb (2 * n + 2) (length t) h)) (simp towards_suc)
+  row_in [] e l = absurd (omega arith)
+  row_in (w ∷ ws) e l = rw (g, up_min n h, e, choose_true (sets t (k * n) (w ∷ ws)) t (le-leb (k * n + k) (length t) l))
 
-  pub rebase_out : length t < 2 * n + 2 → part m t ≡ put_row (a ∷ b ∷ []) (part n t)
+  pub row_out : (row : List ℕ) → length row ≡ k → length t < k * n + k → part m t ≡ put_row row (part n t)
   unfolding put_row
-  rebase_out h = rw (e, choose_false (sets t (2 * n) (a ∷ b ∷ [])) t (lt-leb (2 * n + 2) (length t) h))
-
-  module _ (c : ℕ) where
-    pub bind_in : 4 * n + 4 ≤ length t → part m (set (set (set (set t (4 * n) a) (4 * n + 1) b) (4 * n + 2) c) (4 * n + 3) 0) ≡ put_row (a ∷ b ∷ c ∷ 0 ∷ []) (part n t)
-    unfolding put_row
-    bind_in h = rw (e, choose_true (sets t (4 * n) (a ∷ b ∷ c ∷ 0 ∷ [])) t (le-leb (4 * n + 4) (length t) h)) (simp towards_suc)
-
-    pub bind_out : length t < 4 * n + 4 → part m t ≡ put_row (a ∷ b ∷ c ∷ 0 ∷ []) (part n t)
-    unfolding put_row
-    bind_out h = rw (e, choose_false (sets t (4 * n) (a ∷ b ∷ c ∷ 0 ∷ [])) t (lt-leb (4 * n + 4) (length t) h))
+  row_out [] e l = absurd (omega arith)
+  row_out (w ∷ ws) e l = rw (g, up_min n h, e, choose_false (sets t (k * n) (w ∷ ws)) t (lt-leb (k * n + k) (length t) l))
 
 sets_append : (vs ws l : List ℕ) (i : ℕ) → sets l i (vs ++ ws) ≡ sets (sets l i vs) (i + length vs) ws
 sets_append [] ws l i = let e : i + 0 ≡ i = omega arith in rw e

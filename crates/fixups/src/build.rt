@@ -11,7 +11,6 @@ use crate::chain::Walked;
 use crate::fixup_chains::{
     DATAOFF, DATASIZE, LC_DYLD_CHAINED_FIXUPS, SIZEOF_LINKEDIT_DATA_COMMAND,
 };
-use crate::name::wide32;
 use crate::starts::walk;
 use macho::command::{ask_commands, find};
 use macho::header::{command_bytes, command_count, range_of};
@@ -105,7 +104,7 @@ fn fixups_at(
         return Built::Refused(19);
     }
     let at = u32_from(cmds, command, DATAOFF);
-    let body = range_of(file, wide32(at), field32(cmds, command, DATASIZE));
+    let body = range_of(file, u64::from(at), field32(cmds, command, DATASIZE));
     let base = image_base(cmds, count);
     fill(file, body, cmds, count, at, base, rebases, binds)
 }

@@ -6,7 +6,7 @@ ghost use Rattle.fixups.specs.Chain.{entry_outcome, target_of, entry_of, visit_o
 ghost use Rattle.fixups.specs.Tables.{state, put, told, state_of, stepped, stepped_of};
 
 use crate::fixup_chains::DYLD_CHAINED_PTR_64_OFFSET;
-use crate::name::{Name, import_at, wide16};
+use crate::name::{Name, import_at};
 use crate::table::{put_bind, put_rebase};
 use reads::place::u64_from;
 
@@ -64,7 +64,7 @@ fn rebased(format: u16, base: u64, word: u64) -> u64
 {
     let own = word % 0x10_0000_0000 + word / 0x10_0000_0000 % 0x100 * 0x100_0000_0000_0000;
     if format == DYLD_CHAINED_PTR_64_OFFSET {
-        return std::num::wrapping_add_u64(own, base);
+        return own.wrapping_add(base);
     }
     own
 }
@@ -73,7 +73,7 @@ fn rebased(format: u16, base: u64, word: u64) -> u64
 fn entry_at(body: &[u8], f: Fixups, s: Starts, at: u64, word: u64) -> Entry
     ensures { entry_outcome result ≡ entry_of (before body) f s at word }
 {
-    let slot = std::num::wrapping_add_u64(s.vmaddr, at);
+    let slot = s.vmaddr.wrapping_add(at);
     if word < 0x8000_0000_0000_0000 {
         return Entry::At(Fixup::Rebase(slot, rebased(s.format, f.base, word)));
     }
@@ -155,7 +155,7 @@ pub(crate) fn chain(
     ensures { state_of result rebases.new binds.new
         ≡ told (chain_at (before file) (before body) f s page start) (state r b rebases.old binds.old) }
 {
-    let size = wide16(s.size);
+    let size = u64::from(s.size);
     let mut o = start;
     let mut rebased = r;
     let mut bound = b;

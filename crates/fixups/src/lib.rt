@@ -4,6 +4,6 @@
 pub mod build;
 mod chain;
 mod fixup_chains;
-mod name;
+pub mod name;
 mod starts;
 pub mod table;

@@ -14,7 +14,6 @@ use crate::fixup_chains::{
     SIZEOF_CHAINED_FIXUPS_HEADER, STARTS_OFFSET, SYMBOLS_FORMAT, SYMBOLS_OFFSET,
     SYMBOLS_UNCOMPRESSED,
 };
-use crate::name::{wide16, wide32};
 use macho::command::{Found, find};
 use macho::loader::{FILEOFF, LC_SEGMENT_64, VMADDR};
 use macho::number::u16_at;
@@ -38,7 +37,7 @@ fn page(
         ≡ told (page_at (before file) (before body) f s at p) (state r b rebases.old binds.old) }
 {
     let first = at + PAGE_START;
-    let i = 2 * wide16(p);
+    let i = 2 * u64::from(p);
     if (body.len() as u64) < first + i + 2 {
         return Walked::Refused(19);
     }
@@ -49,14 +48,14 @@ fn page(
     if start >= DYLD_CHAINED_PTR_START_MULTI {
         return Walked::Refused(19);
     }
-    let offset = wide16(p) * wide16(s.size);
+    let offset = u64::from(p) * u64::from(s.size);
     chain(
         file,
         body,
         f,
         s,
         offset,
-        wide16(start),
+        u64::from(start),
         r,
         b,
         rebases,
@@ -81,15 +80,13 @@ fn pages(
     ensures { state_of result rebases.new binds.new
         ≡ told (pages_from (before file) (before body) f s at count 0) (state r b rebases.old binds.old) }
 {
-    let mut p = 0;
     let mut rebased = r;
     let mut bound = b;
-    while p < count {
+    for p in 0..count {
         match page(file, body, f, s, at, p, rebased, bound, rebases, binds) {
             Walked::Counts(x, y) => {
                 rebased = x;
                 bound = y;
-                p += 1;
             }
             Walked::Refused(k) => {
                 return Walked::Refused(k);
@@ -168,7 +165,7 @@ fn segment_info(
     if !found.here {
         return Walked::Refused(19);
     }
-    let at = wide32(f.starts) + wide32(offset);
+    let at = u64::from(f.starts) + u64::from(offset);
     segment_starts(file, body, cmds, f, at, found.at, r, b, rebases, binds)
 }
 
@@ -185,19 +182,18 @@ fn image_starts(
     ensures { state_of result rebases.new binds.new
         ≡ told (image_starts (before file) (before body) (before cmds) f (segments_of (before cmds) count)) (state 0 0 rebases.old binds.old) }
 {
-    let starts = wide32(f.starts);
+    let starts = u64::from(f.starts);
     if (body.len() as u64) < starts + SEG_INFO_OFFSET {
         return Walked::Refused(19);
     }
     let total = u32_from(body, starts, SEG_COUNT);
     let first = starts + SEG_INFO_OFFSET;
-    let mut i: u32 = 0;
     let mut left = count;
     let mut at: u64 = 0;
     let mut rebased: u64 = 0;
     let mut bound: u64 = 0;
-    while i < total {
-        let next = 4 * wide32(i);
+    for i in 0..total {
+        let next = 4 * u64::from(i);
         if (body.len() as u64) < first + next + 4 {
             return Walked::Refused(19);
         }
@@ -211,7 +207,6 @@ fn image_starts(
                 bound = y;
                 left = found.left;
                 at = found.next;
-                i += 1;
             }
             Walked::Refused(k) => {
                 return Walked::Refused(k);

@@ -13,4 +13,4 @@ pub returns : goal.returns
 returns c =
     let a = c.args in
     c.fill.ensures ∙ ap (λ x. settled x a.rebases.now a.binds.now)
-    (laws.from_data a.file.now a.cmds.now a.count a.command (omega arith) _ _ _ _ _ c.range_of-body.ensures c.u32_from-at.ensures c.wide32.ensures.0 c.field32-2.ensures.0 c.image_base-base.ensures)
+    (laws.from_data a.file.now a.cmds.now a.count a.command (omega arith) _ _ _ _ _ c.range_of-body.ensures c.u32_from-at.ensures c.from.ensures c.field32-2.ensures.0 c.image_base-base.ensures)

@@ -6,7 +6,7 @@ pub overflow_add-own : goal.overflow_add-own
 overflow_add-own c = omega arith
 
 pub returns-then-format-eq-DYLD_CHAINED_PTR_64_OFFSET : goal.returns-then-format-eq-DYLD_CHAINED_PTR_64_OFFSET
-returns-then-format-eq-DYLD_CHAINED_PTR_64_OFFSET c = c.wrapping_add_u64.ensures.value ∙ target_6 _ _ _ c.if-format-eq-DYLD_CHAINED_PTR_64_OFFSET.true
+returns-then-format-eq-DYLD_CHAINED_PTR_64_OFFSET c = target_6 _ _ _ c.if-format-eq-DYLD_CHAINED_PTR_64_OFFSET.true
 
 pub returns : goal.returns
 returns c = target_0 _ _ _ c.if-format-eq-DYLD_CHAINED_PTR_64_OFFSET.false

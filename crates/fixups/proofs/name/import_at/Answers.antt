@@ -8,7 +8,7 @@ returns-then-ordinal-f c = let a = c.args in import_none a.body.now a.f a.ordina
 pub returns-then-body-imports : goal.returns-then-body-imports
 returns-then-body-imports c =
     let a = c.args in
-    import_out a.body.now a.f a.ordinal c.wide32-imports.result (4 * c.wide32-i.result) (omega arith) (omega arith) (omega arith) (omega arith)
+    import_out a.body.now a.f a.ordinal c.from-imports.result (4 * c.from-i.result) (omega arith) (omega arith) (omega arith) (omega arith)
 
 pub text_at-requires : goal.text_at-requires
 text_at-requires c = omega arith
@@ -16,5 +16,5 @@ text_at-requires c = omega arith
 pub returns : goal.returns
 returns c =
     let a = c.args in
-    c.text_at.ensures ∙ import_in a.body.now a.f a.ordinal c.wide32-imports.result (4 * c.wide32-i.result) (omega arith) (omega arith) (omega arith)
+    c.text_at.ensures ∙ import_in a.body.now a.f a.ordinal c.from-imports.result (4 * c.from-i.result) (omega arith) (omega arith) (omega arith)
     c.u32_from.result _ (omega arith) c.u32_from.ensures (omega arith)

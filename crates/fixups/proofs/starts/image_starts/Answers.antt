@@ -15,12 +15,11 @@ returns-then-body-starts c =
 pub loop-i-init : goal.loop-i-init
 loop-i-init c =
     let a = c.args in
-    let e : c.wide32-starts.result ≡ a.f.starts = c.wide32-starts.ensures.0 in (
+    let e : c.from-starts.result ≡ a.f.starts = c.from-starts.ensures in (
       ap (λ x. told x (state 0 0 a.rebases.now a.binds.now))
           (laws.starts_in a.file.now a.body.now a.cmds.now a.f (segments_of a.cmds.now a.count) c.u32_from-total.result (omega arith) (rw e at c.u32_from-total.ensures)),
       refl,
       refl,
-      omega arith,
     )
 
 pub overflow_add-first-in-loop-i : goal.overflow_add-first-in-loop-i
@@ -32,30 +31,23 @@ overflow_add-first-in-loop-i-2 c = omega arith
 pub returns-then-body-first : goal.returns-then-body-first
 returns-then-body-first c =
     let a = c.args in let l = c.loop-i in
-    sym (l.invariant.0 ∙ laws.infos_out a.file.now a.body.now a.cmds.now a.f c.u32_from-total.result l.i (c.wide32-starts.result + 4 + 4 * c.wide32-next.result) (omega arith) (omega arith)
+    sym (l.invariant.0 ∙ laws.infos_out a.file.now a.body.now a.cmds.now a.f c.u32_from-total.result l.i (c.from-starts.result + 4 + 4 * c.from-next.result) (omega arith) (omega arith)
     (of_kind segment_kind a.cmds.now l.left l.at) (state l.rebased l.bound l.rebases l.binds) (omega arith))
-
-pub overflow_add-i : goal.overflow_add-i
-overflow_add-i c = omega arith
-
-pub loop-i-smaller : goal.loop-i-smaller
-loop-i-smaller c = omega arith
 
 pub loop-i-preserved : goal.loop-i-preserved
 loop-i-preserved c =
     let a = c.args in let l = c.loop-i in let s = state l.rebased l.bound l.rebases l.binds in
-    let h = laws.infos_more a.file.now a.body.now a.cmds.now a.f c.u32_from-total.result l.i (c.wide32-starts.result + 4 + 4 * c.wide32-next.result) (omega arith) (omega (arith, c.wide32-starts.ensures.0, c.wide32-next.ensures.0))
+    let h = laws.infos_more a.file.now a.body.now a.cmds.now a.f c.u32_from-total.result l.i (c.from-starts.result + 4 + 4 * c.from-next.result) (omega arith) (omega (arith, c.from-starts.ensures, c.from-next.ensures))
     c.u32_from-offset.result l.left l.at c.find-found.result (omega arith) c.u32_from-offset.ensures (finds_by segment_kind a.cmds.now l.left l.at c.find-found.result c.find-found.ensures) in (
       l.invariant.0 ∙ ap (λ x. told x s) h ∙ then _ _ s c.segment_info.result c.segment_info.new.rebases c.segment_info.new.binds c.segment_info.ensures _ _ c.in-Counts.is,
       c.segment_info.auto.rebases ∙ l.invariant.1,
       c.segment_info.auto.binds ∙ l.invariant.2,
-      omega arith,
     )
 
 pub returns-in-Refused : goal.returns-in-Refused
 returns-in-Refused c =
     let a = c.args in let l = c.loop-i in let s = state l.rebased l.bound l.rebases l.binds in
-    let h = laws.infos_more a.file.now a.body.now a.cmds.now a.f c.u32_from-total.result l.i (c.wide32-starts.result + 4 + 4 * c.wide32-next.result) (omega arith) (omega (arith, c.wide32-starts.ensures.0, c.wide32-next.ensures.0))
+    let h = laws.infos_more a.file.now a.body.now a.cmds.now a.f c.u32_from-total.result l.i (c.from-starts.result + 4 + 4 * c.from-next.result) (omega arith) (omega (arith, c.from-starts.ensures, c.from-next.ensures))
     c.u32_from-offset.result l.left l.at c.find-found.result (omega arith) c.u32_from-offset.ensures (finds_by segment_kind a.cmds.now l.left l.at c.find-found.result c.find-found.ensures) in
     sym (l.invariant.0 ∙ ap (λ x. told x s) h ∙ stops _ _ s c.segment_info.result c.segment_info.new.rebases c.segment_info.new.binds c.segment_info.ensures _ c.in-Refused.is)
 

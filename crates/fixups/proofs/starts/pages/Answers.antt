@@ -6,13 +6,7 @@ use Rattle.fixups.proofs.Pages.{whole, pages_more, pages_done}
 use Rattle.fixups.proofs.starts.pages.Goals as goal
 
 pub loop-p-init : goal.loop-p-init
-loop-p-init c = (rw (whole c.args.count), refl, refl, omega arith)
-
-pub overflow_add-p : goal.overflow_add-p
-overflow_add-p c = omega arith
-
-pub loop-p-smaller : goal.loop-p-smaller
-loop-p-smaller c = omega arith
+loop-p-init c = (rw (whole c.args.count), refl, refl)
 
 pub loop-p-preserved : goal.loop-p-preserved
 loop-p-preserved c =
@@ -22,7 +16,6 @@ loop-p-preserved c =
           (state l.rebased l.bound l.rebases l.binds) c.page.result c.page.new.rebases c.page.new.binds c.page.ensures _ _ c.in-Counts.is,
       c.page.auto.rebases ∙ l.invariant.1,
       c.page.auto.binds ∙ l.invariant.2,
-      omega arith,
     )
 
 pub returns-in-Refused : goal.returns-in-Refused

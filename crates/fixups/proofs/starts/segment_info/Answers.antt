@@ -16,5 +16,5 @@ segment_starts-requires c = omega arith
 pub returns : goal.returns
 returns c =
     let a = c.args in
-    let e : c.wide32.result + c.wide32-2.result ≡ a.f.starts + a.offset = omega arith in
+    let e : c.from.result + c.from-2.result ≡ a.f.starts + a.offset = omega arith in
     rw e at c.segment_starts.ensures ∙ laws.info_there a.offset a.found.here _ (state a.r a.b a.rebases.now a.binds.now) c.if-offset-eq0.false (not-false _ c.if-not-found.false)
