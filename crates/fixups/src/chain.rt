@@ -159,6 +159,7 @@ pub(crate) fn chain(
     let mut o = start;
     let mut rebased = r;
     let mut bound = b;
+    // Not a `for`: the offset moves by the step that each slot holds.
     while o < size {
         match visit_slot(file, body, f, s, page + o, rebased, bound, rebases, binds) {
             Visit::Slot {

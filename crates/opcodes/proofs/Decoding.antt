@@ -1,5 +1,5 @@
 -- Opcodes, by the branches of the code.
-use Rattle.std.proofs.Common.{◌≡◌, ℕ, ◌+◌, ◌-◌, ◌*◌, ◌%◌, ◌^◌, ◌<◌, ◌≤◌, Bool, true, false, eqb, List, length, get_or, drop, sym, refl, ap, ◌∙◌, le-ltb, lt-ltb, ne_eqb}
+use Rattle.std.proofs.Common.{◌≡◌, ℕ, ◌+◌, ◌-◌, ◌*◌, ◌%◌, ◌^◌, ◌<◌, ◌≤◌, Bool, true, false, eqb, ◌==◌, Option, Some, None, List, length, drop, sym, refl, ap, ◌∙◌, arith, le-ltb, lt-ltb, ne_eqb}
 use Rattle.reads.specs.Outcome.{value, number, choose}
 use Rattle.reads.specs.Leb128.{uleb_outcome, sleb_outcome, uleb128, sleb128}
 use Rattle.reads.specs.Answer.{missed}
@@ -11,8 +11,8 @@ use Rattle.reads.specs.declared.leb128.UlebAnswer.TheVariants as uleb
 use Rattle.reads.specs.declared.leb128.Sleb.{Sleb}
 use Rattle.reads.specs.declared.leb128.SlebAnswer.{SlebAnswer}
 use Rattle.reads.specs.declared.leb128.SlebAnswer.TheVariants as sleb
-use Rattle.fixups.specs.Imports.{zero_from}
-use Rattle.fixups.proofs.Names.{here, none}
+use Rattle.std.specs.List.{position}
+use Rattle.fixups.proofs.Names.{zero_at, zero_nowhere}
 use Rattle.opcodes.specs.Opcodes.{opcode, operand, plain, takes_number, numbered, with_number, symbol_at, addend, skipping, times_skipping, by_opcode, decode}
 use Rattle.opcodes.specs.declared.opcode.Instruction.{Instruction}
 use Rattle.opcodes.specs.declared.opcode.Instruction.TheVariants.{Pass, Symbol, Segment, Add, Bind}
@@ -150,15 +150,15 @@ module _ (rest : List ℕ) where
   unfolding times_skipping
   times_not e = rw e
 
--- A name, from its first byte on.
-module _ (place : ℕ) (rest : List ℕ) (i : ℕ) (so : zero_from 0 rest ≡ zero_from i (drop i rest)) where
-  pub symbol_ends : i < length rest → get_or rest i 0 ≡ 0 → value (opcode (Symbol place i) (i + 1)) ≡ symbol_at place rest
+-- A name, from its first byte on; r is where its zero was found.
+module _ (place : ℕ) (rest : List ℕ) (r : Option ℕ) (e : r ≡ position (λ x. x == 0) rest) where
+  pub symbol_ends : (n : ℕ) → r ≡ Some n → value (opcode (Symbol place n) (n + 1)) ≡ symbol_at place rest
   unfolding symbol_at
-  symbol_ends h e = rw (so, here rest i h e)
+  symbol_ends n g = let z : 0 + n ≡ n = omega arith in rw (zero_at 0 n rest r e g, z)
 
-  pub symbol_runs_out : length rest ≤ i → number 19 ≡ symbol_at place rest
+  pub symbol_runs_out : r ≡ None → number 19 ≡ symbol_at place rest
   unfolding symbol_at
-  symbol_runs_out h = rw (so, none rest i h)
+  symbol_runs_out g = rw (zero_nowhere 0 rest r e g)
 
 -- By the operands.
 module _ (parts : Bool) (place b : ℕ) (rest : List ℕ) (op imm : ℕ) (ei : imm ≡ b % 16) (eo : op ≡ b - imm) where

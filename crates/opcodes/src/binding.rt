@@ -46,14 +46,8 @@ pub(crate) fn further(n: u64, s: State) -> State
     ensures { result ≡ further n s }
 {
     State {
-        placed: s.placed,
-        vmaddr: s.vmaddr,
-        fileoff: s.fileoff,
-        filesize: s.filesize,
-        offset: std::num::wrapping_add_u64(s.offset, n),
-        named: s.named,
-        name: s.name,
-        len: s.len,
+        offset: s.offset.wrapping_add(n),
+        ..s
     }
 }
 
@@ -80,7 +74,7 @@ fn bound_by(end: u64, s: State) -> Entry
         return Entry::Refused(20);
     }
     Entry::At(Bound {
-        slot: std::num::wrapping_add_u64(s.vmaddr, s.offset),
+        slot: s.vmaddr.wrapping_add(s.offset),
         name: s.name,
         len: s.len,
     })
@@ -90,15 +84,13 @@ fn bound_by(end: u64, s: State) -> Entry
 pub(crate) fn run(end: u64, count: u64, stride: u64, s: State, n: u64, binds: &mut [u64]) -> Ran
     ensures { ran_of result binds.new ≡ told_by (run end count stride s) (part n binds.old) }
 {
-    let mut left = count;
     let mut here = s;
     let mut records = n;
-    while left > 0 {
+    for _ in 0..count {
         match bound_by(end, here) {
             Entry::At(x) => {
                 records = put_bind(binds, records, x.slot, x.name, x.len);
                 here = further(stride, here);
-                left -= 1;
             }
             Entry::Refused(k) => {
                 return Ran::Refused(k);

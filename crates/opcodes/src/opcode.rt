@@ -3,6 +3,7 @@ ghost use Rattle.std.specs.Prelude.{◌≡◌, ◌<◌, ◌≤◌, length};
 ghost use Rattle.reads.specs.Reference.{before};
 ghost use Rattle.opcodes.specs.Opcodes.{decoded_outcome, plain, takes_number, numbered, with_number, symbol_at, addend, skipping, times_skipping, decode};
 
+use fixups::name::first_zero;
 use reads::leb128::{SlebAnswer, UlebAnswer, read_sleb128, read_uleb128};
 
 const BIND_OPCODE_DONE: u8 = 0x00;
@@ -57,12 +58,6 @@ pub enum Decoded {
     Refused(u8),
 }
 
-fn wide8(x: u8) -> u64
-    ensures { (result ≡ x) × (result < 256) }
-{
-    x as u64
-}
-
 // Opcodes without operands, of the bytes `rest` none is read; `parts`: DONE parts the entries of the stream.
 fn plain(parts: bool, rest: &[u8], op: u8, imm: u8) -> Decoded
     ensures { decoded_outcome result ≡ plain parts (before rest) op imm }
@@ -89,7 +84,7 @@ fn plain(parts: bool, rest: &[u8], op: u8, imm: u8) -> Decoded
         return Decoded::Read(Instruction::Bind(1, SIZEOF_POINTER), 0);
     }
     if op == BIND_OPCODE_DO_BIND_ADD_ADDR_IMM_SCALED {
-        let stride = SIZEOF_POINTER + SIZEOF_POINTER * wide8(imm);
+        let stride = SIZEOF_POINTER + SIZEOF_POINTER * u64::from(imm);
         return Decoded::Read(Instruction::Bind(1, stride), 0);
     }
     Decoded::Refused(19)
@@ -119,12 +114,12 @@ fn numbered(op: u8, imm: u8, n: u64) -> Instruction
         return Instruction::Pass;
     }
     if op == BIND_OPCODE_SET_SEGMENT_AND_OFFSET_ULEB {
-        return Instruction::Segment(wide8(imm), n);
+        return Instruction::Segment(u64::from(imm), n);
     }
     if op == BIND_OPCODE_ADD_ADDR_ULEB {
         return Instruction::Add(n);
     }
-    Instruction::Bind(1, std::num::wrapping_add_u64(SIZEOF_POINTER, n))
+    Instruction::Bind(1, SIZEOF_POINTER.wrapping_add(n))
 }
 
 fn with_number(rest: &[u8], op: u8, imm: u8) -> Decoded
@@ -140,14 +135,10 @@ fn with_number(rest: &[u8], op: u8, imm: u8) -> Decoded
 fn symbol_at(place: u64, rest: &[u8]) -> Decoded
     ensures { decoded_outcome result ≡ symbol_at place (before rest) }
 {
-    let mut i = 0;
-    while i < rest.len() {
-        if rest[i] == 0 {
-            return Decoded::Read(Instruction::Symbol(place, i as u64), i + 1);
-        }
-        i += 1;
+    match first_zero(rest) {
+        Some(n) => Decoded::Read(Instruction::Symbol(place, n as u64), n + 1),
+        None => Decoded::Refused(19),
     }
-    Decoded::Refused(19)
 }
 
 fn addend(rest: &[u8]) -> Decoded

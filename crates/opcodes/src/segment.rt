@@ -25,9 +25,7 @@ fn with_segment(cmds: &[u8], at: u64, offset: u64, s: State) -> State
         fileoff: u64_from(cmds, at, FILEOFF),
         filesize: u64_from(cmds, at, FILESIZE),
         offset,
-        named: s.named,
-        name: s.name,
-        len: s.len,
+        ..s
     }
 }
 

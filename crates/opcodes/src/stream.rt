@@ -50,14 +50,10 @@ fn with_symbol(name: u64, len: u64, s: State) -> State
     ensures { result ≡ with_symbol name len s }
 {
     State {
-        placed: s.placed,
-        vmaddr: s.vmaddr,
-        fileoff: s.fileoff,
-        filesize: s.filesize,
-        offset: s.offset,
         named: true,
         name,
         len,
+        ..s
     }
 }
 
@@ -127,6 +123,7 @@ fn walk(
     let mut s = unset();
     let mut records = n;
     let mut i = 0;
+    // Not a `for`: the index moves by an opcode and its operands.
     while i < body.len() {
         let b = body[i];
         let place = at + (i as u64) + 1;

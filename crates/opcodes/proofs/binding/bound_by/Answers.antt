@@ -1,4 +1,4 @@
-use Rattle.std.proofs.Common.{arith}
+use Rattle.std.proofs.Common.{refl, arith}
 use borrow.Author.Tests.{not-true, not-false}
 use Rattle.opcodes.proofs.Bindings as laws
 use Rattle.opcodes.proofs.binding.bound_by.Goals as goal
@@ -39,4 +39,4 @@ returns-then-end-s-2 c =
 pub returns : goal.returns
 returns c =
     let a = c.args in
-    laws.bound_in a.end a.s (not-false _ c.if-not-s.false) (not-false _ c.if-not-s-2.false) (omega arith) (omega arith) c.wrapping_add_u64.result c.wrapping_add_u64.ensures.value
+    laws.bound_in a.end a.s (not-false _ c.if-not-s.false) (not-false _ c.if-not-s-2.false) (omega arith) (omega arith) _ refl

@@ -1,11 +1,8 @@
-use Rattle.std.proofs.Common.{◌≡◌, length}
+use Rattle.std.proofs.Common.{◌≡◌, ◌-◌, length}
 use Rattle.fixups.specs.Tables.{part}
 use Rattle.opcodes.specs.Binding.{run}
 use Rattle.opcodes.specs.Tables.{told_by}
 use Rattle.opcodes.proofs.binding.run.Given as goal
 
-abbrev pub invariant-loop-left : goal.invariant-loop-left
-invariant-loop-left l = (told_by (run l.end l.count l.stride l.initial.here) (part l.n l.initial.binds) ≡ told_by (run l.end l.left l.stride l.here) (part l.records l.binds)) × (length l.binds ≡ length l.initial.binds)
-
-abbrev pub decreases-loop-left : goal.decreases-loop-left
-decreases-loop-left l = l.left
+abbrev pub invariant-loop : goal.invariant-loop
+invariant-loop l = (told_by (run l.end l.count l.stride l.initial.here) (part l.n l.initial.binds) ≡ told_by (run l.end (l.count - l.counter) l.stride l.here) (part l.records l.binds)) × (length l.binds ≡ length l.initial.binds)

@@ -1,3 +1,4 @@
+use Rattle.std.proofs.Common.{refl}
 use Rattle.opcodes.proofs.Decoding as laws
 use Rattle.opcodes.proofs.opcode.numbered.Goals as goal
 
@@ -7,7 +8,7 @@ returns-then-op-eq-BIND_OPCODE_SET_DYLIB_ORDINAL_ULEB c = let a = c.args in laws
 pub returns-then-op-eq-BIND_OPCODE_SET_SEGMENT_AND_OFFSET_ULEB : goal.returns-then-op-eq-BIND_OPCODE_SET_SEGMENT_AND_OFFSET_ULEB
 returns-then-op-eq-BIND_OPCODE_SET_SEGMENT_AND_OFFSET_ULEB c =
     let a = c.args in
-    laws.numbered_segment a.op a.imm a.n c.if-op-eq-BIND_OPCODE_SET_SEGMENT_AND_OFFSET_ULEB.true c.wide8.result c.wide8.ensures.0
+    laws.numbered_segment a.op a.imm a.n c.if-op-eq-BIND_OPCODE_SET_SEGMENT_AND_OFFSET_ULEB.true c.from.result c.from.ensures
 
 pub returns-then-op-eq-BIND_OPCODE_ADD_ADDR_ULEB : goal.returns-then-op-eq-BIND_OPCODE_ADD_ADDR_ULEB
 returns-then-op-eq-BIND_OPCODE_ADD_ADDR_ULEB c = let a = c.args in laws.numbered_add a.op a.imm a.n c.if-op-eq-BIND_OPCODE_ADD_ADDR_ULEB.true
@@ -15,4 +16,4 @@ returns-then-op-eq-BIND_OPCODE_ADD_ADDR_ULEB c = let a = c.args in laws.numbered
 pub returns : goal.returns
 returns c =
     let a = c.args in
-    laws.numbered_bind a.op a.imm a.n c.if-op-eq-BIND_OPCODE_SET_DYLIB_ORDINAL_ULEB.false c.if-op-eq-BIND_OPCODE_SET_SEGMENT_AND_OFFSET_ULEB.false c.if-op-eq-BIND_OPCODE_ADD_ADDR_ULEB.false c.wrapping_add_u64.result c.wrapping_add_u64.ensures.value
+    laws.numbered_bind a.op a.imm a.n c.if-op-eq-BIND_OPCODE_SET_DYLIB_ORDINAL_ULEB.false c.if-op-eq-BIND_OPCODE_SET_SEGMENT_AND_OFFSET_ULEB.false c.if-op-eq-BIND_OPCODE_ADD_ADDR_ULEB.false _ refl

@@ -46,7 +46,7 @@ overflow_add-stride c = omega arith
 pub returns-then-op-eq-BIND_OPCODE_DO_BIND_ADD_ADDR_IMM_SCALED : goal.returns-then-op-eq-BIND_OPCODE_DO_BIND_ADD_ADDR_IMM_SCALED
 returns-then-op-eq-BIND_OPCODE_DO_BIND_ADD_ADDR_IMM_SCALED c =
     let a = c.args in
-    laws.plain_scaled a.parts a.rest.now a.op a.imm c.if-op-eq-BIND_OPCODE_DO_BIND_ADD_ADDR_IMM_SCALED.true c.wide8.result c.wide8.ensures.0
+    laws.plain_scaled a.parts a.rest.now a.op a.imm c.if-op-eq-BIND_OPCODE_DO_BIND_ADD_ADDR_IMM_SCALED.true c.from.result c.from.ensures
 
 pub returns : goal.returns
 returns c =
