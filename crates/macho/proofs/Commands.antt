@@ -1,6 +1,6 @@
 -- The load commands, by the tests that the code makes.
 use Prim.Native.Nat.{ℕ, zero, suc, ◌+◌, ◌-◌, ◌*◌, ◌≤◌, ◌<◌}
-use mathlib.Core.Path.{◌≡◌, refl, sym, ◌∙◌, ap}
+use mathlib.Core.Path.{◌≡◌, refl, sym, ◌∙◌, ap, subst}
 use mathlib.Core.Bool.{Bool, true, false, ◌&&◌}
 use mathlib.Core.List.{List, [], ◌∷◌}
 use native.Mathlib.Omega.{arith}
@@ -163,3 +163,43 @@ finds kind cmds (suc k) a = go (fits cmds a) (eqb (cmd cmds a) kind) refl refl (
 
 pub finds_by : (kind : ℕ) (cmds : List ℕ) (k a : ℕ) (r : Found) → r ≡ first_of kind cmds k a → Finds kind cmds k a r
 finds_by kind cmds k a r e = rw e (finds kind cmds k a)
+
+-- What is known of the commands of a kind that stand at the offsets given: each fits, and is of the kind.
+pub data AllGood (kind : ℕ) (cmds : List ℕ) : List ℕ → Type 0 where
+  none : AllGood kind cmds []
+  good : {a : ℕ} {others : List ℕ} → Room cmds a → cmd cmds a ≡ kind → AllGood kind cmds others → AllGood kind cmds (a ∷ others)
+
+pub all_good : (kind : ℕ) (cmds : List ℕ) (k a : ℕ) → AllGood kind cmds (of_kind kind cmds k a)
+unfolding of_kind choose
+all_good kind cmds zero a = none
+all_good kind cmds (suc k) a = go (fits cmds a) (eqb (cmd cmds a) kind) refl refl (all_good kind cmds k (a + cmdsize cmds a))
+  where
+    go : (f s : Bool) → fits cmds a ≡ f → eqb (cmd cmds a) kind ≡ s → AllGood kind cmds (of_kind kind cmds k (a + cmdsize cmds a))
+        → AllGood kind cmds (of_kind kind cmds (suc k) a)
+    go false s e g later = rw e none
+    go true true e g later = rw (e, g) (good (room cmds a e) (eqb-true (cmd cmds a) kind g) later)
+    go true false e g later = rw (e, g) later
+
+-- The first of them, and the others.
+pub record First (kind : ℕ) (cmds : List ℕ) (a : ℕ) (others : List ℕ) : Type 0 where
+  pub here : Room cmds a
+  pub kinded : cmd cmds a ≡ kind
+  pub later : AllGood kind cmds others
+
+split : (kind : ℕ) (cmds : List ℕ) (a : ℕ) (others : List ℕ) → AllGood kind cmds (a ∷ others) → First kind cmds a others
+split kind cmds a others (good r e h) = record { here = r; kinded = e; later = h }
+
+pub first_good : (kind : ℕ) (cmds segs : List ℕ) (a : ℕ) (others : List ℕ) → AllGood kind cmds segs → segs ≡ a ∷ others → First kind cmds a others
+first_good kind cmds segs a others h e = split kind cmds a others (subst (AllGood kind cmds) e h)
+
+-- No more of a kind than there are commands.
+pub few : (kind : ℕ) (cmds : List ℕ) (k a : ℕ) → length (of_kind kind cmds k a) ≤ k
+unfolding of_kind choose
+few kind cmds zero a = omega arith
+few kind cmds (suc k) a = go (fits cmds a) (eqb (cmd cmds a) kind) refl refl (few kind cmds k (a + cmdsize cmds a))
+  where
+    go : (f s : Bool) → fits cmds a ≡ f → eqb (cmd cmds a) kind ≡ s → length (of_kind kind cmds k (a + cmdsize cmds a)) ≤ k
+        → length (of_kind kind cmds (suc k) a) ≤ suc k
+    go false s e g later = rw e (omega arith)
+    go true true e g later = rw (e, g) (omega arith)
+    go true false e g later = rw (e, g) (omega arith)

@@ -5,6 +5,7 @@ use Rattle.reads.specs.Place.{part}
 use Rattle.pointers.specs.Question.{question}
 use Rattle.macho.specs.Loader.{magic, ncmds, sizeofcmds, cmd, cmdsize, segment_kind, nsects, size_with_sections}
 use Rattle.macho.specs.declared.command.Found.{Found}
+use Rattle.macho.specs.declared.command.CommandsOfKind.{CommandsOfKind}
 
 -- 15: a header of 32 bytes, with the magic of a 64-bit little-endian file?
 unfoldable pub headed : List ℕ → Bool
@@ -56,3 +57,7 @@ first_of kind cmds (suc k) a =
     choose (fits cmds a)
     (choose (eqb (cmd cmds a) kind) (found_at a k (a + cmdsize cmds a)) (first_of kind cmds k (a + cmdsize cmds a)))
     found_none
+
+-- Where those stand that the iterator has yet to give.
+abbrev pub offsets : CommandsOfKind → List ℕ
+offsets c = of_kind c.kind c.cmds.now c.left c.at

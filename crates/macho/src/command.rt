@@ -2,7 +2,8 @@
 ghost use Rattle.std.specs.Prelude.{◌≡◌};
 ghost use Rattle.reads.specs.Reference.{before};
 ghost use Rattle.pointers.specs.Question.{asked_outcome};
-ghost use Rattle.macho.specs.Commands.{fits, all_fit, asked_commands, first_of};
+ghost use Rattle.std.specs.Iterator.{YieldsFirst, item_count};
+ghost use Rattle.macho.specs.Commands.{fits, all_fit, asked_commands, first_of, of_kind, offsets};
 
 use crate::header::{command_bytes, command_count, headed};
 use crate::loader::{
@@ -98,5 +99,41 @@ pub fn find(cmds: &[u8], kind: u64, count: u64, from: u64) -> Found
         at: 0,
         left: 0,
         next: 0,
+    }
+}
+
+// The commands of a kind, in order, as where each stands; one that does not fit ends them.
+#[derive(Clone, Copy)]
+pub struct CommandsOfKind<'a> {
+    cmds: &'a [u8],
+    kind: u64,
+    left: u64,
+    at: u64,
+}
+
+// Those among `count` commands.
+pub fn commands(cmds: &[u8], kind: u64, count: u64) -> CommandsOfKind
+    ensures { offsets result ≡ of_kind kind (before cmds) count 0 }
+{
+    CommandsOfKind {
+        cmds,
+        kind,
+        left: count,
+        at: 0,
+    }
+}
+
+impl Iterator for CommandsOfKind<'_> {
+    type Item = u64;
+
+    ghost next_gives = { YieldsFirst offsets };
+
+    ghost remaining = { item_count offsets };
+
+    fn next(&mut self) -> Option<u64> {
+        let found = find(self.cmds, self.kind, self.left, self.at);
+        self.left = found.left;
+        self.at = found.next;
+        if found.here { Some(found.at) } else { None }
     }
 }

@@ -5,7 +5,7 @@ ghost use Rattle.reads.specs.Reference.{before};
 ghost use Rattle.pointers.specs.Tables.{section_words, section_table_words};
 ghost use Rattle.macho.specs.Sections.{named, headers_from, section_at, first_named, section_named, section_row, section_table_of};
 
-use crate::command::find;
+use crate::command::commands;
 use crate::header::range_of;
 use crate::loader::{
     ADDR, LC_SEGMENT_64, NSECTS, OFFSET, SIZE, SIZEOF_NAME, SIZEOF_SECTION_64,
@@ -78,29 +78,22 @@ fn section_in(cmds: &[u8], from: u64, count: u64, name: &[u8]) -> Section
 pub(crate) fn section_named(cmds: &[u8], count: u64, name: &[u8]) -> Section
     ensures { result ≡ section_named (before cmds) count (before name) }
 {
-    let mut left = count;
-    let mut at = 0;
-    loop {
-        let found = find(cmds, LC_SEGMENT_64, left, at);
-        if !found.here {
-            return Section {
-                present: 0,
-                addr: 0,
-                size: 0,
-                offset: 0,
-            };
-        }
+    for at in commands(cmds, LC_SEGMENT_64, count) {
         let s = section_in(
             cmds,
-            found.at + SIZEOF_SEGMENT_COMMAND_64,
-            field32(cmds, found.at, NSECTS),
+            at + SIZEOF_SEGMENT_COMMAND_64,
+            field32(cmds, at, NSECTS),
             name,
         );
         if s.present == 1 {
             return s;
         }
-        left = found.left;
-        at = found.next;
+    }
+    Section {
+        present: 0,
+        addr: 0,
+        size: 0,
+        offset: 0,
     }
 }
 

@@ -6,7 +6,7 @@ ghost use Rattle.reads.specs.Segment.{segment_words};
 ghost use Rattle.macho.specs.Commands.{segments_of};
 ghost use Rattle.macho.specs.Segments.{segment_row, segment_table_of, written};
 
-use crate::command::find;
+use crate::command::commands;
 use crate::loader::{FILEOFF, FILESIZE, LC_SEGMENT_64, VMADDR, VMSIZE};
 use reads::place::u64_from;
 use reads::segment::Segment;
@@ -18,18 +18,7 @@ const FILE: u64 = 0;
 pub(crate) fn segment_count(cmds: &[u8], count: u64) -> u64
     ensures { result ≡ length (segments_of (before cmds) count) }
 {
-    let mut n: u64 = 0;
-    let mut left = count;
-    let mut at = 0;
-    loop {
-        let found = find(cmds, LC_SEGMENT_64, left, at);
-        if !found.here {
-            return n;
-        }
-        n += 1;
-        left = found.left;
-        at = found.next;
-    }
+    commands(cmds, LC_SEGMENT_64, count).count() as u64
 }
 
 // Writes the row of the segment command at an offset, from word i on.
@@ -52,16 +41,8 @@ pub(crate) fn write_segments(cmds: &[u8], count: u64, table: &mut [u64])
     ensures { table.new ≡ written (segment_table_of (before cmds) count) table.old }
 {
     let mut i = 0;
-    let mut left = count;
-    let mut at = 0;
-    loop {
-        let found = find(cmds, LC_SEGMENT_64, left, at);
-        if !found.here {
-            return;
-        }
-        put_segment(cmds, found.at, table, i);
+    for at in commands(cmds, LC_SEGMENT_64, count) {
+        put_segment(cmds, at, table, i);
         i += Segment::WORDS;
-        left = found.left;
-        at = found.next;
     }
 }

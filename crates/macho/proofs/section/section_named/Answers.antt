@@ -1,38 +1,35 @@
 use Rattle.macho.proofs.Tables as laws
-use Rattle.macho.proofs.Commands.{finds_by}
+use Rattle.macho.proofs.Commands.{all_good, first_good}
 use native.Mathlib.Omega.{arith}
-use mathlib.Core.Path.{refl, sym, ◌∙◌}
-use borrow.Author.Tests.{not-true, not-false}
+use mathlib.Core.Path.{ap, sym, ◌∙◌}
+use Rattle.macho.specs.Commands.{offsets}
 use Rattle.macho.specs.Loader.{segment_kind}
 use Rattle.macho.proofs.section.section_named.Goals as goal
 
-pub loop-found-init : goal.loop-found-init
-loop-found-init c = refl
+pub loop-at-init : goal.loop-at-init
+loop-at-init c =
+    let a = c.args in let e = ap offsets c.into_iter-at-iterator.ensures.into_iter_gives ∙ c.commands-at-items.ensures in
+    (rw e, rw e (all_good segment_kind a.cmds.now a.count 0))
 
-pub returns-then-not-found : goal.returns-then-not-found
-returns-then-not-found c =
-    let F = finds_by segment_kind c.args.cmds.now c.loop-found.left c.loop-found.at c.find-found.result c.find-found.ensures in
-    laws.sections_end c.args.cmds.now c.args.name.now _ (F.none (not-true _ c.if-not-found.true)) ∙ sym c.loop-found.invariant
-
-pub overflow_add-found : goal.overflow_add-found
-overflow_add-found c =
-    let F = finds_by segment_kind c.args.cmds.now c.loop-found.left c.loop-found.at c.find-found.result c.find-found.ensures in
-    let R = F.good (not-false _ c.if-not-found.false) in let s = R.sections (F.kinded (not-false _ c.if-not-found.false)) in omega arith
+pub overflow_add-at : goal.overflow_add-at
+overflow_add-at c =
+    let f = first_good segment_kind c.args.cmds.now _ _ _ c.loop-at.invariant.1 c.in-Some.ensures.steps in
+    let s = f.here.sections f.kinded in let r = f.here.all in omega arith
 
 pub section_in-s-requires : goal.section_in-s-requires
 section_in-s-requires c =
-    let F = finds_by segment_kind c.args.cmds.now c.loop-found.left c.loop-found.at c.find-found.result c.find-found.ensures in
-    let R = F.good (not-false _ c.if-not-found.false) in let s = R.sections (F.kinded (not-false _ c.if-not-found.false)) in omega (arith, c.field32.ensures.0)
+    let f = first_good segment_kind c.args.cmds.now _ _ _ c.loop-at.invariant.1 c.in-Some.ensures.steps in
+    let s = f.here.sections f.kinded in let r = f.here.all in omega (arith, c.field32.ensures.0)
 
 pub returns-then-s-eq1 : goal.returns-then-s-eq1
 returns-then-s-eq1 c =
-    let F = finds_by segment_kind c.args.cmds.now c.loop-found.left c.loop-found.at c.find-found.result c.find-found.ensures in
-    laws.sections_here c.args.cmds.now c.args.name.now _ _ _ _ _ (F.more (not-false _ c.if-not-found.false)) c.field32.ensures.0 c.section_in-s.ensures c.if-s-eq1.true ∙ sym c.loop-found.invariant
+    laws.sections_here c.args.cmds.now c.args.name.now _ _ _ _ _ c.in-Some.ensures.steps c.field32.ensures.0 c.section_in-s.ensures c.if-s-eq1.true ∙ sym c.loop-at.invariant.0
 
-pub loop-found-smaller : goal.loop-found-smaller
-loop-found-smaller c = let F = finds_by segment_kind c.args.cmds.now c.loop-found.left c.loop-found.at c.find-found.result c.find-found.ensures in F.fewer (not-false _ c.if-not-found.false)
+pub loop-at-preserved : goal.loop-at-preserved
+loop-at-preserved c = (
+  c.loop-at.invariant.0 ∙ laws.sections_next c.args.cmds.now c.args.name.now _ _ _ _ _ c.in-Some.ensures.steps c.field32.ensures.0 c.section_in-s.ensures c.if-s-eq1.false,
+  (first_good segment_kind c.args.cmds.now _ _ _ c.loop-at.invariant.1 c.in-Some.ensures.steps).later,
+)
 
-pub loop-found-preserved : goal.loop-found-preserved
-loop-found-preserved c =
-    let F = finds_by segment_kind c.args.cmds.now c.loop-found.left c.loop-found.at c.find-found.result c.find-found.ensures in
-    c.loop-found.invariant ∙ laws.sections_next c.args.cmds.now c.args.name.now _ _ _ _ _ (F.more (not-false _ c.if-not-found.false)) c.field32.ensures.0 c.section_in-s.ensures c.if-s-eq1.false
+pub returns : goal.returns
+returns c = laws.sections_end c.args.cmds.now c.args.name.now _ c.in-None.ensures.steps.0 ∙ sym c.loop-at.invariant.0
