@@ -11,7 +11,7 @@ use crate::loader::{
     MH_DYLIB_IN_CACHE, MH_DYLINKER, MH_EXECUTE, NEXTREL, SEGMENT_FLAGS, SG_PROTECTED_VERSION_1,
     STREAM_SIZE, WEAK_BIND_OFF,
 };
-use macho::command::{ask_commands, find};
+use macho::command::{ask_commands, commands};
 use macho::header::{command_bytes, command_count};
 use macho::loader::{FILEOFF, FILESIZE, LC_SEGMENT_64};
 use macho::number::field32;
@@ -92,37 +92,14 @@ fn command_read(cmds: &[u8], at: u64, kind: u64, n: u64) -> bool
 fn kind_read(cmds: &[u8], count: u64, kind: u64, n: u64) -> bool
     ensures { result ≡ kind_read n (before cmds) count kind }
 {
-    let mut left = count;
-    let mut at = 0;
-    loop {
-        let found = find(cmds, kind, left, at);
-        if !found.here {
-            return true;
-        }
-        if !command_read(cmds, found.at, kind, n) {
-            return false;
-        }
-        left = found.left;
-        at = found.next;
-    }
+    commands(cmds, kind, count).all(|at| command_read(cmds, at, kind, n))
 }
 
 // How many commands of a kind there are.
 fn count_kind(cmds: &[u8], count: u64, kind: u64) -> u64
     ensures { (result ≡ length (of_kind kind (before cmds) count 0)) × (result ≤ count) }
 {
-    let mut n: u64 = 0;
-    let mut left = count;
-    let mut at = 0;
-    loop {
-        let found = find(cmds, kind, left, at);
-        if !found.here {
-            return n;
-        }
-        n += 1;
-        left = found.left;
-        at = found.next;
-    }
+    commands(cmds, kind, count).count() as u64
 }
 
 // How many commands say what is bound.

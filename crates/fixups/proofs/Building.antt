@@ -25,23 +25,21 @@ pub nil_of : (l : List ℕ) → length l ≡ 0 → l ≡ []
 nil_of [] e = refl
 nil_of (x ∷ l) e = absurd (omega arith)
 
--- The image base, by what a search for the segments finds.
-module _ (cmds : List ℕ) (k a : ℕ) (r : Found) (found : Finds segment_kind cmds k a r) where
-  pub base_none : r.here ≡ false → 0 ≡ base_of cmds (of_kind segment_kind cmds k a)
+-- The image base, by the segments that are left.
+module _ (cmds segs : List ℕ) where
+  pub base_none : segs ≡ [] → 0 ≡ base_of cmds segs
   unfolding base_of
-  base_none e = rw (found.none e)
+  base_none e = rw e
 
-  module _ (h : r.here ≡ true) where
-    base_more : base_of cmds (of_kind segment_kind cmds k a)
-        ≡ choose (named cmds (padded (ascii "__TEXT")) (r.at + 8)) (vmaddr cmds r.at) (base_of cmds (of_kind segment_kind cmds r.left r.next))
+  module _ (a : ℕ) (others : List ℕ) (h : segs ≡ a ∷ others) where
+    base_more : base_of cmds segs ≡ choose (named cmds (padded (ascii "__TEXT")) (a + 8)) (vmaddr cmds a) (base_of cmds others)
     unfolding base_of
-    base_more = rw (found.more h)
+    base_more = rw h
 
-    pub base_here : named cmds (padded (ascii "__TEXT")) (r.at + 8) ≡ true → vmaddr cmds r.at ≡ base_of cmds (of_kind segment_kind cmds k a)
+    pub base_here : named cmds (padded (ascii "__TEXT")) (a + 8) ≡ true → vmaddr cmds a ≡ base_of cmds segs
     base_here e = sym (base_more ∙ choose_true _ _ e)
 
-    pub base_next : named cmds (padded (ascii "__TEXT")) (r.at + 8) ≡ false
-        → base_of cmds (of_kind segment_kind cmds k a) ≡ base_of cmds (of_kind segment_kind cmds r.left r.next)
+    pub base_next : named cmds (padded (ascii "__TEXT")) (a + 8) ≡ false → base_of cmds segs ≡ base_of cmds others
     base_next e = base_more ∙ choose_false _ _ e
 
 -- A number, and no records.

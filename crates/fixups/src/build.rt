@@ -12,7 +12,7 @@ use crate::fixup_chains::{
     DATAOFF, DATASIZE, LC_DYLD_CHAINED_FIXUPS, SIZEOF_LINKEDIT_DATA_COMMAND,
 };
 use crate::starts::walk;
-use macho::command::{ask_commands, find};
+use macho::command::{ask_commands, commands, find};
 use macho::header::{command_bytes, command_count, range_of};
 use macho::loader::{CMDSIZE, LC_SEGMENT_64, SEGNAME, VMADDR};
 use macho::number::field32;
@@ -35,19 +35,12 @@ fn image_base(cmds: &[u8], count: u64) -> u64
     ensures { result ≡ base_of (before cmds) (segments_of (before cmds) count) }
 {
     let text = TEXT;
-    let mut left = count;
-    let mut at = 0;
-    loop {
-        let found = find(cmds, LC_SEGMENT_64, left, at);
-        if !found.here {
-            return 0;
+    for at in commands(cmds, LC_SEGMENT_64, count) {
+        if has_name(cmds, at + SEGNAME, &text) {
+            return u64_from(cmds, at, VMADDR);
         }
-        if has_name(cmds, found.at + SEGNAME, &text) {
-            return u64_from(cmds, found.at, VMADDR);
-        }
-        left = found.left;
-        at = found.next;
     }
+    0
 }
 
 // How many records the fixup data has for each table: the walk is lent no room.

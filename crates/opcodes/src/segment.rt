@@ -5,7 +5,7 @@ ghost use Rattle.macho.specs.Commands.{segments_of};
 ghost use Rattle.opcodes.specs.Binding.{with_segment, placed_outcome, in_segment};
 
 use crate::binding::State;
-use macho::command::find;
+use macho::command::commands;
 use macho::loader::{FILEOFF, FILESIZE, LC_SEGMENT_64, VMADDR};
 use reads::place::u64_from;
 
@@ -33,19 +33,8 @@ fn with_segment(cmds: &[u8], at: u64, offset: u64, s: State) -> State
 pub(crate) fn in_segment(cmds: &[u8], count: u64, index: u64, offset: u64, s: State) -> Placed
     ensures { placed_outcome result ≡ in_segment (before cmds) (segments_of (before cmds) count) index offset s }
 {
-    let mut i = index;
-    let mut left = count;
-    let mut at = 0;
-    loop {
-        let found = find(cmds, LC_SEGMENT_64, left, at);
-        if !found.here {
-            return Placed::Refused(19);
-        }
-        if i == 0 {
-            return Placed::In(with_segment(cmds, found.at, offset, s));
-        }
-        i -= 1;
-        left = found.left;
-        at = found.next;
+    match commands(cmds, LC_SEGMENT_64, count).nth(index as usize) {
+        Some(at) => Placed::In(with_segment(cmds, at, offset, s)),
+        None => Placed::Refused(19),
     }
 }

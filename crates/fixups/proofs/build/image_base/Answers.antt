@@ -1,32 +1,28 @@
-use Rattle.std.proofs.Common.{sym, refl, ◌∙◌, arith}
-use borrow.Author.Tests.{not-true, not-false}
+use Rattle.std.proofs.Common.{sym, ap, ◌∙◌, arith}
 use Rattle.macho.specs.Loader.{segment_kind}
-use Rattle.macho.proofs.Commands.{finds_by}
+use Rattle.macho.specs.Commands.{offsets}
+use Rattle.macho.proofs.Commands.{all_good, first_good}
 use Rattle.fixups.proofs.Building as laws
 use Rattle.fixups.proofs.build.image_base.Goals as goal
 
-pub loop-text-init : goal.loop-text-init
-loop-text-init c = refl
+pub loop-at-init : goal.loop-at-init
+loop-at-init c =
+    let a = c.args in let e = ap offsets c.into_iter-at-iterator.ensures.into_iter_gives ∙ c.commands-at-items.ensures in
+    (rw e, rw e (all_good segment_kind a.cmds.now a.count 0))
 
-pub returns-then-not-found : goal.returns-then-not-found
-returns-then-not-found c =
-    let a = c.args in let l = c.loop-text in let f = finds_by segment_kind a.cmds.now l.left l.at c.find-found.result c.find-found.ensures in
-    laws.base_none a.cmds.now l.left l.at c.find-found.result f (not-true _ c.if-not-found.true) ∙ sym l.invariant
-
-pub overflow_add-found : goal.overflow_add-found
-overflow_add-found c =
-    let a = c.args in let l = c.loop-text in let f = finds_by segment_kind a.cmds.now l.left l.at c.find-found.result c.find-found.ensures in
-    let g = f.good (not-false _ c.if-not-found.false) in omega (arith, g.least, g.all)
+pub overflow_add-at : goal.overflow_add-at
+overflow_add-at c =
+    let f = first_good segment_kind c.args.cmds.now _ _ _ c.loop-at.invariant.1 c.in-Some.ensures.steps in omega (arith, f.here.least, f.here.all)
 
 pub returns-then-has_name : goal.returns-then-has_name
 returns-then-has_name c =
-    let a = c.args in let l = c.loop-text in let f = finds_by segment_kind a.cmds.now l.left l.at c.find-found.result c.find-found.ensures in
-    c.u64_from.ensures ∙ laws.base_here a.cmds.now l.left l.at c.find-found.result f (not-false _ c.if-not-found.false) (sym c.has_name.ensures ∙ c.if-has_name.true) ∙ sym l.invariant
+    c.u64_from.ensures ∙ laws.base_here c.args.cmds.now _ _ _ c.in-Some.ensures.steps (sym c.has_name.ensures ∙ c.if-has_name.true) ∙ sym c.loop-at.invariant.0
 
-pub loop-text-smaller : goal.loop-text-smaller
-loop-text-smaller c = let a = c.args in let l = c.loop-text in (finds_by segment_kind a.cmds.now l.left l.at c.find-found.result c.find-found.ensures).fewer (not-false _ c.if-not-found.false)
+pub loop-at-preserved : goal.loop-at-preserved
+loop-at-preserved c = (
+  c.loop-at.invariant.0 ∙ laws.base_next c.args.cmds.now _ _ _ c.in-Some.ensures.steps (sym c.has_name.ensures ∙ c.if-has_name.false),
+  (first_good segment_kind c.args.cmds.now _ _ _ c.loop-at.invariant.1 c.in-Some.ensures.steps).later,
+)
 
-pub loop-text-preserved : goal.loop-text-preserved
-loop-text-preserved c =
-    let a = c.args in let l = c.loop-text in let f = finds_by segment_kind a.cmds.now l.left l.at c.find-found.result c.find-found.ensures in
-    l.invariant ∙ laws.base_next a.cmds.now l.left l.at c.find-found.result f (not-false _ c.if-not-found.false) (sym c.has_name.ensures ∙ c.if-has_name.false)
+pub returns : goal.returns
+returns c = laws.base_none c.args.cmds.now _ c.in-None.ensures.steps.0 ∙ sym c.loop-at.invariant.0
