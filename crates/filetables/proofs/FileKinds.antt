@@ -63,23 +63,6 @@ module _ (n : ℕ) (cmds : List ℕ) (kind a : ℕ) where
   unfolding command_read choose
   read_info x y z w = simp (ne_eqb kind 0x19 x, ne_eqb kind 0xB y, ne_eqb kind 0x21 z, ne_eqb kind 0x2C w)
 
--- The commands of a kind, by what a search for them finds.
-module _ (n : ℕ) (cmds : List ℕ) (kind k a : ℕ) (r : Found) (found : Finds kind cmds k a r) where
-  pub read_none : r.here ≡ false → true ≡ all_read n cmds kind (of_kind kind cmds k a)
-  unfolding all_read
-  read_none e = rw (found.none e)
-
-  module _ (h : r.here ≡ true) where
-    read_more : all_read n cmds kind (of_kind kind cmds k a) ≡ (command_read n cmds kind r.at && all_read n cmds kind (of_kind kind cmds r.left r.next))
-    unfolding all_read
-    read_more = rw (found.more h)
-
-    pub read_not : command_read n cmds kind r.at ≡ false → false ≡ all_read n cmds kind (of_kind kind cmds k a)
-    read_not e = rw (read_more, e)
-
-    pub read_next : command_read n cmds kind r.at ≡ true → all_read n cmds kind (of_kind kind cmds k a) ≡ all_read n cmds kind (of_kind kind cmds r.left r.next)
-    read_next e = rw (read_more, e)
-
 -- 15 and 16, then 25.
 module _ (file : List ℕ) where
   pub kind_refused : (k : ℕ) → number k ≡ asked_commands file → number k ≡ asked_kind file

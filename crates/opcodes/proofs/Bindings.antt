@@ -1,12 +1,9 @@
 -- The binds that an opcode makes, by the branches of the code.
-use Rattle.std.proofs.Common.{◌≡◌, ℕ, suc, ◌+◌, ◌-◌, ◌%◌, ◌^◌, ◌<◌, ◌≤◌, Bool, true, false, ◌&&◌, leb, List, ◌∷◌, sym, refl, ap, ◌∙◌, ap₂, arith, le-leb}
+use Rattle.std.proofs.Common.{◌≡◌, ℕ, zero, suc, ◌+◌, ◌-◌, ◌%◌, ◌^◌, ◌<◌, ◌≤◌, Bool, true, false, ◌&&◌, leb, Option, Some, None, List, [], ◌∷◌, sym, refl, ap, ◌∙◌, ap₂, arith, le-leb}
+use Rattle.std.specs.List.{slice_get}
 use borrow.Author.Tests.{lt-leb}
 use Rattle.reads.specs.Outcome.{Outcome, value, absent, number, and_then, choose}
 use Rattle.reads.proofs.Tests.{choose_true, choose_false}
-use Rattle.macho.specs.Loader.{segment_kind}
-use Rattle.macho.specs.Commands.{of_kind}
-use Rattle.macho.specs.declared.command.Found.{Found}
-use Rattle.macho.proofs.Commands.{Finds}
 use Rattle.fixups.specs.Tables.{Part, part, put_row, put_rows}
 use Rattle.opcodes.specs.Binding.{bound, entry_outcome, further, inside, bound_by, Moved, moved, run, with_segment, with_symbol, placed_outcome, in_segment, perform}
 use Rattle.opcodes.specs.Tables.{bind_row, told_at, told_by}
@@ -84,23 +81,19 @@ module _ (end left stride : ℕ) (s : State) (p : Part) where
         ∙ then_told x (run end (left - 1) stride (further stride s)) p
         ∙ ap₂ (λ (u : State) (q : Part). told_by (run end (left - 1) stride u) q) (sym f) (sym g)
 
--- The segment of an index, by what a search for the segments finds.
-module _ (cmds : List ℕ) (k a i offset : ℕ) (s : State) (r : Found) (found : Finds segment_kind cmds k a r) where
-  pub segment_none : r.here ≡ false → number 19 ≡ in_segment cmds (of_kind segment_kind cmds k a) i offset s
-  unfolding in_segment
-  segment_none e = rw (found.none e)
+-- The segment of an index.
+pub segment_none : (cmds segs : List ℕ) (index offset : ℕ) (s : State) → None ≡ slice_get segs index → number 19 ≡ in_segment cmds segs index offset s
+unfolding in_segment
+segment_none cmds [] index offset s e = refl
+segment_none cmds (a ∷ segs) zero offset s e = let z : ◌≡◌ {A = ℕ} 0 1 = cc in absurd (omega arith)
+segment_none cmds (a ∷ segs) (suc index) offset s e = segment_none cmds segs index offset s e
 
-  module _ (h : r.here ≡ true) where
-    pub segment_here : i ≡ 0 → (t : State) → t ≡ with_segment cmds r.at offset s → value t ≡ in_segment cmds (of_kind segment_kind cmds k a) i offset s
-    unfolding in_segment
-    segment_here z t e = rw (found.more h, z, e)
-
-    pub segment_next : (i ≡ 0 → ⊥)
-        → in_segment cmds (of_kind segment_kind cmds k a) i offset s ≡ in_segment cmds (of_kind segment_kind cmds r.left r.next) (i - 1) offset s
-    unfolding in_segment
-    segment_next z =
-        let e : i ≡ suc (i - 1) = omega arith in
-        ap (λ (n : ℕ). in_segment cmds (of_kind segment_kind cmds k a) n offset s) e ∙ rw (found.more h)
+pub segment_at : (cmds segs : List ℕ) (index offset : ℕ) (s : State) (a : ℕ) → Some a ≡ slice_get segs index
+    → (t : State) → t ≡ with_segment cmds a offset s → value t ≡ in_segment cmds segs index offset s
+unfolding in_segment
+segment_at cmds [] index offset s a e t g = let z : ◌≡◌ {A = ℕ} 0 1 = cc in absurd (omega arith)
+segment_at cmds (b ∷ segs) zero offset s a e t g = let p : a ≡ b = cc in rw (g, p)
+segment_at cmds (b ∷ segs) (suc index) offset s a e t g = segment_at cmds segs index offset s a e t g
 
 -- What an opcode does.
 module _ (end : ℕ) (cmds segs : List ℕ) (x : Instruction) (s : State) (p : Part) where
