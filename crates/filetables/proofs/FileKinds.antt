@@ -1,17 +1,16 @@
 -- Question 25, by the tests that the code makes.
 use Prim.Native.Nat.{ℕ, ◌+◌, ◌/◌, ◌%◌, ◌≤◌, ◌<◌}
-use mathlib.Core.Path.{◌≡◌}
+use mathlib.Core.Path.{◌≡◌, refl}
 use mathlib.Core.Bool.{true, false, ◌&&◌}
-use mathlib.Core.List.{List}
+use mathlib.Core.List.{List, [], ◌∷◌}
+use Rattle.std.specs.List.{list_all}
 use lib.Dec.{eqb}
 use borrow.Author.Tests.{le-leb, lt-leb, ne_eqb}
 use Rattle.reads.specs.Outcome.{value, number, choose}
 use Rattle.pointers.specs.Question.{question}
 use Rattle.macho.specs.Number.{u32_at}
 use Rattle.macho.specs.Loader.{fileoff, filesize}
-use Rattle.macho.specs.Commands.{asked_commands, of_kind}
-use Rattle.macho.specs.declared.command.Found.{Found}
-use Rattle.macho.proofs.Commands.{Finds}
+use Rattle.macho.specs.Commands.{asked_commands}
 use Rattle.filetables.specs.Kind.{type_read, segment_read, info_read, command_read, all_read, is_read, asked_kind}
 
 module _ (t : ℕ) where
@@ -62,6 +61,12 @@ module _ (n : ℕ) (cmds : List ℕ) (kind a : ℕ) where
   pub read_info : (kind ≡ 0x19 → ⊥) → (kind ≡ 0xB → ⊥) → (kind ≡ 0x21 → ⊥) → (kind ≡ 0x2C → ⊥) → info_read n cmds a ≡ command_read n cmds kind a
   unfolding command_read choose
   read_info x y z w = simp (ne_eqb kind 0x19 x, ne_eqb kind 0xB y, ne_eqb kind 0x21 z, ne_eqb kind 0x2C w)
+
+-- The commands that stand at the offsets given.
+pub all_read_by : (n : ℕ) (cmds : List ℕ) (kind : ℕ) (segs : List ℕ) → list_all (command_read n cmds kind) segs ≡ all_read n cmds kind segs
+unfolding all_read
+all_read_by n cmds kind [] = refl
+all_read_by n cmds kind (a ∷ segs) = rw (all_read_by n cmds kind segs)
 
 -- 15 and 16, then 25.
 module _ (file : List ℕ) where
