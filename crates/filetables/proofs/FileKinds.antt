@@ -1,17 +1,18 @@
 -- Question 25, by the tests that the code makes.
 use Prim.Native.Nat.{ℕ, ◌+◌, ◌/◌, ◌%◌, ◌≤◌, ◌<◌}
 use mathlib.Core.Path.{◌≡◌, refl}
-use mathlib.Core.Bool.{true, false, ◌&&◌}
+use mathlib.Core.Bool.{Bool, true, false, ◌&&◌}
 use mathlib.Core.List.{List, [], ◌∷◌}
 use Rattle.std.specs.List.{list_all}
-use lib.Dec.{eqb}
+use lib.Dec.{eqb, leb}
+use Rattle.std.proofs.Math.Bool.{and_assoc}
 use borrow.Author.Tests.{le-leb, lt-leb, ne_eqb}
 use Rattle.reads.specs.Outcome.{value, number, choose}
 use Rattle.pointers.specs.Question.{question}
 use Rattle.macho.specs.Number.{u32_at}
 use Rattle.macho.specs.Loader.{fileoff, filesize}
 use Rattle.macho.specs.Commands.{asked_commands}
-use Rattle.filetables.specs.Kind.{type_read, segment_read, info_read, command_read, all_read, is_read, asked_kind}
+use Rattle.filetables.specs.Kind.{type_read, segment_read, info_read, command_read, all_read, kind_read, carriers, commands_read, is_read, asked_kind}
 
 module _ (t : ℕ) where
   pub type_first : t ≡ 2 → true ≡ type_read t
@@ -67,6 +68,14 @@ pub all_read_by : (n : ℕ) (cmds : List ℕ) (kind : ℕ) (segs : List ℕ) →
 unfolding all_read
 all_read_by n cmds kind [] = refl
 all_read_by n cmds kind (a ∷ segs) = rw (all_read_by n cmds kind segs)
+
+-- The commands of each kind that is asked of, and how many say what is bound.
+abbrev pub kinds : List ℕ
+kinds = 0x19 ∷ 0xB ∷ 0x21 ∷ 0x2C ∷ 0x22 ∷ 0x80000022 ∷ []
+
+pub commands_by : (n : ℕ) (cmds : List ℕ) (count : ℕ) → (list_all (kind_read n cmds count) kinds && leb (carriers cmds count) 1) ≡ commands_read n cmds count
+unfolding commands_read
+commands_by n cmds count = simp and_assoc
 
 -- 15 and 16, then 25.
 module _ (file : List ℕ) where

@@ -117,25 +117,15 @@ fn commands_read(cmds: &[u8], count: u64, n: u64) -> bool
     requires { count < 2 ^ 32 }
     ensures { result ≡ commands_read n (before cmds) count }
 {
-    if !kind_read(cmds, count, LC_SEGMENT_64, n) {
-        return false;
-    }
-    if !kind_read(cmds, count, LC_DYSYMTAB, n) {
-        return false;
-    }
-    if !kind_read(cmds, count, LC_ENCRYPTION_INFO, n) {
-        return false;
-    }
-    if !kind_read(cmds, count, LC_ENCRYPTION_INFO_64, n) {
-        return false;
-    }
-    if !kind_read(cmds, count, LC_DYLD_INFO, n) {
-        return false;
-    }
-    if !kind_read(cmds, count, LC_DYLD_INFO_ONLY, n) {
-        return false;
-    }
-    carriers(cmds, count) <= 1
+    let kinds = [
+        LC_SEGMENT_64,
+        LC_DYSYMTAB,
+        LC_ENCRYPTION_INFO,
+        LC_ENCRYPTION_INFO_64,
+        LC_DYLD_INFO,
+        LC_DYLD_INFO_ONLY,
+    ];
+    kinds.iter().all(|kind| kind_read(cmds, count, *kind, n)) && carriers(cmds, count) <= 1
 }
 
 // 25.

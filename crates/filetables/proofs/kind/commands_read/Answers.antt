@@ -1,33 +1,20 @@
-use mathlib.Core.Path.{◌∙◌, sym}
-use borrow.Author.Tests.{not-true, not-false}
-use Rattle.filetables.specs.Kind.{commands_read}
-use Rattle.std.proofs.Common.{ap, not}
+use Rattle.std.proofs.Common.{◌≡◌, rules, tests, ◌∙◌}
+use Rattle.std.specs.List.{list_all}
+use Rattle.std.proofs.lemmas.Iterator.{YieldsList-from_slice}
+use Rattle.std.proofs.lemmas.Iterator.Search.{all_from_yields_List}
+use Rattle.filetables.specs.Kind.{kind_read}
+use Rattle.filetables.proofs.FileKinds.{kinds, commands_by}
 use Rattle.filetables.proofs.kind.commands_read.Goals as goal
 
-pub returns-then-not-kind_read : goal.returns-then-not-kind_read
-unfolding commands_read
-returns-then-not-kind_read c = rw (sym c.kind_read.ensures ∙ not-true _ (ap not c.if-not-kind_read.true))
+pub returns-then-all : goal.returns-then-all
+returns-then-all c =
+    let a = c.args in
+    let told : c.all.result ≡ list_all (kind_read a.n a.cmds.now a.count) kinds =
+        all_from_yields_List (kind_read a.n a.cmds.now a.count) c.all.new.self _ c.all.result c.all.ensures.ran (YieldsList-from_slice kinds (cc)) (λ x b q k. search (rules, tests)) in
+    rw (c.carriers.ensures, ← commands_by a.n a.cmds.now a.count, ← told, c.if-all.true)
 
-pub returns-then-not-kind_read-2 : goal.returns-then-not-kind_read-2
-unfolding commands_read
-returns-then-not-kind_read-2 c = rw (sym c.kind_read.ensures ∙ not-false _ (ap not c.if-not-kind_read.false), sym c.kind_read-2.ensures ∙ not-true _ (ap not c.if-not-kind_read-2.true))
-
-pub returns-then-not-kind_read-3 : goal.returns-then-not-kind_read-3
-unfolding commands_read
-returns-then-not-kind_read-3 c = rw (sym c.kind_read.ensures ∙ not-false _ (ap not c.if-not-kind_read.false), sym c.kind_read-2.ensures ∙ not-false _ (ap not c.if-not-kind_read-2.false), sym c.kind_read-3.ensures ∙ not-true _ (ap not c.if-not-kind_read-3.true))
-
-pub returns-then-not-kind_read-4 : goal.returns-then-not-kind_read-4
-unfolding commands_read
-returns-then-not-kind_read-4 c = rw (sym c.kind_read.ensures ∙ not-false _ (ap not c.if-not-kind_read.false), sym c.kind_read-2.ensures ∙ not-false _ (ap not c.if-not-kind_read-2.false), sym c.kind_read-3.ensures ∙ not-false _ (ap not c.if-not-kind_read-3.false), sym c.kind_read-4.ensures ∙ not-true _ (ap not c.if-not-kind_read-4.true))
-
-pub returns-then-not-kind_read-5 : goal.returns-then-not-kind_read-5
-unfolding commands_read
-returns-then-not-kind_read-5 c = rw (sym c.kind_read.ensures ∙ not-false _ (ap not c.if-not-kind_read.false), sym c.kind_read-2.ensures ∙ not-false _ (ap not c.if-not-kind_read-2.false), sym c.kind_read-3.ensures ∙ not-false _ (ap not c.if-not-kind_read-3.false), sym c.kind_read-4.ensures ∙ not-false _ (ap not c.if-not-kind_read-4.false), sym c.kind_read-5.ensures ∙ not-true _ (ap not c.if-not-kind_read-5.true))
-
-pub returns-then-not-kind_read-6 : goal.returns-then-not-kind_read-6
-unfolding commands_read
-returns-then-not-kind_read-6 c = rw (sym c.kind_read.ensures ∙ not-false _ (ap not c.if-not-kind_read.false), sym c.kind_read-2.ensures ∙ not-false _ (ap not c.if-not-kind_read-2.false), sym c.kind_read-3.ensures ∙ not-false _ (ap not c.if-not-kind_read-3.false), sym c.kind_read-4.ensures ∙ not-false _ (ap not c.if-not-kind_read-4.false), sym c.kind_read-5.ensures ∙ not-false _ (ap not c.if-not-kind_read-5.false), sym c.kind_read-6.ensures ∙ not-true _ (ap not c.if-not-kind_read-6.true))
-
-pub returns : goal.returns
-unfolding commands_read
-returns c = rw (sym c.kind_read.ensures ∙ not-false _ (ap not c.if-not-kind_read.false), sym c.kind_read-2.ensures ∙ not-false _ (ap not c.if-not-kind_read-2.false), sym c.kind_read-3.ensures ∙ not-false _ (ap not c.if-not-kind_read-3.false), sym c.kind_read-4.ensures ∙ not-false _ (ap not c.if-not-kind_read-4.false), sym c.kind_read-5.ensures ∙ not-false _ (ap not c.if-not-kind_read-5.false), sym c.kind_read-6.ensures ∙ not-false _ (ap not c.if-not-kind_read-6.false), c.carriers.ensures)
+pub returns-else-all : goal.returns-else-all
+returns-else-all c =
+    let a = c.args in
+    let told : c.all.result ≡ list_all (kind_read a.n a.cmds.now a.count) kinds = search rules in
+    c.if-all.false ∙ rw (← commands_by a.n a.cmds.now a.count, ← told, c.if-all.false)
