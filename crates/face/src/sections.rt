@@ -1,7 +1,7 @@
 // A step of the walk over classes, over categories and over protocols: the walk's state goes in and comes back as words.
 ghost use Rattle.std.specs.Prelude.{◌≡◌, []};
 ghost use Rattle.pointers.specs.Tables.{lent, under};
-ghost use Rattle.walks.specs.Sections.{classes, categories, step_of, protocol_step_of, class_step, category_step, protocol_step};
+ghost use Rattle.walks.specs.Sections.{classes, categories, step_of, protocol_step_of, record_step};
 ghost use Rattle.face.specs.Words.{setting_in};
 ghost use Rattle.face.specs.Decoding.{class_told, category_told, protocol_told};
 ghost use Rattle.face.specs.Sections.{class_state, category_state, protocol_state, class_walked, category_walked, protocol_walked};
@@ -9,10 +9,11 @@ ghost use Rattle.face.specs.Sections.{class_state, category_state, protocol_stat
 use crate::decoding::{CategoryTold, ClassTold, ProtocolTold};
 use crate::status::Status;
 use crate::words::{CategoryWords, ClassWords, ProtocolWords, setting_in};
+use records::category::ObjcCategory;
+use records::class::ObjcClass;
+use records::protocol::ObjcProtocol;
 use walks::section_slots::{CategorySlots, ClassSlots, ProtocolSlots};
-use walks::sections::{
-    CategoryStep, CategoryWalk, ClassStep, ClassWalk, ProtocolStep, ProtocolWalk,
-};
+use walks::sections::{CategoryWalk, ClassWalk, ProtocolWalk, RecordStep};
 use walks::slots::SlotWalk;
 
 // Where a walk stands: the next slot; the words of the ledger in use and the highest of them; the address of the metaclass that waits;
@@ -48,48 +49,48 @@ pub struct ProtocolWalked {
     pub walk: WalkWords,
 }
 
-fn class_step_told(step: ClassStep) -> ClassTold
-    ensures { result ≡ class_told (class_step step) }
+fn class_step_told(step: RecordStep<ObjcClass>) -> ClassTold
+    ensures { result ≡ class_told (record_step step) }
 {
     match step {
-        ClassStep::Record(c) => ClassTold {
+        RecordStep::Record(c) => ClassTold {
             status: Status::found(),
             cls: ClassWords::of(c),
         },
-        ClassStep::Passed(why) => ClassTold::none(Status::absent(why)),
-        ClassStep::Dropped => ClassTold::none(Status::of(Status::DROPPED)),
-        ClassStep::Finished => ClassTold::none(Status::of(Status::FINISHED)),
-        ClassStep::Refused(k) => ClassTold::none(Status::refused(k)),
+        RecordStep::Passed(why) => ClassTold::none(Status::absent(why)),
+        RecordStep::Dropped => ClassTold::none(Status::of(Status::DROPPED)),
+        RecordStep::Finished => ClassTold::none(Status::of(Status::FINISHED)),
+        RecordStep::Refused(k) => ClassTold::none(Status::refused(k)),
     }
 }
 
-fn category_step_told(step: CategoryStep) -> CategoryTold
-    ensures { result ≡ category_told (category_step step) }
+fn category_step_told(step: RecordStep<ObjcCategory>) -> CategoryTold
+    ensures { result ≡ category_told (record_step step) }
 {
     match step {
-        CategoryStep::Record(k) => CategoryTold {
+        RecordStep::Record(k) => CategoryTold {
             status: Status::found(),
             category: CategoryWords::of(k),
         },
-        CategoryStep::Passed(why) => CategoryTold::none(Status::absent(why)),
-        CategoryStep::Dropped => CategoryTold::none(Status::of(Status::DROPPED)),
-        CategoryStep::Finished => CategoryTold::none(Status::of(Status::FINISHED)),
-        CategoryStep::Refused(k) => CategoryTold::none(Status::refused(k)),
+        RecordStep::Passed(why) => CategoryTold::none(Status::absent(why)),
+        RecordStep::Dropped => CategoryTold::none(Status::of(Status::DROPPED)),
+        RecordStep::Finished => CategoryTold::none(Status::of(Status::FINISHED)),
+        RecordStep::Refused(k) => CategoryTold::none(Status::refused(k)),
     }
 }
 
-fn protocol_step_told(step: ProtocolStep) -> ProtocolTold
-    ensures { result ≡ protocol_told (protocol_step step) }
+fn protocol_step_told(step: RecordStep<ObjcProtocol>) -> ProtocolTold
+    ensures { result ≡ protocol_told (record_step step) }
 {
     match step {
-        ProtocolStep::Record(p) => ProtocolTold {
+        RecordStep::Record(p) => ProtocolTold {
             status: Status::found(),
             protocol: ProtocolWords::of(p),
         },
-        ProtocolStep::Passed(why) => ProtocolTold::none(Status::absent(why)),
-        ProtocolStep::Dropped => ProtocolTold::none(Status::of(Status::DROPPED)),
-        ProtocolStep::Finished => ProtocolTold::none(Status::of(Status::FINISHED)),
-        ProtocolStep::Refused(k) => ProtocolTold::none(Status::refused(k)),
+        RecordStep::Passed(why) => ProtocolTold::none(Status::absent(why)),
+        RecordStep::Dropped => ProtocolTold::none(Status::of(Status::DROPPED)),
+        RecordStep::Finished => ProtocolTold::none(Status::of(Status::FINISHED)),
+        RecordStep::Refused(k) => ProtocolTold::none(Status::refused(k)),
     }
 }
 
@@ -206,7 +207,16 @@ pub extern "C" fn objclist_next_protocol(
         slots: ProtocolSlots { slot: walk.slot },
         setting,
     };
-    let stepped = at.next(files, segments, sections, info, rebases, binds, index);
+    let stepped = at.next(
+        files,
+        segments,
+        sections,
+        info,
+        rebases,
+        binds,
+        index,
+        &mut [],
+    );
     let step = stepped.step;
     let next = stepped.walk;
     ProtocolWalked {

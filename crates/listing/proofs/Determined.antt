@@ -5,9 +5,10 @@ use Rattle.walks.specs.Sections.{Walk}
 use Rattle.walks.specs.Slots.{slot_walk}
 use Rattle.walks.specs.declared.slots.SlotWalk.{SlotWalk}
 use Rattle.pointers.specs.declared.setting.Setting.{Setting}
-use Rattle.walks.specs.declared.sections.CategoryWalk.{CategoryWalk}
-use Rattle.walks.specs.declared.sections.ClassWalk.{ClassWalk}
-use Rattle.walks.specs.declared.sections.ProtocolWalk.{ProtocolWalk}
+use Rattle.walks.specs.declared.section_slots.CategorySlots.{CategorySlots}
+use Rattle.walks.specs.declared.section_slots.ClassSlots.{ClassSlots}
+use Rattle.walks.specs.declared.section_slots.ProtocolSlots.{ProtocolSlots}
+use Rattle.walks.specs.declared.sections.RecordWalk.{RecordWalk}
 use Rattle.listing.specs.Listing.{Begun, SectionWalk, State}
 use Rattle.listing.specs.ListingAnswer.{section_walk_of, state_of}
 use Rattle.listing.specs.declared.at.At.{At}
@@ -18,13 +19,13 @@ use Rattle.listing.specs.declared.section.Section.{Section}
 abbrev slots_back : Walk → SlotWalk
 slots_back w = slot_walk w.slot w.used w.highest
 
-abbrev class_back : Begun → ClassWalk
+abbrev class_back : Begun → RecordWalk ClassSlots
 class_back b = record { slots = record { slots = slots_back b.walk; meta = b.walk.waiting }; setting = b.setting }
 
-abbrev protocol_back : Begun → ProtocolWalk
+abbrev protocol_back : Begun → RecordWalk ProtocolSlots
 protocol_back b = record { slots = record { slot = b.walk.slot }; setting = b.setting }
 
-abbrev category_back : Begun → CategoryWalk
+abbrev category_back : Begun → RecordWalk CategorySlots
 category_back b = record { slots = record { slots = slots_back b.walk }; setting = b.setting }
 
 abbrev section_back : SectionWalk → Section

@@ -3,9 +3,10 @@ use Rattle.std.specs.Prelude.{ℕ, ◌+◌, ◌*◌, ◌^◌, List}
 use Rattle.reads.specs.Outcome.{Outcome, value, number}
 use Rattle.walks.specs.Sections.{Step, found, passed, dropped, finished, class_walk, category_walk, protocol_walk}
 use Rattle.listing.specs.Listing.{Begun, begun, SectionWalk, walks, SectionLeft, State, state, Answer, says, lacks, nothing, ended, Left, leaves}
-use Rattle.walks.specs.declared.sections.CategoryWalk.{CategoryWalk}
-use Rattle.walks.specs.declared.sections.ClassWalk.{ClassWalk}
-use Rattle.walks.specs.declared.sections.ProtocolWalk.{ProtocolWalk}
+use Rattle.walks.specs.declared.section_slots.CategorySlots.{CategorySlots}
+use Rattle.walks.specs.declared.section_slots.ClassSlots.{ClassSlots}
+use Rattle.walks.specs.declared.section_slots.ProtocolSlots.{ProtocolSlots}
+use Rattle.walks.specs.declared.sections.RecordWalk.{RecordWalk}
 use Rattle.listing.specs.declared.at.Record.{Record}
 use Rattle.listing.specs.declared.line.Named.{Named}
 use Rattle.listing.specs.declared.listing.Listed.{Listed}
@@ -20,13 +21,13 @@ use Rattle.listing.specs.declared.section.Taken.{Taken}
 use Rattle.listing.specs.declared.section.Taken.TheVariants as taken
 
 -- Each walk of a section.
-abbrev pub class_begun : ClassWalk → Begun
+abbrev pub class_begun : RecordWalk ClassSlots → Begun
 class_begun w = begun w.setting (class_walk w)
 
-abbrev pub protocol_begun : ProtocolWalk → Begun
+abbrev pub protocol_begun : RecordWalk ProtocolSlots → Begun
 protocol_begun w = begun w.setting (protocol_walk w)
 
-abbrev pub category_begun : CategoryWalk → Begun
+abbrev pub category_begun : RecordWalk CategorySlots → Begun
 category_begun w = begun w.setting (category_walk w)
 
 abbrev pub section_walk_of : Section → SectionWalk

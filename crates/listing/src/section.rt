@@ -2,7 +2,7 @@
 ghost use Rattle.std.specs.Prelude.{◌≡◌, ℕ, List};
 ghost use Rattle.reads.specs.Reference.{after};
 ghost use Rattle.pointers.specs.Tables.{lent};
-ghost use Rattle.walks.specs.Sections.{class_step, category_step, protocol_step};
+ghost use Rattle.walks.specs.Sections.{record_step};
 ghost use Rattle.listing.specs.declared.at.Record.TheVariants as aRecord;
 ghost use Rattle.listing.specs.Listing.{stage_start, with_classes, with_protocols, with_categories, as_record, classes_step, protocols_step, categories_step, section_step};
 ghost use Rattle.listing.specs.ListingAnswer.{class_begun, protocol_begun, category_begun, section_walk_of, taken_of, section_left_of};
@@ -10,9 +10,10 @@ ghost use Rattle.listing.specs.ListingAnswer.{class_begun, protocol_begun, categ
 use crate::at::Record;
 use pointers::setting::Setting;
 use reads::answer::Reason;
-use walks::sections::{
-    CategoryStep, CategoryWalk, ClassStep, ClassWalk, ProtocolStep, ProtocolWalk,
-};
+use records::category::ObjcCategory;
+use records::class::ObjcClass;
+use records::protocol::ObjcProtocol;
+use walks::sections::{CategoryWalk, ClassWalk, ProtocolWalk, RecordStep};
 
 // The section walks side by side, and which is under way: 0, 1, and from 2 on the last. The others stand at their starts, or where a state
 // that no step handed back has them. The stage is a word, so that no hole stands before the walks (docs/PERFORMANCE.md).
@@ -43,41 +44,41 @@ pub(crate) struct SectionStepped {
 }
 
 // What a step of the class walk gives.
-fn class_taken(step: ClassStep) -> Taken
-    ensures { taken_of result ≡ as_record aRecord.Class (class_step step) }
+fn class_taken(step: RecordStep<ObjcClass>) -> Taken
+    ensures { taken_of result ≡ as_record aRecord.Class (record_step step) }
 {
     match step {
-        ClassStep::Record(class) => Taken::Record(Record::Class(class)),
-        ClassStep::Passed(why) => Taken::Passed(why),
-        ClassStep::Dropped => Taken::Dropped,
-        ClassStep::Finished => Taken::Finished,
-        ClassStep::Refused(k) => Taken::Refused(k),
+        RecordStep::Record(class) => Taken::Record(Record::Class(class)),
+        RecordStep::Passed(why) => Taken::Passed(why),
+        RecordStep::Dropped => Taken::Dropped,
+        RecordStep::Finished => Taken::Finished,
+        RecordStep::Refused(k) => Taken::Refused(k),
     }
 }
 
 // What a step of the protocol walk gives.
-fn protocol_taken(step: ProtocolStep) -> Taken
-    ensures { taken_of result ≡ as_record aRecord.Protocol (protocol_step step) }
+fn protocol_taken(step: RecordStep<ObjcProtocol>) -> Taken
+    ensures { taken_of result ≡ as_record aRecord.Protocol (record_step step) }
 {
     match step {
-        ProtocolStep::Record(protocol) => Taken::Record(Record::Protocol(protocol)),
-        ProtocolStep::Passed(why) => Taken::Passed(why),
-        ProtocolStep::Dropped => Taken::Dropped,
-        ProtocolStep::Finished => Taken::Finished,
-        ProtocolStep::Refused(k) => Taken::Refused(k),
+        RecordStep::Record(protocol) => Taken::Record(Record::Protocol(protocol)),
+        RecordStep::Passed(why) => Taken::Passed(why),
+        RecordStep::Dropped => Taken::Dropped,
+        RecordStep::Finished => Taken::Finished,
+        RecordStep::Refused(k) => Taken::Refused(k),
     }
 }
 
 // What a step of the category walk gives.
-fn category_taken(step: CategoryStep) -> Taken
-    ensures { taken_of result ≡ as_record aRecord.Category (category_step step) }
+fn category_taken(step: RecordStep<ObjcCategory>) -> Taken
+    ensures { taken_of result ≡ as_record aRecord.Category (record_step step) }
 {
     match step {
-        CategoryStep::Record(category) => Taken::Record(Record::Category(category)),
-        CategoryStep::Passed(why) => Taken::Passed(why),
-        CategoryStep::Dropped => Taken::Dropped,
-        CategoryStep::Finished => Taken::Finished,
-        CategoryStep::Refused(k) => Taken::Refused(k),
+        RecordStep::Record(category) => Taken::Record(Record::Category(category)),
+        RecordStep::Passed(why) => Taken::Passed(why),
+        RecordStep::Dropped => Taken::Dropped,
+        RecordStep::Finished => Taken::Finished,
+        RecordStep::Refused(k) => Taken::Refused(k),
     }
 }
 
@@ -185,7 +186,16 @@ impl Section {
             ((l : List ℕ) → section_left_of result l ≡ protocols_step t l (section_walk_of self)) }
     {
         let walk = self.protocols;
-        let stepped = walk.next(files, segments, sections, info, rebases, binds, index);
+        let stepped = walk.next(
+            files,
+            segments,
+            sections,
+            info,
+            rebases,
+            binds,
+            index,
+            &mut [],
+        );
         let step = stepped.step;
         let after = stepped.walk;
         SectionStepped {

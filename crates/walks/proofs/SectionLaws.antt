@@ -1,18 +1,20 @@
 -- Laws of the steps of the section walks, by the answers that the code goes by; and what every step leaves.
-use Prim.Native.Nat.{ℕ}
+use Prim.Native.Nat.{ℕ, ◌+◌, max}
 use mathlib.Core.Path.{◌≡◌, refl, ap, ◌∙◌}
 use mathlib.Core.Bool.{Bool}
 use mathlib.Core.List.{List}
-use lib.ListN.{length}
+use lib.ListN.{length, set}
 use borrow.Author.Tests.{eq-eqb, ne_eqb}
 use Rattle.reads.specs.Outcome.{Outcome, value, absent, number}
 use Rattle.reads.proofs.Tests.{choose_true, choose_false}
 use Rattle.pointers.specs.Tables.{Tables}
+use Rattle.records.specs.Category.{category_at}
 use Rattle.walks.specs.Handed.{unless_refused}
 use Rattle.walks.specs.Slots.{slots_of, among, asked_slot, asked_ledger, TakenSlot, address, slot_dropped, no_slot, slot_refused, slot_taken, met_below, greatest, first_met, next_slot, next_new}
-use Rattle.walks.specs.Sections.{Walk, walk, at_start, met_in, Highest, Left, stays, Kind, slots_in, by_slot, take_waiting, next_waiting, take_new, take_slot, step_by, ledger_step_of, step_of, take_protocol, protocol_step_of}
+use Rattle.walks.specs.Sections.{Walk, walk, at_start, met_in, Highest, Left, stays, Kind, slots_in, categories, by_record, by_slot, take_waiting, next_waiting, take_new, take_slot, step_by, ledger_step_of, step_of, take_protocol, protocol_step_of}
 use Rattle.records.specs.declared.protocol.ObjcProtocol.{ObjcProtocol}
-use Rattle.walks.specs.declared.slots.Lists.TheVariants.{Protocols}
+use Rattle.walks.specs.declared.slots.Lists.{Lists}
+use Rattle.walks.specs.declared.slots.Lists.TheVariants.{Categories, Protocols}
 use Rattle.walks.proofs.SlotLaws.{met_by_greatest}
 
 -- A question that refuses the slot refuses the step.
@@ -35,11 +37,32 @@ module _ {A : Type 0} (k : Kind A) (t : Tables) (w : Walk) (l : List ℕ) where
   unfolding step_of step_by next_waiting
   step_waiting h e = rw (choose_false (take_slot (met_below w.highest (met_in w l)) k t w l) (take_waiting k t w l) (ne_eqb w.waiting 0 h)) e
 
-  pub step_slot : {x : Left A} → w.waiting ≡ 0 → x ≡ by_slot w l (take_new k t w l) (next_new t (slots_in k t) w.slot w.used w.highest l) → x ≡ step_of k t w l
+  pub step_slot : (lists : Lists) {r : TakenSlot} {x : Left A} → lists ≡ k.lists → w.waiting ≡ 0
+      → r ≡ next_new t (slots_of lists t.sections) w.slot w.used w.highest l → x ≡ by_slot w l (take_new k t w l) r → x ≡ step_of k t w l
   unfolding step_of step_by take_slot next_new
-  step_slot h e =
+  step_slot lists i h n e =
       rw (choose_true (take_slot (met_below w.highest (met_in w l)) k t w l) (take_waiting k t w l) (eq-eqb w.waiting 0 h))
-      (e ∙ slot_step w l (take_new k t w l) (asked_ledger t (slots_in k t) w.slot w.used (length l)) (first_met (met_below w.highest (met_in w l)) (slot_taken t (slots_in k t) w.slot)))
+      (e ∙ ap (by_slot w l (take_new k t w l)) (rw i at n)
+      ∙ slot_step w l (take_new k t w l) (asked_ledger t (slots_in k t) w.slot w.used (length l)) (first_met (met_below w.highest (met_in w l)) (slot_taken t (slots_in k t) w.slot)))
+
+-- Where no address waits, none waits after a step over categories.
+module _ (w : Walk) (l : List ℕ) (h : w.waiting ≡ 0) where
+  record_waits_none : {A : Type 0} (on : ℕ → Walk) (new : List ℕ) → (on 0).waiting ≡ 0 → (o : Outcome A) → (by_record w l (λ c. 0) on new o).walk.waiting ≡ 0
+  record_waits_none on new e (value a) = e
+  record_waits_none on new e (absent r) = e
+  record_waits_none on new e (number k) = h
+
+  slot_waits_none : {A : Type 0} (f : ℕ → Left A) → ((a : ℕ) → (f a).walk.waiting ≡ 0) → (x : TakenSlot) → (by_slot w l f x).walk.waiting ≡ 0
+  slot_waits_none f e (address a) = e a
+  slot_waits_none f e slot_dropped = refl
+  slot_waits_none f e no_slot = h
+  slot_waits_none f e (slot_refused k) = h
+
+  pub category_waits_none : (t : Tables) → (step_of categories t w l).walk.waiting ≡ 0
+  unfolding take_new
+  category_waits_none t =
+      rw (← step_slot categories t w l Categories refl h refl refl)
+      (slot_waits_none (take_new categories t w l) (λ a. record_waits_none (walk (w.slot + 1) (w.used + 1) (max w.highest a)) (set l w.used a) refl (category_at t a)) (next_new t (slots_in categories t) w.slot w.used w.highest l))
 
 -- The highest address met stands in for a look at the ledger: where it is the greatest word in use, the step is that by the ledger alone.
 first_met_same : {f g : ℕ → Bool} → ((a : ℕ) → f a ≡ g a) → (x : TakenSlot) → first_met f x ≡ first_met g x

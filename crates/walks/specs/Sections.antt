@@ -1,6 +1,8 @@
 -- The walks over the section lists (document 01, Section walk and Steps; class.rs, category.rs, protocol.rs).
-use Rattle.std.specs.Prelude.{ℕ, ◌+◌, max, Bool, true, false, ◌≡◌, List, [], eqb, length, take, set}
+use Rattle.std.specs.Prelude.{ℕ, ◌+◌, max, Bool, true, false, ◌≡◌, List, Result, Ok, Err, eqb, length, take, set}
 use Rattle.reads.specs.Outcome.{Outcome, value, absent, number, choose}
+use Rattle.reads.specs.Answer.{missed}
+use Rattle.reads.specs.declared.answer.Missing.{Missing}
 use Rattle.reads.specs.declared.answer.Reason.{Reason}
 use Rattle.pointers.specs.Tables.{Tables}
 use Rattle.records.specs.Class.{class_at}
@@ -14,23 +16,14 @@ use Rattle.records.specs.declared.protocol.ObjcProtocol.{ObjcProtocol}
 use Rattle.walks.specs.declared.slots.Lists.{Lists}
 use Rattle.walks.specs.declared.slots.Lists.TheVariants.{Classes, Categories, Protocols}
 use Rattle.walks.specs.declared.section_slots.ClassSlots.{ClassSlots}
-use Rattle.walks.specs.declared.section_slots.ClassTaken.{ClassTaken}
-use Rattle.walks.specs.declared.sections.ClassWalk.{ClassWalk}
-use Rattle.walks.specs.declared.sections.ClassStep.{ClassStep}
-use Rattle.walks.specs.declared.sections.ClassStep.TheVariants as class
-use Rattle.walks.specs.declared.sections.ClassStepped.{ClassStepped}
 use Rattle.walks.specs.declared.section_slots.CategorySlots.{CategorySlots}
-use Rattle.walks.specs.declared.section_slots.CategoryTaken.{CategoryTaken}
-use Rattle.walks.specs.declared.sections.CategoryWalk.{CategoryWalk}
-use Rattle.walks.specs.declared.sections.CategoryStep.{CategoryStep}
-use Rattle.walks.specs.declared.sections.CategoryStep.TheVariants as category
-use Rattle.walks.specs.declared.sections.CategoryStepped.{CategoryStepped}
 use Rattle.walks.specs.declared.section_slots.ProtocolSlots.{ProtocolSlots}
-use Rattle.walks.specs.declared.section_slots.ProtocolTaken.{ProtocolTaken}
-use Rattle.walks.specs.declared.sections.ProtocolWalk.{ProtocolWalk}
-use Rattle.walks.specs.declared.sections.ProtocolStep.{ProtocolStep}
-use Rattle.walks.specs.declared.sections.ProtocolStep.TheVariants as protocol
-use Rattle.walks.specs.declared.sections.ProtocolStepped.{ProtocolStepped}
+use Rattle.walks.specs.declared.section_slots.SlotTaken.{SlotTaken}
+use Rattle.walks.specs.declared.section_slots.RecordTaken.{RecordTaken}
+use Rattle.walks.specs.declared.sections.RecordWalk.{RecordWalk}
+use Rattle.walks.specs.declared.sections.RecordStep.{RecordStep}
+use Rattle.walks.specs.declared.sections.RecordStep.TheVariants as step
+use Rattle.walks.specs.declared.sections.RecordStepped.{RecordStepped}
 
 -- A walk's state: the next slot, how many words of the ledger are in use, the highest address met, and the address that waits, 0 for none.
 pub record Walk : Type 0 where
@@ -155,56 +148,38 @@ protocol_step_of t w ledger =
 abbrev pub class_slots : ClassSlots → Walk
 class_slots w = walk w.slots.slot w.slots.used w.slots.highest w.meta
 
-abbrev pub class_walk : ClassWalk → Walk
+abbrev pub class_walk : RecordWalk ClassSlots → Walk
 class_walk w = class_slots w.slots
-
-abbrev pub class_step : ClassStep → Outcome (Step ObjcClass)
-class_step (class.Record c) = value (found c)
-class_step (class.Passed r) = value (passed r)
-class_step class.Dropped = value dropped
-class_step class.Finished = value finished
-class_step (class.Refused k) = number k
-
-abbrev pub class_taken : ClassTaken → List ℕ → Left ObjcClass
-class_taken r ledger = leaves (class_step r.step) (class_slots r.slots) ledger
-
-abbrev pub class_left : ClassStepped → List ℕ → Left ObjcClass
-class_left r ledger = leaves (class_step r.step) (class_walk r.walk) ledger
 
 abbrev pub category_slots : CategorySlots → Walk
 category_slots w = walk w.slots.slot w.slots.used w.slots.highest 0
 
-abbrev pub category_walk : CategoryWalk → Walk
+abbrev pub category_walk : RecordWalk CategorySlots → Walk
 category_walk w = category_slots w.slots
-
-abbrev pub category_step : CategoryStep → Outcome (Step ObjcCategory)
-category_step (category.Record c) = value (found c)
-category_step (category.Passed r) = value (passed r)
-category_step category.Dropped = value dropped
-category_step category.Finished = value finished
-category_step (category.Refused k) = number k
-
-abbrev pub category_taken : CategoryTaken → List ℕ → Left ObjcCategory
-category_taken r ledger = leaves (category_step r.step) (category_slots r.slots) ledger
-
-abbrev pub category_left : CategoryStepped → List ℕ → Left ObjcCategory
-category_left r ledger = leaves (category_step r.step) (category_walk r.walk) ledger
 
 abbrev pub protocol_slots : ProtocolSlots → Walk
 protocol_slots w = walk w.slot 0 0 0
 
-abbrev pub protocol_walk : ProtocolWalk → Walk
+abbrev pub protocol_walk : RecordWalk ProtocolSlots → Walk
 protocol_walk w = protocol_slots w.slots
 
-abbrev pub protocol_step : ProtocolStep → Outcome (Step ObjcProtocol)
-protocol_step (protocol.Record p) = value (found p)
-protocol_step (protocol.Passed r) = value (passed r)
-protocol_step protocol.Dropped = value dropped
-protocol_step protocol.Finished = value finished
-protocol_step (protocol.Refused k) = number k
+abbrev pub record_step : {R : Type 0} → RecordStep R → Outcome (Step R)
+record_step (step.Record r) = value (found r)
+record_step (step.Passed r) = value (passed r)
+record_step step.Dropped = value dropped
+record_step step.Finished = value finished
+record_step (step.Refused k) = number k
 
-abbrev pub protocol_taken : ProtocolTaken → Left ObjcProtocol
-protocol_taken r = leaves (protocol_step r.step) (protocol_slots r.slots) []
+-- What is decoded, and what a step leaves, by where the walk stands then.
+abbrev pub given : {R : Type 0} → Result R Missing → Outcome R
+given (Ok r) = value r
+given (Err m) = missed m
 
-abbrev pub protocol_left : ProtocolStepped → Left ObjcProtocol
-protocol_left r = leaves (protocol_step r.step) (protocol_walk r.walk) []
+abbrev pub slot_left : {R : Type 0} → SlotTaken R → List ℕ → Left R
+slot_left r ledger = leaves (record_step r.step) (walk r.slots.slot r.slots.used r.slots.highest r.waiting) ledger
+
+abbrev pub record_taken : {R S : Type 0} → (S → Walk) → RecordTaken R S → List ℕ → Left R
+record_taken state r ledger = leaves (record_step r.step) (state r.slots) ledger
+
+abbrev pub record_left : {R S : Type 0} → (S → Walk) → RecordStepped R S → List ℕ → Left R
+record_left state r ledger = leaves (record_step r.step) (state r.walk.slots) ledger

@@ -1,19 +1,18 @@
 // The steps of the section walks, one slot each, under a setting that the walk hands on. Classes and categories meet each address once,
 // by a ledger that the caller lends.
-ghost use Rattle.std.specs.Prelude.{◌≡◌, List, [], ℕ, ◌+◌, ◌^◌, ◌<◌, length};
-ghost use Rattle.pointers.specs.Tables.{lent, under};
+ghost use Rattle.std.specs.Prelude.{◌≡◌, List, ℕ, ◌+◌, ◌^◌, ◌<◌, length};
+ghost use Rattle.pointers.specs.Tables.{Tables, lent, under};
 ghost use Rattle.walks.specs.Slots.{Room};
-ghost use Rattle.reads.specs.Outcome.{value};
-ghost use Rattle.walks.specs.Sections.{walk, at_start, passed, dropped, leaves, stays, meta_of, classes, categories, take_waiting, next_waiting, take_new, step_of, take_protocol, protocol_step_of, class_slots, class_taken, category_slots, category_taken, protocol_slots, protocol_taken};
+ghost use Rattle.walks.specs.Sections.{Walk, walk, at_start, Left, stays, Kind, meta_of, classes, categories, take_waiting, next_waiting, take_new, step_of, take_protocol, protocol_step_of, class_slots, category_slots, protocol_slots, given, slot_left, record_taken};
 
-use crate::sections::{CategoryStep, ClassStep, ProtocolStep};
+use crate::sections::RecordStep;
 use crate::slots::{Lists, SlotStep, SlotWalk, next_slot};
 use pointers::question::Asked;
 use pointers::setting::Setting;
-use reads::answer::{Missing, Reason};
-use records::category::{CategoryAnswer, category_at};
+use reads::answer::Missing;
+use records::category::{CategoryAnswer, ObjcCategory, category_at};
 use records::class::{ClassAnswer, ObjcClass, class_at};
-use records::protocol::{ProtocolAnswer, protocol_at};
+use records::protocol::{ObjcProtocol, ProtocolAnswer, protocol_at};
 
 // Where a walk over classes stands: the slots, and the address of the metaclass that waits (0: none).
 #[derive(Clone, Copy)]
@@ -22,24 +21,10 @@ pub struct ClassSlots {
     pub meta: u64,
 }
 
-// The step, and where the walk stands then; with a number where it stood.
-#[derive(Clone, Copy)]
-pub(crate) struct ClassTaken {
-    pub(crate) step: ClassStep,
-    pub(crate) slots: ClassSlots,
-}
-
 // Where a walk over categories stands: the slots.
 #[derive(Clone, Copy)]
 pub struct CategorySlots {
     pub slots: SlotWalk,
-}
-
-// The step, and where the walk stands then; with a number where it stood.
-#[derive(Clone, Copy)]
-pub(crate) struct CategoryTaken {
-    pub(crate) step: CategoryStep,
-    pub(crate) slots: CategorySlots,
 }
 
 // Where a walk over protocols stands: the next slot.
@@ -50,64 +35,33 @@ pub struct ProtocolSlots {
 
 // The step, and where the walk stands then; with a number where it stood.
 #[derive(Clone, Copy)]
-pub(crate) struct ProtocolTaken {
-    pub(crate) step: ProtocolStep,
-    pub(crate) slots: ProtocolSlots,
+pub struct RecordTaken<R, S> {
+    pub step: RecordStep<R>,
+    pub slots: S,
 }
 
-// The address of a class's metaclass, 0 where isa is the class itself.
-fn meta_of(class: ObjcClass) -> u64
-    ensures { result ≡ meta_of class }
-{
-    if class.isa == class.address {
-        return 0;
-    }
-    class.isa
+// The same of a slot: where the slots stand then, and the address that waits (0: none).
+#[derive(Clone, Copy)]
+pub(crate) struct SlotTaken<R> {
+    pub(crate) step: RecordStep<R>,
+    pub(crate) slots: SlotWalk,
+    pub(crate) waiting: u64,
 }
 
-impl ClassSlots {
-    // The walk before its first slot.
-    pub(crate) fn new() -> ClassSlots
-        ensures { class_slots result ≡ at_start }
-    {
-        ClassSlots {
-            slots: SlotWalk::new(),
-            meta: 0,
-        }
-    }
+// Where a walk over a section list stands, and its step from there, in document 01's words.
+pub trait RecordSlots: Copy {
+    type Record: Copy;
 
-    // The walk as given, with a number.
-    fn refused(self, k: u8) -> ClassTaken
-        ensures { (l : List ℕ) → class_taken result l ≡ stays (class_slots self) l k }
-    {
-        ClassTaken {
-            step: ClassStep::Refused(k),
-            slots: self,
-        }
-    }
+    ghost state: { Self → Walk };
 
-    // The class is absent, and no metaclass waits.
-    fn passed(slots: SlotWalk, why: Reason) -> ClassTaken
-        ensures { (l : List ℕ) → class_taken result l ≡ leaves (value (passed why)) (walk slots.slot slots.used slots.highest 0) l }
-    {
-        ClassTaken {
-            step: ClassStep::Passed(why),
-            slots: ClassSlots { slots, meta: 0 },
-        }
-    }
+    ghost step: { Tables → Walk → List ℕ → Left Self.Record };
 
-    // The slot is dropped.
-    fn dropped(slots: SlotWalk) -> ClassTaken
-        ensures { (l : List ℕ) → class_taken result l ≡ leaves (value dropped) (walk slots.slot slots.used slots.highest 0) l }
-    {
-        ClassTaken {
-            step: ClassStep::Dropped,
-            slots: ClassSlots { slots, meta: 0 },
-        }
-    }
+    // Before the first slot.
+    fn start() -> Self
+        ensures { state result ≡ at_start };
 
-    // Takes the metaclass that waits.
-    fn take_meta(
+    // One step, over a ledger.
+    fn next(
         self,
         files: &[&[u8]],
         segments: &[u64],
@@ -117,27 +71,107 @@ impl ClassSlots {
         binds: &[u64],
         index: &[u32],
         setting: Setting,
-    ) -> ClassTaken
+        ledger: &mut [u64],
+    ) -> RecordTaken<Self::Record, Self>
         ensures { let t = under setting (lent files segments sections info rebases binds index) in
-            ((l : List ℕ) → class_taken result l ≡ take_waiting classes t (class_slots self) l) }
-    {
-        let slots = self.slots;
+            record_taken state result ledger.new ≡ step t (state self) ledger.old };
+}
+
+// What a walk that meets each address once gives: the lists, the record at an address, and the address that waits after it (0: none).
+pub(crate) trait Listed: Copy {
+    ghost kind: { Kind Self };
+
+    fn lists() -> Lists
+        ensures { result ≡ kind.lists };
+
+    fn at(
+        files: &[&[u8]],
+        segments: &[u64],
+        sections: &[u64],
+        info: &[u8],
+        rebases: &[u64],
+        binds: &[u64],
+        index: &[u32],
+        setting: Setting,
+        va: u64,
+    ) -> Result<Self, Missing>
+        ensures { let t = under setting (lent files segments sections info rebases binds index) in
+            given result ≡ kind.decoded t va };
+
+    fn after(self) -> u64
+        ensures { result ≡ kind.after self };
+}
+
+impl Listed for ObjcClass {
+    ghost kind = { classes };
+
+    fn lists() -> Lists {
+        Lists::Classes
+    }
+
+    fn at(
+        files: &[&[u8]],
+        segments: &[u64],
+        sections: &[u64],
+        info: &[u8],
+        rebases: &[u64],
+        binds: &[u64],
+        index: &[u32],
+        setting: Setting,
+        va: u64,
+    ) -> Result<ObjcClass, Missing> {
         match class_at(
-            files, segments, sections, info, rebases, binds, index, setting, self.meta, true,
+            files, segments, sections, info, rebases, binds, index, setting, va, false,
         ) {
-            ClassAnswer::Class(class) => ClassTaken {
-                step: ClassStep::Record(class),
-                slots: ClassSlots { slots, meta: 0 },
-            },
-            ClassAnswer::Missing(m) => match m {
-                Missing::Absent(why) => ClassSlots::passed(slots, why),
-                Missing::Refused(k) => self.refused(k),
-            },
+            ClassAnswer::Class(class) => Ok(class),
+            ClassAnswer::Missing(m) => Err(m),
         }
     }
 
+    // The address of the metaclass, 0 where isa is the class itself.
+    fn after(self) -> u64 {
+        if self.isa == self.address {
+            return 0;
+        }
+        self.isa
+    }
+}
+
+impl Listed for ObjcCategory {
+    ghost kind = { categories };
+
+    fn lists() -> Lists {
+        Lists::Categories
+    }
+
+    fn at(
+        files: &[&[u8]],
+        segments: &[u64],
+        sections: &[u64],
+        info: &[u8],
+        rebases: &[u64],
+        binds: &[u64],
+        index: &[u32],
+        setting: Setting,
+        va: u64,
+    ) -> Result<ObjcCategory, Missing> {
+        match category_at(
+            files, segments, sections, info, rebases, binds, index, setting, va,
+        ) {
+            CategoryAnswer::Category(category) => Ok(category),
+            CategoryAnswer::Missing(m) => Err(m),
+        }
+    }
+
+    // Nothing waits.
+    fn after(self) -> u64 {
+        0
+    }
+}
+
+impl SlotWalk {
     // Takes an address first met: the ledger word is the last write, and with a number there is none.
-    fn take_new(
+    fn take_new<R: Listed>(
         self,
         files: &[&[u8]],
         segments: &[u64],
@@ -149,29 +183,113 @@ impl ClassSlots {
         setting: Setting,
         va: u64,
         ledger: &mut [u64],
-    ) -> ClassTaken
-        requires { Room self.slots (length ledger.old) }
+    ) -> SlotTaken<R>
+        requires { Room self (length ledger.old) }
         ensures { let t = under setting (lent files segments sections info rebases binds index) in
-            class_taken result ledger.new ≡ take_new classes t (class_slots self) ledger.old va }
+            slot_left result ledger.new ≡ take_new R.kind t (walk self.slot self.used self.highest 0) ledger.old va }
+    {
+        match R::at(
+            files, segments, sections, info, rebases, binds, index, setting, va,
+        ) {
+            Ok(record) => SlotTaken {
+                step: RecordStep::Record(record),
+                slots: self.note(va, ledger),
+                waiting: record.after(),
+            },
+            Err(Missing::Absent(why)) => SlotTaken {
+                step: RecordStep::Passed(why),
+                slots: self.note(va, ledger),
+                waiting: 0,
+            },
+            Err(Missing::Refused(k)) => SlotTaken {
+                step: RecordStep::Refused(k),
+                slots: self,
+                waiting: 0,
+            },
+        }
+    }
+
+    // Takes the next slot.
+    fn take_slot<R: Listed>(
+        self,
+        files: &[&[u8]],
+        segments: &[u64],
+        sections: &[u64],
+        info: &[u8],
+        rebases: &[u64],
+        binds: &[u64],
+        index: &[u32],
+        setting: Setting,
+        ledger: &mut [u64],
+    ) -> SlotTaken<R>
+        ensures { let t = under setting (lent files segments sections info rebases binds index) in
+            slot_left result ledger.new ≡ step_of R.kind t (walk self.slot self.used self.highest 0) ledger.old }
+    {
+        let lists = R::lists();
+        match self.next_new(
+            files, segments, sections, info, rebases, binds, index, setting, lists, ledger,
+        ) {
+            SlotStep::Address(va) => self.take_new(
+                files, segments, sections, info, rebases, binds, index, setting, va, ledger,
+            ),
+            SlotStep::Dropped => SlotTaken {
+                step: RecordStep::Dropped,
+                slots: self.past(),
+                waiting: 0,
+            },
+            SlotStep::Finished => SlotTaken {
+                step: RecordStep::Finished,
+                slots: self,
+                waiting: 0,
+            },
+            SlotStep::Refused(k) => SlotTaken {
+                step: RecordStep::Refused(k),
+                slots: self,
+                waiting: 0,
+            },
+        }
+    }
+}
+
+impl ClassSlots {
+    // Takes the metaclass that waits.
+    fn take_meta(
+        self,
+        files: &[&[u8]],
+        segments: &[u64],
+        sections: &[u64],
+        info: &[u8],
+        rebases: &[u64],
+        binds: &[u64],
+        index: &[u32],
+        setting: Setting,
+    ) -> RecordTaken<ObjcClass, ClassSlots>
+        ensures { let t = under setting (lent files segments sections info rebases binds index) in
+            ((l : List ℕ) → record_taken class_slots result l ≡ take_waiting classes t (class_slots self) l) }
     {
         let slots = self.slots;
         match class_at(
-            files, segments, sections, info, rebases, binds, index, setting, va, false,
+            files, segments, sections, info, rebases, binds, index, setting, self.meta, true,
         ) {
-            ClassAnswer::Class(class) => {
-                let meta = meta_of(class);
-                ClassTaken {
-                    step: ClassStep::Record(class),
-                    slots: ClassSlots {
-                        slots: slots.note(va, ledger),
-                        meta,
-                    },
-                }
-            }
-            ClassAnswer::Missing(m) => match m {
-                Missing::Absent(why) => ClassSlots::passed(slots.note(va, ledger), why),
-                Missing::Refused(k) => self.refused(k),
+            ClassAnswer::Class(class) => RecordTaken {
+                step: RecordStep::Record(class),
+                slots: ClassSlots { slots, meta: 0 },
             },
+            ClassAnswer::Missing(Missing::Absent(why)) => RecordTaken {
+                step: RecordStep::Passed(why),
+                slots: ClassSlots { slots, meta: 0 },
+            },
+            ClassAnswer::Missing(Missing::Refused(k)) => self.refused(k),
+        }
+    }
+
+    // The walk as given, with a number.
+    fn refused(self, k: u8) -> RecordTaken<ObjcClass, ClassSlots>
+        ensures { (l : List ℕ) → record_taken class_slots result l ≡ stays (class_slots self) l k }
+    {
+        RecordTaken {
+            step: RecordStep::Refused(k),
+            slots: self,
         }
     }
 
@@ -187,9 +305,9 @@ impl ClassSlots {
         index: &[u32],
         setting: Setting,
         len: usize,
-    ) -> ClassTaken
+    ) -> RecordTaken<ObjcClass, ClassSlots>
         ensures { let t = under setting (lent files segments sections info rebases binds index) in
-            ((l : List ℕ) → length l ≡ len → class_taken result l ≡ next_waiting classes t (class_slots self) l) }
+            ((l : List ℕ) → length l ≡ len → record_taken class_slots result l ≡ next_waiting classes t (class_slots self) l) }
     {
         let slots = self.slots;
         match slots.ask_ledger(
@@ -210,9 +328,24 @@ impl ClassSlots {
             Asked::Refused(k) => self.refused(k),
         }
     }
+}
 
-    // One step: the waiting metaclass, or else the next slot.
-    pub(crate) fn next(
+impl RecordSlots for ClassSlots {
+    type Record = ObjcClass;
+
+    ghost state = { class_slots };
+
+    ghost step = { step_of classes };
+
+    fn start() -> ClassSlots {
+        ClassSlots {
+            slots: SlotWalk::new(),
+            meta: 0,
+        }
+    }
+
+    // The waiting metaclass, or else the next slot.
+    fn next(
         self,
         files: &[&[u8]],
         segments: &[u64],
@@ -223,10 +356,7 @@ impl ClassSlots {
         index: &[u32],
         setting: Setting,
         ledger: &mut [u64],
-    ) -> ClassTaken
-        ensures { let t = under setting (lent files segments sections info rebases binds index) in
-            class_taken result ledger.new ≡ step_of classes t (class_slots self) ledger.old }
-    {
+    ) -> RecordTaken<ObjcClass, ClassSlots> {
         if self.meta != 0 {
             let len = ledger.len();
             return self.next_meta(
@@ -234,108 +364,35 @@ impl ClassSlots {
             );
         }
         let slots = self.slots;
-        match slots.next_new(
-            files,
-            segments,
-            sections,
-            info,
-            rebases,
-            binds,
-            index,
-            setting,
-            Lists::Classes,
-            ledger,
-        ) {
-            SlotStep::Address(va) => self.take_new(
-                files, segments, sections, info, rebases, binds, index, setting, va, ledger,
-            ),
-            SlotStep::Dropped => ClassSlots::dropped(slots.past()),
-            SlotStep::Finished => ClassTaken {
-                step: ClassStep::Finished,
-                slots: self,
+        let taken: SlotTaken<ObjcClass> = slots.take_slot(
+            files, segments, sections, info, rebases, binds, index, setting, ledger,
+        );
+        let step = taken.step;
+        RecordTaken {
+            step,
+            slots: ClassSlots {
+                slots: taken.slots,
+                meta: taken.waiting,
             },
-            SlotStep::Refused(k) => self.refused(k),
         }
     }
 }
 
-impl CategorySlots {
-    // The walk before its first slot.
-    pub(crate) fn new() -> CategorySlots
-        ensures { category_slots result ≡ at_start }
-    {
+impl RecordSlots for CategorySlots {
+    type Record = ObjcCategory;
+
+    ghost state = { category_slots };
+
+    ghost step = { step_of categories };
+
+    fn start() -> CategorySlots {
         CategorySlots {
             slots: SlotWalk::new(),
         }
     }
 
-    // The walk as given, with a number.
-    fn refused(self, k: u8) -> CategoryTaken
-        ensures { (l : List ℕ) → category_taken result l ≡ stays (category_slots self) l k }
-    {
-        CategoryTaken {
-            step: CategoryStep::Refused(k),
-            slots: self,
-        }
-    }
-
-    // The category is absent.
-    fn passed(slots: SlotWalk, why: Reason) -> CategoryTaken
-        ensures { (l : List ℕ) → category_taken result l ≡ leaves (value (passed why)) (walk slots.slot slots.used slots.highest 0) l }
-    {
-        CategoryTaken {
-            step: CategoryStep::Passed(why),
-            slots: CategorySlots { slots },
-        }
-    }
-
-    // The slot is dropped.
-    fn dropped(slots: SlotWalk) -> CategoryTaken
-        ensures { (l : List ℕ) → category_taken result l ≡ leaves (value dropped) (walk slots.slot slots.used slots.highest 0) l }
-    {
-        CategoryTaken {
-            step: CategoryStep::Dropped,
-            slots: CategorySlots { slots },
-        }
-    }
-
-    // Takes an address first met: the ledger word is the last write, and with a number there is none.
-    fn take_new(
-        self,
-        files: &[&[u8]],
-        segments: &[u64],
-        sections: &[u64],
-        info: &[u8],
-        rebases: &[u64],
-        binds: &[u64],
-        index: &[u32],
-        setting: Setting,
-        va: u64,
-        ledger: &mut [u64],
-    ) -> CategoryTaken
-        requires { Room self.slots (length ledger.old) }
-        ensures { let t = under setting (lent files segments sections info rebases binds index) in
-            category_taken result ledger.new ≡ take_new categories t (category_slots self) ledger.old va }
-    {
-        let slots = self.slots;
-        match category_at(
-            files, segments, sections, info, rebases, binds, index, setting, va,
-        ) {
-            CategoryAnswer::Category(category) => CategoryTaken {
-                step: CategoryStep::Record(category),
-                slots: CategorySlots {
-                    slots: slots.note(va, ledger),
-                },
-            },
-            CategoryAnswer::Missing(m) => match m {
-                Missing::Absent(why) => CategorySlots::passed(slots.note(va, ledger), why),
-                Missing::Refused(k) => self.refused(k),
-            },
-        }
-    }
-
-    // One step: the next slot.
-    pub(crate) fn next(
+    // The next slot.
+    fn next(
         self,
         files: &[&[u8]],
         segments: &[u64],
@@ -346,54 +403,20 @@ impl CategorySlots {
         index: &[u32],
         setting: Setting,
         ledger: &mut [u64],
-    ) -> CategoryTaken
-        ensures { let t = under setting (lent files segments sections info rebases binds index) in
-            category_taken result ledger.new ≡ step_of categories t (category_slots self) ledger.old }
-    {
+    ) -> RecordTaken<ObjcCategory, CategorySlots> {
         let slots = self.slots;
-        match slots.next_new(
-            files,
-            segments,
-            sections,
-            info,
-            rebases,
-            binds,
-            index,
-            setting,
-            Lists::Categories,
-            ledger,
-        ) {
-            SlotStep::Address(va) => self.take_new(
-                files, segments, sections, info, rebases, binds, index, setting, va, ledger,
-            ),
-            SlotStep::Dropped => CategorySlots::dropped(slots.past()),
-            SlotStep::Finished => CategoryTaken {
-                step: CategoryStep::Finished,
-                slots: self,
-            },
-            SlotStep::Refused(k) => self.refused(k),
+        let taken: SlotTaken<ObjcCategory> = slots.take_slot(
+            files, segments, sections, info, rebases, binds, index, setting, ledger,
+        );
+        let step = taken.step;
+        RecordTaken {
+            step,
+            slots: CategorySlots { slots: taken.slots },
         }
     }
 }
 
 impl ProtocolSlots {
-    // The walk before its first slot.
-    pub(crate) fn new() -> ProtocolSlots
-        ensures { protocol_slots result ≡ at_start }
-    {
-        ProtocolSlots { slot: 0 }
-    }
-
-    // The walk as given, with a number.
-    fn refused(self, k: u8) -> ProtocolTaken
-        ensures { protocol_taken result ≡ stays (protocol_slots self) [] k }
-    {
-        ProtocolTaken {
-            step: ProtocolStep::Refused(k),
-            slots: self,
-        }
-    }
-
     // The walk one slot on.
     fn past(self) -> ProtocolSlots
         requires { self.slot + 1 < 2 ^ 64 }
@@ -403,7 +426,7 @@ impl ProtocolSlots {
         ProtocolSlots { slot }
     }
 
-    // Takes an address: a protocol listed twice comes twice.
+    // Takes an address: a protocol listed twice comes twice, so that no ledger says which were met.
     fn take(
         self,
         files: &[&[u8]],
@@ -415,31 +438,44 @@ impl ProtocolSlots {
         index: &[u32],
         setting: Setting,
         va: u64,
-    ) -> ProtocolTaken
+    ) -> RecordTaken<ObjcProtocol, ProtocolSlots>
         requires { self.slot + 1 < 2 ^ 64 }
         ensures { let t = under setting (lent files segments sections info rebases binds index) in
-            protocol_taken result ≡ take_protocol t (protocol_slots self) [] va }
+            ((l : List ℕ) → record_taken protocol_slots result l ≡ take_protocol t (protocol_slots self) l va) }
     {
         let slots = self.past();
         match protocol_at(
             files, segments, sections, info, rebases, binds, index, setting, va,
         ) {
-            ProtocolAnswer::Protocol(protocol) => ProtocolTaken {
-                step: ProtocolStep::Record(protocol),
+            ProtocolAnswer::Protocol(protocol) => RecordTaken {
+                step: RecordStep::Record(protocol),
                 slots,
             },
-            ProtocolAnswer::Missing(m) => match m {
-                Missing::Absent(why) => ProtocolTaken {
-                    step: ProtocolStep::Passed(why),
-                    slots,
-                },
-                Missing::Refused(k) => self.refused(k),
+            ProtocolAnswer::Missing(Missing::Absent(why)) => RecordTaken {
+                step: RecordStep::Passed(why),
+                slots,
+            },
+            ProtocolAnswer::Missing(Missing::Refused(k)) => RecordTaken {
+                step: RecordStep::Refused(k),
+                slots: self,
             },
         }
     }
+}
 
-    // One step: the next slot.
-    pub(crate) fn next(
+impl RecordSlots for ProtocolSlots {
+    type Record = ObjcProtocol;
+
+    ghost state = { protocol_slots };
+
+    ghost step = { protocol_step_of };
+
+    fn start() -> ProtocolSlots {
+        ProtocolSlots { slot: 0 }
+    }
+
+    // The next slot; the ledger stays as it is.
+    fn next(
         self,
         files: &[&[u8]],
         segments: &[u64],
@@ -449,34 +485,28 @@ impl ProtocolSlots {
         binds: &[u64],
         index: &[u32],
         setting: Setting,
-    ) -> ProtocolTaken
-        ensures { let t = under setting (lent files segments sections info rebases binds index) in
-            protocol_taken result ≡ protocol_step_of t (protocol_slots self) [] }
-    {
+        _ledger: &mut [u64],
+    ) -> RecordTaken<ObjcProtocol, ProtocolSlots> {
+        let lists = Lists::Protocols;
+        let slot = self.slot;
         match next_slot(
-            files,
-            segments,
-            sections,
-            info,
-            rebases,
-            binds,
-            index,
-            setting,
-            Lists::Protocols,
-            self.slot,
+            files, segments, sections, info, rebases, binds, index, setting, lists, slot,
         ) {
             SlotStep::Address(va) => self.take(
                 files, segments, sections, info, rebases, binds, index, setting, va,
             ),
-            SlotStep::Dropped => ProtocolTaken {
-                step: ProtocolStep::Dropped,
+            SlotStep::Dropped => RecordTaken {
+                step: RecordStep::Dropped,
                 slots: self.past(),
             },
-            SlotStep::Finished => ProtocolTaken {
-                step: ProtocolStep::Finished,
+            SlotStep::Finished => RecordTaken {
+                step: RecordStep::Finished,
                 slots: self,
             },
-            SlotStep::Refused(k) => self.refused(k),
+            SlotStep::Refused(k) => RecordTaken {
+                step: RecordStep::Refused(k),
+                slots: self,
+            },
         }
     }
 }

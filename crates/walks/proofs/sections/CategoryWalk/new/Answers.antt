@@ -1,5 +1,0 @@
-use mathlib.Core.Path.{◌∙◌}
-use Rattle.walks.proofs.sections.CategoryWalk.new.Goals as goal
-
-pub returns : goal.returns
-returns c = let begun = c.starting.ensures in (begun.0, begun.1 ∙ c.new.ensures)

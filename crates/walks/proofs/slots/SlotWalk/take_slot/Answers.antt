@@ -1,0 +1,23 @@
+use mathlib.Core.Path.{refl}
+use native.Mathlib.Omega.{arith}
+use Rattle.walks.proofs.SlotLaws.{new_room}
+use Rattle.walks.proofs.SectionLaws.{step_slot}
+use Rattle.walks.proofs.slots.SlotWalk.take_slot.Goals as goal
+
+pub take_new-requires : goal.take_new-requires
+take_new-requires g c = new_room _ _ _ _ c.next_new.ensures c.in-Address.is refl (λ j. omega (arith, c.shared_slice_known-2-1.given j))
+
+pub past-requires : goal.past-requires
+past-requires g c = (new_room _ _ _ _ c.next_new.ensures c.in-Dropped.is refl (λ j. omega (arith, c.shared_slice_known-2-1.given j))).further
+
+pub returns-in-Address : goal.returns-in-Address
+returns-in-Address g c = step_slot _ _ _ _ _ c.lists-lists.ensures refl c.next_new.ensures (rw c.in-Address.is c.take_new.ensures)
+
+pub returns-in-Dropped : goal.returns-in-Dropped
+returns-in-Dropped g c = step_slot _ _ _ _ _ c.lists-lists.ensures refl c.next_new.ensures (rw (c.in-Dropped.is, c.past.ensures))
+
+pub returns-in-Finished : goal.returns-in-Finished
+returns-in-Finished g c = step_slot _ _ _ _ _ c.lists-lists.ensures refl c.next_new.ensures (rw c.in-Finished.is)
+
+pub returns-in-Refused : goal.returns-in-Refused
+returns-in-Refused g c = step_slot _ _ _ _ _ c.lists-lists.ensures refl c.next_new.ensures (rw c.in-Refused.is)
