@@ -7,8 +7,15 @@ use native.Mathlib.Omega.{arith}
 use native.Mathlib.Numerals.{add-one}
 use lib.Dec.{leb, eqb}
 use lib.ListN.{length, get_or, take, length-append, get_or-append}
-use lib.Seq.{take-suc, get_or-append-add}
+use lib.Seq.{take-suc, take-length, get_or-append-add}
 use borrow.Author.Tests.{leb-true, leb-false, le-leb, lt-leb, eq-eqb, ne_eqb, eqb-false}
+use Rattle.std.specs.Prelude.{Result, Ok, Err}
+use Rattle.std.specs.Cmp.{ranked}
+use Rattle.std.specs.List.{HoldsAt}
+use Rattle.std.specs.List.Sorted.{IsSearchInRange}
+use Rattle.std.specs.Ordering.{nat_cmp}
+use Rattle.std.specs.Result.{IfOk, is_ok}
+use Rattle.std.specs.declared.cmp.Ordering.TheVariants.{Equal}
 use Rattle.reads.specs.Outcome.{Outcome, value, absent, number, and_then}
 use Rattle.reads.specs.Relative.{slot_address}
 use Rattle.reads.proofs.Tests.{by_choose, choose_true, choose_false, both_true}
@@ -121,11 +128,11 @@ among_end a (x ∷ bs) b = go (eqb x a) (among_end a bs b)
 
 -- One word more is looked at.
 module _ (a : ℕ) (l : List ℕ) (i : ℕ) (h : i < length l) where
-  pub among_other : (get_or l i 0 ≡ a → ⊥) → among a (take i l) ≡ among a (take (i + 1) l)
-  among_other n = sym (rw (add-one, take-suc l i 0 h, among_end a (take i l) (get_or l i 0), ne_eqb (get_or l i 0) a n) (or-false (among a (take i l))))
+  pub among_more : (among a (take i l) || eqb (get_or l i 0) a) ≡ among a (take (i + 1) l)
+  among_more = sym (rw (add-one, take-suc l i 0 h) (among_end a (take i l) (get_or l i 0)))
 
-  pub among_here : get_or l i 0 ≡ a → true ≡ among a (take (i + 1) l)
-  among_here e = sym (rw (add-one, take-suc l i 0 h, among_end a (take i l) (get_or l i 0), eq-eqb (get_or l i 0) a e) (or-true (among a (take i l))))
+  pub among_other : (get_or l i 0 ≡ a → ⊥) → among a (take i l) ≡ among a (take (i + 1) l)
+  among_other n = sym (rw (← among_more, ne_eqb (get_or l i 0) a n) (or-false (among a (take i l))))
 
 -- A word in use.
 pub among_word : (a : ℕ) (l : List ℕ) (i n : ℕ) → i < n → i < length l → get_or l i 0 ≡ a → among a (take n l) ≡ true
@@ -134,6 +141,11 @@ among_word a [] i n p q e = absurd (omega arith)
 among_word a (b ∷ l) i zero p q e = absurd (omega arith)
 among_word a (b ∷ l) zero (suc n) p q e = rw (eq-eqb b a e)
 among_word a (b ∷ l) (suc i) (suc n) p q e = rw (among_word a l i n (omega arith) (omega arith) e) (or-true (eqb b a))
+
+-- A word that a search has found.
+pub among_searched : (a : ℕ) (l : List ℕ) (r : Result ℕ ℕ) → IsSearchInRange r (length l) → IfOk r (HoldsAt (λ b. nat_cmp b a ≡ Equal) l) → is_ok r ≡ true → among a l ≡ true
+among_searched a l (Ok i) b h e = rw take-length at (among_word a l i (length l) b b (ranked (get_or l i 0) a Equal (sym (h 0))))
+among_searched a l (Err i) b h e = absurd (true≢false (sym e))
 
 -- The greatest of some addresses, one by one, and what lies above it.
 pub greatest_end : (bs : List ℕ) (b : ℕ) → greatest (bs ++ (b ∷ [])) ≡ max (greatest bs) b

@@ -72,10 +72,7 @@ const MOST_SLOTS: u64 = 1_048_576;
 fn capped(count: u64) -> u64
     ensures { result ≡ min count 1048576 }
 {
-    if count < MOST_SLOTS {
-        return count;
-    }
-    MOST_SLOTS
+    count.min(MOST_SLOTS)
 }
 
 // protocol_list_t: a u64 count, then the slots.

@@ -1,5 +1,5 @@
 // The slots of the section lists, taken one by one: what the section walks share.
-ghost use Rattle.std.specs.Prelude.{◌≡◌, true, ◌++◌, ◌+◌, ◌^◌, ◌≤◌, ◌<◌, max, length, get_or, take, set};
+ghost use Rattle.std.specs.Prelude.{◌≡◌, ◌++◌, ◌+◌, ◌^◌, ◌≤◌, ◌<◌, max, length, get_or, take, set};
 ghost use Rattle.reads.specs.Reference.{before};
 ghost use Rattle.reads.specs.Answer.{word_outcome};
 ghost use Rattle.pointers.specs.Tables.{lent, under};
@@ -110,76 +110,38 @@ fn address_in(
     }
 }
 
-// Is the address among the first `used` words of the ledger? All of them are looked at, so that the loop can take several at a time.
-fn met(ledger: &[u64], used: usize, va: u64) -> bool
-    requires { used ≤ length ledger.now }
-    ensures { result ≡ among va (take used (before ledger)) }
+// Is the address among the words? All of them are looked at, so that the loop can take several at a time.
+fn met(words: &[u64], va: u64) -> bool
+    ensures { result ≡ among va (before words) }
 {
     let mut found = false;
-    let mut i = 0;
-    while i < used {
-        let word = ledger[i];
-        i += 1;
-        if word != va {
-            continue;
-        }
-        found = true;
+    for word in words {
+        found |= *word == va;
     }
     found
 }
 
-// Found by halves among the first `used` words of the ledger. Where they ascend, as over a list that rises, an address among them is found;
-// where they do not it may be missed.
-fn found_by_halves(ledger: &[u64], used: usize, va: u64) -> bool
-    requires { used ≤ length ledger.now }
-    ensures { result ≡ true → among va (take used (before ledger)) ≡ true }
-{
-    let mut low = 0;
-    let mut high = used;
-    while low < high {
-        let middle = low + (high - low) / 2;
-        let word = ledger[middle];
-        if word == va {
-            return true;
-        }
-        if word < va {
-            low = middle + 1;
-            continue;
-        }
-        high = middle;
-    }
-    false
-}
-
-// The same, by the highest address met so far: one above it is new without a look. An address of a second list is mostly found by halves.
-fn met_below(ledger: &[u64], used: usize, highest: u64, va: u64) -> bool
-    requires { used ≤ length ledger.now }
-    ensures { result ≡ met_below highest (take used (before ledger)) va }
+// The same, by the highest of the words: an address above it is new without a look. Where the words ascend, as over a list that rises, an
+// address of a second list is found by halves; where they do not it may be missed there.
+fn met_below(words: &[u64], highest: u64, va: u64) -> bool
+    ensures { result ≡ met_below highest (before words) va }
 {
     if highest < va {
         return false;
     }
-    if found_by_halves(ledger, used, va) {
+    if words.binary_search(&va).is_ok() {
         return true;
     }
-    met(ledger, used, va)
+    met(words, va)
 }
 
 // An address met before is dropped.
-fn first_met(step: SlotStep, ledger: &[u64], used: usize, highest: u64) -> SlotStep
-    requires { used ≤ length ledger.now }
-    ensures { slot_outcome result ≡ first_met (met_below highest (take used (before ledger))) (slot_outcome step) }
+fn first_met(step: SlotStep, words: &[u64], highest: u64) -> SlotStep
+    ensures { slot_outcome result ≡ first_met (met_below highest (before words)) (slot_outcome step) }
 {
     match step {
-        SlotStep::Address(va) => {
-            if met_below(ledger, used, highest, va) {
-                return SlotStep::Dropped;
-            }
-            SlotStep::Address(va)
-        }
-        SlotStep::Dropped => SlotStep::Dropped,
-        SlotStep::Finished => SlotStep::Finished,
-        SlotStep::Refused(k) => SlotStep::Refused(k),
+        SlotStep::Address(va) if met_below(words, highest, va) => SlotStep::Dropped,
+        step => step,
     }
 }
 
@@ -338,7 +300,7 @@ impl SlotWalk {
                     files, segments, sections, info, rebases, binds, index, setting, lists,
                     self.slot,
                 );
-                first_met(step, ledger, self.used as usize, self.highest)
+                first_met(step, &ledger[..self.used as usize], self.highest)
             }
             Asked::Refused(k) => SlotStep::Refused(k),
         }
