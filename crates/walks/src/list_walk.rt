@@ -79,16 +79,9 @@ impl ListWalk {
     fn at(self, step: ListStep, cursor: u32) -> ListStepped
         ensures { row_left result ≡ hands (step_answer step) (moved self cursor) }
     {
-        let kind = self.kind;
-        let setting = self.setting;
         ListStepped {
             walked: ListWalked::Step(step),
-            walk: ListWalk {
-                list: self.list,
-                kind,
-                setting,
-                cursor,
-            },
+            walk: ListWalk { cursor, ..self },
         }
     }
 

@@ -265,14 +265,9 @@ impl ProtocolNameWalk {
     fn at(self, step: NameStep, cursor: u64) -> ProtocolNameStepped
         ensures { name_left result ≡ hands (name_answer step) (walk_at self.setting self.list cursor) }
     {
-        let setting = self.setting;
         ProtocolNameStepped {
             walked: ProtocolNamesWalked::Step(step),
-            walk: ProtocolNameWalk {
-                list: self.list,
-                cursor,
-                setting,
-            },
+            walk: ProtocolNameWalk { cursor, ..self },
         }
     }
 

@@ -309,18 +309,9 @@ impl ClassSlots {
         ensures { let t = under setting (lent files segments sections info rebases binds index) in
             ((l : List ℕ) → length l ≡ len → record_taken class_slots result l ≡ next_waiting classes t (class_slots self) l) }
     {
-        let slots = self.slots;
-        match slots.ask_ledger(
-            files,
-            segments,
-            sections,
-            info,
-            rebases,
-            binds,
-            index,
-            setting,
-            Lists::Classes,
-            len,
+        let lists = Lists::Classes;
+        match self.slots.ask_ledger(
+            files, segments, sections, info, rebases, binds, index, setting, lists, len,
         ) {
             Asked::Yes => self.take_meta(
                 files, segments, sections, info, rebases, binds, index, setting,
@@ -363,13 +354,11 @@ impl RecordSlots for ClassSlots {
                 files, segments, sections, info, rebases, binds, index, setting, len,
             );
         }
-        let slots = self.slots;
-        let taken: SlotTaken<ObjcClass> = slots.take_slot(
+        let taken = self.slots.take_slot(
             files, segments, sections, info, rebases, binds, index, setting, ledger,
         );
-        let step = taken.step;
         RecordTaken {
-            step,
+            step: taken.step,
             slots: ClassSlots {
                 slots: taken.slots,
                 meta: taken.waiting,
@@ -404,13 +393,11 @@ impl RecordSlots for CategorySlots {
         setting: Setting,
         ledger: &mut [u64],
     ) -> RecordTaken<ObjcCategory, CategorySlots> {
-        let slots = self.slots;
-        let taken: SlotTaken<ObjcCategory> = slots.take_slot(
+        let taken = self.slots.take_slot(
             files, segments, sections, info, rebases, binds, index, setting, ledger,
         );
-        let step = taken.step;
         RecordTaken {
-            step,
+            step: taken.step,
             slots: CategorySlots { slots: taken.slots },
         }
     }
@@ -422,8 +409,9 @@ impl ProtocolSlots {
         requires { self.slot + 1 < 2 ^ 64 }
         ensures { protocol_slots result ≡ walk (self.slot + 1) 0 0 0 }
     {
-        let slot = self.slot + 1;
-        ProtocolSlots { slot }
+        ProtocolSlots {
+            slot: self.slot + 1,
+        }
     }
 
     // Takes an address: a protocol listed twice comes twice, so that no ledger says which were met.

@@ -79,16 +79,16 @@ impl<S: RecordSlots> RecordWalk<S> {
         ensures { let t = under self.setting (lent files segments sections info rebases binds index) in
             (record_left S.state result ledger.new ≡ S.step t (S.state self.slots) ledger.old) × (result.walk.setting ≡ self.setting) }
     {
-        let slots = self.slots;
         let setting = self.setting;
-        let taken = slots.next(
+        let taken = self.slots.next(
             files, segments, sections, info, rebases, binds, index, setting, ledger,
         );
-        let step = taken.step;
-        let slots = taken.slots;
         RecordStepped {
-            step,
-            walk: RecordWalk { slots, setting },
+            step: taken.step,
+            walk: RecordWalk {
+                slots: taken.slots,
+                setting,
+            },
         }
     }
 }

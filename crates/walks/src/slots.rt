@@ -311,11 +311,9 @@ impl SlotWalk {
         requires { self.slot + 1 < 2 ^ 64 }
         ensures { result ≡ slot_walk (self.slot + 1) self.used self.highest }
     {
-        let slot = self.slot + 1;
         SlotWalk {
-            slot,
-            used: self.used,
-            highest: self.highest,
+            slot: self.slot + 1,
+            ..self
         }
     }
 
