@@ -6,9 +6,6 @@ use Rattle.walks.proofs.slots.take_slot.Goals as goal
 pub returns-then-k-slot_count : goal.returns-then-k-slot_count
 returns-then-k-slot_count c = taken_none _ _ _ (c.if-k-slot_count.true ∙ c.slot_count.ensures)
 
-pub slot_at-at-requires : goal.slot_at-at-requires
-slot_at-at-requires c = omega (arith, c.slot_count.ensures)
-
 pub returns-in-Value : goal.returns-in-Value
 returns-in-Value c = taken_by_lem _ _ _ (omega (arith, c.slot_count.ensures)) c.slot_at-at.ensures c.address_in.ensures (rw c.in-Value.is)
 

@@ -8,9 +8,6 @@ pub returns-then-self-gt0 : goal.returns-then-self-gt0
 unfolding over_rows
 returns-then-self-gt0 c = missing_past _ _ _ _ c.in-Missing.m (outcome_told layout_outcome c.list_at.ensures c.in-Missing.is) (search rules) c.refused.ensures
 
-pub returns-in-List : goal.returns-in-List
-returns-in-List c = rw (outcome_told layout_outcome c.list_at.ensures c.in-List.is) c.over_list.ensures
-
 pub returns-else-self-gt0 : goal.returns-else-self-gt0
 unfolding over_rows
 returns-else-self-gt0 c = missing_on _ _ _ _ c.in-Missing.m (outcome_told layout_outcome c.list_at.ensures c.in-Missing.is) (search rules) c.missing.ensures
