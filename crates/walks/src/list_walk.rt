@@ -140,6 +140,7 @@ impl ListWalk {
     }
 
     // A step over a list: 10, then the next entry that can be read.
+    #[tactic(auto, unfolding(crate::specs::Walk::over_rows), using(crate::proofs::Steps::list_past, crate::proofs::Steps::list_on))]
     fn over_list(
         self,
         files: &[&[u8]],
@@ -167,6 +168,7 @@ impl ListWalk {
     }
 
     // A step over tables that no question refuses, for a caller that has asked: 10 past the first entry of a list that is missing.
+    #[tactic(auto, using(crate::proofs::Steps::missing_past, crate::proofs::Steps::missing_on), unfolding(crate::specs::Walk::over_rows))]
     pub fn walked_list(
         self,
         files: &[&[u8]],
@@ -199,6 +201,7 @@ impl ListWalk {
     }
 
     // The next step: 1 to 6 and 8 are asked, then 10; then the next entry that can be read is settled.
+    #[tactic(auto, unfolding(crate::specs::Walk::next_under))]
     pub fn next(
         self,
         files: &[&[u8]],

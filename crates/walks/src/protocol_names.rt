@@ -113,6 +113,7 @@ fn protocol_list_at(
 }
 
 // Whether slot i is below the count, and its address within 64 bits.
+#[tactic(auto, using(crate::proofs::ProtocolLists::no_slot_from_count, crate::proofs::ProtocolLists::has_slot_by_division))]
 fn has_slot(list: ProtocolList, i: u64) -> bool
     ensures { result ≡ has_slot list i }
 {
@@ -123,6 +124,7 @@ fn has_slot(list: ProtocolList, i: u64) -> bool
 }
 
 // The name of the protocol at an address that is not 0.
+#[tactic(auto, using(reads::proofs::Outcomes::on_value, reads::proofs::Outcomes::on_missing), unfolding(crate::specs::ProtocolNames::decode_protocol_name))]
 fn protocol_name_at(
     files: &[&[u8]],
     segments: &[u64],
@@ -153,6 +155,7 @@ fn protocol_name_at(
 }
 
 // The name of the protocol whose address a slot holds.
+#[tactic(auto, using(reads::proofs::Outcomes::on_value, reads::proofs::Outcomes::on_missing), unfolding(crate::specs::ProtocolNames::decode_protocol_name_in))]
 fn protocol_name_in(
     files: &[&[u8]],
     segments: &[u64],
@@ -177,6 +180,7 @@ fn protocol_name_in(
 
 // The name of a slot: of the protocol that it holds, else its bind's less the prefix. Where both are absent the reason is the
 // protocol's.
+#[tactic(auto, using(reads::proofs::Outcomes::first_absent, reads::proofs::Outcomes::first_number, reads::proofs::Outcomes::first_value_lem, reads::proofs::Outcomes::text_because_of), unfolding(crate::specs::ProtocolNames::decode_name_in))]
 fn name_in(
     files: &[&[u8]],
     segments: &[u64],
@@ -286,6 +290,7 @@ impl ProtocolNameWalk {
     }
 
     // The next slot; with none left the cursor becomes the count.
+    #[tactic(auto, using(crate::proofs::ProtocolLists::slot_below), unfolding(crate::specs::ProtocolNames::step_in))]
     fn step_in(
         self,
         files: &[&[u8]],
@@ -312,6 +317,7 @@ impl ProtocolNameWalk {
     }
 
     // A step over tables that no question refuses, for a caller that has asked: 10, by the count of the list, 0 for one that is missing.
+    #[tactic(auto, using(crate::proofs::Steps::list_past, crate::proofs::Steps::list_on, crate::proofs::Steps::missing_past, crate::proofs::Steps::missing_on), unfolding(crate::specs::ProtocolNames::over_names))]
     pub fn walked_list(
         self,
         files: &[&[u8]],
@@ -346,6 +352,7 @@ impl ProtocolNameWalk {
     }
 
     // The name in the next slot.
+    #[tactic(auto, unfolding(crate::specs::ProtocolNames::next_name_under))]
     pub fn next(
         self,
         files: &[&[u8]],

@@ -3,7 +3,7 @@
 ghost use Rattle.std.specs.Prelude.{◌≡◌, List, ℕ, ◌+◌, ◌^◌, ◌<◌, length};
 ghost use Rattle.pointers.specs.Tables.{Tables, lent, under};
 ghost use Rattle.walks.specs.Slots.{Room};
-ghost use Rattle.walks.specs.Sections.{Walk, walk, at_start, Left, stays, Kind, meta_of, classes, categories, take_waiting, next_waiting, take_new, step_of, take_protocol, protocol_step_of, class_slots, category_slots, protocol_slots, given, slot_left, record_taken};
+ghost use Rattle.walks.specs.Sections.{Walk, walk, at_start, Left, Kind, classes, categories, take_waiting, next_waiting, take_new, step_of, take_protocol, protocol_step_of, class_slots, category_slots, protocol_slots, given, slot_left, record_taken};
 
 use crate::sections::RecordStep;
 use crate::slots::{Lists, SlotStep, SlotWalk, next_slot};
@@ -171,6 +171,7 @@ impl Listed for ObjcCategory {
 
 impl SlotWalk {
     // Takes an address first met: the ledger word is the last write, and with a number there is none.
+    #[tactic(auto, unfolding(crate::specs::Sections::take_new))]
     fn take_new<R: Listed>(
         self,
         files: &[&[u8]],
@@ -210,6 +211,7 @@ impl SlotWalk {
     }
 
     // Takes the next slot.
+    #[tactic(auto, using(crate::proofs::SectionLaws::step_slot, crate::proofs::SlotLaws::new_room))]
     fn take_slot<R: Listed>(
         self,
         files: &[&[u8]],
@@ -253,6 +255,7 @@ impl SlotWalk {
 
 impl ClassSlots {
     // Takes the metaclass that waits.
+    #[tactic(auto, unfolding(crate::specs::Sections::take_waiting))]
     fn take_meta(
         self,
         files: &[&[u8]],
@@ -279,21 +282,15 @@ impl ClassSlots {
                 step: RecordStep::Passed(why),
                 slots: ClassSlots { slots, meta: 0 },
             },
-            ClassAnswer::Missing(Missing::Refused(k)) => self.refused(k),
-        }
-    }
-
-    // The walk as given, with a number.
-    fn refused(self, k: u8) -> RecordTaken<ObjcClass, ClassSlots>
-        ensures { (l : List ℕ) → record_taken class_slots result l ≡ stays (class_slots self) l k }
-    {
-        RecordTaken {
-            step: RecordStep::Refused(k),
-            slots: self,
+            ClassAnswer::Missing(Missing::Refused(k)) => RecordTaken {
+                step: RecordStep::Refused(k),
+                slots: self,
+            },
         }
     }
 
     // The waiting metaclass, where no question refuses the step over a ledger of `len` words.
+    #[tactic(auto, using(crate::proofs::SectionLaws::waiting_on, crate::proofs::SectionLaws::waiting_no))]
     fn next_meta(
         self,
         files: &[&[u8]],
@@ -316,7 +313,10 @@ impl ClassSlots {
             Asked::Yes => self.take_meta(
                 files, segments, sections, info, rebases, binds, index, setting,
             ),
-            Asked::Refused(k) => self.refused(k),
+            Asked::Refused(k) => RecordTaken {
+                step: RecordStep::Refused(k),
+                slots: self,
+            },
         }
     }
 }
@@ -415,6 +415,7 @@ impl ProtocolSlots {
     }
 
     // Takes an address: a protocol listed twice comes twice, so that no ledger says which were met.
+    #[tactic(auto, unfolding(crate::specs::Sections::take_protocol))]
     fn take(
         self,
         files: &[&[u8]],

@@ -39,6 +39,7 @@ pub struct SlotWalk {
 }
 
 // The slots of two sections: each has fewer than 2^61.
+#[tactic(auto, using(crate::proofs::SlotLaws::pair_length, crate::proofs::SlotLaws::slots_fit))]
 fn pair_count(sections: &[u64], first: usize, second: usize) -> u64
     ensures { result ≡ length (section_slots (before sections) first ++ section_slots (before sections) second) }
 {
@@ -48,6 +49,7 @@ fn pair_count(sections: &[u64], first: usize, second: usize) -> u64
 }
 
 // The address of slot k of them.
+#[tactic(auto, using(crate::proofs::SlotLaws::pair_first, crate::proofs::SlotLaws::pair_second))]
 fn pair_slot(sections: &[u64], first: usize, second: usize, k: u64) -> u64
     requires { k < length (section_slots sections.now first ++ section_slots sections.now second) }
     ensures { result ≡ get_or (section_slots (before sections) first ++ section_slots (before sections) second) k 0 }
@@ -61,6 +63,7 @@ fn pair_slot(sections: &[u64], first: usize, second: usize, k: u64) -> u64
 }
 
 // How many slots the lists have.
+#[tactic(auto, using(crate::proofs::SlotLaws::section_length))]
 fn slot_count(sections: &[u64], lists: Lists) -> u64
     ensures { result ≡ length (slots_of lists (before sections)) }
 {
@@ -75,6 +78,7 @@ fn slot_count(sections: &[u64], lists: Lists) -> u64
 }
 
 // The address of slot k of them.
+#[tactic(auto, using(crate::proofs::SlotLaws::section_length, crate::proofs::SlotLaws::section_at_lem))]
 fn slot_at(sections: &[u64], lists: Lists, k: u64) -> u64
     requires { k < length (slots_of lists sections.now) }
     ensures { result ≡ get_or (slots_of lists (before sections)) k 0 }
@@ -90,6 +94,7 @@ fn slot_at(sections: &[u64], lists: Lists, k: u64) -> u64
 }
 
 // The address in a slot, absent if it is 0.
+#[tactic(auto, unfolding(crate::specs::Slots::decode_address))]
 fn address_in(
     files: &[&[u8]],
     segments: &[u64],
@@ -111,6 +116,7 @@ fn address_in(
 }
 
 // Is the address among the words? All of them are looked at, so that the loop can take several at a time.
+#[tactic(auto, using(crate::proofs::SlotLaws::among_more), unfolding(crate::specs::Slots::among))]
 fn met(words: &[u64], va: u64) -> bool
     ensures { result ≡ among va (before words) }
 {
@@ -136,6 +142,7 @@ fn met_below(words: &[u64], highest: u64, va: u64) -> bool
 }
 
 // An address met before is dropped.
+#[tactic(auto, using(reads::proofs::Tests::choose_true, reads::proofs::Tests::choose_false))]
 fn first_met(step: SlotStep, words: &[u64], highest: u64) -> SlotStep
     ensures { slot_outcome result ≡ first_met (met_below highest (before words)) (slot_outcome step) }
 {
@@ -146,6 +153,7 @@ fn first_met(step: SlotStep, words: &[u64], highest: u64) -> SlotStep
 }
 
 // 10: is the slot at most the slots, and are the words of the ledger in use at most the slot?
+#[tactic(auto, using(crate::proofs::SlotLaws::slot_past, crate::proofs::SlotLaws::slot_by))]
 fn slot_fits(sections: &[u64], lists: Lists, slot: u64, used: u64) -> bool
     ensures { result ≡ slot_fits (slots_of lists (before sections)) slot used }
 {
@@ -156,6 +164,7 @@ fn slot_fits(sections: &[u64], lists: Lists, slot: u64, used: u64) -> bool
 }
 
 // 11: has the ledger a word for each slot?
+#[tactic(auto, unfolding(crate::specs::Slots::ledger_fits))]
 fn ledger_fits(sections: &[u64], lists: Lists, words: usize) -> bool
     ensures { result ≡ ledger_fits (slots_of lists (before sections)) words }
 {
@@ -163,6 +172,7 @@ fn ledger_fits(sections: &[u64], lists: Lists, words: usize) -> bool
 }
 
 // Takes slot k, or there is none.
+#[tactic(auto, using(crate::proofs::SlotLaws::taken_none, crate::proofs::SlotLaws::taken_by_lem))]
 fn take_slot(
     files: &[&[u8]],
     segments: &[u64],
@@ -195,6 +205,7 @@ fn take_slot(
 }
 
 // The next slot of a walk that takes an address as often as it is listed.
+#[tactic(auto, using(crate::proofs::SlotLaws::slot_within, crate::proofs::SlotLaws::next_on, crate::proofs::SlotLaws::next_10, crate::proofs::SlotLaws::next_no))]
 pub(crate) fn next_slot(
     files: &[&[u8]],
     segments: &[u64],
@@ -236,6 +247,7 @@ impl SlotWalk {
     }
 
     // 1 to 6 and 8, then 10 and 11, with a ledger of so many words.
+    #[tactic(auto, using(crate::proofs::SlotLaws::ask_10, crate::proofs::SlotLaws::ask_11, crate::proofs::SlotLaws::ask_yes, crate::proofs::SlotLaws::ask_no))]
     pub(crate) fn ask_ledger(
         self,
         files: &[&[u8]],
@@ -267,6 +279,7 @@ impl SlotWalk {
     }
 
     // The next slot, with the words of the ledger in use as the addresses met before.
+    #[tactic(auto, using(crate::proofs::SlotLaws::ledger_room, crate::proofs::SlotLaws::new_on, crate::proofs::SlotLaws::new_no))]
     pub(crate) fn next_new(
         self,
         files: &[&[u8]],

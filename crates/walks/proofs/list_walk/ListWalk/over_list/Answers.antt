@@ -6,10 +6,6 @@ use Rattle.walks.proofs.Steps.{found_fits, outcome_told, list_past, list_on}
 use borrow.Author.Rules.{rules}
 use Rattle.walks.proofs.list_walk.ListWalk.over_list.Goals as goal
 
-pub returns-then-h-self : goal.returns-then-h-self
-unfolding over_rows
-returns-then-h-self c = list_past _ _ _ _ _ refl (search rules) c.refused.ensures
-
 pub settle-requires : goal.settle-requires
 settle-requires c = let e = outcome_told entry_of c.first_readable.ensures c.in-At.is in (found_below_count _ _ _ _ e, found_fits _ _ _ _ e)
 

@@ -5,15 +5,6 @@ use Rattle.walks.specs.ProtocolNames.{named, step_in}
 use Rattle.walks.proofs.ProtocolLists.{slot_below}
 use Rattle.walks.proofs.protocol_names.ProtocolNameWalk.step_in.Goals as goal
 
-pub overflow_mul-slot : goal.overflow_mul-slot
-overflow_mul-slot c = let h = slot_below _ _ (sym c.has_slot.ensures ∙ c.if-has_slot.true) in omega (arith, h.1)
-
-pub overflow_add-slot : goal.overflow_add-slot
-overflow_add-slot c = let h = slot_below _ _ (sym c.has_slot.ensures ∙ c.if-has_slot.true) in omega (arith, h.1)
-
-pub named-requires : goal.named-requires
-named-requires c = let h = slot_below _ _ (sym c.has_slot.ensures ∙ c.if-has_slot.true) in omega (arith, h.1)
-
 pub returns-then-has_slot : goal.returns-then-has_slot
 unfolding step_in
 returns-then-has_slot c = c.named.ensures ∙ ap (named _) c.name_in-name.ensures ∙ sym (choose_true _ _ (sym c.has_slot.ensures ∙ c.if-has_slot.true))

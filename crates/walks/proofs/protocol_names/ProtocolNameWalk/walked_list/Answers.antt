@@ -3,18 +3,6 @@ use Rattle.walks.proofs.Steps.{outcome_told, list_past, list_on, missing_past, m
 use borrow.Author.Rules.{rules}
 use Rattle.walks.proofs.protocol_names.ProtocolNameWalk.walked_list.Goals as goal
 
-pub returns-then-list-self : goal.returns-then-list-self
-unfolding over_names
-returns-then-list-self c = list_past _ _ _ _ c.in-List.list (outcome_told protocol_list_outcome c.protocol_list_at.ensures c.in-List.is) (search rules) c.refused.ensures
-
-pub returns-then-self-gt0 : goal.returns-then-self-gt0
-unfolding over_names
-returns-then-self-gt0 c = missing_past _ _ _ _ c.in-Missing.m (outcome_told protocol_list_outcome c.protocol_list_at.ensures c.in-Missing.is) (search rules) c.refused-then-self-gt0.ensures
-
 pub returns-else-list-self : goal.returns-else-list-self
 unfolding over_names
 returns-else-list-self c = list_on _ _ _ _ c.in-List.list (outcome_told protocol_list_outcome c.protocol_list_at.ensures c.in-List.is) (search rules) c.step_in.ensures
-
-pub returns-else-self-gt0 : goal.returns-else-self-gt0
-unfolding over_names
-returns-else-self-gt0 c = missing_on _ _ _ _ c.in-Missing.m (outcome_told protocol_list_outcome c.protocol_list_at.ensures c.in-Missing.is) (search rules) c.missing.ensures

@@ -1,11 +1,9 @@
+use mathlib.Core.Path.{refl}
 use Rattle.pointers.specs.Question.{asked_outcome}
 use Rattle.walks.proofs.Steps.{outcome_told}
 use Rattle.walks.specs.Sections.{classes}
 use Rattle.walks.proofs.SectionLaws.{waiting_on, waiting_no}
 use Rattle.walks.proofs.section_slots.ClassSlots.next_meta.Goals as goal
 
-pub returns-in-Yes : goal.returns-in-Yes
-returns-in-Yes c = λ l e. waiting_on classes _ _ l (rw e (outcome_told asked_outcome c.ask_ledger.ensures c.in-Yes.is)) (c.take_meta.ensures l)
-
 pub returns-in-Refused : goal.returns-in-Refused
-returns-in-Refused c = λ l e. waiting_no classes _ _ l (rw e (outcome_told asked_outcome c.ask_ledger.ensures c.in-Refused.is)) (c.refused.ensures l)
+returns-in-Refused c = λ l e. waiting_no classes _ _ l (rw e (outcome_told asked_outcome c.ask_ledger.ensures c.in-Refused.is)) refl

@@ -7,14 +7,5 @@ use Rattle.walks.specs.Slots.{first_met}
 use Rattle.walks.proofs.SlotLaws.{ledger_room, new_on, new_no}
 use Rattle.walks.proofs.slots.SlotWalk.next_new.Goals as goal
 
-pub take_slot-step-requires : goal.take_slot-step-requires
-take_slot-step-requires c = (ledger_room _ _ _ _ _ (outcome_told asked_outcome c.ask_ledger.ensures c.in-Yes.is)).0
-
 pub slice_bounds-first_met-end : goal.slice_bounds-first_met-end
 slice_bounds-first_met-end c = let h = ledger_room _ _ _ _ _ (outcome_told asked_outcome c.ask_ledger.ensures c.in-Yes.is) in omega (arith, h.0, h.1, h.2, length-take c.args.self.used c.args.ledger.now)
-
-pub returns-in-Yes : goal.returns-in-Yes
-returns-in-Yes c = new_on _ _ _ _ _ _ (outcome_told asked_outcome c.ask_ledger.ensures c.in-Yes.is) (c.first_met.ensures ∙ ap (first_met _) c.take_slot-step.ensures)
-
-pub returns-in-Refused : goal.returns-in-Refused
-returns-in-Refused c = new_no _ _ _ _ _ _ (outcome_told asked_outcome c.ask_ledger.ensures c.in-Refused.is)

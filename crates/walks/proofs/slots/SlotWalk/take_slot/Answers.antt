@@ -9,15 +9,3 @@ take_new-requires g c = new_room _ _ _ _ c.next_new.ensures c.in-Address.is refl
 
 pub past-requires : goal.past-requires
 past-requires g c = (new_room _ _ _ _ c.next_new.ensures c.in-Dropped.is refl (λ j. omega (arith, c.shared_slice_known-2-1.given j))).further
-
-pub returns-in-Address : goal.returns-in-Address
-returns-in-Address g c = step_slot _ _ _ _ _ c.lists-lists.ensures refl c.next_new.ensures (rw c.in-Address.is c.take_new.ensures)
-
-pub returns-in-Dropped : goal.returns-in-Dropped
-returns-in-Dropped g c = step_slot _ _ _ _ _ c.lists-lists.ensures refl c.next_new.ensures (rw (c.in-Dropped.is, c.past.ensures))
-
-pub returns-in-Finished : goal.returns-in-Finished
-returns-in-Finished g c = step_slot _ _ _ _ _ c.lists-lists.ensures refl c.next_new.ensures (rw c.in-Finished.is)
-
-pub returns-in-Refused : goal.returns-in-Refused
-returns-in-Refused g c = step_slot _ _ _ _ _ c.lists-lists.ensures refl c.next_new.ensures (rw c.in-Refused.is)
