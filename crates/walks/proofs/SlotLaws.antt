@@ -101,17 +101,6 @@ slots_few Classes ws h = omega (arith, pair_length ws 0 1, slots_fit ws 0 _ refl
 slots_few Categories ws h = omega (arith, pair_length ws 2 3, slots_fit ws 2 _ refl h, slots_fit ws 3 _ refl h)
 slots_few Protocols ws h = omega (arith, section_length ws 4, slots_fit ws 4 _ refl h)
 
--- The slots of lists that are told.
-module _ (ws : List ℕ) {x y : Lists} (e : x ≡ y) where
-  pub count_told : {n : ℕ} → n ≡ length (slots_of y ws) → n ≡ length (slots_of x ws)
-  count_told h = rw e h
-
-  pub below_told : {k : ℕ} → k < length (slots_of x ws) → k < length (slots_of y ws)
-  below_told h = rw e at h
-
-  pub slot_told : (k : ℕ) {a : ℕ} → a ≡ get_or (slots_of y ws) k 0 → a ≡ get_or (slots_of x ws) k 0
-  slot_told k h = rw e h
-
 -- The first words of a list, one by one.
 pub among_end : (a : ℕ) (bs : List ℕ) (b : ℕ) → among a (bs ++ (b ∷ [])) ≡ (among a bs || eqb b a)
 unfolding among

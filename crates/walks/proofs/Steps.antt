@@ -31,9 +31,6 @@ module _ {A W : Type 0} (w : W) (y : Handed A W) {x : Handed A W} {o : Outcome (
   pub asked_on : o ≡ value tt → x ≡ y → x ≡ unless_refused o (hands_back w) y
   asked_on e h = rw e h
 
-  pub asked_no : {k : ℕ} → o ≡ number k → x ≡ hands_back w k → x ≡ unless_refused o (hands_back w) y
-  asked_no e h = rw e h
-
 -- A missing list has count 0, and a step over it hands the walk back.
 count_missing : {L : Type 0} (count : L → ℕ) (m : Missing) → count_by count (missed m) ≡ 0
 count_missing count (Absent r) = refl

@@ -1,5 +1,5 @@
 // The steps of the section walks, one slot each, under a setting that the walk hands on. Classes and categories meet each address once,
-// by a ledger that the caller lends.
+// by a ledger that the caller lends; their step over a slot is one, generic over the record. A protocol listed twice comes twice.
 ghost use Rattle.std.specs.Prelude.{◌≡◌, List, ℕ, ◌+◌, ◌^◌, ◌<◌, length};
 ghost use Rattle.pointers.specs.Tables.{Tables, lent, under};
 ghost use Rattle.walks.specs.Slots.{Room};
@@ -48,7 +48,7 @@ pub(crate) struct SlotTaken<R> {
     pub(crate) waiting: u64,
 }
 
-// Where a walk over a section list stands, and its step from there, in document 01's words.
+// Where a walk over a section list stands, and its steps: `state` and `step` say both in document 01's words.
 pub trait RecordSlots: Copy {
     type Record: Copy;
 
@@ -60,7 +60,7 @@ pub trait RecordSlots: Copy {
     fn start() -> Self
         ensures { state result ≡ at_start };
 
-    // One step, over a ledger.
+    // One step, with the ledger of the addresses met before.
     fn next(
         self,
         files: &[&[u8]],
@@ -77,13 +77,15 @@ pub trait RecordSlots: Copy {
             record_taken state result ledger.new ≡ step t (state self) ledger.old };
 }
 
-// What a walk that meets each address once gives: the lists, the record at an address, and the address that waits after it (0: none).
+// A record that is listed, and that a walk meets once.
 pub(crate) trait Listed: Copy {
     ghost kind: { Kind Self };
 
+    // The lists that hold it.
     fn lists() -> Lists
         ensures { result ≡ kind.lists };
 
+    // The record at an address.
     fn at(
         files: &[&[u8]],
         segments: &[u64],
@@ -98,6 +100,7 @@ pub(crate) trait Listed: Copy {
         ensures { let t = under setting (lent files segments sections info rebases binds index) in
             given result ≡ kind.decoded t va };
 
+    // The address that waits after it, 0 for none.
     fn after(self) -> u64
         ensures { result ≡ kind.after self };
 }
@@ -414,7 +417,7 @@ impl ProtocolSlots {
         }
     }
 
-    // Takes an address: a protocol listed twice comes twice, so that no ledger says which were met.
+    // Takes an address. Not `SlotWalk::take_new`: no ledger says which addresses were met, and a walk's state has no words for it.
     #[tactic(auto, unfolding(crate::specs::Sections::take_protocol))]
     fn take(
         self,

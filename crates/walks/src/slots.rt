@@ -70,10 +70,7 @@ fn slot_count(sections: &[u64], lists: Lists) -> u64
     match lists {
         Lists::Classes => pair_count(sections, ObjcSection::CLASS_LIST, ObjcSection::NLCLSLIST),
         Lists::Categories => pair_count(sections, ObjcSection::CAT_LIST, ObjcSection::NLCAT_LIST),
-        Lists::Protocols => {
-            let list = ObjcSection::at(sections, ObjcSection::PROTO_LIST);
-            list.slots
-        }
+        Lists::Protocols => ObjcSection::at(sections, ObjcSection::PROTO_LIST).slots,
     }
 }
 
