@@ -1,5 +1,5 @@
 use mathlib.Core.Path.{sym, ◌∙◌}
-use Rattle.walks.proofs.SlotLaws.{among_searched, met_above, met_found, met_look}
+use Rattle.walks.proofs.SlotLaws.{among_searched, met_found}
 use borrow.Author.Rules.{rules}
 use Rattle.walks.proofs.slots.met_below.Goals as goal
 

@@ -1,9 +1,6 @@
 use Rattle.pointers.specs.Question.{asked_outcome}
 use Rattle.walks.proofs.Steps.{outcome_told}
-use borrow.Author.Tests.{not-true, not-false}
-use mathlib.Core.Path.{sym, ◌∙◌}
-use Rattle.walks.proofs.SlotLaws.{slot_within, next_on, next_10, next_no}
-use Rattle.std.proofs.Common.{ap, not}
+use Rattle.walks.proofs.SlotLaws.{next_no}
 use Rattle.walks.proofs.slots.next_slot.Goals as goal
 
 pub returns-in-Refused : goal.returns-in-Refused

@@ -2,7 +2,7 @@ use Rattle.records.proofs.Readables.{found_below_count}
 use mathlib.Core.Path.{refl}
 use Rattle.records.specs.Search.{entry_of}
 use Rattle.walks.specs.Walk.{over_rows}
-use Rattle.walks.proofs.Steps.{found_fits, outcome_told, list_past, list_on}
+use Rattle.walks.proofs.Steps.{found_fits, outcome_told, list_on}
 use borrow.Author.Rules.{rules}
 use Rattle.walks.proofs.list_walk.ListWalk.over_list.Goals as goal
 

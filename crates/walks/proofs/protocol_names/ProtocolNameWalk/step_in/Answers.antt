@@ -1,8 +1,6 @@
 use mathlib.Core.Path.{sym, ap, ◌∙◌}
-use native.Mathlib.Omega.{arith}
 use Rattle.reads.proofs.Tests.{choose_true, choose_false}
 use Rattle.walks.specs.ProtocolNames.{named, step_in}
-use Rattle.walks.proofs.ProtocolLists.{slot_below}
 use Rattle.walks.proofs.protocol_names.ProtocolNameWalk.step_in.Goals as goal
 
 pub returns-then-has_slot : goal.returns-then-has_slot

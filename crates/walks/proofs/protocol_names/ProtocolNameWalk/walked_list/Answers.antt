@@ -1,5 +1,5 @@
 use Rattle.walks.specs.ProtocolNames.{protocol_list_outcome, over_names}
-use Rattle.walks.proofs.Steps.{outcome_told, list_past, list_on, missing_past, missing_on}
+use Rattle.walks.proofs.Steps.{outcome_told, list_on}
 use borrow.Author.Rules.{rules}
 use Rattle.walks.proofs.protocol_names.ProtocolNameWalk.walked_list.Goals as goal
 

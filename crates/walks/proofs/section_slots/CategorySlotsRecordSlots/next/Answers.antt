@@ -1,5 +1,4 @@
-use Prim.Native.Nat.{ℕ}
-use mathlib.Core.Path.{◌≡◌, refl, sym, ap, ◌∙◌}
+use mathlib.Core.Path.{◌≡◌, refl, ap, ◌∙◌}
 use Rattle.walks.proofs.SectionLaws.{category_waits_none}
 use Rattle.walks.proofs.section_slots.CategorySlotsRecordSlots.next.Goals as goal
 

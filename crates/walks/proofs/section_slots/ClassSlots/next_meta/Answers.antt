@@ -2,7 +2,7 @@ use mathlib.Core.Path.{refl}
 use Rattle.pointers.specs.Question.{asked_outcome}
 use Rattle.walks.proofs.Steps.{outcome_told}
 use Rattle.walks.specs.Sections.{classes}
-use Rattle.walks.proofs.SectionLaws.{waiting_on, waiting_no}
+use Rattle.walks.proofs.SectionLaws.{waiting_no}
 use Rattle.walks.proofs.section_slots.ClassSlots.next_meta.Goals as goal
 
 pub returns-in-Refused : goal.returns-in-Refused

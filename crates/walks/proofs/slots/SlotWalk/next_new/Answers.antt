@@ -1,10 +1,8 @@
 use Rattle.pointers.specs.Question.{asked_outcome}
 use Rattle.walks.proofs.Steps.{outcome_told}
-use mathlib.Core.Path.{ap, ◌∙◌}
 use native.Mathlib.Omega.{arith}
 use lib.ListN.{length-take}
-use Rattle.walks.specs.Slots.{first_met}
-use Rattle.walks.proofs.SlotLaws.{ledger_room, new_on, new_no}
+use Rattle.walks.proofs.SlotLaws.{ledger_room}
 use Rattle.walks.proofs.slots.SlotWalk.next_new.Goals as goal
 
 pub slice_bounds-first_met-end : goal.slice_bounds-first_met-end

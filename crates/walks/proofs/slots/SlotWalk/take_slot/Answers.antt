@@ -1,7 +1,6 @@
 use mathlib.Core.Path.{refl}
 use native.Mathlib.Omega.{arith}
 use Rattle.walks.proofs.SlotLaws.{new_room}
-use Rattle.walks.proofs.SectionLaws.{step_slot}
 use Rattle.walks.proofs.slots.SlotWalk.take_slot.Goals as goal
 
 pub take_new-requires : goal.take_new-requires
