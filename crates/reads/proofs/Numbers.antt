@@ -67,7 +67,7 @@ le_of_eight xs h =
 be_of_eight : (xs : List ℕ) → length xs ≡ 8 → from_be_bytes w64 xs ≡ be xs
 be_of_eight xs h =
     let g : (k : ℕ) → k < 8 → get_or (reverse xs) k 0 ≡ get_or xs (7 - k) 0 =
-        λ k l. get_or-reverse xs k 0 (omega arith) ∙ ap (λ (n : ℕ). get_or xs (n - 1 - k) 0) h in
+    λ k l. get_or-reverse xs k 0 (omega arith) ∙ ap (λ (n : ℕ). get_or xs (n - 1 - k) 0) h in
     let s : (k : ℕ) → le (drop k (reverse xs)) ≡ get_or (reverse xs) k 0 + 256 * le (drop (suc k) (reverse xs)) = le_step (reverse xs) in
     omega (arith, s 0, s 1, s 2, s 3, s 4, s 5, s 6, s 7, le_past (reverse xs) 8 (omega (arith, length-reverse xs)), g 0 (omega arith), g 1 (omega arith), g 2 (omega arith), g 3 (omega arith), g 4 (omega arith), g 5 (omega arith), g 6 (omega arith), g 7 (omega arith))
 

@@ -22,8 +22,8 @@ loop-i-preserved c =
     let a = c.args in
     let at = c.at-s in
     lowest_more a.segments.now c.loop-i.i _ _ _ _ _ c.loop-i.invariant (omega arith) _ at.ensures (cc) _ _ _ _
-          (c.readable_part-size.ensures ∙ ap (λ (n : ℕ). readable_part n a.least at.result) c.file_len-n.ensures)
-          c.lower-best.ensures c.lower-best-in-loop-i.ensures c.lower-best-in-loop-i-2.ensures
+    (c.readable_part-size.ensures ∙ ap (λ (n : ℕ). readable_part n a.least at.result) c.file_len-n.ensures)
+    c.lower-best.ensures c.lower-best-in-loop-i.ensures c.lower-best-in-loop-i-2.ensures
 
 pub returns : goal.returns
 returns c = lowest_out c.args.segments.now c.loop-i.i _ _ _ _ _ c.loop-i.invariant (omega arith)

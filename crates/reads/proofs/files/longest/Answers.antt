@@ -6,7 +6,7 @@ use Rattle.reads.proofs.files.longest.Goals as goal
 pub loop-f-preserved : goal.loop-f-preserved
 loop-f-preserved c =
     longest_step (files_lent c.args.files.now) c.loop-f.f c.loop-f.n _ _ _
-      c.loop-f.invariant c.file_len.ensures c.max-n.ensures
+    c.loop-f.invariant c.file_len.ensures c.max-n.ensures
 
 pub returns : goal.returns
 returns c =

@@ -21,7 +21,9 @@ bounds-files-f g c =
 
 pub returns : goal.returns
 returns g c =
-    let a = c.args in
-    (c.le_from.ensures.0
-    ∙ word_lent a.files.now a.p a.i g.row.N _
-    (said_lent a.files.now a.p.file _ c.is_lent.ensures (ap not c.if-not-is_lent.false)), c.le_from.ensures.1)
+    let a = c.args in (
+      c.le_from.ensures.0
+          ∙ word_lent a.files.now a.p a.i g.row.N _
+          (said_lent a.files.now a.p.file _ c.is_lent.ensures (ap not c.if-not-is_lent.false)),
+      c.le_from.ensures.1,
+    )

@@ -26,8 +26,8 @@ loop-i-preserved c =
     let e = sym c.ends.ensures ∙ c.if-ends.false in
     let h = sym c.holds_at.ensures ∙ c.if-holds_at.false in
     rw (c.max-far.ensures, c.distance-d.ensures)
-          (sym (spot_on c.args.segments.now c.loop-i.i (omega arith) _ c.at-s.ensures c.loop-i.far c.args.va e h)
-          ∙ c.loop-i.invariant)
+    (sym (spot_on c.args.segments.now c.loop-i.i (omega arith) _ c.at-s.ensures c.loop-i.far c.args.va e h)
+    ∙ c.loop-i.invariant)
 
 pub returns : goal.returns
 returns c = c.nowhere-2.ensures ∙ sym (spot_out c.args.segments.now c.loop-i.i c.loop-i.far c.args.va (omega arith)) ∙ c.loop-i.invariant
