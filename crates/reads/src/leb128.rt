@@ -125,7 +125,7 @@ pub fn read_uleb128(bytes: &[u8]) -> UlebAnswer
     match digit_count(bytes) {
         Word::Value(k) => {
             let end = k as usize;
-            uleb_of(&bytes[0..end])
+            uleb_of(&bytes[..end])
         }
         Word::Missing(m) => UlebAnswer::Missing(m),
     }
@@ -139,7 +139,7 @@ pub fn read_sleb128(bytes: &[u8]) -> SlebAnswer
     match digit_count(bytes) {
         Word::Value(k) => {
             let end = k as usize;
-            sleb_of(&bytes[0..end])
+            sleb_of(&bytes[..end])
         }
         Word::Missing(m) => SlebAnswer::Missing(m),
     }

@@ -81,7 +81,8 @@ pub(crate) fn read_le_at<const N: usize>(bytes: &[u8], offset: u64) -> Word
     }
 }
 
-// The same in big-endian order.
+// The same in big-endian order. Not one function with read_le_at over the order: its contract would have to choose between
+// the two definitions.
 #[tactic(auto, using(crate::proofs::Outcomes::outcomes), unfolding(crate::specs::Place::be_at))]
 pub(crate) fn read_be_at<const N: usize>(bytes: &[u8], offset: u64) -> Word
     requires { N ≤ 8 }

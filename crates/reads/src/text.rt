@@ -177,6 +177,7 @@ fn character(s: &[u8], first: ByteRead) -> Step
 pub fn utf8_verdict(s: &[u8]) -> Verdict
     ensures { result ≡ verdict (before s) }
 {
+    // Not a `for`: `read` moves by the bytes of a character.
     let mut read = 0;
     while read < s.len() {
         let b = read_byte(s, read);
@@ -302,7 +303,7 @@ fn read_cstr_in(bytes: &[u8], reading: Reading, p: Place) -> CstrRead
             read: 0,
         };
     }
-    let scan = scan_text(&bytes[p.offset as usize..bytes.len()]);
+    let scan = scan_text(&bytes[p.offset as usize..]);
     CstrRead {
         text: text_of_scan(reading, p, scan),
         read: scan.read,
