@@ -15,7 +15,7 @@ use Rattle.reads.specs.Answer.{place_outcome}
 use Rattle.reads.specs.declared.place.Place.{Place}
 use Rattle.reads.specs.declared.place.Placed.{Placed}
 use Rattle.reads.specs.declared.place.Placed.TheVariants as placed
-use Rattle.reads.proofs.LentFiles.{lent_below, lent_by_bytes, file_lent, file_not_lent}
+use Rattle.reads.proofs.LentFiles.{lent_below, lent_by_bytes, file_lent}
 
 -- x after n bytes: times 256 for each.
 abbrev pub scaled : ℕ → ℕ → ℕ
@@ -208,17 +208,6 @@ module _ (bs : List ℕ) (k offset : ℕ) where
   pub le_outside : length bs < offset + k → 0 ≡ le_in bs k offset
   unfolding le_in choose
   le_outside h = simp (lt-leb _ _ h)
-
--- Numbers at i bytes from a place: those of its file, which has none where it is not lent.
-module _ (fs : List (Bor (List ℕ))) (p : Place) (i k : ℕ) where
-  pub word_lent : (d : Bor (List ℕ)) → p.file < length (files_lent fs) → le_in (get_or fs p.file d).now k (p.offset + i) ≡ word_in (files_lent fs) k p i
-  unfolding word_in
-  word_lent d h = ap (λ (bs : List ℕ). le_in bs k (p.offset + i)) (file_lent fs p.file d h)
-
-  pub word_not_lent : 0 < k → length (files_lent fs) ≤ p.file → 0 ≡ word_in (files_lent fs) k p i
-  unfolding word_in
-  word_not_lent some h =
-      le_outside [] k (p.offset + i) (omega arith) ∙ ap (λ (bs : List ℕ). le_in bs k (p.offset + i)) (file_not_lent fs p.file h)
 
 -- The number at i bytes from a place is the one at the place i bytes on.
 pub word_in_on : (files : List (List ℕ)) (k file offset i : ℕ) → word_in files k (place_at file offset) i ≡ word_in files k (place_at file (offset + i)) 0

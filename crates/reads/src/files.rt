@@ -16,16 +16,21 @@ pub fn is_lent(files: &[&[u8]], f: u64) -> bool
     f < files.len() as u64
 }
 
+// The bytes of a file: none where it is not lent.
+pub fn bytes_of<'a>(files: &[&'a [u8]], f: u64) -> &'a [u8]
+    ensures { result.now ≡ file_of (files_of files) f }
+{
+    if !is_lent(files, f) {
+        return b"";
+    }
+    files[f as usize]
+}
+
 // The length of a file; 0 where it is not lent.
 pub fn file_len(files: &[&[u8]], f: u64) -> u64
     ensures { result ≡ length (file_of (files_of files) f) }
 {
-    if !is_lent(files, f) {
-        return 0;
-    }
-    let k = f as usize;
-    let bytes = files[k];
-    bytes.len() as u64
+    bytes_of(files, f).len() as u64
 }
 
 // The length of the longest file that is lent.

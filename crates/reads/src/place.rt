@@ -6,7 +6,7 @@ ghost use Rattle.reads.specs.Files.{files_of};
 ghost use Rattle.reads.specs.Place.{lent_image, le, be, part, readable_at, readable, le_at, be_at, word, word_in, le_in};
 
 use crate::answer::{Missing, Reason, Word};
-use crate::files::{file_len, is_lent};
+use crate::files::{bytes_of, file_len};
 use crate::segment::vm_to_file_offset_in;
 
 // A place in the image: a file, and the offset of a byte in it.
@@ -207,17 +207,12 @@ pub fn u64_from(bytes: &[u8], offset: u64, i: u64) -> u64
 }
 
 // The number of N bytes at i bytes from a place; 0 where they do not lie in its file.
+#[tactic(auto, unfolding(crate::specs::Place::word_in))]
 pub(crate) fn le_in<const N: usize>(files: &[&[u8]], p: Place, i: u64) -> u64
-    requires some { 0 < N }
-    requires fits { N ≤ 8 }
+    requires { N ≤ 8 }
     ensures { (result ≡ word_in (files_of files) N p i) × (result < 256 ^ N) }
 {
-    if !is_lent(files, p.file) {
-        return 0;
-    }
-    let f = p.file as usize;
-    let bytes = files[f];
-    le_from::<N>(bytes, p.offset, i)
+    le_from::<N>(bytes_of(files, p.file), p.offset, i)
 }
 
 // The number of four bytes.

@@ -13,7 +13,7 @@ ghost use Rattle.reads.specs.declared.text.Reading.TheVariants.{Old};
 ghost use Rattle.reads.specs.Text.{ended, scan_of, good_text, text_of_scan, text_from, read_from, text_at, read_at, text_in, read_in, fixed_length, length_plus_one};
 
 use crate::answer::{Missing, Reason, Word, nonzero};
-use crate::files::is_lent;
+use crate::files::bytes_of;
 use crate::place::{Place, Placed};
 use crate::segment::vm_to_file_offset_in;
 
@@ -314,12 +314,7 @@ fn read_cstr_in(bytes: &[u8], reading: Reading, p: Place) -> CstrRead
 pub fn read_cstr_at(files: &[&[u8]], reading: Reading, p: Place) -> CstrRead
     ensures { (text_outcome result.text ≡ text_at reading (files_of files) p) × (result.read ≡ read_at (files_of files) p) }
 {
-    if !is_lent(files, p.file) {
-        return read_cstr_in(b"", reading, p);
-    }
-    let f = p.file as usize;
-    let bytes = files[f];
-    read_cstr_in(bytes, reading, p)
+    read_cstr_in(bytes_of(files, p.file), reading, p)
 }
 
 // The text at an address, and how many bytes were read: absent at 0 and where nothing is mapped, and then none.
