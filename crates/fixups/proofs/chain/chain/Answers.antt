@@ -3,15 +3,6 @@ use Rattle.fixups.specs.Tables.{state}
 use Rattle.fixups.proofs.Links as laws
 use Rattle.fixups.proofs.chain.chain.Goals as goal
 
-pub loop-o-init : goal.loop-o-init
-loop-o-init c = (refl, refl, refl)
-
-pub overflow_add-page : goal.overflow_add-page
-overflow_add-page c = omega arith
-
-pub visit_slot-requires : goal.visit_slot-requires
-visit_slot-requires c = omega arith
-
 pub returns-then-step-eq0 : goal.returns-then-step-eq0
 returns-then-step-eq0 c =
     let a = c.args in let l = c.loop-o in
@@ -26,9 +17,6 @@ overflow_add-o c =
       laws.small a.file.now a.body.now a.f a.s a.page l.o (state l.rebased l.bound l.rebases l.binds) (omega arith)
           c.visit_slot.result c.visit_slot.new.rebases c.visit_slot.new.binds c.visit_slot.ensures _ _ _ c.in-Slot.is,
     )
-
-pub loop-o-smaller : goal.loop-o-smaller
-loop-o-smaller c = omega arith
 
 pub loop-o-preserved : goal.loop-o-preserved
 loop-o-preserved c =

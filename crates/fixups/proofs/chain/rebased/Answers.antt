@@ -2,9 +2,6 @@ use Rattle.std.proofs.Common.{◌∙◌, arith}
 use Rattle.fixups.proofs.Targets.{target_6, target_0}
 use Rattle.fixups.proofs.chain.rebased.Goals as goal
 
-pub overflow_add-own : goal.overflow_add-own
-overflow_add-own c = omega arith
-
 pub returns-then-format-eq-DYLD_CHAINED_PTR_64_OFFSET : goal.returns-then-format-eq-DYLD_CHAINED_PTR_64_OFFSET
 returns-then-format-eq-DYLD_CHAINED_PTR_64_OFFSET c = target_6 _ _ _ c.if-format-eq-DYLD_CHAINED_PTR_64_OFFSET.true
 

@@ -10,9 +10,6 @@ returns-then-body-imports c =
     let a = c.args in
     import_out a.body.now a.f a.ordinal c.from-imports.result (4 * c.from-i.result) (omega arith) (omega arith) (omega arith) (omega arith)
 
-pub text_at-requires : goal.text_at-requires
-text_at-requires c = omega arith
-
 pub returns : goal.returns
 returns c =
     let a = c.args in

@@ -22,12 +22,6 @@ loop-i-init c =
       refl,
     )
 
-pub overflow_add-first-in-loop-i : goal.overflow_add-first-in-loop-i
-overflow_add-first-in-loop-i c = omega arith
-
-pub overflow_add-first-in-loop-i-2 : goal.overflow_add-first-in-loop-i-2
-overflow_add-first-in-loop-i-2 c = omega arith
-
 pub returns-then-body-first : goal.returns-then-body-first
 returns-then-body-first c =
     let a = c.args in let l = c.loop-i in

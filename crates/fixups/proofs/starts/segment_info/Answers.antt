@@ -10,9 +10,6 @@ returns-then-offset-eq0 c = let a = c.args in laws.info_none a.offset a.found.he
 pub returns-then-not-found : goal.returns-then-not-found
 returns-then-not-found c = let a = c.args in laws.info_absent a.offset a.found.here _ (state a.r a.b a.rebases.now a.binds.now) c.if-offset-eq0.false (not-true _ c.if-not-found.true)
 
-pub segment_starts-requires : goal.segment_starts-requires
-segment_starts-requires c = omega arith
-
 pub returns : goal.returns
 returns c =
     let a = c.args in

@@ -10,9 +10,6 @@ use Rattle.pointers.specs.Tables.{section_words}
 use Rattle.macho.specs.Sections.{sections_of, section_names, section_rows, section_table_of}
 use Rattle.macho.proofs.section.write_sections.Goals as goal
 
-pub loop-k-init : goal.loop-k-init
-loop-k-init c = refl
-
 pub loop-k-preserved : goal.loop-k-preserved
 loop-k-preserved c =
     let a = c.args in let k = c.loop-k.k in let headers = sections_of a.cmds.now (segments_of a.cmds.now a.count) in

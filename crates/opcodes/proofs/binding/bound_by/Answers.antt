@@ -28,9 +28,6 @@ returns-then-end-s c =
     let a = c.args in
     laws.bound_past_file a.end a.s (not-false _ c.if-not-s.false) (not-false _ c.if-not-s-2.false) (omega arith)
 
-pub overflow_add-s : goal.overflow_add-s
-overflow_add-s c = omega arith
-
 pub returns-then-end-s-2 : goal.returns-then-end-s-2
 returns-then-end-s-2 c =
     let a = c.args in

@@ -2,9 +2,6 @@ use Rattle.std.proofs.Common.{◌-◌, ◌%◌, sym, refl, ◌∙◌, arith}
 use Rattle.opcodes.proofs.Decoding as laws
 use Rattle.opcodes.proofs.opcode.decode.Goals as goal
 
-pub overflow_sub-op : goal.overflow_sub-op
-overflow_sub-op c = omega arith
-
 pub returns-then-op-eq-BIND_OPCODE_SET_SYMBOL_TRAILING_FLAGS_IMM : goal.returns-then-op-eq-BIND_OPCODE_SET_SYMBOL_TRAILING_FLAGS_IMM
 returns-then-op-eq-BIND_OPCODE_SET_SYMBOL_TRAILING_FLAGS_IMM c =
     let a = c.args in

@@ -37,12 +37,6 @@ returns-then-op-eq-BIND_OPCODE_DO_BIND c =
     let a = c.args in
     laws.plain_bind a.parts a.rest.now a.op a.imm c.if-op-eq-BIND_OPCODE_DO_BIND.true
 
-pub overflow_mul-stride : goal.overflow_mul-stride
-overflow_mul-stride c = omega arith
-
-pub overflow_add-stride : goal.overflow_add-stride
-overflow_add-stride c = omega arith
-
 pub returns-then-op-eq-BIND_OPCODE_DO_BIND_ADD_ADDR_IMM_SCALED : goal.returns-then-op-eq-BIND_OPCODE_DO_BIND_ADD_ADDR_IMM_SCALED
 returns-then-op-eq-BIND_OPCODE_DO_BIND_ADD_ADDR_IMM_SCALED c =
     let a = c.args in

@@ -3,22 +3,10 @@ use Rattle.opcodes.proofs.Decoding as laws
 use Rattle.opcodes.proofs.Sizes.{uleb_in}
 use Rattle.opcodes.proofs.opcode.skipping.Goals as goal
 
-pub slice_bounds-read_uleb128-count : goal.slice_bounds-read_uleb128-count
-slice_bounds-read_uleb128-count c = omega arith
-
-pub slice_bounds-read_uleb128-start : goal.slice_bounds-read_uleb128-start
-slice_bounds-read_uleb128-start c = omega arith
-
-pub slice_bounds-read_uleb128-end : goal.slice_bounds-read_uleb128-end
-slice_bounds-read_uleb128-end c = omega arith
-
 pub returns-then-u-ge18446744073709551608 : goal.returns-then-u-ge18446744073709551608
 returns-then-u-ge18446744073709551608 c =
     let a = c.args in
     laws.skip_over a.rest.now a.count a.n _ (laws.uleb_there (drop a.n a.rest.now) c.read_uleb128.result (rw (take_all (length a.rest.now - a.n) (drop a.n a.rest.now) (omega (arith, length-drop a.n a.rest.now))) at c.read_uleb128.ensures) _ c.in-Read.is) (omega arith)
-
-pub overflow_add-result : goal.overflow_add-result
-overflow_add-result c = omega arith
 
 pub overflow_add-result-in-Read : goal.overflow_add-result-in-Read
 overflow_add-result-in-Read c =

@@ -6,9 +6,6 @@ use Rattle.opcodes.specs.Streams.{stream_at, joined, streams_at}
 use Rattle.opcodes.proofs.Walks as laws
 use Rattle.opcodes.proofs.stream.streams_at.Goals as goal
 
-pub stream_at-requires : goal.stream_at-requires
-stream_at-requires c = omega arith
-
 pub returns-in-Count : goal.returns-in-Count
 unfolding streams_at
 returns-in-Count c =

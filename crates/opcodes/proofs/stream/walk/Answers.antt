@@ -12,24 +12,6 @@ loop-i-init c =
     let a = c.args in
     (ap₂ (λ (k : ℕ) (s : State). told (walk a.end a.cmds.now (segments_of a.cmds.now a.count) a.parts k a.body.now 0 s) (part a.n a.binds.now)) (omega arith) (sym c.unset-s.ensures), refl)
 
-pub overflow_add-place : goal.overflow_add-place
-overflow_add-place c = omega arith
-
-pub overflow_add-place-in-loop-i : goal.overflow_add-place-in-loop-i
-overflow_add-place-in-loop-i c = omega arith
-
-pub overflow_add-i : goal.overflow_add-i
-overflow_add-i c = omega arith
-
-pub slice_bounds-step-count : goal.slice_bounds-step-count
-slice_bounds-step-count c = omega arith
-
-pub slice_bounds-step-start : goal.slice_bounds-step-start
-slice_bounds-step-start c = omega arith
-
-pub slice_bounds-step-end : goal.slice_bounds-step-end
-slice_bounds-step-end c = omega arith
-
 -- `operands-fit`: the operands of an opcode lie in the stream.
 pub overflow_add-i-in-On : goal.overflow_add-i-in-On
 overflow_add-i-in-On c =

@@ -6,12 +6,6 @@ use Rattle.opcodes.specs.Streams.{stream_at}
 use Rattle.opcodes.proofs.Walks as laws
 use Rattle.opcodes.proofs.stream.weak_and_lazy.Goals as goal
 
-pub stream_at-requires : goal.stream_at-requires
-stream_at-requires c = omega arith
-
-pub stream_at-requires-in-Count : goal.stream_at-requires-in-Count
-stream_at-requires-in-Count c = omega arith
-
 pub returns-in-Count : goal.returns-in-Count
 returns-in-Count c =
     let a = c.args in

@@ -1,5 +1,0 @@
-use Rattle.std.proofs.Common.{refl}
-use Rattle.opcodes.proofs.stream.with_symbol.Goals as goal
-
-pub returns : goal.returns
-returns c = refl
