@@ -2,12 +2,6 @@ use native.Mathlib.Omega.{arith}
 use Rattle.filetables.specs.Kind.{carriers}
 use Rattle.filetables.proofs.kind.carriers.Goals as goal
 
-pub overflow_add-result : goal.overflow_add-result
-overflow_add-result c = omega arith
-
-pub overflow_add-result-2 : goal.overflow_add-result-2
-overflow_add-result-2 c = omega arith
-
 pub returns : goal.returns
 unfolding carriers
 returns c = rw (c.count_kind.ensures.0, c.count_kind-2.ensures.0, c.count_kind-3.ensures.0)

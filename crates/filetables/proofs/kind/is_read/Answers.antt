@@ -14,9 +14,6 @@ pub returns-then-field32-ge-MH_DYLIB_IN_CACHE : goal.returns-then-field32-ge-MH_
 unfolding is_read
 returns-then-field32-ge-MH_DYLIB_IN_CACHE c = rw (sym (c.type_read.ensures ∙ ap type_read c.field32.ensures.0) ∙ not-false _ (ap not c.if-not-type_read.false), le-ltb (flags c.args.file.now) (2 ^ 31) (omega arith))
 
-pub commands_read-requires : goal.commands_read-requires
-commands_read-requires c = omega arith
-
 pub returns : goal.returns
 unfolding is_read
 returns c = rw (sym (c.type_read.ensures ∙ ap type_read c.field32.ensures.0) ∙ not-false _ (ap not c.if-not-type_read.false), lt-ltb (flags c.args.file.now) (2 ^ 31) (omega arith), c.commands_read.ensures, c.command_bytes.ensures, c.command_count.ensures.0)

@@ -2,12 +2,6 @@ use native.Mathlib.Omega.{arith}
 use Rattle.filetables.specs.Kind.{stream_read}
 use Rattle.filetables.proofs.kind.stream_read.Goals as goal
 
-pub overflow_add-field : goal.overflow_add-field
-overflow_add-field c = omega arith
-
-pub overflow_add-result : goal.overflow_add-result
-overflow_add-result c = omega arith
-
 pub returns : goal.returns
 unfolding stream_read
 returns c = rw (c.field32.ensures.0, c.field32-2.ensures.0)

@@ -7,9 +7,6 @@ use Rattle.fixups.proofs.build.build_tables.Goals as goal
 pub build_from-requires : goal.build_from-requires
 build_from-requires c = sym c.ask_commands.ensures ∙ ap asked_outcome c.in-Yes.is
 
-pub returns-in-Yes : goal.returns-in-Yes
-returns-in-Yes c = c.build_from.ensures
-
 pub returns-in-Refused : goal.returns-in-Refused
 returns-in-Refused c =
     let a = c.args in

@@ -6,9 +6,6 @@ use Rattle.macho.proofs.open.open_file.Goals as goal
 pub fill_file-requires : goal.fill_file-requires
 fill_file-requires c = sym c.ask_file.ensures ∙ ap asked_outcome c.in-Yes.is
 
-pub returns-in-Yes : goal.returns-in-Yes
-returns-in-Yes c = c.fill_file.ensures
-
 pub returns-in-Refused : goal.returns-in-Refused
 returns-in-Refused c =
     let a = c.args in

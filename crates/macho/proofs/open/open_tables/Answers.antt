@@ -9,12 +9,6 @@ use Rattle.macho.specs.Segments.{segment_table_of}
 use Rattle.macho.specs.Sections.{section_table_of}
 use Rattle.macho.proofs.open.open_tables.Goals as goal
 
-pub write_segments-requires : goal.write_segments-requires
-write_segments-requires c = omega (arith, c.requires, length-replicate {A = ℕ} 320 0)
-
-pub open_part-requires : goal.open_part-requires
-open_part-requires c = omega (arith, c.requires, c.segment_count.ensures, c.write_segments.auto.table, length-replicate {A = ℕ} 320 0)
-
 pub returns : goal.returns
 returns c =
     let a = c.args in

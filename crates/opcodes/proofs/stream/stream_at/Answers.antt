@@ -5,9 +5,6 @@ use Rattle.macho.specs.Commands.{segments_of}
 use Rattle.opcodes.proofs.Walks as laws
 use Rattle.opcodes.proofs.stream.stream_at.Goals as goal
 
-pub walk-requires : goal.walk-requires
-walk-requires c = omega (arith, c.field32-at.ensures.1, c.field32-size.ensures.1, laws.stream_short c.args.file.now c.field32-at.result c.field32-size.result c.range_of-body.result.now c.range_of-body.ensures)
-
 pub returns : goal.returns
 returns c =
     let a = c.args in

@@ -3,23 +3,11 @@ use native.Mathlib.Omega.{arith}
 use mathlib.Core.Path.{◌∙◌}
 use Rattle.universal.proofs.fat.arch_at.Goals as goal
 
-pub overflow_mul-i : goal.overflow_mul-i
-overflow_mul-i c = omega (arith, laws.room_wide c.args.file.now c.args.wide c.args.i c.if-wide.true c.requires)
-
-pub overflow_add-i : goal.overflow_add-i
-overflow_add-i c = omega (arith, laws.room_wide c.args.file.now c.args.wide c.args.i c.if-wide.true c.requires)
-
 pub fat_arch_64-requires : goal.fat_arch_64-requires
 fat_arch_64-requires c = laws.room_wide c.args.file.now c.args.wide c.args.i c.if-wide.true c.requires
 
 pub returns-then-wide : goal.returns-then-wide
 returns-then-wide c = c.fat_arch_64.ensures ∙ laws.arch_wide _ _ _ c.if-wide.true
-
-pub overflow_mul-i-2 : goal.overflow_mul-i-2
-overflow_mul-i-2 c = omega (arith, laws.room_narrow c.args.file.now c.args.wide c.args.i c.if-wide.false c.requires)
-
-pub overflow_add-i-2 : goal.overflow_add-i-2
-overflow_add-i-2 c = omega (arith, laws.room_narrow c.args.file.now c.args.wide c.args.i c.if-wide.false c.requires)
 
 pub fat_arch-requires : goal.fat_arch-requires
 fat_arch-requires c = laws.room_narrow c.args.file.now c.args.wide c.args.i c.if-wide.false c.requires
