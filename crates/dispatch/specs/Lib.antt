@@ -4,7 +4,6 @@ pub mod Appearances
 pub mod Dispatch
 pub mod SlotSources
 pub mod Position
-pub mod Parts
 pub mod Claims
 pub mod Table
 pub mod Written

@@ -1,18 +1,8 @@
-use Rattle.reads.specs.Files.{files_lent}
-use Rattle.reads.proofs.LentFiles.{file_lent, file_not_lent, lent_below, said_lent, said_not}
-use Rattle.dispatch.proofs.Bytes.{same_selector_by}
-use borrow.Author.Rules.{rules}
-use Rattle.std.proofs.Common.{ap, not}
+use Rattle.dispatch.specs.Dispatch.{same_selector}
+use Rattle.dispatch.proofs.Bytes.{bytes_same}
+use Rattle.std.proofs.Common.{◌∙◌}
 use Rattle.dispatch.proofs.selectors.same_selector.Goals as goal
 
-pub returns-then-not-is_lent : goal.returns-then-not-is_lent
-returns-then-not-is_lent c = let a = c.args in same_selector_by (files_lent a.files.now) _ a.s a.u (file_not_lent a.files.now a.s.file (said_not a.files.now a.s.file _ c.is_lent.ensures (ap not c.if-not-is_lent.true))) c.same_text.ensures
-
-pub offset_bounds-files-f : goal.offset_bounds-files-f
-offset_bounds-files-f c = let a = c.args in let h = lent_below a.files.now a.s.file (said_lent a.files.now a.s.file _ c.is_lent.ensures (ap not c.if-not-is_lent.false)) in search rules
-
-pub bounds-files-f : goal.bounds-files-f
-bounds-files-f c = let a = c.args in let h = lent_below a.files.now a.s.file (said_lent a.files.now a.s.file _ c.is_lent.ensures (ap not c.if-not-is_lent.false)) in search rules
-
 pub returns : goal.returns
-returns c = let a = c.args in same_selector_by (files_lent a.files.now) _ a.s a.u (file_lent a.files.now a.s.file _ (said_lent a.files.now a.s.file _ c.is_lent.ensures (ap not c.if-not-is_lent.false))) c.same_text-2.ensures
+unfolding same_selector
+returns c = rw (← c.selector_bytes.ensures, ← c.selector_bytes-2.ensures) (c.eq.ensures ∙ bytes_same _ _)
