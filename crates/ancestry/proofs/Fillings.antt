@@ -1,11 +1,12 @@
 -- The result buffer while records are written: what is left to write, written from here, is the whole written from the start.
-use Prim.Native.Nat.{ℕ, suc, ◌+◌, ◌*◌, ◌≤◌, ◌<◌}
+use Prim.Native.Nat.{ℕ, suc, ◌+◌, ◌-◌, ◌*◌, ◌≤◌, ◌<◌}
 use mathlib.Core.Path.{◌≡◌, refl, sym, ap, ◌∙◌}
-use mathlib.Core.List.{List, [], ◌∷◌, ◌++◌, flat_map}
+use mathlib.Core.List.{List, [], ◌∷◌, ◌++◌, append_assoc, flat_map}
 use native.Mathlib.Omega.{arith}
 use native.Mathlib.Numerals.{add-one}
 use lib.ListN.{length, get_or, drop, drop_of_length-le}
-use lib.Seq.{drop-cons, sets, length-sets, sets-eq}
+use borrow.Rule.Slice.PartMut.{put_mid}
+use lib.Seq.{drop-cons, drop-drop, sets, length-sets, sets-eq}
 use Rattle.reads.specs.Outcome.{Outcome, value, absent, number, and_then}
 use Rattle.reads.specs.Answer.{missed}
 use Rattle.reads.specs.declared.answer.Missing.{Missing}
@@ -39,6 +40,14 @@ sets_all out xs h =
 pub length_put : (out : List ℕ) (at : ℕ) (x : Ancestry) → length (put out at x) ≡ length out
 unfolding put
 length_put out at x = length-sets out at (words_of x)
+
+-- Words copied into the buffer, as those of a record are.
+copied : (out : List ℕ) (at n : ℕ) (ws : List ℕ) → n ≡ length ws → at + length ws ≤ length out → put_mid at n out ws ≡ sets out at ws
+copied out at n ws e h = rw (e, drop-drop, ← append_assoc) (sym (sets-eq ws out at h))
+
+pub put_words : (out : List ℕ) (at : ℕ) (a : Ancestry) → at + 3 ≤ length out → {ws : List ℕ} → ws ≡ words_of a → put_mid at (at + 3 - at) out ws ≡ put out at a
+unfolding put
+put_words out at a h e = rw e (copied out at (at + 3 - at) (words_of a) (omega arith) h)
 
 -- From the start to class i, `at` words of the buffer are written.
 pub record Filling (one : ℕ → Outcome Ancestry) (addresses out₀ : List ℕ) (i at : ℕ) (out : List ℕ) : Type 0 where

@@ -111,16 +111,14 @@ fn count_all(
         count_outcome result ≡ tally (told_of t together) 0 (before classes) }
 {
     let mut count = 0;
-    let mut i = 0;
-    while i < classes.len() {
+    for va in classes {
         let one = told_at(
-            files, segments, sections, info, rebases, binds, index, setting, together, classes[i],
+            files, segments, sections, info, rebases, binds, index, setting, together, *va,
         );
         count = match counted(one, count) {
             AncestriesAnswer::Classes(n) => n,
             AncestriesAnswer::Refused(k) => return AncestriesAnswer::Refused(k),
         };
-        i += 1;
     }
     AncestriesAnswer::Classes(count)
 }
@@ -130,9 +128,7 @@ fn put_record(res: &mut [u64], at: usize, a: Ancestry)
     requires { at + 3 ≤ length res.old }
     ensures { res.new ≡ put res.old at a }
 {
-    res[at] = a.count;
-    res[at + 1] = a.last;
-    res[at + 2] = a.looping;
+    res[at..at + 3].copy_from_slice(&[a.count, a.last, a.looping]);
 }
 
 // What the classes are told, in their order.
@@ -155,19 +151,16 @@ fn write_all(
         res.new ≡ (written_by (through (told_of t together) (before classes)) res.old).result }
 {
     let mut at = 0;
-    let mut i = 0;
-    while i < classes.len() {
+    for va in classes {
         let one = told_at(
-            files, segments, sections, info, rebases, binds, index, setting, together, classes[i],
+            files, segments, sections, info, rebases, binds, index, setting, together, *va,
         );
-        i += 1;
         match one {
             AncestryAnswer::Found(a) => {
                 put_record(res, at, a);
                 at += 3;
-                continue;
             }
-            AncestryAnswer::Missing(_m) => continue,
+            AncestryAnswer::Missing(_m) => {}
         }
     }
 }

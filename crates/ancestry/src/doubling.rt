@@ -88,10 +88,8 @@ fn jump_all(limit: u64, listed: usize, out: &mut [u64])
     requires { (listed * 3 ≤ length out.old) × (limit ≤ 2 ^ 40) }
     ensures { out.new ≡ jumped_to listed limit out.old listed }
 {
-    let mut i = 0;
-    while i < listed {
+    for i in 0..listed {
         jump(limit, listed, out, i);
-        i += 1;
     }
 }
 
@@ -123,9 +121,7 @@ pub(crate) fn finish_all(listed: usize, out: &mut [u64])
     requires { listed * 3 ≤ length out.old }
     ensures { out.new ≡ finished_to out.old listed }
 {
-    let mut i = 0;
-    while i < listed {
+    for i in 0..listed {
         finish(out, i);
-        i += 1;
     }
 }

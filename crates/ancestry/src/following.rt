@@ -43,12 +43,10 @@ fn scan(res: &[u64], listed: usize, address: u64) -> usize
     requires { listed * 3 ≤ length res.now }
     ensures { result < listed → node_at (before res) result ≡ address }
 {
-    let mut i = 0;
-    while i < listed {
+    for i in 0..listed {
         if res[i * 3 + 2] == address {
             return i;
         }
-        i += 1;
     }
     listed
 }
@@ -57,12 +55,10 @@ fn scan(res: &[u64], listed: usize, address: u64) -> usize
 fn ascending(res: &[u64], listed: usize) -> bool
     requires { listed * 3 ≤ length res.now }
 {
-    let mut i = 1;
-    while i < listed {
+    for i in 1..listed {
         if res[i * 3 + 2] < res[i * 3 - 1] {
             return false;
         }
-        i += 1;
     }
     true
 }
@@ -223,13 +219,11 @@ fn first_all(
     ensures { let t = under setting (lent files segments sections info rebases binds index) in
         Following (ground_of t res.old listed) 1 res.old res.new }
 {
-    let mut i = 0;
-    while i < listed {
+    for i in 0..listed {
         let s = first(
             files, segments, sections, info, rebases, binds, index, setting, res, listed, sorted, i,
         );
         put_state(res, i, s);
-        i += 1;
     }
 }
 

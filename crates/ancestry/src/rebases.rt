@@ -14,12 +14,10 @@ fn heads_fall(index: &[u32], count: usize) -> bool
     requires { chains ≤ length index.now }
     ensures { result ≡ heads_fall (before index) count }
 {
-    let mut c = 0;
-    while c < Address::CHAINS {
+    for c in 0..Address::CHAINS {
         if count < index[c] as usize {
             return false;
         }
-        c += 1;
     }
     true
 }
@@ -29,12 +27,10 @@ fn nexts_fall(index: &[u32], count: usize) -> bool
     requires { 2 * chains + count ≤ length index.now }
     ensures { result ≡ nexts_fall (before index) count }
 {
-    let mut k = 0;
-    while k < count {
+    for k in 0..count {
         if k < index[HEADS + k] as usize {
             return false;
         }
-        k += 1;
     }
     true
 }

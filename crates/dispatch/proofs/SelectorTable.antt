@@ -8,6 +8,7 @@ use native.Mathlib.Numerals.{add-one}
 use native.Mathlib.Omega.{arith}
 use lib.Dec.{ltb}
 use lib.ListN.{length, get_or, drop, take, set, length-set, length-append, drop_of_length-le}
+use borrow.Rule.Slice.PartMut.{put_mid}
 use lib.Seq.{drop-cons, drop-drop, sets, sets-eq, length-sets, take_at, drop-append-add}
 use borrow.Author.Tests.{lt-ltb, le-ltb, eq-eqb, ne_eqb}
 use Rattle.reads.specs.Outcome.{choose, text_of}
@@ -84,14 +85,14 @@ unfolding choose
 head_chosen b a more true = refl
 head_chosen b a more false = refl
 
-pub mark_four : (l : List ℕ) (k : ℕ) (b : Appearance)
-    → set (set (set (set l k b.selector.file) (k + 1) b.selector.offset) (k + 2) b.selector.len) (k + 3) b.source ≡ sets l k (marks (b ∷ []))
+-- Words copied into the buffer, as those of an entry are.
+copied : (l : List ℕ) (k n : ℕ) (ws : List ℕ) → n ≡ length ws → k + length ws ≤ length l → put_mid k n l ws ≡ sets l k ws
+copied l k n ws e h = rw (e, drop-drop, ← append_assoc) (sym (sets-eq ws l k h))
+
+pub mark_entry : (l : List ℕ) (k : ℕ) (b : Appearance) → k + 4 ≤ length l → {ws : List ℕ} → ws ≡ b.selector.file ∷ b.selector.offset ∷ b.selector.len ∷ b.source ∷ []
+    → put_mid k (k + 4 - k) l ws ≡ sets l k (marks (b ∷ []))
 unfolding marks
-mark_four l k b =
-    let p : k + 1 ≡ suc k = omega arith in
-    let q : k + 2 ≡ suc (suc k) = omega arith in
-    let r : k + 3 ≡ suc (suc (suc k)) = omega arith in
-    rw (p, q, r)
+mark_entry l k b h e = rw e (copied l k (k + 4 - k) (marks (b ∷ [])) (omega arith) h)
 
 -- The entry with a selector.
 module _ (files : List (List ℕ)) where

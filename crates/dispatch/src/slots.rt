@@ -101,15 +101,13 @@ pub(crate) fn held_before(
     ensures { let t = under setting (lent files segments sections info rebases binds index) in
         result ≡ held_before t k va }
 {
-    let mut i = 0;
-    while i < k {
+    for i in 0..k {
         if held_at(
             files, segments, sections, info, rebases, binds, index, setting, i,
         ) == va
         {
             return true;
         }
-        i += 1;
     }
     false
 }

@@ -17,8 +17,7 @@ fn find(files: &[&[u8]], res: &[u64], count: usize, s: Text) -> usize
     requires { 4 * count ≤ length res.now }
     ensures { FoundIn (files_of files) (before res) count s result }
 {
-    let mut j = 0;
-    while j < count {
+    for j in 0..count {
         let at = 4 * j;
         let u = Text {
             file: res[at],
@@ -28,7 +27,6 @@ fn find(files: &[&[u8]], res: &[u64], count: usize, s: Text) -> usize
         if same_selector(files, u, s) {
             return j;
         }
-        j += 1;
     }
     count
 }
@@ -39,10 +37,7 @@ fn mark(res: &mut [u64], at: usize, b: Appearance)
     ensures { res.new ≡ sets res.old at (marks (b ∷ [])) }
 {
     let selector = b.selector;
-    res[at] = selector.file;
-    res[at + 1] = selector.offset;
-    res[at + 2] = selector.len;
-    res[at + 3] = b.source;
+    res[at..at + 4].copy_from_slice(&[selector.file, selector.offset, selector.len, b.source]);
 }
 
 // Notes a row: it takes the place of one of an earlier source, or comes last if there is room.
@@ -118,13 +113,11 @@ pub(crate) fn name_records(
     ensures { let t = under setting (lent files segments sections info rebases binds index) in
         Named own t res.old count res.new }
 {
-    let mut j = 0;
-    while j < count {
+    for j in 0..count {
         let at = 4 * j + 3;
         let n = res[at];
         res[at] = origin_of(
             files, segments, sections, info, rebases, binds, index, setting, own, n,
         );
-        j += 1;
     }
 }

@@ -11,8 +11,8 @@ use Rattle.ancestry.specs.declared.class_chain.Ancestry.{Ancestry}
 use Rattle.ancestry.proofs.Lists.{count_on, count_refused, count_few, count_end}
 use Rattle.ancestry.proofs.class_list.count_all.Goals as goal
 
-pub loop-i-init : goal.loop-i-init
-loop-i-init c = (omega arith, omega arith, refl)
+pub loop-va-init : goal.loop-va-init
+loop-va-init c = (omega arith, omega arith, refl)
 
 pub told_at-one-requires : goal.told_at-one-requires
 told_at-one-requires c = c.requires
@@ -24,24 +24,24 @@ pub returns-in-Refused : goal.returns-in-Refused
 returns-in-Refused c =
     let tables : Tables = lent_now c.args.files.now c.args.segments.now c.args.sections.now c.args.info.now c.args.rebases.now c.args.binds.now c.args.index.now c.args.setting in
     let a = c.args in
-    let at = c.loop-i in
+    let at = c.loop-va in
     let t = told_of tables a.together in
     let e = c.counted.ensures ∙ ap (λ (o : Outcome Ancestry). and_then (present o) (λ xs. value (at.count + length xs))) c.told_at-one.ensures in
-    count_refused t a.classes.now at.count at.i c.loop-i-test.true at.invariant.2 _ e c.in-Refused.k (ap count_outcome c.in-Refused.is)
+    count_refused t a.classes.now at.count at.va-index c.loop-va-test.true at.invariant.2 _ e c.in-Refused.k (ap count_outcome c.in-Refused.is)
 
-pub loop-i-preserved : goal.loop-i-preserved
-loop-i-preserved c =
+pub loop-va-preserved : goal.loop-va-preserved
+loop-va-preserved c =
     let tables : Tables = lent_now c.args.files.now c.args.segments.now c.args.sections.now c.args.info.now c.args.rebases.now c.args.binds.now c.args.index.now c.args.setting in
     let a = c.args in
-    let at = c.loop-i in
+    let at = c.loop-va in
     let t = told_of tables a.together in
     let e = c.counted.ensures ∙ ap (λ (o : Outcome Ancestry). and_then (present o) (λ xs. value (at.count + length xs))) c.told_at-one.ensures in
-    let few = count_few t a.classes.now at.count at.i c.loop-i-test.true at.invariant.2 _ e c.in-Classes.n (ap count_outcome c.in-Classes.is) in
-    (omega arith, omega arith, count_on t a.classes.now at.count at.i c.loop-i-test.true at.invariant.2 _ e c.in-Classes.n (ap count_outcome c.in-Classes.is))
+    let few = count_few t a.classes.now at.count at.va-index c.loop-va-test.true at.invariant.2 _ e c.in-Classes.n (ap count_outcome c.in-Classes.is) in
+    (omega arith, omega arith, count_on t a.classes.now at.count at.va-index c.loop-va-test.true at.invariant.2 _ e c.in-Classes.n (ap count_outcome c.in-Classes.is))
 
 pub returns : goal.returns
 returns c =
     let tables : Tables = lent_now c.args.files.now c.args.segments.now c.args.sections.now c.args.info.now c.args.rebases.now c.args.binds.now c.args.index.now c.args.setting in
     let a = c.args in
-    let at = c.loop-i in
-    count_end (told_of tables a.together) a.classes.now at.count at.i (omega arith) at.invariant.2
+    let at = c.loop-va in
+    count_end (told_of tables a.together) a.classes.now at.count at.va-index (omega arith) at.invariant.2

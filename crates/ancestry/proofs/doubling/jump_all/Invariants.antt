@@ -6,6 +6,3 @@ use Rattle.ancestry.proofs.doubling.jump_all.Given as goal
 
 abbrev pub invariant-loop-i : goal.invariant-loop-i
 invariant-loop-i l = (l.i ≤ l.listed) × (l.out ≡ jumped_to l.listed l.limit l.initial.out l.i) × (length l.out ≡ length l.initial.out)
-
-abbrev pub decreases-loop-i : goal.decreases-loop-i
-decreases-loop-i l = l.listed - l.i

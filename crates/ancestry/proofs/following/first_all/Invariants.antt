@@ -5,6 +5,3 @@ use Rattle.ancestry.proofs.following.first_all.Given as goal
 
 abbrev pub invariant-loop-i : goal.invariant-loop-i
 invariant-loop-i l = (l.i ≤ l.listed) × Starting (lent_now l.files l.segments l.sections l.info l.rebases l.binds l.index l.setting) l.listed l.initial.res l.i l.res
-
-abbrev pub decreases-loop-i : goal.decreases-loop-i
-decreases-loop-i l = l.listed - l.i

@@ -3,6 +3,3 @@ use Rattle.ancestry.proofs.following.scan.Given as goal
 
 abbrev pub invariant-loop-i : goal.invariant-loop-i
 invariant-loop-i l = l.i ≤ l.listed
-
-abbrev pub decreases-loop-i : goal.decreases-loop-i
-decreases-loop-i l = l.listed - l.i

@@ -9,6 +9,3 @@ use Rattle.ancestry.proofs.rebases.heads_fall.Given as goal
 
 abbrev pub invariant-loop-c : goal.invariant-loop-c
 invariant-loop-c l = (l.c ≤ chains) × (every (λ k. leb (get_or l.index k 0) l.count) l.c ≡ true)
-
-abbrev pub decreases-loop-c : goal.decreases-loop-c
-decreases-loop-c l = chains - l.c

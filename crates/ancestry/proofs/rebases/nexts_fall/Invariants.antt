@@ -9,6 +9,3 @@ use Rattle.ancestry.proofs.rebases.nexts_fall.Given as goal
 
 abbrev pub invariant-loop-k : goal.invariant-loop-k
 invariant-loop-k l = (l.k ≤ l.count) × (every (λ j. leb (get_or l.index (2 * chains + j) 0) j) l.k ≡ true)
-
-abbrev pub decreases-loop-k : goal.decreases-loop-k
-decreases-loop-k l = l.count - l.k

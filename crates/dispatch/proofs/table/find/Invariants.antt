@@ -5,6 +5,3 @@ use Rattle.dispatch.proofs.table.find.Given as goal
 
 abbrev pub invariant-loop-j : goal.invariant-loop-j
 invariant-loop-j l = (l.j ≤ l.count) × Seek (files_lent l.files) l.res l.count l.s l.j
-
-abbrev pub decreases-loop-j : goal.decreases-loop-j
-decreases-loop-j l = l.count - l.j
