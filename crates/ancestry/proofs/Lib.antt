@@ -9,6 +9,7 @@ pub mod Fillings
 pub mod Answers
 pub mod OpenedClasses
 pub mod Rows
+pub mod RowWords
 pub mod Rounds
 pub mod Falling
 pub mod Firsts

@@ -140,10 +140,9 @@ fn climb_from(
 {
     let most = limit_of(files, segments);
     let mut at = class;
-    let mut count = 0;
     let mut held = class.address;
     let mut hold = 1;
-    while count < most {
+    for count in 0..most {
         let up = match superclass_at(
             files, segments, sections, info, rebases, binds, index, setting, at,
         ) {
@@ -151,7 +150,6 @@ fn climb_from(
             ClassAnswer::Missing(m) => return stopped(m, count, at.address),
         };
         at = up;
-        count += 1;
         if up.address == held {
             return AncestryAnswer::Found(Ancestry {
                 count: 0,
@@ -159,10 +157,9 @@ fn climb_from(
                 looping: 1,
             });
         }
-        if count == hold {
+        if count + 1 == hold {
             held = up.address;
-            hold = count * 2;
-            continue;
+            hold *= 2;
         }
     }
     AncestryAnswer::Found(Ancestry {

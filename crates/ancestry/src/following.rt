@@ -1,5 +1,6 @@
 // The chains of all classes followed together, in the result buffer.
-ghost use Rattle.std.specs.Prelude.{◌≡◌, true, false, ◌+◌, ◌*◌, ◌<◌, ◌≤◌, length, drop};
+ghost use Rattle.std.specs.Prelude.{◌≡◌, true, false, ◌+◌, ◌*◌, ◌<◌, ◌≤◌, length, drop, IfSome};
+ghost use Rattle.std.specs.Simd.{first_chunks};
 ghost use mathlib.Core.List.{◌++◌, flat_map};
 ghost use Rattle.reads.specs.Outcome.{value};
 ghost use Rattle.reads.specs.Reference.{before};
@@ -16,61 +17,32 @@ use crate::doubling::{State, finish_all, follow, put_state};
 use pointers::setting::Setting;
 use records::class::{ClassAnswer, ObjcClass, class_at};
 
-// A row with an address, by bisection, or `listed`; where the addresses do not ascend a row may be missed.
-fn bisect(res: &[u64], listed: usize, address: u64) -> usize
+// The rows, three words each.
+fn rows_of(res: &[u64], listed: usize) -> &[[u64; 3]]
     requires { listed * 3 ≤ length res.now }
-    ensures { result < listed → node_at (before res) result ≡ address }
+    ensures { result.now ≡ first_chunks 3 listed (before res) }
 {
-    let mut low = 0;
-    let mut high = listed;
-    while low < high {
-        let mid = low + (high - low) / 2;
-        let node = res[mid * 3 + 2];
-        if node == address {
-            return mid;
-        }
-        if node < address {
-            low = mid + 1;
-            continue;
-        }
-        high = mid;
-    }
-    listed
-}
-
-// The same, one by one.
-fn scan(res: &[u64], listed: usize, address: u64) -> usize
-    requires { listed * 3 ≤ length res.now }
-    ensures { result < listed → node_at (before res) result ≡ address }
-{
-    for i in 0..listed {
-        if res[i * 3 + 2] == address {
-            return i;
-        }
-    }
-    listed
+    let (rows, _) = res.as_chunks::<3>();
+    &rows[..listed]
 }
 
 // The addresses of the rows ascend; this decides only how rows are looked for.
 fn ascending(res: &[u64], listed: usize) -> bool
     requires { listed * 3 ≤ length res.now }
 {
-    for i in 1..listed {
-        if res[i * 3 + 2] < res[i * 3 - 1] {
-            return false;
-        }
-    }
-    true
+    rows_of(res, listed).is_sorted_by_key(|row| row[2])
 }
 
-fn row_of(res: &[u64], listed: usize, sorted: bool, address: u64) -> usize
+// A row with an address: by bisection, or one by one. Where the addresses do not ascend a bisection may miss it.
+fn row_of(res: &[u64], listed: usize, sorted: bool, address: u64) -> Option<usize>
     requires { listed * 3 ≤ length res.now }
-    ensures { result < listed → node_at (before res) result ≡ address }
+    ensures { IfSome result (λ row. (row < listed) × (node_at (before res) row ≡ address)) }
 {
+    let rows = rows_of(res, listed);
     if sorted {
-        return bisect(res, listed, address);
+        return rows.binary_search_by_key(&address, |row| row[2]).ok();
     }
-    scan(res, listed, address)
+    rows.iter().position(|row| row[2] == address)
 }
 
 // What a walk tells that finds no class above the one at `top`, `count` classes up.
@@ -114,10 +86,9 @@ fn first_from(
 {
     let most = limit_of(files, segments);
     let mut at = class;
-    let mut count = 0;
     let mut held = class.address;
     let mut hold = 1;
-    while count < most {
+    for count in 0..most {
         let up = match superclass_at(
             files, segments, sections, info, rebases, binds, index, setting, at,
         ) {
@@ -125,12 +96,10 @@ fn first_from(
             ClassAnswer::Missing(m) => return ended_state(count, at.address),
         };
         at = up;
-        count += 1;
-        let row = row_of(res, listed, sorted, up.address);
-        if row < listed {
-            if count < most {
+        if let Some(row) = row_of(res, listed, sorted, up.address) {
+            if count + 1 < most {
                 return State {
-                    count,
+                    count: count + 1,
                     place: row as u64,
                     mark: 2,
                 };
@@ -143,10 +112,9 @@ fn first_from(
                 mark: 1,
             };
         }
-        if count == hold {
+        if count + 1 == hold {
             held = up.address;
-            hold = count * 2;
-            continue;
+            hold *= 2;
         }
     }
     State {

@@ -1,68 +1,37 @@
-use Prim.Native.Nat.{◌+◌}
-use mathlib.Core.Path.{◌≡◌, sym, ap, ◌∙◌}
+use mathlib.Core.Path.{sym, ap, ◌∙◌}
 use native.Mathlib.Omega.{arith}
-use Rattle.reads.specs.Outcome.{value}
-use Rattle.reads.specs.Answer.{missed}
-use Rattle.pointers.specs.Tables.{Tables}
 use Rattle.records.specs.Class.{class_outcome}
-use Rattle.ancestry.specs.Ancestry.{super_at}
 use Rattle.ancestry.specs.Filling.{lent_now}
 use Rattle.ancestry.proofs.Climbs.{climbing_starts, climbing_up, climbing_held, climbing_back, climbing_far, climbing_stopped, limit_room, limit_small}
+use Rattle.ancestry.proofs.class_chain.climb_from.Goals.{then-count-hold, else-count-hold}
 use Rattle.ancestry.proofs.class_chain.climb_from.Goals as goal
 
 pub limit_of-most-requires : goal.limit_of-most-requires
-limit_of-most-requires c =
-    let tables : Tables = lent_now c.args.files.now c.args.segments.now c.args.sections.now c.args.info.now c.args.rebases.now c.args.binds.now c.args.index.now c.args.setting in
-    limit_room tables c.requires.0
+limit_of-most-requires c = let a = c.args in limit_room (lent_now a.files.now a.segments.now a.sections.now a.info.now a.rebases.now a.binds.now a.index.now a.setting) c.requires.0
 
 pub loop-count-init : goal.loop-count-init
-loop-count-init c =
-    let tables : Tables = lent_now c.args.files.now c.args.segments.now c.args.sections.now c.args.info.now c.args.rebases.now c.args.binds.now c.args.index.now c.args.setting in
-    let a = c.args in
-    let t = tables in
-    (omega arith, omega (arith, limit_small tables c.requires.0, c.limit_of-most.ensures), c.limit_of-most.ensures, climbing_starts t a.class c.requires.1)
+loop-count-init c = climbing_starts _ _ c.requires.1
 
 pub returns-in-Missing : goal.returns-in-Missing
 returns-in-Missing c =
-    let tables : Tables = lent_now c.args.files.now c.args.segments.now c.args.sections.now c.args.info.now c.args.rebases.now c.args.binds.now c.args.index.now c.args.setting in
-    let a = c.args in
-    let at = c.loop-count in
-    let t = tables in
-    let s : super_at t at.at ≡ missed c.in-Missing.m = sym c.superclass_at.ensures ∙ ap class_outcome c.in-Missing.is in
-    c.stopped.ensures ∙ climbing_stopped t a.class.address at.at at.count at.held at.invariant.3 c.in-Missing.m s (omega arith)
+    c.stopped.ensures
+    ∙ climbing_stopped _ _ _ _ _ c.loop-count.invariant _ (sym c.superclass_at.ensures ∙ ap class_outcome c.in-Missing.is) (omega (arith, c.limit_of-most.ensures))
 
 pub returns-then-up-held : goal.returns-then-up-held
 returns-then-up-held c =
-    let tables : Tables = lent_now c.args.files.now c.args.segments.now c.args.sections.now c.args.info.now c.args.rebases.now c.args.binds.now c.args.index.now c.args.setting in
-    let a = c.args in
-    let at = c.loop-count in
-    let t = tables in
-    let s : super_at t at.at ≡ value c.in-Class.up = sym c.superclass_at.ensures ∙ ap class_outcome c.in-Class.is in
-    climbing_back t a.class.address at.at at.count at.held at.invariant.3 c.in-Class.up s c.if-up-held.true
+    climbing_back _ _ _ _ _ c.loop-count.invariant _ (sym c.superclass_at.ensures ∙ ap class_outcome c.in-Class.is) c.if-up-held.true
 
-pub loop-count-preserved-then-count-hold : goal.loop-count-preserved-then-count-hold
-loop-count-preserved-then-count-hold c =
-    let tables : Tables = lent_now c.args.files.now c.args.segments.now c.args.sections.now c.args.info.now c.args.rebases.now c.args.binds.now c.args.index.now c.args.setting in
-    let a = c.args in
-    let at = c.loop-count in
-    let t = tables in
-    let s : super_at t at.at ≡ value c.in-Class.up = sym c.superclass_at.ensures ∙ ap class_outcome c.in-Class.is in
-    let w = climbing_up t a.class.address at.at at.count at.held at.invariant.3 c.in-Class.up s in
-    (omega arith, at.invariant.1, at.invariant.2, climbing_held t a.class.address c.in-Class.up (at.count + 1) at.held w)
+pub overflow_mul-hold : goal.overflow_mul-hold
+overflow_mul-hold c = let a = c.args in omega (arith, limit_small (lent_now a.files.now a.segments.now a.sections.now a.info.now a.rebases.now a.binds.now a.index.now a.setting) c.requires.0, c.limit_of-most.ensures)
 
 pub loop-count-preserved : goal.loop-count-preserved
 loop-count-preserved c =
-    let tables : Tables = lent_now c.args.files.now c.args.segments.now c.args.sections.now c.args.info.now c.args.rebases.now c.args.binds.now c.args.index.now c.args.setting in
-    let a = c.args in
-    let at = c.loop-count in
-    let t = tables in
-    let s : super_at t at.at ≡ value c.in-Class.up = sym c.superclass_at.ensures ∙ ap class_outcome c.in-Class.is in
-    (omega arith, at.invariant.1, at.invariant.2, climbing_up t a.class.address at.at at.count at.held at.invariant.3 c.in-Class.up s)
+    let up = climbing_up _ _ _ _ _ c.loop-count.invariant c.in-Class.up (sym c.superclass_at.ensures ∙ ap class_outcome c.in-Class.is) in
+    elim c.if-count-hold.branch [
+      then-count-hold w ↦ rw w.held-is (climbing_held _ _ _ _ _ up)
+      | else-count-hold w ↦ rw w.held-is up
+    ]
 
 pub returns : goal.returns
 returns c =
-    let tables : Tables = lent_now c.args.files.now c.args.segments.now c.args.sections.now c.args.info.now c.args.rebases.now c.args.binds.now c.args.index.now c.args.setting in
-    let a = c.args in
-    let at = c.loop-count in
-    let t = tables in
-    climbing_far t a.class.address at.at at.count at.held at.invariant.3 (omega arith) (omega arith)
+    climbing_far _ _ _ _ _ c.loop-count.invariant (omega (arith, c.limit_of-most.ensures)) (omega (arith, c.limit_of-most.ensures))

@@ -1,82 +1,45 @@
-use Prim.Native.Nat.{◌+◌}
-use mathlib.Core.Path.{◌≡◌, sym, ap, ◌∙◌}
+use mathlib.Core.Path.{sym, ap, ◌∙◌}
 use native.Mathlib.Omega.{arith}
-use Rattle.reads.specs.Outcome.{value}
-use Rattle.reads.specs.Answer.{missed}
-use Rattle.pointers.specs.Tables.{Tables}
 use Rattle.records.specs.Class.{class_outcome}
-use Rattle.ancestry.specs.Ancestry.{super_at}
 use Rattle.ancestry.specs.Filling.{lent_now}
-use Rattle.ancestry.specs.Doubling.{node_at}
 use Rattle.ancestry.proofs.Climbs.{climbing_up, climbing_held, limit_room, limit_small}
 use Rattle.ancestry.proofs.Firsts.{first_starts, first_far, first_ended, first_listed, first_back}
+use Rattle.ancestry.proofs.following.first_from.Goals.{then-count-hold, else-count-hold}
 use Rattle.ancestry.proofs.following.first_from.Goals as goal
 
 pub limit_of-most-requires : goal.limit_of-most-requires
-limit_of-most-requires c =
-    let tables : Tables = lent_now c.args.files.now c.args.segments.now c.args.sections.now c.args.info.now c.args.rebases.now c.args.binds.now c.args.index.now c.args.setting in
-    limit_room tables c.requires.yes
+limit_of-most-requires c = let a = c.args in limit_room (lent_now a.files.now a.segments.now a.sections.now a.info.now a.rebases.now a.binds.now a.index.now a.setting) c.requires.yes
 
 pub loop-count-init : goal.loop-count-init
-loop-count-init c =
-    let tables : Tables = lent_now c.args.files.now c.args.segments.now c.args.sections.now c.args.info.now c.args.rebases.now c.args.binds.now c.args.index.now c.args.setting in
-    let a = c.args in
-    let t = tables in
-    (omega arith, omega (arith, limit_small tables c.requires.yes, c.limit_of-most.ensures), c.limit_of-most.ensures, first_starts t a.res.now a.listed a.i a.class c.requires)
+loop-count-init c = first_starts _ _ _ _ _ c.requires
 
 pub returns-in-Missing : goal.returns-in-Missing
 returns-in-Missing c =
-    let tables : Tables = lent_now c.args.files.now c.args.segments.now c.args.sections.now c.args.info.now c.args.rebases.now c.args.binds.now c.args.index.now c.args.setting in
-    let a = c.args in
-    let at = c.loop-count in
-    let t = tables in
-    let s : super_at t at.at ≡ missed c.in-Missing.m = sym c.superclass_at.ensures ∙ ap class_outcome c.in-Missing.is in
-    first_ended t a.res.now a.listed a.i a.class c.requires at.at at.count at.held at.invariant.3 c.in-Missing.m s (omega arith) _ c.ended_state.ensures
+    first_ended _ _ _ _ _ c.requires _ _ _ c.loop-count.invariant _ (sym c.superclass_at.ensures ∙ ap class_outcome c.in-Missing.is)
+    (omega (arith, c.limit_of-most.ensures)) _ c.ended_state.ensures
 
-pub row_of-row-requires : goal.row_of-row-requires
-row_of-row-requires c = c.requires.room
+pub row_of-requires : goal.row_of-requires
+row_of-requires c = c.requires.room
 
 pub returns-then-count-most : goal.returns-then-count-most
 returns-then-count-most c =
-    let tables : Tables = lent_now c.args.files.now c.args.segments.now c.args.sections.now c.args.info.now c.args.rebases.now c.args.binds.now c.args.index.now c.args.setting in
-    let a = c.args in
-    let at = c.loop-count in
-    let t = tables in
-    let s : super_at t at.at ≡ value c.in-Class.up = sym c.superclass_at.ensures ∙ ap class_outcome c.in-Class.is in
-    first_listed t a.res.now a.listed a.i a.class c.requires at.at at.count at.held at.invariant.3 c.in-Class.up s c.row_of-row.result c.if-row-listed.true
-    (c.row_of-row.ensures c.if-row-listed.true) (omega arith)
+    first_listed _ _ _ _ _ c.requires _ _ _ c.loop-count.invariant _ (sym c.superclass_at.ensures ∙ ap class_outcome c.in-Class.is)
+    _ c.in-Some.ensures.0 c.in-Some.ensures.1 (omega (arith, c.limit_of-most.ensures))
 
 pub returns-then-up-held : goal.returns-then-up-held
 returns-then-up-held c =
-    let tables : Tables = lent_now c.args.files.now c.args.segments.now c.args.sections.now c.args.info.now c.args.rebases.now c.args.binds.now c.args.index.now c.args.setting in
-    let a = c.args in
-    let at = c.loop-count in
-    let t = tables in
-    let s : super_at t at.at ≡ value c.in-Class.up = sym c.superclass_at.ensures ∙ ap class_outcome c.in-Class.is in
-    first_back t a.res.now a.listed a.i a.class c.requires at.at at.count at.held at.invariant.3 c.in-Class.up s c.if-up-held.true
+    first_back _ _ _ _ _ c.requires _ _ _ c.loop-count.invariant _ (sym c.superclass_at.ensures ∙ ap class_outcome c.in-Class.is) c.if-up-held.true
 
-pub loop-count-preserved-then-count-hold : goal.loop-count-preserved-then-count-hold
-loop-count-preserved-then-count-hold c =
-    let tables : Tables = lent_now c.args.files.now c.args.segments.now c.args.sections.now c.args.info.now c.args.rebases.now c.args.binds.now c.args.index.now c.args.setting in
-    let a = c.args in
-    let at = c.loop-count in
-    let t = tables in
-    let s : super_at t at.at ≡ value c.in-Class.up = sym c.superclass_at.ensures ∙ ap class_outcome c.in-Class.is in
-    let w = climbing_up t (node_at a.res.now a.i) at.at at.count at.held at.invariant.3 c.in-Class.up s in
-    (omega arith, at.invariant.1, at.invariant.2, climbing_held t (node_at a.res.now a.i) c.in-Class.up (at.count + 1) at.held w)
+pub overflow_mul-hold : goal.overflow_mul-hold
+overflow_mul-hold c = let a = c.args in omega (arith, limit_small (lent_now a.files.now a.segments.now a.sections.now a.info.now a.rebases.now a.binds.now a.index.now a.setting) c.requires.yes, c.limit_of-most.ensures)
 
 pub loop-count-preserved : goal.loop-count-preserved
 loop-count-preserved c =
-    let tables : Tables = lent_now c.args.files.now c.args.segments.now c.args.sections.now c.args.info.now c.args.rebases.now c.args.binds.now c.args.index.now c.args.setting in
-    let a = c.args in
-    let at = c.loop-count in
-    let t = tables in
-    let s : super_at t at.at ≡ value c.in-Class.up = sym c.superclass_at.ensures ∙ ap class_outcome c.in-Class.is in
-    (omega arith, at.invariant.1, at.invariant.2, climbing_up t (node_at a.res.now a.i) at.at at.count at.held at.invariant.3 c.in-Class.up s)
+    let up = climbing_up _ _ _ _ _ c.loop-count.invariant c.in-Class.up (sym c.superclass_at.ensures ∙ ap class_outcome c.in-Class.is) in
+    elim c.if-count-hold.branch [
+      then-count-hold w ↦ rw w.held-is (climbing_held _ _ _ _ _ up)
+      | else-count-hold w ↦ rw w.held-is up
+    ]
 
 pub returns : goal.returns
-returns c =
-    let tables : Tables = lent_now c.args.files.now c.args.segments.now c.args.sections.now c.args.info.now c.args.rebases.now c.args.binds.now c.args.index.now c.args.setting in
-    let a = c.args in
-    let at = c.loop-count in
-    first_far tables a.res.now a.listed a.i a.class c.requires at.at at.count at.held at.invariant.3 (omega arith)
+returns c = first_far _ _ _ _ _ c.requires _ _ _ c.loop-count.invariant (omega (arith, c.limit_of-most.ensures))
