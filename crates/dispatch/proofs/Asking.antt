@@ -21,6 +21,7 @@ use Rattle.walks.specs.Slots.{address_in}
 use Rattle.walks.specs.PlainSections.{addresses_in, unless, without, once, listed, plain_categories}
 use Rattle.walks.proofs.Gathers.{gather_none, gather_parts, Held, held_one, held_none, present_held}
 use Rattle.walks.proofs.PlainWalks.{slots_from_lem}
+use Rattle.dispatch.specs.Asking.{each_settled}
 use Rattle.dispatch.specs.SlotSources.{category_slots, listed_at, settled, records_in}
 
 -- A value is settled; what is joined to a value settles as the rest does.
@@ -61,51 +62,39 @@ module _ {A : Type 0} where
   joined_same (number k) p q f = refl
 
 -- One slot after the other.
-module _ {A : Type 0} (f : ℕ → Outcome (List A)) (slots : List ℕ) {k : ℕ} {x : Outcome (Unit {0})} (i : settled (gather f (drop k slots)) ≡ x) where
-  gather_slot : k < length slots → settled (joined (f (get_or slots k 0)) (gather f (drop (k + 1) slots))) ≡ x
-  unfolding gather
-  gather_slot h = rw (slots_from_lem slots k h) at i
+module _ (s : ℕ → Outcome (Unit {0})) (slots : List ℕ) (k : ℕ) where
+  pub each_next : k < length slots → s (get_or slots k 0) ≡ value tt → each_settled s (drop (k + 1) slots) ≡ each_settled s (drop k slots)
+  unfolding each_settled
+  each_next h e = sym (rw (slots_from_lem slots k h, e))
 
-  gather_on : k < length slots → settled (f (get_or slots k 0)) ≡ value tt → settled (gather f (drop (k + 1) slots)) ≡ x
-  gather_on h e = sym (joined_on (f (get_or slots k 0)) (gather f (drop (k + 1) slots)) e) ∙ gather_slot h
+  pub each_stop : k < length slots → {n : ℕ} → s (get_or slots k 0) ≡ number n → number n ≡ each_settled s (drop k slots)
+  unfolding each_settled
+  each_stop h e = sym (rw (slots_from_lem slots k h, e))
 
-  gather_refused : k < length slots → {n : ℕ} → settled (f (get_or slots k 0)) ≡ number n → number n ≡ x
-  gather_refused h e = sym (joined_refused (f (get_or slots k 0)) (gather f (drop (k + 1) slots)) e) ∙ gather_slot h
+  pub each_end : length slots ≤ k → value tt ≡ each_settled s (drop k slots)
+  unfolding each_settled
+  each_end h = sym (rw (drop_of_length-le slots h))
 
-  gather_end : length slots ≤ k → value tt ≡ x
-  unfolding gather
-  gather_end h = rw (drop_of_length-le slots h) at i
+settled_gather : {A : Type 0} (f : ℕ → Outcome (List A)) (slots : List ℕ) → each_settled (λ a. settled (f a)) slots ≡ settled (gather f slots)
+unfolding gather each_settled
+settled_gather f [] = refl
+settled_gather f (a ∷ slots) = rw (settled_gather f slots) (sym (settled_joined (f a) (gather f slots)))
+  where
+    settled_joined : {A : Type 0} (o p : Outcome (List A)) → settled (joined o p) ≡ and_then (settled o) (λ _. settled p)
+    settled_joined (value xs) p = settled_second xs p
+    settled_joined (absent why) p = refl
+    settled_joined (number k) p = refl
 
-module _ (t : Tables) where
-  abbrev slots : List ℕ
-  slots = category_slots t.sections
-
-  module _ {k : ℕ} {x : Outcome (Unit {0})} (i : settled (addresses_in t (drop k slots)) ≡ x) (h : k < length slots) (a : Asked) (e : asked_outcome a ≡ settled (present (listed_at t k))) where
-    pub slot_on : a ≡ asks.Yes → settled (addresses_in t (drop (k + 1) slots)) ≡ x
-    unfolding addresses_in listed_at
-    slot_on g = gather_on (λ a. present (address_in t a)) slots i h (sym e ∙ ap asked_outcome g)
-
-    pub slot_refused : {n : ℕ} → a ≡ asks.Refused n → number n ≡ x
-    unfolding addresses_in listed_at
-    slot_refused g = gather_refused (λ a. present (address_in t a)) slots i h (sym e ∙ ap asked_outcome g)
-
-  pub slot_end : {k : ℕ} {x : Outcome (Unit {0})} → settled (addresses_in t (drop k slots)) ≡ x → length slots ≤ k → value tt ≡ x
+-- What the slots' lookups say together, and what their categories' do.
+module _ (t : Tables) (a : Asked) where
+  pub all_slots : asked_outcome a ≡ each_settled (λ a. settled (present (address_in t a))) (category_slots t.sections) → asked_outcome a ≡ settled (addresses_in t (category_slots t.sections))
   unfolding addresses_in
-  slot_end i h = gather_end (λ a. present (address_in t a)) slots i h
+  all_slots e = e ∙ settled_gather (λ a. present (address_in t a)) (category_slots t.sections)
 
-  module _ {k : ℕ} {x : Outcome (Unit {0})} (i : settled (records_in t (drop k slots)) ≡ x) (h : k < length slots) (a : Asked)
-      (e : asked_outcome a ≡ settled (of_value (listed_at t k) (λ va. present (category_at t va)))) where
-    pub listed_on : a ≡ asks.Yes → settled (records_in t (drop (k + 1) slots)) ≡ x
-    unfolding records_in listed_at
-    listed_on g = gather_on (λ a. of_value (address_in t a) (λ va. present (category_at t va))) slots i h (sym e ∙ ap asked_outcome g)
-
-    pub listed_refused : {n : ℕ} → a ≡ asks.Refused n → number n ≡ x
-    unfolding records_in listed_at
-    listed_refused g = gather_refused (λ a. of_value (address_in t a) (λ va. present (category_at t va))) slots i h (sym e ∙ ap asked_outcome g)
-
-  pub listed_end : {k : ℕ} {x : Outcome (Unit {0})} → settled (records_in t (drop k slots)) ≡ x → length slots ≤ k → value tt ≡ x
+  pub all_records : asked_outcome a ≡ each_settled (λ a. settled (of_value (address_in t a) (λ va. present (category_at t va)))) (category_slots t.sections)
+      → asked_outcome a ≡ settled (records_in t (category_slots t.sections))
   unfolding records_in
-  listed_end i h = gather_end (λ a. of_value (address_in t a) (λ va. present (category_at t va))) slots i h
+  all_records e = e ∙ settled_gather (λ a. of_value (address_in t a) (λ va. present (category_at t va))) (category_slots t.sections)
 
 -- Each once or as often as listed: the same number.
 module _ {A : Type 0} (f : ℕ → Outcome (List A)) where

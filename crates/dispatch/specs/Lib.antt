@@ -7,3 +7,4 @@ pub mod Position
 pub mod Claims
 pub mod Table
 pub mod Written
+pub mod Asking

@@ -1,12 +1,14 @@
 // The numbers that the lookups of the listed categories may give, asked before any row: of all slots, then of all categories.
-ghost use Rattle.std.specs.Prelude.{◌≡◌};
+ghost use Rattle.std.specs.Prelude.{◌≡◌, ℕ};
 ghost use Rattle.reads.specs.Reference.{before};
+ghost use Rattle.reads.specs.Outcome.{Outcome};
 ghost use Rattle.pointers.specs.Tables.{lent, under};
 ghost use Rattle.pointers.specs.Question.{asked_outcome};
 ghost use Rattle.walks.specs.Gather.{of_value, present};
-ghost use Rattle.walks.specs.PlainSections.{addresses_in, plain_categories};
+ghost use Rattle.walks.specs.PlainSections.{plain_categories};
 ghost use Rattle.records.specs.Category.{category_at};
-ghost use Rattle.dispatch.specs.SlotSources.{category_slots, listed_at, records_in, settled};
+ghost use Rattle.dispatch.specs.SlotSources.{category_slots, listed_at, settled};
+ghost use Rattle.dispatch.specs.Asking.{each_settled, AnswersAt};
 
 use crate::slots::{listed_at, slot_count};
 use pointers::question::Asked;
@@ -94,60 +96,19 @@ fn ask_listed(
     }
 }
 
-fn ask_slots(
-    files: &[&[u8]],
-    segments: &[u64],
-    sections: &[u64],
-    info: &[u8],
-    rebases: &[u64],
-    binds: &[u64],
-    index: &[u32],
-    setting: Setting,
-) -> Asked
-    ensures { let t = under setting (lent files segments sections info rebases binds index) in
-        asked_outcome result ≡ settled (addresses_in t (category_slots (before sections))) }
+// Asks at each slot, up to the first that refuses.
+fn ask_each<F: Fn(u64) -> Asked>(sections: &[u64], ask: F) -> Asked
+    requires { F.IsAlwaysCallable ask }
+    ensures { (s : ℕ → Outcome (Unit {0})) → AnswersAt (F.post ask) s (category_slots (before sections))
+        → asked_outcome result ≡ each_settled s (category_slots (before sections)) }
 {
-    let count = slot_count(sections);
-    let mut k = 0;
-    while k < count {
-        match ask_slot(
-            files, segments, sections, info, rebases, binds, index, setting, k,
-        ) {
+    for k in 0..slot_count(sections) {
+        match ask(k) {
             Asked::Yes => {}
             Asked::Refused(n) => {
                 return Asked::Refused(n);
             }
         }
-        k += 1;
-    }
-    Asked::Yes
-}
-
-fn ask_records(
-    files: &[&[u8]],
-    segments: &[u64],
-    sections: &[u64],
-    info: &[u8],
-    rebases: &[u64],
-    binds: &[u64],
-    index: &[u32],
-    setting: Setting,
-) -> Asked
-    ensures { let t = under setting (lent files segments sections info rebases binds index) in
-        asked_outcome result ≡ settled (records_in t (category_slots (before sections))) }
-{
-    let count = slot_count(sections);
-    let mut k = 0;
-    while k < count {
-        match ask_listed(
-            files, segments, sections, info, rebases, binds, index, setting, k,
-        ) {
-            Asked::Yes => {}
-            Asked::Refused(n) => {
-                return Asked::Refused(n);
-            }
-        }
-        k += 1;
     }
     Asked::Yes
 }
@@ -166,12 +127,17 @@ pub(crate) fn ask_categories(
     ensures { let t = under setting (lent files segments sections info rebases binds index) in
         asked_outcome result ≡ settled (plain_categories t) }
 {
-    match ask_slots(
-        files, segments, sections, info, rebases, binds, index, setting,
-    ) {
-        Asked::Yes => ask_records(
-            files, segments, sections, info, rebases, binds, index, setting,
-        ),
+    let slots = ask_each(sections, |k| {
+        ask_slot(
+            files, segments, sections, info, rebases, binds, index, setting, k,
+        )
+    });
+    match slots {
+        Asked::Yes => ask_each(sections, |k| {
+            ask_listed(
+                files, segments, sections, info, rebases, binds, index, setting, k,
+            )
+        }),
         Asked::Refused(n) => Asked::Refused(n),
     }
 }
