@@ -15,12 +15,11 @@ use Rattle.dispatch.specs.declared.rows.Appearance.{Appearance}
 use Rattle.dispatch.specs.declared.effective.Counted.{Counted}
 use Rattle.dispatch.specs.declared.effective.Counted.TheVariants as counted
 use Rattle.dispatch.specs.declared.rows.Position.{Position}
-use Rattle.dispatch.specs.declared.rows.Reached.{Reached}
-use Rattle.dispatch.specs.declared.rows.Step.{Step}
-use Rattle.dispatch.specs.declared.rows.Step.TheVariants as step
+use Rattle.dispatch.specs.declared.rows.Next.{Next}
+use Rattle.dispatch.specs.declared.rows.Next.TheVariants as next
 use Rattle.dispatch.specs.Appearances.{Rows, ended, refused, also}
 use Rattle.dispatch.specs.Dispatch.{same_selector, comes_before, has_earlier, firsts, standing_for, effective_of, words, filled}
-use Rattle.dispatch.specs.Position.{ahead, weight, SteppedFrom}
+use Rattle.dispatch.specs.Position.{ahead, weight, NextFrom}
 use Rattle.dispatch.specs.Claims.{In, bytes_of, Ordered, ordered_next}
 use Rattle.dispatch.specs.Table.{marks, note, note_all, Holds, Noted, Origins, Named}
 use Rattle.dispatch.specs.Written.{few_rows, few_firsts, CountedAll, Tabled, WroteAll}
@@ -164,166 +163,143 @@ module _ (files : List (List ℕ)) (all : List Appearance) (old : List ℕ) wher
             ∙ ap (λ (i : ℕ). words (effective_of files all) ++ drop (4 * i) old) (sym many);
       }
 
-module _ {t : Tables} {s : Side} {class : ℕ} {p : Position} {r : Step} (h : SteppedFrom t s class p r) where
-  was : {q : Step} → r ≡ q → SteppedFrom t s class p q
-  was e = subst (λ (x : Step). SteppedFrom t s class p x) e h
+module _ {t : Tables} {s : Side} {class : ℕ} {p q : Position} {r : Next} (h : NextFrom t s class p q r) where
+  was : {x : Next} → r ≡ x → NextFrom t s class p q x
+  was e = subst (λ (x : Next). NextFrom t s class p q x) e h
 
-  pub row_lighter : {x : Reached} → r ≡ step.Row x → weight t x.next < weight t p
-  row_lighter e = (was e).went.1
-
-  pub passed_lighter : {q : Position} → r ≡ step.Passed q → weight t q < weight t p
-  passed_lighter e = (was e).went.1
+  pub row_lighter : {b : Appearance} → r ≡ next.Row b → weight t q < weight t p
+  row_lighter g = (was g).comes.1
 
   -- The rows after a row come after it.
-  rows_after : {x : Reached} → r ≡ step.Row x → (b : Appearance) → In b (ahead t s class x.next).rows → comes_before x.row b ≡ true
-  rows_after {x} g = first_before (subst (λ (q : Rows). Ordered q.rows) (was g).went.0 (ahead_ordered t s class p))
+  rows_after : {b : Appearance} → r ≡ next.Row b → (x : Appearance) → In x (ahead t s class q).rows → comes_before b x ≡ true
+  rows_after g = first_before (subst (λ (l : Rows). Ordered l.rows) (was g).comes.0 (ahead_ordered t s class p))
     where
       first_before : {b : Appearance} {more : List Appearance} → Ordered (b ∷ more) → (x : Appearance) → In x more → comes_before b x ≡ true
       first_before (ordered_next f o) = f
 
+  -- No row is left, at the end or where a lookup is refused.
+  none_left : ((b : Appearance) → r ≡ next.Row b → ⊥) → (ahead t s class p).rows ≡ []
+  none_left n = go r h n
+    where
+      go : (x : Next) → NextFrom t s class p q x → ((b : Appearance) → x ≡ next.Row b → ⊥) → (ahead t s class p).rows ≡ []
+      go (next.Row b) w n = absurd (n b refl)
+      go next.End w n = ap (λ (l : Rows). l.rows) w.comes
+      go (next.Refused k) w n = ap (λ (l : Rows). l.rows) w.comes
+
   -- Whatever is made of the rows ahead.
   module _ {X : Type 0} (f : Rows → X) {e : X} (i : f (ahead t s class p) ≡ e) where
-    by_row : {x : Reached} → r ≡ step.Row x → f (also x.row (ahead t s class x.next)) ≡ e
-    by_row g = ap f (sym (was g).went.0) ∙ i
+    by_row : {b : Appearance} → r ≡ next.Row b → f (also b (ahead t s class q)) ≡ e
+    by_row g = ap f (sym (was g).comes.0) ∙ i
 
-    by_passed : {q : Position} → r ≡ step.Passed q → f (ahead t s class q) ≡ e
-    by_passed g = ap f (sym (was g).went.0) ∙ i
+    by_end : r ≡ next.End → f ended ≡ e
+    by_end g = ap f (sym (was g).comes) ∙ i
 
-    by_end : r ≡ step.End → f ended ≡ e
-    by_end g = ap f (sym (was g).went) ∙ i
-
-    by_refused : {k : ℕ} → r ≡ step.Refused k → f (refused k) ≡ e
-    by_refused g = ap f (sym (was g).went) ∙ i
+    by_refused : {k : ℕ} → r ≡ next.Refused k → f (refused k) ≡ e
+    by_refused g = ap f (sym (was g).comes) ∙ i
 
   -- The end.
   module _ {e : Outcome (Unit {0})} (i : (ahead t s class p).end ≡ e) where
-    pub end_row : {x : Reached} → r ≡ step.Row x → (ahead t s class x.next).end ≡ e
-    end_row g = by_row (λ q. q.end) i g
+    pub end_row : {b : Appearance} → r ≡ next.Row b → (ahead t s class q).end ≡ e
+    end_row g = by_row (λ l. l.end) i g
 
-    pub end_passed : {q : Position} → r ≡ step.Passed q → (ahead t s class q).end ≡ e
-    end_passed g = by_passed (λ q. q.end) i g
+    pub end_end : r ≡ next.End → value tt ≡ e
+    end_end g = by_end (λ l. l.end) i g
 
-    pub end_end : r ≡ step.End → value tt ≡ e
-    end_end g = by_end (λ q. q.end) i g
-
-    pub end_refused : {k : ℕ} → r ≡ step.Refused k → number k ≡ e
-    end_refused g = by_refused (λ q. q.end) i g
+    pub end_refused : {k : ℕ} → r ≡ next.Refused k → number k ≡ e
+    end_refused g = by_refused (λ l. l.end) i g
 
   -- An earlier row with a's selector.
   module _ (files : List (List ℕ)) (a : Appearance) {e : Bool} (i : has_earlier files a (ahead t s class p).rows ≡ e) where
-    pub earlier_stop : {x : Reached} {y : Bool} → r ≡ step.Row x → y ≡ comes_before x.row a → not y ≡ true → false ≡ e
-    earlier_stop {x} g u v =
-        sym (past_place files a x.row (ahead t s class x.next).rows (ahead_ordered t s class x.next)
-        (rows_after g) (sym u ∙ not-true _ v)) ∙ by_row (λ q. has_earlier files a q.rows) i g
+    pub earlier_stop : {b : Appearance} {y : Bool} → r ≡ next.Row b → y ≡ comes_before b a → not y ≡ true → false ≡ e
+    earlier_stop {b} g u v =
+        sym (past_place files a b (ahead t s class q).rows (ahead_ordered t s class q)
+        (rows_after g) (sym u ∙ not-true _ v)) ∙ by_row (λ l. has_earlier files a l.rows) i g
 
-    module _ {x : Reached} {y z : Bool} (g : r ≡ step.Row x) (u : y ≡ comes_before x.row a) (v : not y ≡ false) (m : z ≡ same_selector files a.selector x.row.selector) where
-      both : (comes_before x.row a && same_selector files a.selector x.row.selector) ≡ z
+    module _ {b : Appearance} {y z : Bool} (g : r ≡ next.Row b) (u : y ≡ comes_before b a) (v : not y ≡ false) (m : z ≡ same_selector files a.selector b.selector) where
+      both : (comes_before b a && same_selector files a.selector b.selector) ≡ z
       both = rw (sym u ∙ not-false _ v) (sym m)
 
       pub earlier_here : z ≡ true → true ≡ e
       unfolding has_earlier
-      earlier_here n = or_here _ _ (both ∙ n) (by_row (λ q. has_earlier files a q.rows) i g)
+      earlier_here n = or_here _ _ (both ∙ n) (by_row (λ l. has_earlier files a l.rows) i g)
 
-      pub earlier_row : z ≡ false → has_earlier files a (ahead t s class x.next).rows ≡ e
+      pub earlier_row : z ≡ false → has_earlier files a (ahead t s class q).rows ≡ e
       unfolding has_earlier
-      earlier_row n = or_next _ _ (both ∙ n) (by_row (λ q. has_earlier files a q.rows) i g)
+      earlier_row n = or_next _ _ (both ∙ n) (by_row (λ l. has_earlier files a l.rows) i g)
 
-    pub earlier_passed : {q : Position} → r ≡ step.Passed q → has_earlier files a (ahead t s class q).rows ≡ e
-    earlier_passed g = by_passed (λ q. has_earlier files a q.rows) i g
-
-    pub earlier_end : r ≡ step.End → false ≡ e
+    pub earlier_none : ((b : Appearance) → r ≡ next.Row b → ⊥) → false ≡ e
     unfolding has_earlier
-    earlier_end g = by_end (λ q. has_earlier files a q.rows) i g
-
-    pub earlier_refused : {k : ℕ} → r ≡ step.Refused k → false ≡ e
-    unfolding has_earlier
-    earlier_refused g = by_refused (λ q. has_earlier files a q.rows) i g
+    earlier_none n = rw (none_left n) at i
 
   -- The rows counted.
   module _ (room : ℕ) {e : Bool} (i : few_rows (ahead t s class p).rows room ≡ e) where
-    pub rows_row : {x : Reached} → r ≡ step.Row x → (room ≡ 0 → ⊥) → few_rows (ahead t s class x.next).rows (room - 1) ≡ e
+    pub rows_row : {b : Appearance} → r ≡ next.Row b → (room ≡ 0 → ⊥) → few_rows (ahead t s class q).rows (room - 1) ≡ e
     unfolding few_rows
-    rows_row {x} g n =
-        let m = length (ahead t s class x.next).rows in
-        le_same m (room - 1) (suc m) room (λ a. omega (arith, n)) (λ a. omega (arith, n)) ∙ by_row (λ q. few_rows q.rows room) i g
+    rows_row g n =
+        let m = length (ahead t s class q).rows in
+        le_same m (room - 1) (suc m) room (λ a. omega (arith, n)) (λ a. omega (arith, n)) ∙ by_row (λ l. few_rows l.rows room) i g
 
-    pub rows_passed : {q : Position} → r ≡ step.Passed q → few_rows (ahead t s class q).rows room ≡ e
-    rows_passed g = by_passed (λ q. few_rows q.rows room) i g
-
-    pub rows_end : r ≡ step.End → true ≡ e
+    pub rows_end : r ≡ next.End → true ≡ e
     unfolding few_rows
-    rows_end g = sym (le-leb 0 room (omega arith)) ∙ by_end (λ q. few_rows q.rows room) i g
+    rows_end g = sym (le-leb 0 room (omega arith)) ∙ by_end (λ l. few_rows l.rows room) i g
 
   -- Question 22.
   module _ (files : List (List ℕ)) (all : List Appearance) (room : ℕ) {e : Bool} (i : few_firsts files all (ahead t s class p).rows room ≡ e) where
-    pub fit_seen : {x : Reached} {y : Bool} → r ≡ step.Row x → y ≡ has_earlier files x.row all → y ≡ true
-        → few_firsts files all (ahead t s class x.next).rows room ≡ e
+    pub fit_seen : {b : Appearance} {y : Bool} → r ≡ next.Row b → y ≡ has_earlier files b all → y ≡ true
+        → few_firsts files all (ahead t s class q).rows room ≡ e
     unfolding few_firsts
-    fit_seen g u v = ap (λ l. leb (length l) room) (sym (first_seen files all _ _ (sym u ∙ v))) ∙ by_row (λ q. few_firsts files all q.rows room) i g
+    fit_seen g u v = ap (λ l. leb (length l) room) (sym (first_seen files all _ _ (sym u ∙ v))) ∙ by_row (λ l. few_firsts files all l.rows room) i g
 
-    fit_new : {x : Reached} {y : Bool} → r ≡ step.Row x → y ≡ has_earlier files x.row all → y ≡ false
-        → leb (suc (length (firsts files all (ahead t s class x.next).rows))) room ≡ e
+    fit_new : {b : Appearance} {y : Bool} → r ≡ next.Row b → y ≡ has_earlier files b all → y ≡ false
+        → leb (suc (length (firsts files all (ahead t s class q).rows))) room ≡ e
     unfolding few_firsts
-    fit_new g u v = ap (λ l. leb (length l) room) (sym (first_new files all _ _ (sym u ∙ v))) ∙ by_row (λ q. few_firsts files all q.rows room) i g
+    fit_new g u v = ap (λ l. leb (length l) room) (sym (first_new files all _ _ (sym u ∙ v))) ∙ by_row (λ l. few_firsts files all l.rows room) i g
 
-    pub fit_none : {x : Reached} {y : Bool} → r ≡ step.Row x → y ≡ has_earlier files x.row all → y ≡ false → room ≡ 0 → false ≡ e
+    pub fit_none : {b : Appearance} {y : Bool} → r ≡ next.Row b → y ≡ has_earlier files b all → y ≡ false → room ≡ 0 → false ≡ e
     fit_none g u v z = sym (lt-leb _ room (omega arith)) ∙ fit_new g u v
 
-    pub fit_row : {x : Reached} {y : Bool} → r ≡ step.Row x → y ≡ has_earlier files x.row all → y ≡ false → (room ≡ 0 → ⊥)
-        → few_firsts files all (ahead t s class x.next).rows (room - 1) ≡ e
+    pub fit_row : {b : Appearance} {y : Bool} → r ≡ next.Row b → y ≡ has_earlier files b all → y ≡ false → (room ≡ 0 → ⊥)
+        → few_firsts files all (ahead t s class q).rows (room - 1) ≡ e
     unfolding few_firsts
-    fit_row {x} g u v n =
-        let m = length (firsts files all (ahead t s class x.next).rows) in
+    fit_row g u v n =
+        let m = length (firsts files all (ahead t s class q).rows) in
         le_same m (room - 1) (suc m) room (λ a. omega (arith, n)) (λ a. omega (arith, n)) ∙ fit_new g u v
 
-    pub fit_passed : {q : Position} → r ≡ step.Passed q → few_firsts files all (ahead t s class q).rows room ≡ e
-    fit_passed g = by_passed (λ q. few_firsts files all q.rows room) i g
-
-    pub fit_end : r ≡ step.End → true ≡ e
+    pub fit_all : ((b : Appearance) → r ≡ next.Row b → ⊥) → true ≡ e
     unfolding firsts few_firsts
-    fit_end g = sym (le-leb 0 room (omega arith)) ∙ by_end (λ q. few_firsts files all q.rows room) i g
-
-    pub fit_refused : {k : ℕ} → r ≡ step.Refused k → true ≡ e
-    unfolding firsts few_firsts
-    fit_refused g = sym (le-leb 0 room (omega arith)) ∙ by_refused (λ q. few_firsts files all q.rows room) i g
+    fit_all n = sym (le-leb 0 room (omega arith)) ∙ rw (none_left n) at i
 
   -- The pass that notes rows.
   module _ (files : List (List ℕ)) (all : List Appearance) (old : List ℕ) {count : ℕ} {result : List ℕ}
       (w : Noting files all old (ahead t s class p).rows count result) where
-    by : {q : Rows} → ahead t s class p ≡ q → Noting files all old q.rows count result
-    by e = subst (λ (q : Rows). Noting files all old q.rows count result) e w
+    by : {l : Rows} → ahead t s class p ≡ l → Noting files all old l.rows count result
+    by e = subst (λ (l : Rows). Noting files all old l.rows count result) e w
 
-    pub noting_row : 4 * length (firsts files all all) ≤ length old → {x : Reached} {n : ℕ} {after : List ℕ} → r ≡ step.Row x → Noted files result count x.row n after
-        → Noting files all old (ahead t s class x.next).rows n after
+    pub noting_row : 4 * length (firsts files all all) ≤ length old → {b : Appearance} {n : ℕ} {after : List ℕ} → r ≡ next.Row b → Noted files result count b n after
+        → Noting files all old (ahead t s class q).rows n after
     unfolding note_all
-    noting_row room {x} g d =
-        let v = by (was g).went.0 in
+    noting_row room {b} g d =
+        let v = by (was g).comes.0 in
         record {
-          table = note files x.row v.table;
+          table = note files b v.table;
           holds = d.holds old v.table v.holds
-              (omega (arith, noted_longer files (note files x.row v.table) (ahead t s class x.next).rows, ap (λ (l : List Appearance). length l) v.rest, length_effective files all))
+              (omega (arith, noted_longer files (note files b v.table) (ahead t s class q).rows, ap (λ (l : List Appearance). length l) v.rest, length_effective files all))
               v.same;
           rest = v.rest;
           same = d.same ∙ v.same;
         }
 
-    pub counting_row : count < length result / 4 → {x : Reached} {n : ℕ} {after : List ℕ} → r ≡ step.Row x → Noted files result count x.row n after
-        → Noting files all old (ahead t s class x.next).rows n after
+    pub counting_row : count < length result / 4 → {b : Appearance} {n : ℕ} {after : List ℕ} → r ≡ next.Row b → Noted files result count b n after
+        → Noting files all old (ahead t s class q).rows n after
     unfolding note_all
-    counting_row l {x} g d =
-        let v = by (was g).went.0 in
+    counting_row l {b} g d =
+        let v = by (was g).comes.0 in
         record {
-          table = note files x.row v.table;
-          holds = d.holds old v.table v.holds (omega (arith, note_few files x.row v.table, v.holds.many, v.same)) v.same;
+          table = note files b v.table;
+          holds = d.holds old v.table v.holds (omega (arith, note_few files b v.table, v.holds.many, v.same)) v.same;
           rest = v.rest;
           same = d.same ∙ v.same;
         }
 
-    pub noting_passed : {q : Position} → r ≡ step.Passed q → Noting files all old (ahead t s class q).rows count result
-    noting_passed g = by (was g).went.0
-
-    pub noting_finished : r ≡ step.End → Noting files all old [] count result
-    noting_finished g = by (was g).went
-
-    pub noting_refused : {n : ℕ} → r ≡ step.Refused n → Noting files all old [] count result
-    noting_refused g = by (was g).went
+    pub noting_all : ((b : Appearance) → r ≡ next.Row b → ⊥) → Noting files all old [] count result
+    noting_all n = subst (λ (l : List Appearance). Noting files all old l count result) (none_left n) w

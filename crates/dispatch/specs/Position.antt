@@ -7,9 +7,12 @@ use Rattle.records.specs.Search.{all_from}
 use Rattle.records.specs.declared.list.RowKind.TheVariants as kinds
 use Rattle.dispatch.specs.declared.sources.Side.{Side}
 use Rattle.dispatch.specs.declared.sources.Source.{Source}
+use Rattle.dispatch.specs.declared.rows.Appearance.{Appearance}
 use Rattle.dispatch.specs.declared.rows.Position.{Position}
 use Rattle.dispatch.specs.declared.rows.Entered.{Entered}
 use Rattle.dispatch.specs.declared.rows.Entered.TheVariants as entered
+use Rattle.dispatch.specs.declared.rows.Next.{Next}
+use Rattle.dispatch.specs.declared.rows.Next.TheVariants as next
 use Rattle.dispatch.specs.declared.rows.Step.{Step}
 use Rattle.dispatch.specs.declared.rows.Step.TheVariants as step
 use Rattle.dispatch.specs.Appearances.{Rows, ended, refused, also, entry_rows, source_rows}
@@ -52,3 +55,12 @@ Went t s class p (step.Refused k) = ahead t s class p ≡ refused k
 
 pub record SteppedFrom (t : Tables) (s : Side) (class : ℕ) (p : Position) (r : Step) : Type 0 where
   pub went : Went t s class p r
+
+-- What the next row gives: it, and the position after it; or the end.
+abbrev pub Comes : Tables → Side → ℕ → Position → Position → Next → Type 0
+Comes t s class p q (next.Row row) = (ahead t s class p ≡ also row (ahead t s class q)) × (weight t q < weight t p)
+Comes t s class p q next.End = ahead t s class p ≡ ended
+Comes t s class p q (next.Refused k) = ahead t s class p ≡ refused k
+
+pub record NextFrom (t : Tables) (s : Side) (class : ℕ) (p q : Position) (r : Next) : Type 0 where
+  pub comes : Comes t s class p q r

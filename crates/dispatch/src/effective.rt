@@ -11,7 +11,7 @@ ghost use Rattle.dispatch.specs.Position.{ahead};
 ghost use Rattle.dispatch.specs.Written.{few_firsts, Surveyed, CountedAll, RoomFor, Tabled, WroteAll};
 
 use crate::asks::ask_categories;
-use crate::rows::{Appearance, Entered, Position, Step, enter, step_from};
+use crate::rows::{Appearance, Entered, Next, Position, enter, next_row};
 use crate::selectors::{comes_before, same_selector};
 use crate::sources::{Side, own_source};
 use crate::table::{name_records, note_row};
@@ -72,27 +72,23 @@ fn reach_end(
     let mut left = room;
     let mut more = false;
     loop {
-        match step_from(
-            files, segments, sections, info, rebases, binds, index, setting, side, class, p,
+        match next_row(
+            files, segments, sections, info, rebases, binds, index, setting, side, class, &mut p,
         ) {
-            Step::Row(r) => {
-                p = r.next;
+            Next::Row(_) => {
                 if left == 0 {
                     more = true;
                     continue;
                 }
                 left -= 1;
             }
-            Step::Passed(q) => {
-                p = q;
-            }
-            Step::End => {
+            Next::End => {
                 if more {
                     return Survey::More;
                 }
                 return Survey::Fits;
             }
-            Step::Refused(k) => {
+            Next::Refused(k) => {
                 return Survey::Refused(k);
             }
         }
@@ -118,34 +114,20 @@ fn has_earlier(
         result ≡ has_earlier (files_of files) a (ahead t side class start).rows }
 {
     let mut p = start;
-    loop {
-        match step_from(
-            files, segments, sections, info, rebases, binds, index, setting, side, class, p,
-        ) {
-            Step::Row(r) => {
-                let b = r.row;
-                // Rows come in order: none after this one stands before a.
-                if !comes_before(b, a) {
-                    return false;
-                }
-                let s = a.selector;
-                let u = b.selector;
-                if same_selector(files, s, u) {
-                    return true;
-                }
-                p = r.next;
-            }
-            Step::Passed(q) => {
-                p = q;
-            }
-            Step::End => {
-                return false;
-            }
-            Step::Refused(_) => {
-                return false;
-            }
+    while let Next::Row(b) = next_row(
+        files, segments, sections, info, rebases, binds, index, setting, side, class, &mut p,
+    ) {
+        // Rows come in order: none after this one stands before a.
+        if !comes_before(b, a) {
+            return false;
+        }
+        let s = a.selector;
+        let u = b.selector;
+        if same_selector(files, s, u) {
+            return true;
         }
     }
+    false
 }
 
 // 22: are there at most so many selectors?
@@ -168,35 +150,20 @@ fn selectors_fit(
 {
     let mut p = start;
     let mut left = room;
-    loop {
-        match step_from(
-            files, segments, sections, info, rebases, binds, index, setting, side, class, p,
+    while let Next::Row(a) = next_row(
+        files, segments, sections, info, rebases, binds, index, setting, side, class, &mut p,
+    ) {
+        if has_earlier(
+            files, segments, sections, info, rebases, binds, index, setting, side, class, start, a,
         ) {
-            Step::Row(r) => {
-                p = r.next;
-                let a = r.row;
-                if has_earlier(
-                    files, segments, sections, info, rebases, binds, index, setting, side, class,
-                    start, a,
-                ) {
-                    continue;
-                }
-                if left == 0 {
-                    return false;
-                }
-                left -= 1;
-            }
-            Step::Passed(q) => {
-                p = q;
-            }
-            Step::End => {
-                return true;
-            }
-            Step::Refused(_) => {
-                return true;
-            }
+            continue;
         }
+        if left == 0 {
+            return false;
+        }
+        left -= 1;
     }
+    true
 }
 
 // Counts the selectors, with a table of them in words that are lent for it: four words each.
@@ -219,29 +186,15 @@ fn count_selectors(
 {
     let mut p = start;
     let mut count = 0;
-    loop {
-        match step_from(
-            files, segments, sections, info, rebases, binds, index, setting, side, class, p,
-        ) {
-            Step::Row(r) => {
-                if scratch.len() / 4 <= count {
-                    return Counted::AtLeast(count);
-                }
-                p = r.next;
-                let b = r.row;
-                count = note_row(files, scratch, count, b);
-            }
-            Step::Passed(q) => {
-                p = q;
-            }
-            Step::End => {
-                return Counted::All(count);
-            }
-            Step::Refused(_) => {
-                return Counted::All(count);
-            }
+    while let Next::Row(b) = next_row(
+        files, segments, sections, info, rebases, binds, index, setting, side, class, &mut p,
+    ) {
+        if scratch.len() / 4 <= count {
+            return Counted::AtLeast(count);
         }
+        count = note_row(files, scratch, count, b);
     }
+    Counted::All(count)
 }
 
 // The same with words of its own, for 8,192 selectors.
@@ -299,26 +252,12 @@ fn note_rows(
 {
     let mut p = start;
     let mut count = 0;
-    loop {
-        match step_from(
-            files, segments, sections, info, rebases, binds, index, setting, side, class, p,
-        ) {
-            Step::Row(r) => {
-                p = r.next;
-                let b = r.row;
-                count = note_row(files, res, count, b);
-            }
-            Step::Passed(q) => {
-                p = q;
-            }
-            Step::End => {
-                return count;
-            }
-            Step::Refused(_) => {
-                return count;
-            }
-        }
+    while let Next::Row(b) = next_row(
+        files, segments, sections, info, rebases, binds, index, setting, side, class, &mut p,
+    ) {
+        count = note_row(files, res, count, b);
     }
+    count
 }
 
 // Writes four words for each selector.

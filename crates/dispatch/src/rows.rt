@@ -10,7 +10,7 @@ ghost use Rattle.records.specs.List.{entry_address};
 ghost use Rattle.records.specs.Row.{row_outcome};
 ghost use Rattle.dispatch.specs.Appearances.{appearance_outcome, appearing, appearance};
 ghost use Rattle.dispatch.specs.Sources.{source_outcome};
-ghost use Rattle.dispatch.specs.Position.{EnteredAt, SteppedFrom, moved_to, nowhere};
+ghost use Rattle.dispatch.specs.Position.{EnteredAt, SteppedFrom, NextFrom, moved_to, nowhere};
 
 use crate::slots::slot_count;
 use crate::sources::{Side, Source, SourceAnswer, slot_source};
@@ -65,6 +65,14 @@ pub struct Reached {
 pub enum Step {
     Row(Reached),
     Passed(Position),
+    End,
+    Refused(u8),
+}
+
+// The next row, or the end; or the number of the question that refuses.
+#[derive(Clone, Copy)]
+pub enum Next {
+    Row(Appearance),
     End,
     Refused(u8),
 }
@@ -292,7 +300,7 @@ fn next_source(
 }
 
 // A step: the next entry that can be read, or the next slot.
-pub(crate) fn step_from(
+fn step_from(
     files: &[&[u8]],
     segments: &[u64],
     sections: &[u64],
@@ -317,5 +325,39 @@ pub(crate) fn step_from(
         Entry::Nothing => next_source(
             files, segments, sections, info, rebases, binds, index, setting, side, class, p,
         ),
+    }
+}
+
+// The next row; p stands after it then.
+pub(crate) fn next_row(
+    files: &[&[u8]],
+    segments: &[u64],
+    sections: &[u64],
+    info: &[u8],
+    rebases: &[u64],
+    binds: &[u64],
+    index: &[u32],
+    setting: Setting,
+    side: Side,
+    class: u64,
+    p: &mut Position,
+) -> Next
+    ensures { let t = under setting (lent files segments sections info rebases binds index) in
+        NextFrom t side class p.old p.new result }
+{
+    loop {
+        match step_from(
+            files, segments, sections, info, rebases, binds, index, setting, side, class, *p,
+        ) {
+            Step::Row(r) => {
+                *p = r.next;
+                return Next::Row(r.row);
+            }
+            Step::Passed(q) => {
+                *p = q;
+            }
+            Step::End => return Next::End,
+            Step::Refused(k) => return Next::Refused(k),
+        }
     }
 }

@@ -5,8 +5,8 @@ use Rattle.dispatch.specs.Dispatch.{has_earlier}
 use Rattle.dispatch.specs.Position.{ahead, weight}
 use Rattle.dispatch.proofs.effective.has_earlier.Given as goal
 
-abbrev pub invariant-loop-r : goal.invariant-loop-r
-invariant-loop-r l = has_earlier (files_lent l.files) l.a (ahead (under l.setting (tables_of (files_lent l.files) l.segments l.sections l.info l.rebases l.binds l.index)) l.side l.class l.p).rows ≡ has_earlier (files_lent l.files) l.a (ahead (under l.setting (tables_of (files_lent l.files) l.segments l.sections l.info l.rebases l.binds l.index)) l.side l.class l.initial.p).rows
+abbrev pub invariant-loop-b : goal.invariant-loop-b
+invariant-loop-b l = has_earlier (files_lent l.files) l.a (ahead (under l.setting (tables_of (files_lent l.files) l.segments l.sections l.info l.rebases l.binds l.index)) l.side l.class l.p).rows ≡ has_earlier (files_lent l.files) l.a (ahead (under l.setting (tables_of (files_lent l.files) l.segments l.sections l.info l.rebases l.binds l.index)) l.side l.class l.initial.p).rows
 
-abbrev pub decreases-loop-r : goal.decreases-loop-r
-decreases-loop-r l = weight (under l.setting (tables_of (files_lent l.files) l.segments l.sections l.info l.rebases l.binds l.index)) l.p
+abbrev pub decreases-loop-b : goal.decreases-loop-b
+decreases-loop-b l = weight (under l.setting (tables_of (files_lent l.files) l.segments l.sections l.info l.rebases l.binds l.index)) l.p

@@ -5,8 +5,8 @@ use Rattle.dispatch.specs.Position.{ahead, weight}
 use Rattle.dispatch.specs.Written.{few_firsts}
 use Rattle.dispatch.proofs.effective.selectors_fit.Given as goal
 
-abbrev pub invariant-loop-r : goal.invariant-loop-r
-invariant-loop-r l = few_firsts (files_lent l.files) (ahead (under l.setting (tables_of (files_lent l.files) l.segments l.sections l.info l.rebases l.binds l.index)) l.side l.class l.start).rows (ahead (under l.setting (tables_of (files_lent l.files) l.segments l.sections l.info l.rebases l.binds l.index)) l.side l.class l.p).rows l.left ≡ few_firsts (files_lent l.files) (ahead (under l.setting (tables_of (files_lent l.files) l.segments l.sections l.info l.rebases l.binds l.index)) l.side l.class l.start).rows (ahead (under l.setting (tables_of (files_lent l.files) l.segments l.sections l.info l.rebases l.binds l.index)) l.side l.class l.start).rows l.room
+abbrev pub invariant-loop-a : goal.invariant-loop-a
+invariant-loop-a l = few_firsts (files_lent l.files) (ahead (under l.setting (tables_of (files_lent l.files) l.segments l.sections l.info l.rebases l.binds l.index)) l.side l.class l.start).rows (ahead (under l.setting (tables_of (files_lent l.files) l.segments l.sections l.info l.rebases l.binds l.index)) l.side l.class l.p).rows l.left ≡ few_firsts (files_lent l.files) (ahead (under l.setting (tables_of (files_lent l.files) l.segments l.sections l.info l.rebases l.binds l.index)) l.side l.class l.start).rows (ahead (under l.setting (tables_of (files_lent l.files) l.segments l.sections l.info l.rebases l.binds l.index)) l.side l.class l.start).rows l.room
 
-abbrev pub decreases-loop-r : goal.decreases-loop-r
-decreases-loop-r l = weight (under l.setting (tables_of (files_lent l.files) l.segments l.sections l.info l.rebases l.binds l.index)) l.p
+abbrev pub decreases-loop-a : goal.decreases-loop-a
+decreases-loop-a l = weight (under l.setting (tables_of (files_lent l.files) l.segments l.sections l.info l.rebases l.binds l.index)) l.p
