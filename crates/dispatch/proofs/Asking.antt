@@ -22,7 +22,7 @@ use Rattle.walks.specs.PlainSections.{addresses_in, unless, without, once, liste
 use Rattle.walks.proofs.Gathers.{gather_none, gather_parts, Held, held_one, held_none, present_held}
 use Rattle.walks.proofs.PlainWalks.{slots_from_lem}
 use Rattle.dispatch.specs.Asking.{each_settled}
-use Rattle.dispatch.specs.SlotSources.{category_slots, listed_at, settled, records_in}
+use Rattle.dispatch.specs.SlotSources.{category_slots, settled, records_in}
 
 -- A value is settled; what is joined to a value settles as the rest does.
 pub settled_value : {A : Type 0} (o : Outcome A) → settled o ≡ value tt → (a : A) × (o ≡ value a)

@@ -7,7 +7,6 @@ use Rattle.records.specs.Search.{all_from}
 use Rattle.records.specs.declared.list.RowKind.TheVariants as kinds
 use Rattle.dispatch.specs.declared.sources.Side.{Side}
 use Rattle.dispatch.specs.declared.sources.Source.{Source}
-use Rattle.dispatch.specs.declared.rows.Appearance.{Appearance}
 use Rattle.dispatch.specs.declared.rows.Position.{Position}
 use Rattle.dispatch.specs.declared.rows.Entered.{Entered}
 use Rattle.dispatch.specs.declared.rows.Entered.TheVariants as entered

@@ -5,12 +5,6 @@ use Rattle.ancestry.specs.Filling.{lent_now}
 use Rattle.ancestry.proofs.Answers.{left_refused}
 use Rattle.ancestry.proofs.class_list.ancestries.Goals as goal
 
-pub write_asked-requires : goal.write_asked-requires
-write_asked-requires c = sym c.ask.ensures ∙ ap asked_outcome c.in-Yes.is
-
-pub returns-in-Yes : goal.returns-in-Yes
-returns-in-Yes c = c.write_asked.ensures
-
 pub returns-in-Refused : goal.returns-in-Refused
 returns-in-Refused c =
     let tables : Tables = lent_now c.args.files.now c.args.segments.now c.args.sections.now c.args.info.now c.args.rebases.now c.args.binds.now c.args.index.now c.args.setting in

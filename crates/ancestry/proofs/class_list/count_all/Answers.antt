@@ -1,5 +1,5 @@
 use Prim.Native.Nat.{◌+◌}
-use mathlib.Core.Path.{refl, ap, ◌∙◌}
+use mathlib.Core.Path.{ap, ◌∙◌}
 use native.Mathlib.Omega.{arith}
 use lib.ListN.{length}
 use Rattle.reads.specs.Outcome.{value, and_then, Outcome}
@@ -10,15 +10,6 @@ use Rattle.ancestry.specs.Filling.{lent_now, told_of}
 use Rattle.ancestry.specs.declared.class_chain.Ancestry.{Ancestry}
 use Rattle.ancestry.proofs.Lists.{count_on, count_refused, count_few, count_end}
 use Rattle.ancestry.proofs.class_list.count_all.Goals as goal
-
-pub loop-va-init : goal.loop-va-init
-loop-va-init c = (omega arith, omega arith, refl)
-
-pub told_at-one-requires : goal.told_at-one-requires
-told_at-one-requires c = c.requires
-
-pub counted-requires : goal.counted-requires
-counted-requires c = omega arith
 
 pub returns-in-Refused : goal.returns-in-Refused
 returns-in-Refused c =

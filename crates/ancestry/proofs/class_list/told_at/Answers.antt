@@ -7,9 +7,6 @@ pub returns-then-together : goal.returns-then-together
 unfolding told_of
 returns-then-together c = c.unfollowed_at.ensures ∙ sym (choose_true _ _ c.if-together.true)
 
-pub ancestry_at-requires : goal.ancestry_at-requires
-ancestry_at-requires c = c.requires
-
 pub returns : goal.returns
 unfolding told_of
 returns c = c.ancestry_at.ensures ∙ sym (choose_false _ _ c.if-together.false)

@@ -3,18 +3,9 @@ use native.Mathlib.Omega.{arith}
 use Rattle.pointers.specs.Tables.{Tables}
 use Rattle.ancestry.specs.Ancestry.{ancestry_outcome}
 use Rattle.ancestry.specs.Filling.{lent_now, told_of}
-use Rattle.ancestry.proofs.Fillings.{filling_starts, filling_room, filling_found, filling_missing, filling_end}
+use Rattle.ancestry.proofs.Fillings.{filling_room, filling_found, filling_missing, filling_end}
 use Rattle.ancestry.proofs.class_list.write_all.Goals as goal
 use Rattle.ancestry.proofs.class_list.write_all.Goals.{in-Found, in-Missing}
-
-pub loop-va-init : goal.loop-va-init
-loop-va-init c =
-    let tables : Tables = lent_now c.args.files.now c.args.segments.now c.args.sections.now c.args.info.now c.args.rebases.now c.args.binds.now c.args.index.now c.args.setting in
-    let a = c.args in
-    (omega arith, filling_starts (told_of tables a.together) a.classes.now a.res.now c.requires.1)
-
-pub told_at-one-requires : goal.told_at-one-requires
-told_at-one-requires c = c.requires.0
 
 pub put_record-requires : goal.put_record-requires
 put_record-requires c =
@@ -23,18 +14,6 @@ put_record-requires c =
     let at = c.loop-va in
     filling_room (told_of tables a.together) a.classes.now a.res.now at.va-index at.at at.res at.invariant.1 c.loop-va-test.true c.in-Found.a
     (sym c.told_at-one.ensures ∙ ap ancestry_outcome c.in-Found.is)
-
-pub overflow_add-at : goal.overflow_add-at
-overflow_add-at c =
-    let tables : Tables = lent_now c.args.files.now c.args.segments.now c.args.sections.now c.args.info.now c.args.rebases.now c.args.binds.now c.args.index.now c.args.setting in
-    let a = c.args in
-    let at = c.loop-va in
-    omega (
-      arith,
-      at.invariant.1.size,
-      filling_room (told_of tables a.together) a.classes.now a.res.now at.va-index at.at at.res at.invariant.1 c.loop-va-test.true c.in-Found.a
-          (sym c.told_at-one.ensures ∙ ap ancestry_outcome c.in-Found.is),
-    )
 
 pub loop-va-preserved : goal.loop-va-preserved
 loop-va-preserved c =
@@ -56,9 +35,6 @@ loop-va-preserved c =
             (sym c.told_at-one.ensures ∙ ap ancestry_outcome w.in-Missing.is)),
       )
     ]
-
-pub shape_of-res : goal.shape_of-res
-shape_of-res c = c.loop-va.invariant.1.size
 
 pub returns : goal.returns
 returns c =

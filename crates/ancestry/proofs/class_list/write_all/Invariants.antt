@@ -1,4 +1,4 @@
-use Prim.Native.Nat.{◌-◌, ◌≤◌}
+use Prim.Native.Nat.{◌≤◌}
 use lib.ListN.{length}
 use Rattle.ancestry.specs.Filling.{lent_now, told_of}
 use Rattle.ancestry.proofs.Fillings.{Filling}

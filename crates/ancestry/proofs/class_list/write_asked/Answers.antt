@@ -13,9 +13,6 @@ chains_fall-together-requires c =
     let a = c.args in
     index_room tables c.requires
 
-pub count_all-requires : goal.count_all-requires
-count_all-requires c = c.requires
-
 pub returns-in-Refused : goal.returns-in-Refused
 returns-in-Refused c =
     let tables : Tables = lent_now c.args.files.now c.args.segments.now c.args.sections.now c.args.info.now c.args.rebases.now c.args.binds.now c.args.index.now c.args.setting in
@@ -29,15 +26,6 @@ returns-then-res-count c =
     let a = c.args in
     left_short tables a.classes.now a.res.now c.requires c.in-Classes.n
     (sym (ap count_outcome c.in-Classes.is) ∙ c.count_all.ensures ∙ told_tally tables c.chains_fall-together.result a.classes.now c.chains_fall-together.ensures) (omega arith)
-
-pub fill-requires : goal.fill-requires
-fill-requires c =
-    record {
-      yes = c.requires;
-      falls = c.chains_fall-together.ensures;
-      counted = sym (ap count_outcome c.in-Classes.is) ∙ c.count_all.ensures;
-      room = omega arith;
-    }
 
 pub returns : goal.returns
 returns c =

@@ -1,8 +1,7 @@
-use Prim.Native.Nat.{◌*◌}
 use mathlib.Core.Path.{◌∙◌}
 use native.Mathlib.Omega.{arith}
 use Rattle.ancestry.specs.Doubling.{node_at}
-use Rattle.ancestry.proofs.Rounds.{state_count, state_mark, jump_stays, jump_past, jump_puts, joined_small, joined_marked}
+use Rattle.ancestry.proofs.Rounds.{state_mark, jump_stays, jump_past, jump_puts, joined_small, joined_marked}
 use Rattle.ancestry.proofs.doubling.jump.Goals as goal
 
 pub returns-then-s-ne2 : goal.returns-then-s-ne2
@@ -10,13 +9,6 @@ returns-then-s-ne2 c = jump_stays c.args.listed c.args.limit c.args.out.now c.ar
 
 pub returns-then-listed-place : goal.returns-then-listed-place
 returns-then-listed-place c = jump_past c.args.listed c.args.limit c.args.out.now c.args.i c.state_at-s.result c.state_at-s.ensures c.if-s-ne2.false c.if-listed-place.true
-
-pub joined-t-requires : goal.joined-t-requires
-joined-t-requires c =
-    let a = c.args in (
-      omega (arith, state_count a.listed a.limit a.out.now a.i c.state_at-s.result c.state_at-s.ensures, c.type_inv.out (a.i * 3)),
-      omega (arith, state_count a.listed a.limit a.out.now c.state_at-s.result.place c.state_at-next.result c.state_at-next.ensures, c.type_inv.out (c.state_at-s.result.place * 3)),
-    )
 
 pub put_state-requires : goal.put_state-requires
 put_state-requires c =

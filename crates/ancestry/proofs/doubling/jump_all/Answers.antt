@@ -1,5 +1,5 @@
 use Prim.Native.Nat.{ℕ}
-use mathlib.Core.Path.{◌≡◌, refl, sym, ap, ◌∙◌}
+use mathlib.Core.Path.{refl, sym, ap, ◌∙◌}
 use mathlib.Core.List.{List}
 use native.Mathlib.Omega.{arith}
 use lib.ListN.{length}
@@ -18,12 +18,3 @@ loop-i-preserved c =
       c.jump.ensures ∙ ap (λ (x : List ℕ). jumped_at a.listed a.limit x at.i) at.invariant.1 ∙ sym (jumped_more a.listed a.limit a.out.now at.i),
       ap length c.jump.ensures ∙ length_jumped a.listed a.limit at.out at.i ∙ at.invariant.2,
     )
-
-pub shape_of-out : goal.shape_of-out
-shape_of-out c = c.loop-i.invariant.2
-
-pub returns : goal.returns
-returns c =
-    let at = c.loop-i in
-    let past : at.i ≡ c.args.listed = omega arith in
-    rw past at at.invariant.1

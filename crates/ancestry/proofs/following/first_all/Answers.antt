@@ -1,14 +1,8 @@
 use native.Mathlib.Omega.{arith}
 use Rattle.pointers.specs.Tables.{Tables}
 use Rattle.ancestry.specs.Filling.{lent_now}
-use Rattle.ancestry.proofs.Starts.{starting_none, starting_ready, starting_small, starting_more, starting_all}
+use Rattle.ancestry.proofs.Starts.{starting_ready, starting_small, starting_more}
 use Rattle.ancestry.proofs.following.first_all.Goals as goal
-
-pub loop-i-init : goal.loop-i-init
-loop-i-init c =
-    let tables : Tables = lent_now c.args.files.now c.args.segments.now c.args.sections.now c.args.info.now c.args.rebases.now c.args.binds.now c.args.index.now c.args.setting in
-    let a = c.args in
-    (omega arith, starting_none tables a.listed a.res.now)
 
 pub first-s-requires : goal.first-s-requires
 first-s-requires c =
@@ -31,13 +25,3 @@ loop-i-preserved c =
     let a = c.args in
     let at = c.loop-i in
     (omega arith, rw c.put_state.ensures (starting_more tables a.listed a.res.now c.requires.2 at.i at.res at.invariant.1 c.loop-i-test.true c.first-s.result c.first-s.ensures))
-
-pub shape_of-res : goal.shape_of-res
-shape_of-res c = c.loop-i.invariant.1.size
-
-pub returns : goal.returns
-returns c =
-    let tables : Tables = lent_now c.args.files.now c.args.segments.now c.args.sections.now c.args.info.now c.args.rebases.now c.args.binds.now c.args.index.now c.args.setting in
-    let a = c.args in
-    let at = c.loop-i in
-    starting_all tables a.listed a.res.now at.i at.res at.invariant.1 (omega arith)

@@ -1,4 +1,4 @@
-use Prim.Native.Nat.{◌-◌, ◌≤◌}
+use Prim.Native.Nat.{◌≤◌}
 use Rattle.ancestry.specs.Filling.{lent_now}
 use Rattle.ancestry.proofs.Starts.{Starting}
 use Rattle.ancestry.proofs.following.first_all.Given as goal

@@ -18,9 +18,6 @@ returns-in-Missing c =
     first_ended _ _ _ _ _ c.requires _ _ _ c.loop-count.invariant _ (sym c.superclass_at.ensures ∙ ap class_outcome c.in-Missing.is)
     (omega (arith, c.limit_of-most.ensures)) _ c.ended_state.ensures
 
-pub row_of-requires : goal.row_of-requires
-row_of-requires c = c.requires.room
-
 pub returns-then-count-most : goal.returns-then-count-most
 returns-then-count-most c =
     first_listed _ _ _ _ _ c.requires _ _ _ c.loop-count.invariant _ (sym c.superclass_at.ensures ∙ ap class_outcome c.in-Class.is)

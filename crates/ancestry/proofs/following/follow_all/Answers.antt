@@ -13,19 +13,10 @@ limit_of-most-requires c =
     let tables : Tables = lent_now c.args.files.now c.args.segments.now c.args.sections.now c.args.info.now c.args.rebases.now c.args.binds.now c.args.index.now c.args.setting in
     limit_room tables c.requires.0
 
-pub ascending-sorted-requires : goal.ascending-sorted-requires
-ascending-sorted-requires c = c.requires.2.room
-
-pub first_all-requires : goal.first_all-requires
-first_all-requires c = c.requires
-
 pub follow-requires : goal.follow-requires
 follow-requires c =
     let tables : Tables = lent_now c.args.files.now c.args.segments.now c.args.sections.now c.args.info.now c.args.rebases.now c.args.binds.now c.args.index.now c.args.setting in
     (omega (arith, c.requires.2.room, c.first_all.ensures.size), omega (arith, limit_small tables c.requires.0, c.limit_of-most.ensures))
-
-pub finish_all-requires : goal.finish_all-requires
-finish_all-requires c = omega (arith, c.requires.2.room, c.first_all.ensures.size, c.follow.ensures.size)
 
 pub returns : goal.returns
 returns c =

@@ -1,14 +1,11 @@
 use Prim.Native.Nat.{◌<◌}
 use lib.ListN.{length}
-use mathlib.Core.Path.{refl, sym, ap, ◌∙◌}
+use mathlib.Core.Path.{sym, ap, ◌∙◌}
 use native.Mathlib.Omega.{arith}
 use Rattle.pointers.specs.Question.{asked_outcome}
 use Rattle.dispatch.specs.SlotSources.{category_slots}
 use Rattle.dispatch.proofs.Asking.{each_next, each_stop, each_end}
 use Rattle.dispatch.proofs.asks.ask_each.Goals as goal
-
-pub loop-k-init : goal.loop-k-init
-loop-k-init g c = λ s h. refl
 
 pub loop-k-preserved : goal.loop-k-preserved
 loop-k-preserved g c = λ s h.

@@ -6,6 +6,3 @@ returns-then-room-n c = fit_by_least _ _ _ c.count_few.ensures c.in-AtLeast.is c
 
 pub returns-in-All : goal.returns-in-All
 returns-in-All c = fit_by_all _ _ _ c.count_few.ensures c.in-All.is
-
-pub returns-else-room-n : goal.returns-else-room-n
-returns-else-room-n c = c.selectors_fit.ensures

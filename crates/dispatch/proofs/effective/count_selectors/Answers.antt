@@ -1,28 +1,16 @@
 use native.Mathlib.Omega.{arith}
 use Rattle.dispatch.proofs.Places.{ahead_ordered}
-use Rattle.dispatch.proofs.Scans.{row_lighter, noting_start, counting_row, counting_all, counting_least, noting_all}
+use Rattle.dispatch.proofs.Scans.{noting_start, counting_row, counting_all, counting_least, noting_all}
 use Rattle.dispatch.proofs.effective.count_selectors.Goals as goal
 
 pub loop-b-init : goal.loop-b-init
 loop-b-init c = noting_start _ _ _ (ahead_ordered _ _ _ _)
 
-pub shape_of-scratch-then-scratch-count : goal.shape_of-scratch-then-scratch-count
-shape_of-scratch-then-scratch-count c = c.loop-b.invariant.same
-
 pub returns-then-scratch-count : goal.returns-then-scratch-count
 returns-then-scratch-count c = counting_least _ _ _ c.loop-b.invariant
 
-pub note_row-count-requires : goal.note_row-count-requires
-note_row-count-requires c = omega (arith, c.if-scratch-count.false)
-
-pub loop-b-smaller : goal.loop-b-smaller
-loop-b-smaller c = row_lighter c.next_row.ensures c.in-Row.is
-
 pub loop-b-preserved : goal.loop-b-preserved
 loop-b-preserved c = counting_row c.next_row.ensures _ _ _ c.loop-b.invariant (omega (arith, c.if-scratch-count.false)) c.in-Row.is c.note_row-count.ensures
-
-pub shape_of-scratch : goal.shape_of-scratch
-shape_of-scratch c = c.loop-b.invariant.same
 
 pub returns : goal.returns
 returns c = counting_all _ _ _ (noting_all c.next_row.ensures _ _ _ c.loop-b.invariant c.in_default.not-Row)

@@ -1,8 +1,5 @@
-use Rattle.dispatch.proofs.Answers.{of_source, of_start, of_refused}
+use Rattle.dispatch.proofs.Answers.{of_start, of_refused}
 use Rattle.dispatch.proofs.effective.effective_by_slots.Goals as goal
-
-pub effective_from-requires : goal.effective_from-requires
-effective_from-requires c = of_source _ _ _ c.own_source-own.result c.own_source-own.ensures c.enter.ensures c.in-At.is
 
 pub returns-in-At : goal.returns-in-At
 returns-in-At c = of_start _ _ _ c.own_source-own.result c.own_source-own.ensures c.enter.ensures _ _ c.in-At.is c.effective_from.ensures

@@ -1,21 +1,11 @@
-use mathlib.Core.Path.{refl}
-use Rattle.dispatch.proofs.Scans.{row_lighter, fit_seen, fit_none, fit_row, fit_all}
+use Rattle.dispatch.proofs.Scans.{fit_seen, fit_none, fit_row, fit_all}
 use Rattle.dispatch.proofs.effective.selectors_fit.Goals as goal
-
-pub loop-a-init : goal.loop-a-init
-loop-a-init c = refl
-
-pub loop-a-smaller-then-has_earlier : goal.loop-a-smaller-then-has_earlier
-loop-a-smaller-then-has_earlier c = row_lighter c.next_row.ensures c.in-Row.is
 
 pub loop-a-preserved-then-has_earlier : goal.loop-a-preserved-then-has_earlier
 loop-a-preserved-then-has_earlier c = fit_seen c.next_row.ensures _ _ _ c.loop-a.invariant c.in-Row.is c.has_earlier.ensures c.if-has_earlier.true
 
 pub returns-then-left-eq0 : goal.returns-then-left-eq0
 returns-then-left-eq0 c = fit_none c.next_row.ensures _ _ _ c.loop-a.invariant c.in-Row.is c.has_earlier.ensures c.if-has_earlier.false c.if-left-eq0.true
-
-pub loop-a-smaller : goal.loop-a-smaller
-loop-a-smaller c = row_lighter c.next_row.ensures c.in-Row.is
 
 pub loop-a-preserved : goal.loop-a-preserved
 loop-a-preserved c = fit_row c.next_row.ensures _ _ _ c.loop-a.invariant c.in-Row.is c.has_earlier.ensures c.if-has_earlier.false c.if-left-eq0.false

@@ -1,17 +1,8 @@
-use mathlib.Core.Path.{refl, ◌∙◌}
+use mathlib.Core.Path.{refl}
 use Rattle.dispatch.proofs.Places.{ahead_ordered}
 use Rattle.dispatch.proofs.Origin.{origins_ahead}
 use Rattle.dispatch.proofs.Scans.{wrote_all}
 use Rattle.dispatch.proofs.effective.write_selectors.Goals as goal
-
-pub note_rows-count-requires : goal.note_rows-count-requires
-note_rows-count-requires c = c.requires.1
-
-pub name_records-requires : goal.name_records-requires
-name_records-requires c = c.note_rows-count.ensures.fits
-
-pub shape_of-res : goal.shape_of-res
-shape_of-res c = c.name_records.ensures.same ∙ c.note_rows-count.ensures.same
 
 pub returns : goal.returns
 returns c = wrote_all _ _ _ (ahead_ordered _ _ _ _) (origins_ahead _ _ _ _ _ c.requires.0 refl) c.note_rows-count.ensures c.name_records.ensures

@@ -1,8 +1,5 @@
-use Rattle.dispatch.proofs.Walks.{enter_source, enter_absent, enter_refused}
+use Rattle.dispatch.proofs.Walks.{enter_absent, enter_refused}
 use Rattle.dispatch.proofs.rows.enter.Goals as goal
-
-pub returns-in-Source : goal.returns-in-Source
-returns-in-Source c = enter_source _ _ c.in-Source.is c.enter_list.ensures
 
 pub returns-in-Absent : goal.returns-in-Absent
 returns-in-Absent c = enter_absent _ _ c.in-Missing.is c.in-Absent.is c.no_rows.ensures

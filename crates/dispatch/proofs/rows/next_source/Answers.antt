@@ -5,12 +5,6 @@ use Rattle.dispatch.proofs.rows.next_source.Goals as goal
 pub returns-then-slot_count-k : goal.returns-then-slot_count-k
 returns-then-slot_count-k c = next_end _ _ _ _ c.requires (omega (arith, c.slot_count.ensures))
 
-pub slot_source-source-requires : goal.slot_source-source-requires
-slot_source-source-requires c = omega (arith, c.slot_count.ensures)
-
-pub overflow_add-k : goal.overflow_add-k
-overflow_add-k c = omega (arith, c.slot_count.ensures)
-
 pub returns-in-At : goal.returns-in-At
 returns-in-At c = next_entered _ _ _ _ c.requires (omega (arith, c.slot_count.ensures)) c.slot_source-source.result c.slot_source-source.ensures c.enter.ensures (omega (arith, c.well_formed.1.1.1.1.1.1.1.1.1.1.0)) c.in-At.is
 

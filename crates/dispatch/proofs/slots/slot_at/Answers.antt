@@ -1,12 +1,7 @@
-use mathlib.Core.Path.{◌∙◌, sym}
+use mathlib.Core.Path.{◌∙◌}
 use native.Mathlib.Omega.{arith}
-use lib.ListN.{get_or-eq_default}
-use Rattle.dispatch.specs.SlotSources.{category_slots}
 use Rattle.walks.proofs.SlotLaws.{pair_first, pair_second}
 use Rattle.dispatch.proofs.slots.slot_at.Goals as goal
-
-pub returns-then-slot_count-k : goal.returns-then-slot_count-k
-returns-then-slot_count-k c = sym (get_or-eq_default (category_slots c.args.sections.now) 0 (omega (arith, c.slot_count.ensures)))
 
 pub returns-then-k-list : goal.returns-then-k-list
 returns-then-k-list c = c.slot_address.ensures ∙ rw c.at-list.ensures (pair_first _ _ _ _ (rw c.at-list.ensures at c.if-k-list.true))

@@ -5,9 +5,6 @@ use Rattle.records.specs.Category.{category_outcome}
 use Rattle.dispatch.specs.SlotSources.{slot_source}
 use Rattle.dispatch.proofs.sources.slot_source.Goals as goal
 
-pub taking-requires : goal.taking-requires
-taking-requires c = c.requires
-
 pub returns-in-Category : goal.returns-in-Category
 unfolding slot_source
 returns-in-Category c = on_value word_outcome _ c.listed_at.ensures c.in-Value.is refl (on_value category_outcome _ c.category_at.ensures c.in-Category.is refl c.taking.ensures)

@@ -4,9 +4,6 @@ use Rattle.dispatch.proofs.sources.taking.Goals as goal
 pub returns-then-category-class : goal.returns-then-category-class
 returns-then-category-class c = taking_other _ _ _ _ _ _ c.if-category-class.true
 
-pub held_before-requires : goal.held_before-requires
-held_before-requires c = c.requires
-
 pub returns-then-held_before : goal.returns-then-held_before
 returns-then-held_before c = taking_met _ _ _ _ _ _ c.if-category-class.false c.held_before.ensures c.if-held_before.true
 

@@ -1,9 +1,6 @@
 use native.Mathlib.Omega.{arith}
-use Rattle.dispatch.proofs.SelectorTable.{seek_start, seek_here, seek_next, seek_end}
+use Rattle.dispatch.proofs.SelectorTable.{seek_here, seek_next, seek_end}
 use Rattle.dispatch.proofs.table.find.Goals as goal
-
-pub loop-j-init : goal.loop-j-init
-loop-j-init c = (omega arith, seek_start _ _ _ _)
 
 pub returns-then-same_selector : goal.returns-then-same_selector
 returns-then-same_selector c = seek_here _ _ _ _ _ c.loop-j.invariant.1 c.loop-j-test.true c.same_selector.ensures c.if-same_selector.true

@@ -1,4 +1,3 @@
-use Rattle.std.proofs.Common.{◌∙◌}
 use native.Mathlib.Omega.{arith}
 use Rattle.dispatch.proofs.SelectorTable.{mark_entry}
 use Rattle.dispatch.proofs.table.mark.Goals as goal

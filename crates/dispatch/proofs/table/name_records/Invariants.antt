@@ -1,4 +1,3 @@
-use Prim.Native.Nat.{◌-◌}
 use Rattle.reads.specs.Files.{files_lent}
 use Rattle.pointers.specs.Tables.{under, tables_of}
 use Rattle.dispatch.proofs.SelectorTable.{Naming}
