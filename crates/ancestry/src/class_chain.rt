@@ -97,25 +97,23 @@ pub(crate) fn limit_of(files: &[&[u8]], segments: &[u64]) -> u64
     (segments.len() / 5) as u64 * longest(files)
 }
 
+// The address of the last of `count` classes above, the one at `top`; 0 if there is none.
+pub(crate) fn last_at(count: u64, top: u64) -> u64
+    ensures { result ≡ last_at count 0 top }
+{
+    if count == 0 { 0 } else { top }
+}
+
 // What a climb tells that finds no class above the one at `top`, `count` classes up.
 fn stopped(m: Missing, count: u64, top: u64) -> AncestryAnswer
     ensures { ancestry_outcome result ≡ or_else (missed m) (value (ended count (last_at count 0 top))) }
 {
     match m {
-        Missing::Absent(_) => {
-            if count == 0 {
-                return AncestryAnswer::Found(Ancestry {
-                    count: 0,
-                    last: 0,
-                    looping: 0,
-                });
-            }
-            AncestryAnswer::Found(Ancestry {
-                count,
-                last: top,
-                looping: 0,
-            })
-        }
+        Missing::Absent(_) => AncestryAnswer::Found(Ancestry {
+            count,
+            last: last_at(count, top),
+            looping: 0,
+        }),
         Missing::Refused(k) => AncestryAnswer::Missing(Missing::Refused(k)),
     }
 }

@@ -12,7 +12,7 @@ ghost use Rattle.ancestry.specs.Rebases.{chains_fall};
 ghost use Rattle.ancestry.specs.Doubling.{node_at, ended_state, Row, Following};
 ghost use Rattle.ancestry.specs.Following.{ground_of, First, Ready, Unfollowed};
 
-use crate::class_chain::{limit_of, superclass_at};
+use crate::class_chain::{last_at, limit_of, superclass_at};
 use crate::doubling::{State, finish_all, follow, put_state};
 use pointers::setting::Setting;
 use records::class::{ClassAnswer, ObjcClass, class_at};
@@ -49,16 +49,9 @@ fn row_of(res: &[u64], listed: usize, sorted: bool, address: u64) -> Option<usiz
 fn ended_state(count: u64, top: u64) -> State
     ensures { result ≡ ended_state count top }
 {
-    if count == 0 {
-        return State {
-            count: 0,
-            place: 0,
-            mark: 0,
-        };
-    }
     State {
         count,
-        place: top,
+        place: last_at(count, top),
         mark: 0,
     }
 }

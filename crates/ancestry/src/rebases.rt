@@ -41,8 +41,5 @@ pub(crate) fn chains_fall(rebases: &[u64], index: &[u32]) -> bool
     ensures { result ≡ chains_fall (before rebases) (before index) }
 {
     let count = rebases.len() / Rebase::WORDS;
-    if heads_fall(index, count) {
-        return nexts_fall(index, count);
-    }
-    false
+    heads_fall(index, count) && nexts_fall(index, count)
 }

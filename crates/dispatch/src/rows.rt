@@ -82,13 +82,7 @@ impl Position {
     fn at(self, entry: u32) -> Position
         ensures { result ≡ moved_to self entry }
     {
-        let list = self.list;
-        Position {
-            source: self.source,
-            origin: self.origin,
-            list,
-            entry,
-        }
+        Position { entry, ..self }
     }
 }
 

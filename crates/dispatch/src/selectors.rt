@@ -41,11 +41,5 @@ pub(crate) fn same_selector(files: &[&[u8]], s: Text, u: Text) -> bool
 pub(crate) fn comes_before(b: Appearance, a: Appearance) -> bool
     ensures { result ≡ comes_before b a }
 {
-    if b.source < a.source {
-        return true;
-    }
-    if b.source != a.source {
-        return false;
-    }
-    b.entry < a.entry
+    (b.source, b.entry) < (a.source, a.entry)
 }

@@ -18,7 +18,7 @@ returns-in-Refused c =
     let at = c.loop-va in
     let t = told_of tables a.together in
     let e = c.counted.ensures ∙ ap (λ (o : Outcome Ancestry). and_then (present o) (λ xs. value (at.count + length xs))) c.told_at-one.ensures in
-    count_refused t a.classes.now at.count at.va-index c.loop-va-test.true at.invariant.2 _ e c.in-Refused.k (ap count_outcome c.in-Refused.is)
+    count_refused t a.classes.now at.count at.va-index c.loop-va-test.true at.invariant.1 _ e c.in-Refused.k (ap count_outcome c.in-Refused.is)
 
 pub loop-va-preserved : goal.loop-va-preserved
 loop-va-preserved c =
@@ -27,12 +27,12 @@ loop-va-preserved c =
     let at = c.loop-va in
     let t = told_of tables a.together in
     let e = c.counted.ensures ∙ ap (λ (o : Outcome Ancestry). and_then (present o) (λ xs. value (at.count + length xs))) c.told_at-one.ensures in
-    let few = count_few t a.classes.now at.count at.va-index c.loop-va-test.true at.invariant.2 _ e c.in-Classes.n (ap count_outcome c.in-Classes.is) in
-    (omega arith, omega arith, count_on t a.classes.now at.count at.va-index c.loop-va-test.true at.invariant.2 _ e c.in-Classes.n (ap count_outcome c.in-Classes.is))
+    let few = count_few t a.classes.now at.count at.va-index c.loop-va-test.true at.invariant.1 _ e c.in-Classes.n (ap count_outcome c.in-Classes.is) in
+    (omega arith, count_on t a.classes.now at.count at.va-index c.loop-va-test.true at.invariant.1 _ e c.in-Classes.n (ap count_outcome c.in-Classes.is))
 
 pub returns : goal.returns
 returns c =
     let tables : Tables = lent_now c.args.files.now c.args.segments.now c.args.sections.now c.args.info.now c.args.rebases.now c.args.binds.now c.args.index.now c.args.setting in
     let a = c.args in
     let at = c.loop-va in
-    count_end (told_of tables a.together) a.classes.now at.count at.va-index (omega arith) at.invariant.2
+    count_end (told_of tables a.together) a.classes.now at.count at.va-index (omega arith) at.invariant.1

@@ -9,7 +9,7 @@ first-s-requires c =
     let tables : Tables = lent_now c.args.files.now c.args.segments.now c.args.sections.now c.args.info.now c.args.rebases.now c.args.binds.now c.args.index.now c.args.setting in
     let a = c.args in
     let at = c.loop-i in
-    starting_ready tables a.listed a.res.now c.requires.0 c.requires.1 c.requires.2 at.i at.res at.invariant.1 c.loop-i-test.true
+    starting_ready tables a.listed a.res.now c.requires.0 c.requires.1 c.requires.2 at.i at.res at.invariant c.loop-i-test.true
 
 pub put_state-requires : goal.put_state-requires
 put_state-requires c =
@@ -17,11 +17,11 @@ put_state-requires c =
     let a = c.args in
     let at = c.loop-i in
     let small = starting_small tables a.listed a.res.now c.requires.0 at.i at.res c.first-s.result c.first-s.ensures in
-    (omega (arith, at.invariant.1.size, c.requires.2.room), small.0, small.1)
+    (omega (arith, at.invariant.size, c.requires.2.room), small.0, small.1)
 
 pub loop-i-preserved : goal.loop-i-preserved
 loop-i-preserved c =
     let tables : Tables = lent_now c.args.files.now c.args.segments.now c.args.sections.now c.args.info.now c.args.rebases.now c.args.binds.now c.args.index.now c.args.setting in
     let a = c.args in
     let at = c.loop-i in
-    (omega arith, rw c.put_state.ensures (starting_more tables a.listed a.res.now c.requires.2 at.i at.res at.invariant.1 c.loop-i-test.true c.first-s.result c.first-s.ensures))
+    rw c.put_state.ensures (starting_more tables a.listed a.res.now c.requires.2 at.i at.res at.invariant c.loop-i-test.true c.first-s.result c.first-s.ensures)

@@ -5,6 +5,6 @@ pub returns-then-heads_fall : goal.returns-then-heads_fall
 unfolding chains_fall
 returns-then-heads_fall c = rw (← c.heads_fall.ensures, c.if-heads_fall.true) c.nexts_fall.ensures
 
-pub returns : goal.returns
+pub returns-else-heads_fall : goal.returns-else-heads_fall
 unfolding chains_fall
-returns c = rw (← c.heads_fall.ensures, c.if-heads_fall.false)
+returns-else-heads_fall c = rw (← c.heads_fall.ensures, c.if-heads_fall.false)

@@ -11,7 +11,7 @@ use Rattle.ancestry.proofs.rebases.heads_fall.Goals as goal
 
 pub loop-c-init : goal.loop-c-init
 unfolding every
-loop-c-init c = (omega arith, refl)
+loop-c-init c = refl
 
 pub returns-then-count-index : goal.returns-then-count-index
 unfolding heads_fall
@@ -22,10 +22,10 @@ returns-then-count-index c =
 pub loop-c-preserved : goal.loop-c-preserved
 loop-c-preserved c =
     let a = c.args in
-    (omega arith, every_more (λ k. leb (get_or a.index.now k 0) a.count) c.loop-c.c c.loop-c.invariant.1 (le-leb (get_or a.index.now c.loop-c.c 0) a.count c.if-count-index.false))
+    every_more (λ k. leb (get_or a.index.now k 0) a.count) c.loop-c.c c.loop-c.invariant (le-leb (get_or a.index.now c.loop-c.c 0) a.count c.if-count-index.false)
 
 pub returns : goal.returns
 unfolding heads_fall
 returns c =
     let past : c.loop-c.c ≡ chains = omega arith in
-    sym (rw past at c.loop-c.invariant.1)
+    sym (rw past at c.loop-c.invariant)

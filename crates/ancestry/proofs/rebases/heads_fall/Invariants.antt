@@ -8,4 +8,4 @@ use Rattle.pointers.specs.Tables.{chains}
 use Rattle.ancestry.proofs.rebases.heads_fall.Given as goal
 
 abbrev pub invariant-loop-c : goal.invariant-loop-c
-invariant-loop-c l = (l.c ≤ chains) × (every (λ k. leb (get_or l.index k 0) l.count) l.c ≡ true)
+invariant-loop-c l = every (λ k. leb (get_or l.index k 0) l.count) l.c ≡ true

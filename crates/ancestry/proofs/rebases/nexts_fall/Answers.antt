@@ -12,7 +12,7 @@ use Rattle.ancestry.proofs.rebases.nexts_fall.Goals as goal
 
 pub loop-k-init : goal.loop-k-init
 unfolding every
-loop-k-init c = (omega arith, refl)
+loop-k-init c = refl
 
 pub returns-then-k-index : goal.returns-then-k-index
 unfolding nexts_fall
@@ -23,10 +23,10 @@ returns-then-k-index c =
 pub loop-k-preserved : goal.loop-k-preserved
 loop-k-preserved c =
     let a = c.args in
-    (omega arith, every_more (λ j. leb (get_or a.index.now (2 * chains + j) 0) j) c.loop-k.k c.loop-k.invariant.1 (le-leb (get_or a.index.now (2 * chains + c.loop-k.k) 0) c.loop-k.k c.if-k-index.false))
+    every_more (λ j. leb (get_or a.index.now (2 * chains + j) 0) j) c.loop-k.k c.loop-k.invariant (le-leb (get_or a.index.now (2 * chains + c.loop-k.k) 0) c.loop-k.k c.if-k-index.false)
 
 pub returns : goal.returns
 unfolding nexts_fall
 returns c =
     let past : c.loop-k.k ≡ c.args.count = omega arith in
-    sym (rw past at c.loop-k.invariant.1)
+    sym (rw past at c.loop-k.invariant)

@@ -8,4 +8,4 @@ use Rattle.pointers.specs.Tables.{chains}
 use Rattle.ancestry.proofs.rebases.nexts_fall.Given as goal
 
 abbrev pub invariant-loop-k : goal.invariant-loop-k
-invariant-loop-k l = (l.k ≤ l.count) × (every (λ j. leb (get_or l.index (2 * chains + j) 0) j) l.k ≡ true)
+invariant-loop-k l = every (λ j. leb (get_or l.index (2 * chains + j) 0) j) l.k ≡ true
