@@ -28,6 +28,13 @@ pub struct Ancestry {
     pub looping: u64,
 }
 
+// Of a class whose chain loops.
+const LOOPING: Ancestry = Ancestry {
+    count: 0,
+    last: 0,
+    looping: 1,
+};
+
 #[derive(Clone, Copy)]
 pub enum AncestryAnswer {
     Found(Ancestry),
@@ -149,22 +156,14 @@ fn climb_from(
         };
         at = up;
         if up.address == held {
-            return AncestryAnswer::Found(Ancestry {
-                count: 0,
-                last: 0,
-                looping: 1,
-            });
+            return AncestryAnswer::Found(LOOPING);
         }
         if count + 1 == hold {
             held = up.address;
             hold *= 2;
         }
     }
-    AncestryAnswer::Found(Ancestry {
-        count: 0,
-        last: 0,
-        looping: 1,
-    })
+    AncestryAnswer::Found(LOOPING)
 }
 
 // The ancestry of the class at an address; 1 to 6 and 8 have been asked.

@@ -11,6 +11,13 @@ pub struct State {
     pub mark: u64,
 }
 
+// Of a class whose chain loops.
+pub(crate) const LOOPING: State = State {
+    count: 0,
+    place: 0,
+    mark: 1,
+};
+
 // What is known of the class in row i.
 pub(crate) fn state_at(out: &[u64], i: usize) -> State
     requires { i * 3 + 2 < length out.now }
@@ -38,18 +45,10 @@ fn joined(limit: u64, count: u64, address: u64, next: State) -> State
     ensures { result ≡ joined_of limit count address next }
 {
     if next.mark == 1 {
-        return State {
-            count: 0,
-            place: 0,
-            mark: 1,
-        };
+        return LOOPING;
     }
     if limit <= count + next.count {
-        return State {
-            count: 0,
-            place: 0,
-            mark: 1,
-        };
+        return LOOPING;
     }
     if next.count == 0 {
         return State {
@@ -100,6 +99,7 @@ pub(crate) fn follow(limit: u64, listed: usize, out: &mut [u64])
     ensures followed { (g : Ground) (out₀ : List ℕ) → g.limit ≡ limit → g.listed ≡ listed → Following g 1 out₀ out.old
         → Following g limit out₀ out.new }
 {
+    // Not a `for`: a round doubles how far the chains are followed.
     let mut reach = 1;
     while reach < limit {
         jump_all(limit, listed, out);

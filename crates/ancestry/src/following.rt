@@ -13,7 +13,7 @@ ghost use Rattle.ancestry.specs.Doubling.{node_at, ended_state, Row, Following};
 ghost use Rattle.ancestry.specs.Following.{ground_of, First, Ready, Unfollowed};
 
 use crate::class_chain::{last_at, limit_of, superclass_at};
-use crate::doubling::{State, finish_all, follow, put_state};
+use crate::doubling::{LOOPING, State, finish_all, follow, put_state};
 use pointers::setting::Setting;
 use records::class::{ClassAnswer, ObjcClass, class_at};
 
@@ -99,22 +99,14 @@ fn first_from(
             }
         }
         if up.address == held {
-            return State {
-                count: 0,
-                place: 0,
-                mark: 1,
-            };
+            return LOOPING;
         }
         if count + 1 == hold {
             held = up.address;
             hold *= 2;
         }
     }
-    State {
-        count: 0,
-        place: 0,
-        mark: 1,
-    }
+    LOOPING
 }
 
 // The same, from the address in the row.
@@ -153,11 +145,7 @@ fn first(
             files, segments, sections, info, rebases, binds, index, setting, res, listed, sorted,
             class, i,
         ),
-        ClassAnswer::Missing(m) => State {
-            count: 0,
-            place: 0,
-            mark: 1,
-        },
+        ClassAnswer::Missing(m) => LOOPING,
     }
 }
 
