@@ -10,6 +10,7 @@ pub mod Answers
 pub mod OpenedClasses
 pub mod Rows
 pub mod RowWords
+pub mod ChainTests
 pub mod Rounds
 pub mod Falling
 pub mod Firsts

@@ -14,12 +14,7 @@ fn heads_fall(index: &[u32], count: usize) -> bool
     requires { chains ≤ length index.now }
     ensures { result ≡ heads_fall (before index) count }
 {
-    for c in 0..Address::CHAINS {
-        if count < index[c] as usize {
-            return false;
-        }
-    }
-    true
+    index[..Address::CHAINS].iter().all(|head| *head as usize <= count)
 }
 
 // Each next word is below its own record's number.
@@ -27,12 +22,8 @@ fn nexts_fall(index: &[u32], count: usize) -> bool
     requires { 2 * chains + count ≤ length index.now }
     ensures { result ≡ nexts_fall (before index) count }
 {
-    for k in 0..count {
-        if k < index[HEADS + k] as usize {
-            return false;
-        }
-    }
-    true
+    let nexts = &index[HEADS..HEADS + count];
+    nexts.iter().enumerate().all(|(k, next)| *next as usize <= k)
 }
 
 // No lookup of a rebase can be refused.

@@ -1,32 +1,15 @@
-use Prim.Native.Nat.{◌+◌, ◌*◌}
-use mathlib.Core.Path.{◌≡◌, refl, sym}
+use Prim.Native.Nat.{ℕ}
 use native.Mathlib.Omega.{arith}
-use lib.Dec.{leb}
-use lib.ListN.{get_or}
-use borrow.Author.Tests.{le-leb, lt-leb}
-use Rattle.pointers.specs.Question.{every}
-use Rattle.pointers.specs.Tables.{chains}
-use Rattle.pointers.proofs.Questions.{every_fails, every_more}
-use Rattle.ancestry.specs.Rebases.{nexts_fall}
+use Rattle.std.proofs.Common.{rules, tests, leb, ◌∙◌}
+use Rattle.std.proofs.lemmas.Iterator.{YieldsList-from_slice}
+use Rattle.std.proofs.lemmas.Iterator.Consumers.{YieldsList-at, YieldsList-from_enumerate}
+use Rattle.std.proofs.lemmas.Iterator.Search.{all_from_yields_List}
+use Rattle.ancestry.proofs.ChainTests.{nexts_tested}
 use Rattle.ancestry.proofs.rebases.nexts_fall.Goals as goal
 
-pub loop-k-init : goal.loop-k-init
-unfolding every
-loop-k-init c = refl
-
-pub returns-then-k-index : goal.returns-then-k-index
-unfolding nexts_fall
-returns-then-k-index c =
-    let a = c.args in
-    every_fails (λ j. leb (get_or a.index.now (2 * chains + j) 0) j) a.count c.loop-k.k c.loop-k-test.true (lt-leb (get_or a.index.now (2 * chains + c.loop-k.k) 0) c.loop-k.k c.if-k-index.true)
-
-pub loop-k-preserved : goal.loop-k-preserved
-loop-k-preserved c =
-    let a = c.args in
-    every_more (λ j. leb (get_or a.index.now (2 * chains + j) 0) j) c.loop-k.k c.loop-k.invariant (le-leb (get_or a.index.now (2 * chains + c.loop-k.k) 0) c.loop-k.k c.if-k-index.false)
-
 pub returns : goal.returns
-unfolding nexts_fall
 returns c =
-    let past : c.loop-k.k ≡ c.args.count = omega arith in
-    sym (rw past at c.loop-k.invariant)
+    all_from_yields_List (λ (p : ℕ × ℕ). leb p.1 p.0) _ _ c.all.result c.all.ensures.ran
+    (YieldsList-from_enumerate (YieldsList-at c.enumerate.ensures.source (YieldsList-from_slice _ c.iter.ensures.rest)) c.enumerate.ensures.count)
+    (λ x b q k. search (rules, tests))
+    ∙ nexts_tested _ _ _ (omega arith) c.requires
