@@ -14,7 +14,9 @@ fn heads_fall(index: &[u32], count: usize) -> bool
     requires { chains ≤ length index.now }
     ensures { result ≡ heads_fall (before index) count }
 {
-    index[..Address::CHAINS].iter().all(|head| *head as usize <= count)
+    index[..Address::CHAINS]
+        .iter()
+        .all(|head| *head as usize <= count)
 }
 
 // Each next word is below its own record's number.
@@ -23,7 +25,10 @@ fn nexts_fall(index: &[u32], count: usize) -> bool
     ensures { result ≡ nexts_fall (before index) count }
 {
     let nexts = &index[HEADS..HEADS + count];
-    nexts.iter().enumerate().all(|(k, next)| *next as usize <= k)
+    nexts
+        .iter()
+        .enumerate()
+        .all(|(k, next)| *next as usize <= k)
 }
 
 // No lookup of a rebase can be refused.

@@ -28,7 +28,7 @@ pub loop-count-preserved : goal.loop-count-preserved
 loop-count-preserved c =
     let up = climbing_up _ _ _ _ _ c.loop-count.invariant c.in-Class.up (sym c.superclass_at.ensures ∙ ap class_outcome c.in-Class.is) in
     elim c.if-count-hold.branch [
-      then-count-hold w ↦ rw w.held-is (climbing_held _ _ _ _ _ up)
+      | then-count-hold w ↦ rw w.held-is (climbing_held _ _ _ _ _ up)
       | else-count-hold w ↦ rw w.held-is up
     ]
 

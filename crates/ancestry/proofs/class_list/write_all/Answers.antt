@@ -12,7 +12,7 @@ put_record-requires c =
 pub loop-va-preserved : goal.loop-va-preserved
 loop-va-preserved c =
     elim c.match-one.branch [
-      in-Found w ↦ rw (w.at-is, w.res-is, w.put_record.ensures)
+      | in-Found w ↦ rw (w.at-is, w.res-is, w.put_record.ensures)
           (filling_found _ _ _ _ _ _ c.loop-va.invariant c.loop-va-test.true w.in-Found.a (sym c.told_at-one.ensures ∙ ap ancestry_outcome w.in-Found.is))
       | in-Missing w ↦ rw (w.at-is, w.res-is)
           (filling_missing _ _ _ _ _ _ c.loop-va.invariant c.loop-va-test.true w.in-Missing._m (sym c.told_at-one.ensures ∙ ap ancestry_outcome w.in-Missing.is))

@@ -1,4 +1,3 @@
-use Prim.Native.Nat.{◌≤◌}
 use Rattle.reads.specs.Files.{files_lent}
 use Rattle.dispatch.proofs.SelectorTable.{Seek}
 use Rattle.dispatch.proofs.table.find.Given as goal
