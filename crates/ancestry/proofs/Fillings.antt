@@ -14,7 +14,7 @@ use Rattle.reads.specs.declared.answer.Missing.TheVariants.{Absent, Refused}
 use Rattle.reads.proofs.Outcomes.{then_came}
 use Rattle.walks.specs.Gather.{gather, present}
 use Rattle.ancestry.specs.Ancestry.{words_of, written_by}
-use Rattle.ancestry.specs.Filling.{through, put, Fits}
+use Rattle.ancestry.specs.Filling.{through, put}
 use Rattle.ancestry.specs.declared.class_chain.Ancestry.{Ancestry}
 use Rattle.ancestry.proofs.Chain.{absent_value, number_value}
 
@@ -61,10 +61,6 @@ pub record Filling (one : ℕ → Outcome Ancestry) (addresses out₀ : List ℕ
   pub size : length out ≡ length out₀
 
 module _ (one : ℕ → Outcome Ancestry) (addresses out₀ : List ℕ) where
-  pub filling_starts : Fits one addresses out₀ → Filling one addresses out₀ 0 0 out₀
-  filling_starts f =
-      record { all = f.all; whole = f.told; rest = f.all; left = f.told; room = omega (arith, f.room); enough = f.room; same = refl; size = refl }
-
   module _ (i at : ℕ) (out : List ℕ) (w : Filling one addresses out₀ i at out) where
     pub filling_end : length addresses ≤ i → out ≡ (written_by (through one addresses) out₀).result
     filling_end h =

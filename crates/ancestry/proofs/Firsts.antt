@@ -20,7 +20,6 @@ use Rattle.ancestry.specs.Following.{ground_of, First}
 use Rattle.ancestry.specs.declared.doubling.State.{State}
 use Rattle.ancestry.proofs.Known.{known, length_known, class_known, class_of}
 use Rattle.ancestry.proofs.Loops.{up_of, at_address}
-use Rattle.ancestry.proofs.Chain.{absent_value, number_value}
 use Rattle.ancestry.proofs.Meaning.{comes_back}
 use Rattle.ancestry.proofs.Climbs.{Climbing, climbing_up}
 use Rattle.ancestry.proofs.Rows.{far_endless, row_endless, loops_endless, walk_listed}
@@ -81,8 +80,3 @@ module _ (t : Tables) (out : List ℕ) (listed i : ℕ) (c : ObjcClass) (f : Fir
           let v = climbing_up t a at count held w up e in
           row_endless g 1 i some_limit
           (loops_endless g i (comes_back (up_in t) a w.passed (count + 1) held (omega (arith, w.behind)) w.holds (v.leads ∙ ap value same)))
-
--- A class that decodes is not missing.
-pub missed_value : {A B : Type 0} {b : B} (m : Missing) → missed m ≡ value b → A
-missed_value (Absent r) e = absent_value e
-missed_value (Refused k) e = number_value e

@@ -196,10 +196,6 @@ round_by g limit listed reach base out new some-reach room e f n w =
     let v = round_follows g reach some-reach base out r w in
     rw (n, ← e, ← f) v
 
-pub following_less : (g : Ground) (less reach : ℕ) (base out : List ℕ) → less ≤ reach → Following g reach base out → Following g less base out
-following_less g less reach base out h w =
-    record { rows = λ j low high. row_less g less reach j (state_at out j) h (w.rows j low high); nodes = w.nodes; tail = w.tail; size = w.size }
-
 module _ (listed limit : ℕ) (out : List ℕ) where
   pub jumped_more : (i : ℕ) → jumped_to listed limit out (i + 1) ≡ jumped_at listed limit (jumped_to listed limit out i) i
   jumped_more i = rw add-one (unfold jumped_to in refl)
@@ -209,9 +205,6 @@ module _ (listed limit : ℕ) (out : List ℕ) where
   jumped_none = refl
 
   module _ (i : ℕ) (s : State) (e : s ≡ state_at out i) where
-    pub state_count : s.count ≡ get_or out (i * 3) 0 / 4
-    state_count = ap (λ (x : State). x.count) e
-
     pub state_mark : s.mark < 4
     state_mark = omega (arith, ap (λ (x : State). x.mark) e)
 

@@ -1,6 +1,6 @@
 -- Rows whose first step is known, one by one.
-use Prim.Native.Nat.{ℕ, ◌+◌, ◌*◌, ◌^◌, ◌≤◌, ◌<◌}
-use mathlib.Core.Path.{◌≡◌, refl, ◌∙◌}
+use Prim.Native.Nat.{ℕ, ◌+◌, ◌*◌, ◌^◌, ◌<◌}
+use mathlib.Core.Path.{◌≡◌, ◌∙◌}
 use mathlib.Core.Bool.{true}
 use mathlib.Core.List.{List}
 use native.Mathlib.Omega.{arith}
@@ -9,7 +9,7 @@ use Rattle.reads.specs.Outcome.{value}
 use Rattle.pointers.specs.Tables.{Tables}
 use Rattle.pointers.specs.Question.{asked}
 use Rattle.ancestry.specs.Rebases.{chains_fall}
-use Rattle.ancestry.specs.Doubling.{node_at, put_at, Row, Rows, Following}
+use Rattle.ancestry.specs.Doubling.{node_at, put_at, Row, Rows}
 use Rattle.ancestry.specs.Following.{ground_of, Ready, Unfollowed}
 use Rattle.ancestry.specs.declared.doubling.State.{State}
 use Rattle.ancestry.proofs.Climbs.{limit_small}
@@ -35,13 +35,6 @@ row_same t listed i out out₀ s same r =
     }
 
 module _ (t : Tables) (listed : ℕ) (out₀ : List ℕ) where
-  pub starting_none : Starting t listed out₀ 0 out₀
-  starting_none = record { rows = λ j low high. absurd (omega arith); nodes = λ j. refl; tail = refl; size = refl }
-
-  pub starting_all : (i : ℕ) (out : List ℕ) → Starting t listed out₀ i out → listed ≤ i → Following (ground_of t out₀ listed) 1 out₀ out
-  starting_all i out w h =
-      record { rows = λ j low high. w.rows j low (omega arith); nodes = λ j u. w.nodes j; tail = w.tail; size = w.size }
-
   pub starting_ready : asked t ≡ value tt → chains_fall t.rebases t.index ≡ true → Unfollowed t listed out₀ → (i : ℕ) (out : List ℕ)
       → Starting t listed out₀ i out → i < listed → Ready t out listed i
   starting_ready passes falls s i out w h =

@@ -1,7 +1,7 @@
 -- The call's answer and the result buffer that it leaves, by the questions that it asks.
 use Prim.Native.Nat.{ℕ, ◌-◌, ◌*◌, ◌/◌, ◌≤◌}
 use mathlib.Core.Path.{◌≡◌, refl, ap, sym, subst, ◌∙◌}
-use mathlib.Core.Bool.{Bool, true, false}
+use mathlib.Core.Bool.{false}
 use mathlib.Core.List.{List}
 use native.Mathlib.Omega.{arith}
 use lib.ListN.{length}
@@ -91,15 +91,6 @@ module _ (files : List (List ℕ)) (rs : Rows) (room : ℕ) {a : Survey} (w : Su
   pub room_fits : a ≡ survey.Fits → RoomFor files rs room fit.Enough
   room_fits g = let f = (found_by g).found in record { told = (f.0, sym (rows_suffice files rs.rows room (sym f.1) refl)) }
 
-  pub room_counted : a ≡ survey.More → {y : Bool} → y ≡ few_firsts files rs.rows rs.rows room → y ≡ true → RoomFor files rs room fit.Enough
-  room_counted g e h = record { told = ((found_by g).found, sym e ∙ h) }
-
-  pub room_short : a ≡ survey.More → {y : Bool} → y ≡ few_firsts files rs.rows rs.rows room → y ≡ false → RoomFor files rs room fit.Short
-  room_short g e h = record { told = ((found_by g).found, sym e ∙ h) }
-
-  pub room_refused : {k : ℕ} → a ≡ survey.Refused k → RoomFor files rs room (fit.Refused k)
-  room_refused g = record { told = (found_by g).found }
-
 -- The rows from the first entry of the class's own list on are all.
 module _ (t : Tables) (s : Side) (c : ObjcClass) (a : SourceAnswer) (o : source_outcome a ≡ own_source t s c) {r : Entered}
     (f : EnteredAt t 0 (source_outcome a) r) where
@@ -109,9 +100,6 @@ module _ (t : Tables) (s : Side) (c : ObjcClass) (a : SourceAnswer) (o : source_
       let d = (was_entered f g).came in
       let z : slot_total t - 0 ≡ slot_total t = omega arith in
       rw (← o, d.1 (slot_rows t s c.address 0 (slot_total t)), d.0, z)
-
-  pub of_source : {start : Position} → r ≡ entered.At start → start.source ≡ 0
-  of_source g = (was_entered f g).came.0
 
   pub of_start : (files : List (List ℕ)) (result : List ℕ) {start : Position} {l : Left} → r ≡ entered.At start
       → l ≡ left (effective_among files (ahead t s c.address start)) result → l ≡ left (effective_among files (slot_appearances t s c)) result

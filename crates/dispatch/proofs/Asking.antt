@@ -51,11 +51,6 @@ module _ {A : Type 0} where
   joined_on (absent why) p e = let z : ◌≡◌ {A = ℕ} 0 1 = cc in absurd (omega arith)
   joined_on (number k) p e = let z : ◌≡◌ {A = ℕ} 0 1 = cc in absurd (omega arith)
 
-  joined_refused : (o p : Outcome (List A)) {k : ℕ} → settled o ≡ number k → settled (joined o p) ≡ number k
-  joined_refused (value xs) p e = let z : ◌≡◌ {A = ℕ} 0 1 = cc in absurd (omega arith)
-  joined_refused (absent why) p e = let z : ◌≡◌ {A = ℕ} 0 1 = cc in absurd (omega arith)
-  joined_refused (number j) p e = e
-
   joined_same : (o p q : Outcome (List A)) → (settled o ≡ value tt → settled p ≡ settled q) → settled (joined o p) ≡ settled (joined o q)
   joined_same (value xs) p q f = settled_second xs p ∙ f refl ∙ sym (settled_second xs q)
   joined_same (absent why) p q f = refl

@@ -7,7 +7,7 @@ use native.Mathlib.Omega.{arith}
 use lib.Dec.{leb, ltb}
 use lib.ListN.{length, drop}
 use borrow.Author.Tests.{le-leb, lt-leb, leb-true, not-true, not-false}
-use Rattle.reads.specs.Outcome.{Outcome, value, number, choose}
+use Rattle.reads.specs.Outcome.{Outcome, value, choose}
 use Rattle.reads.proofs.Tests.{le_same, choose_true, choose_false}
 use Rattle.pointers.specs.Tables.{Tables}
 use Rattle.dispatch.specs.declared.sources.Side.{Side}
@@ -17,9 +17,9 @@ use Rattle.dispatch.specs.declared.effective.Counted.TheVariants as counted
 use Rattle.dispatch.specs.declared.rows.Position.{Position}
 use Rattle.dispatch.specs.declared.rows.Next.{Next}
 use Rattle.dispatch.specs.declared.rows.Next.TheVariants as next
-use Rattle.dispatch.specs.Appearances.{Rows, ended, refused, also}
+use Rattle.dispatch.specs.Appearances.{Rows, ended, also}
 use Rattle.dispatch.specs.Dispatch.{same_selector, comes_before, has_earlier, firsts, standing_for, effective_of, words, filled}
-use Rattle.dispatch.specs.Position.{ahead, weight, NextFrom}
+use Rattle.dispatch.specs.Position.{ahead, NextFrom}
 use Rattle.dispatch.specs.Claims.{In, bytes_of, Ordered, ordered_next}
 use Rattle.dispatch.specs.Table.{marks, note, note_all, Holds, Noted, Origins, Named}
 use Rattle.dispatch.specs.Written.{few_rows, few_firsts, CountedAll, Tabled, WroteAll}
@@ -55,10 +55,6 @@ module _ (files : List (List ℕ)) (all : List Appearance) (a : Appearance) (mor
   unfolding firsts
   first_new e = choose_false _ _ e
 
-firsts_none : (files : List (List ℕ)) (all : List Appearance) → firsts files all [] ≡ []
-unfolding firsts
-firsts_none files all = refl
-
 pub length_standing : (files : List (List ℕ)) (all rows : List Appearance) → length (standing_for files all rows) ≡ length rows
 unfolding standing_for
 length_standing files all [] = refl
@@ -67,11 +63,6 @@ length_standing files all (a ∷ more) = ap suc (length_standing files all more)
 pub length_effective : (files : List (List ℕ)) (rows : List Appearance) → length (effective_of files rows) ≡ length (firsts files rows rows)
 unfolding effective_of
 length_effective files rows = length_standing files rows (firsts files rows rows)
-
-pub length_words : (rows : List Appearance) → length (words rows) ≡ 4 * length rows
-unfolding words
-length_words [] = refl
-length_words (a ∷ more) = omega (arith, length_words more)
 
 pub firsts_few : (files : List (List ℕ)) (all rows : List Appearance) → length (firsts files all rows) ≤ length rows
 unfolding firsts choose
@@ -167,9 +158,6 @@ module _ {t : Tables} {s : Side} {class : ℕ} {p q : Position} {r : Next} (h : 
   was : {x : Next} → r ≡ x → NextFrom t s class p q x
   was e = subst (λ (x : Next). NextFrom t s class p q x) e h
 
-  pub row_lighter : {b : Appearance} → r ≡ next.Row b → weight t q < weight t p
-  row_lighter g = (was g).comes.1
-
   -- The rows after a row come after it.
   rows_after : {b : Appearance} → r ≡ next.Row b → (x : Appearance) → In x (ahead t s class q).rows → comes_before b x ≡ true
   rows_after g = first_before (subst (λ (l : Rows). Ordered l.rows) (was g).comes.0 (ahead_ordered t s class p))
@@ -194,9 +182,6 @@ module _ {t : Tables} {s : Side} {class : ℕ} {p q : Position} {r : Next} (h : 
     by_end : r ≡ next.End → f ended ≡ e
     by_end g = ap f (sym (was g).comes) ∙ i
 
-    by_refused : {k : ℕ} → r ≡ next.Refused k → f (refused k) ≡ e
-    by_refused g = ap f (sym (was g).comes) ∙ i
-
   -- The end.
   module _ {e : Outcome (Unit {0})} (i : (ahead t s class p).end ≡ e) where
     pub end_row : {b : Appearance} → r ≡ next.Row b → (ahead t s class q).end ≡ e
@@ -204,9 +189,6 @@ module _ {t : Tables} {s : Side} {class : ℕ} {p q : Position} {r : Next} (h : 
 
     pub end_end : r ≡ next.End → value tt ≡ e
     end_end g = by_end (λ l. l.end) i g
-
-    pub end_refused : {k : ℕ} → r ≡ next.Refused k → number k ≡ e
-    end_refused g = by_refused (λ l. l.end) i g
 
   -- An earlier row with a's selector.
   module _ (files : List (List ℕ)) (a : Appearance) {e : Bool} (i : has_earlier files a (ahead t s class p).rows ≡ e) where

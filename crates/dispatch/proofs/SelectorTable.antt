@@ -108,9 +108,6 @@ module _ (files : List (List ℕ)) where
   abbrev pub Seek : List ℕ → ℕ → Text → ℕ → Type 0
   Seek result count s j = (old : List ℕ) (table : List Appearance) → Holds old table count result → j + position files s (drop j table) ≡ position files s table
 
-  pub seek_start : (result : List ℕ) (count : ℕ) (s : Text) → Seek result count s 0
-  seek_start result count s old table h = omega arith
-
   module _ (result : List ℕ) (count : ℕ) (s : Text) (j : ℕ) (seek : Seek result count s j) where
     module _ (l : j < count) {y : Bool} (t : y ≡ same_selector files (text_of (get_or result (4 * j) 0) (get_or result (4 * j + 1) 0) (get_or result (4 * j + 2) 0)) s) where
       entry_test : (old : List ℕ) (table : List Appearance) → Holds old table count result → same_selector files (get_or table j no_row).selector s ≡ y

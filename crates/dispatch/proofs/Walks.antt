@@ -28,14 +28,11 @@ use Rattle.dispatch.specs.declared.rows.AppearanceAnswer.TheVariants as answer
 use Rattle.dispatch.specs.declared.rows.Position.{Position}
 use Rattle.dispatch.specs.declared.rows.Entered.{Entered}
 use Rattle.dispatch.specs.declared.rows.Entered.TheVariants as entered
-use Rattle.dispatch.specs.declared.rows.Next.TheVariants as next
-use Rattle.dispatch.specs.declared.rows.Reached.{Reached}
-use Rattle.dispatch.specs.declared.rows.Step.{Step}
 use Rattle.dispatch.specs.declared.rows.Step.TheVariants as step
 use Rattle.dispatch.specs.Sources.{source_outcome}
 use Rattle.dispatch.specs.SlotSources.{slot_source, slot_rows, slot_total}
 use Rattle.dispatch.specs.Appearances.{Rows, adding, appearance_outcome, appearing, appearance, entry_rows, list_rows, source_rows}
-use Rattle.dispatch.specs.Position.{moved_to, nowhere, in_list, ahead, weight, EnteredAt, SteppedFrom, NextFrom}
+use Rattle.dispatch.specs.Position.{moved_to, nowhere, in_list, ahead, weight, EnteredAt, SteppedFrom}
 
 -- Entering source n.
 module _ (t : Tables) (n : ℕ) where
@@ -60,9 +57,6 @@ module _ (t : Tables) (n : ℕ) where
     enter_list_refused g h = record { came = λ rest. rw (← e, g, h) }
 
   module _ {a : SourceAnswer} where
-    pub enter_source : {s : Source} {r : Entered} → a ≡ sources.Source s → EnteredAt t n (value s) r → EnteredAt t n (source_outcome a) r
-    enter_source g h = rw g h
-
     pub enter_absent : {m : Missing} {why : Reason} {p : Position} → a ≡ sources.Missing m → m ≡ Absent why → p ≡ nowhere n → EnteredAt t n (source_outcome a) (entered.At p)
     unfolding source_rows
     enter_absent {why = why} g h e = rw (g, h) (empty (absent why) (λ rest. refl) e)
@@ -137,25 +131,3 @@ pub appearance_of : (t : Tables) (n origin : ℕ) (h : Layout) (j : ℕ) (r : Ap
     → appearance_outcome r ≡ and_then (row_outcome a) (appearing n origin j) → row_outcome a ≡ row_at t h.kind (entry_address h j) → appearance_outcome r ≡ appearance t n origin h j
 unfolding appearance
 appearance_of t n origin h j r a e g = e ∙ ap (λ o. and_then o (appearing n origin j)) g
-
--- The next row, from a position with the same rows ahead on.
-module _ {t : Tables} {s : Side} {class : ℕ} {p : Position} {r : Step} (h : SteppedFrom t s class p r) where
-  stepped : {q : Step} → r ≡ q → SteppedFrom t s class p q
-  stepped e = subst (λ (x : Step). SteppedFrom t s class p x) e h
-
-  pub on_lighter : {q : Position} → r ≡ step.Passed q → weight t q < weight t p
-  on_lighter e = (stepped e).went.1
-
-module _ {t : Tables} {s : Side} {class : ℕ} (p₀ : Position) {p : Position} (same : ahead t s class p₀ ≡ ahead t s class p) (heavier : weight t p ≤ weight t p₀)
-    {r : Step} (h : SteppedFrom t s class p r) where
-  pub on_same : {q : Position} → r ≡ step.Passed q → (ahead t s class p₀ ≡ ahead t s class q) × (weight t q ≤ weight t p₀)
-  on_same e = let w = (stepped h e).went in (same ∙ w.0, omega (arith, w.1, heavier))
-
-  pub on_row : {x : Reached} → r ≡ step.Row x → NextFrom t s class p₀ x.next (next.Row x.row)
-  on_row e = let w = (stepped h e).went in record { comes = (same ∙ w.0, omega (arith, w.1, heavier)) }
-
-  pub on_end : r ≡ step.End → NextFrom t s class p₀ p next.End
-  on_end e = record { comes = same ∙ (stepped h e).went }
-
-  pub on_refused : {k : ℕ} → r ≡ step.Refused k → NextFrom t s class p₀ p (next.Refused k)
-  on_refused e = record { comes = same ∙ (stepped h e).went }
