@@ -1,5 +1,6 @@
 -- Laws that the proofs of printing share.
 pub mod Puts
+pub mod Tags
 pub mod NumberTexts
 pub mod TextFields
 pub mod LineCases

@@ -1,6 +1,6 @@
 -- What the code's progress means: at the start, after a step, and by what was said.
 use Prim.Native.Nat.{ℕ, ◌+◌, ◌-◌, ◌^◌, ◌<◌}
-use mathlib.Core.Path.{◌≡◌, sym, ap}
+use mathlib.Core.Path.{◌≡◌, ap}
 use mathlib.Core.Bool.{true, false}
 use mathlib.Core.List.{List, [], ◌∷◌}
 use native.Mathlib.Omega.{arith}
@@ -30,12 +30,13 @@ use Rattle.marking.specs.declared.framed.FramedAnswer.{FramedAnswer}
 use Rattle.marking.specs.declared.framed.FramedAnswer.TheVariants as framed
 use Rattle.marking.specs.declared.marked_listing.MarkedListed.{MarkedListed}
 use Rattle.marking.specs.declared.marked_listing.MarkedListing.{MarkedListing}
-use Rattle.printing.specs.Buffer.{Buffer, put_all}
+use Rattle.printing.specs.Buffer.{Puts}
+use Rattle.printing.specs.declared.buffer.Out.{Out}
 use Rattle.printing.specs.LineText.{line_text, refused_text}
 use Rattle.printing.specs.Pieces.{said_text, Standing, standing, stepped, begun, further, with_files, listable}
 use Rattle.printing.specs.declared.pieces.Piece.{Piece}
 use Rattle.printing.specs.declared.pieces.Progress.{Progress}
-use Rattle.printing.proofs.Puts.{put_empty}
+use Rattle.printing.proofs.Puts.{puts_nothing}
 
 -- The start, by opening's answer.
 pub begun_framed : {u : Setting} (a : FramedAnswer) (f : Framed) → a ≡ framed.Framed f → (s : MarkedListing) → marking_of s ≡ marked_start u f.frames
@@ -59,22 +60,22 @@ pub stepped_by : (t : Tables) (s : MarkedListing) (l m : List ℕ) (r : MarkedLi
 stepped_by t s l m r o n e = ap (λ (x : MarkedLeft). standing x.answer 0 x.state x.ledger) e
 
 -- The text of what was said.
-module _ (files : List (List ℕ)) (x : Said) (s u : Buffer) where
-  pub said_line : (y : Line) → x ≡ said.Line y → u ≡ put_all s (line_text files y) → u ≡ put_all s (said_text files (said_of x))
+module _ (files : List (List ℕ)) (x : Said) (o p : Out) where
+  pub said_line : (y : Line) → x ≡ said.Line y → Puts o (line_text files y) p → Puts o (said_text files (said_of x)) p
   said_line y g e = rw g e
 
-  pub said_refused : (k : ℕ) → x ≡ said.Refused k → u ≡ put_all s (refused_text k) → u ≡ put_all s (said_text files (said_of x))
+  pub said_refused : (k : ℕ) → x ≡ said.Refused k → Puts o (refused_text k) p → Puts o (said_text files (said_of x)) p
   said_refused k g e = rw g e
 
-module _ (files : List (List ℕ)) (x : Said) (s : Buffer) where
-  pub said_absent : (y : Absence) → x ≡ said.Absent y → s ≡ put_all s (said_text files (said_of x))
-  said_absent y g = rw g (sym (put_empty s))
+module _ (files : List (List ℕ)) (x : Said) (o : Out) where
+  pub said_absent : (y : Absence) → x ≡ said.Absent y → Puts o (said_text files (said_of x)) o
+  said_absent y g = rw g (puts_nothing o)
 
-  pub said_nothing : x ≡ said.Nothing → s ≡ put_all s (said_text files (said_of x))
-  said_nothing g = rw g (sym (put_empty s))
+  pub said_nothing : x ≡ said.Nothing → Puts o (said_text files (said_of x)) o
+  said_nothing g = rw g (puts_nothing o)
 
-  pub said_ended : x ≡ said.Ended → s ≡ put_all s (said_text files (said_of x))
-  said_ended g = rw g (sym (put_empty s))
+  pub said_ended : x ≡ said.Ended → Puts o (said_text files (said_of x)) o
+  said_ended g = rw g (puts_nothing o)
 
 -- As many bytes more are out as the buffer took.
 pub further_by : (p : Progress) (at len k : ℕ) → len ≡ at + k

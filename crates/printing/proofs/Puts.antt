@@ -4,13 +4,15 @@ use mathlib.Core.Path.{◌≡◌, refl, sym, ap, ◌∙◌}
 use mathlib.Core.Bool.{Bool, true, false}
 use mathlib.Core.List.{List, [], ◌∷◌, ◌++◌, append_assoc, append-nil}
 use native.Mathlib.Nat.{zero-sub, sub-zero, suc-sub-suc, add-zero, add_assoc}
-use native.Mathlib.Numerals.{add-one}
 use native.Mathlib.Omega.{arith}
 use lib.Dec.{leb}
-use lib.ListN.{length, get_or, take, drop, set, length-append, length-drop}
-use lib.Seq.{paste, paste-zero, paste-suc, get_or-drop, length-paste, take-paste, drop-paste, take-append-le, take-append-add, take-length, drop-drop}
+use borrow.Rule.Slice.PartMut.{put_mid}
+use lib.ListN.{length, take, drop, length-append, length-take, length-drop}
+use lib.Seq.{paste, paste-zero, length-paste, take-take, take-paste, drop-paste, take-append-le, take-append-add, take-length, drop-drop}
 use borrow.Author.Tests.{leb-true, leb-false}
-use Rattle.printing.specs.Buffer.{Buffer, held, fitting, put_all}
+use Rattle.std.proofs.lemmas.Slice.{put_mid-paste}
+use Rattle.printing.specs.Buffer.{Buffer, held, buffer, fitting, put_all, Puts}
+use Rattle.printing.specs.declared.buffer.Out.{Out}
 
 -- What is left of one text and then another without their first n bytes.
 pub drop_append : (n : ℕ) (xs ys : List ℕ) → drop n (xs ++ ys) ≡ drop n xs ++ drop (n - length xs) ys
@@ -41,12 +43,6 @@ paste_both d xs ys at a b l h f =
 held_same : {b d : List ℕ} {k m a c : ℕ} → b ≡ d → k ≡ m → a ≡ c → held b k a ≡ held d m c
 held_same e f g = rw (e, f, g)
 
--- A turn of the copy.
-pub copy_more : (src d e : List ℕ) (from to i : ℕ) → from + i < length src → to + i < length d → e ≡ paste d to (drop from src) i
-    → set e (to + i) (get_or src (from + i) 0) ≡ paste d to (drop from src) (i + 1)
-copy_more src d e from to i h g p =
-    rw (p, ← get_or-drop from src i 0, add-one) (paste-suc d to (drop from src) i 0 g (simp length-drop (omega arith)))
-
 -- Nothing goes in where all is passed over or there is no room.
 pub put_none : (d text : List ℕ) (skip at : ℕ) → fitting (held d skip at) text ≡ 0 → put_all (held d skip at) text ≡ held d (skip - length text) at
 unfolding put_all
@@ -66,10 +62,22 @@ module _ (d text : List ℕ) (skip at : ℕ) where
   pub put_full : skip ≤ length text → length d ≤ at → held d 0 at ≡ put_all (held d skip at) text
   put_full h g = sym (put_none d text skip at (omega arith) ∙ held_same refl (omega arith) refl)
 
-  pub put_part : (e : List ℕ) (n : ℕ) → skip ≤ length text → n ≡ min (length d - at) (length text - skip)
+  put_part : (e : List ℕ) (n : ℕ) → skip ≤ length text → n ≡ min (length d - at) (length text - skip)
       → e ≡ paste d at (drop skip text) n → held e 0 (at + n) ≡ put_all (held d skip at) text
   unfolding put_all
   put_part e n h f g = rw (g, f) (held_same refl (omega arith) refl)
+
+  -- The part is copied over those bytes of the buffer.
+  pub put_copied : (e : List ℕ) (n : ℕ) → skip ≤ length text → at ≤ length d → n ≡ min (length text - skip) (length d - at)
+      → e ≡ take n (take (length text - skip) (drop skip text)) → held (put_mid at (at + n - at) d e) 0 (at + n) ≡ put_all (held d skip at) text
+  put_copied e n h g f p =
+      let left : List ℕ = drop skip text in
+      let short : n ≤ length text - skip = omega arith in
+      let copied : e ≡ take n left = p ∙ take-take n (length text - skip) left short in
+      let long : n ≡ length (take n left) = simp (length-take, length-drop) (omega arith) in
+      put_part (put_mid at (at + n - at) d e) n h (omega arith)
+      (put_mid-paste at (at + n - at) d e (take n left) n copied (omega arith) long
+      ∙ ap (λ (l : List ℕ). take at d ++ l ++ drop (at + n) d) (take-take n n left (omega arith)))
 
 -- The two numbers and the bytes of a buffer that took a text.
 module _ (s : Buffer) (text : List ℕ) (u : Buffer) (e : u ≡ put_all s text) where
@@ -142,6 +150,13 @@ put_then s xs ys = go (leb s.at (length s.bytes)) refl
     go true e = put_then_held s.bytes xs ys s.skip s.at (leb-true s.at (length s.bytes) e)
     go false e = put_then_full s.bytes xs ys s.skip s.at (leb-false s.at (length s.bytes) e)
 
--- One text and then another.
-pub then_put : {t u : Buffer} (s : Buffer) (xs ys : List ℕ) → t ≡ put_all s xs → u ≡ put_all t ys → u ≡ put_all s (xs ++ ys)
-then_put s xs ys e f = f ∙ ap (λ (v : Buffer). put_all v ys) e ∙ sym (put_then s xs ys)
+-- One text and then another, no text, and a text said otherwise.
+pub puts_then : {o p q : Out} {xs ys : List ℕ} → Puts o xs p → Puts p ys q → Puts o (xs ++ ys) q
+puts_then {o} {xs = xs} {ys} e f =
+    record { same = f.same ∙ e.same; put = f.put ∙ ap (λ (v : Buffer). put_all v ys) e.put ∙ sym (put_then (buffer o) xs ys) }
+
+pub puts_nothing : (o : Out) → Puts o [] o
+puts_nothing o = record { same = refl; put = sym (put_empty (buffer o)) }
+
+pub puts_same : {o p : Out} {xs ys : List ℕ} → xs ≡ ys → Puts o xs p → Puts o ys p
+puts_same e f = rw (← e) f

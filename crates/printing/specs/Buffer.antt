@@ -1,9 +1,9 @@
 -- A lent buffer that takes a part of a text, and numbers as text.
-use Rattle.std.specs.Prelude.{ℕ, zero, suc, ◌+◌, ◌-◌, ◌/◌, min, List, ltb, length, drop}
+use Rattle.std.specs.Prelude.{◌≡◌, ℕ, zero, suc, ◌+◌, ◌-◌, ◌/◌, min, List, ltb, length, drop}
 use Rattle.std.proofs.Math.Seq.{paste}
 use Rattle.io.specs.Digits.{last_digits}
 use Rattle.reads.specs.Outcome.{choose}
-use Rattle.printing.specs.declared.buffer.Window.{Window}
+use Rattle.printing.specs.declared.buffer.Out.{Out}
 
 -- The buffer's bytes, how many bytes of the text to come are passed over, and how many bytes of the buffer are taken.
 pub record Buffer : Type 0 where
@@ -14,8 +14,8 @@ pub record Buffer : Type 0 where
 abbrev pub held : List ℕ → ℕ → ℕ → Buffer
 held bytes skip at = record { bytes = bytes; skip = skip; at = at }
 
-abbrev pub buffer : List ℕ → Window → Buffer
-buffer bytes w = held bytes w.skip w.at
+abbrev pub buffer : Out → Buffer
+buffer o = held o.to.now o.skip o.at
 
 -- How many bytes of a text go in: those after the ones that are passed over, as far as there is room.
 abbrev pub fitting : Buffer → List ℕ → ℕ
@@ -28,6 +28,11 @@ put_all s text =
     (paste s.bytes s.at (drop s.skip text) (fitting s text))
     (s.skip - length text)
     (s.at + fitting s text)
+
+-- What is done to a lent buffer that takes a text: it is the same buffer.
+pub record Puts (o : Out) (text : List ℕ) (p : Out) : Type 0 where
+  pub same : p.to.ghost_name ≡ o.to.ghost_name
+  pub put : buffer p ≡ put_all (buffer o) text
 
 -- The digits that a number takes in base b, at least one; k bounds those after the first.
 unfoldable pub places : ℕ → ℕ → ℕ → ℕ

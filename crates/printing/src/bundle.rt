@@ -10,7 +10,6 @@ ghost use Rattle.printing.specs.BundleText.{index_words};
 ghost use Rattle.printing.specs.BundleLent.{table_words, words_after, tables_over, tables_in, opening_in, index_after, tables_lent};
 ghost use Rattle.printing.specs.Pieces.{standing_of, to_come, handed_of, piece_of};
 
-use crate::buffer::least;
 use crate::pieces::{Piece, Progress};
 use listing::bundle::{Counts, CountsAnswer, measure, ranges_of, words_at};
 use marking::framed::{FramedAnswer, open_framed};
@@ -50,7 +49,7 @@ pub fn decode(input: &[u8; 32769], n: usize, words: &mut [u64; 4096]) -> CountsA
     ensures contents { words.new ≡ words_after (take n (before input)) words.old }
 {
     let all: &[u8] = input;
-    let end = least(n, all.len());
+    let end = n.min(all.len());
     decode_bytes(&all[0..end], words)
 }
 
@@ -135,7 +134,7 @@ pub fn open(
     ensures contents { index.new ≡ index_after (take n (before input)) (before words) index.old }
 {
     let all: &[u8] = input;
-    let end = least(n, all.len());
+    let end = n.min(all.len());
     open_bytes(&all[0..end], words, index)
 }
 
@@ -260,6 +259,6 @@ pub fn next_piece(
         to_come t (standing_of result.progress ledger.new) ≡ drop 4096 (to_come t (standing_of progress ledger.old)) }
 {
     let all: &[u8] = input;
-    let end = least(n, all.len());
+    let end = n.min(all.len());
     piece_bytes(progress, &all[0..end], words, index, ledger, out)
 }

@@ -7,11 +7,10 @@ ghost use Rattle.pointers.specs.Tables.{lent, reading_new, reading_under};
 ghost use Rattle.listing.specs.ListingAnswer.{said_of};
 ghost use Rattle.listing.proofs.Remaining.{goes_on};
 ghost use Rattle.marking.specs.Framed.{framed_outcome};
-ghost use Rattle.printing.specs.Buffer.{buffer, put_all};
+ghost use Rattle.printing.specs.Buffer.{Puts};
 ghost use Rattle.printing.specs.Pieces.{said_text, standing_of, stepped, begun, refusing, to_come, handed_of, piece_of, fits, further, listable};
 
-use crate::buffer::Window;
-use crate::print;
+use crate::buffer::Out;
 use frames::frames::Frames;
 use listing::listing::Said;
 use marking::framed::FramedAnswer;
@@ -38,15 +37,15 @@ pub struct Piece {
 }
 
 // The text of what a step said.
-fn said_text(files: &[&[u8]], said: Said, out: &mut [u8], w: Window) -> Window
-    ensures { buffer out.new result ≡ put_all (buffer out.old w) (said_text (files_of files) (said_of said)) }
+fn said_text(files: &[&[u8]], said: Said, out: &mut Out)
+    ensures { Puts out.old (said_text (files_of files) (said_of said)) out.new }
 {
     match said {
-        Said::Line(line) => print::line(files, line, out, w),
-        Said::Absent(_) => w,
-        Said::Nothing => w,
-        Said::Ended => w,
-        Said::Refused(k) => print::refused(k, out, w),
+        Said::Line(line) => out.line(files, line),
+        Said::Absent(_) => {}
+        Said::Nothing => {}
+        Said::Ended => {}
+        Said::Refused(k) => out.refused(k),
     }
 }
 
@@ -165,8 +164,9 @@ impl Progress {
         let said = self.said;
         let skip = self.out;
         let listing = self.listing;
-        let w = said_text(files, said, out, Window { skip, at });
-        let len = w.at;
+        let mut taker = Out { to: out, skip, at };
+        said_text(files, said, &mut taker);
+        let len = taker.at;
         Piece {
             len,
             progress: Progress {
