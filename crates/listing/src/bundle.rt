@@ -152,11 +152,8 @@ pub fn words_at(bundle: &[u8], offset: usize, to: &mut [u64])
     ensures { to.new ≡ words_from (before bundle) offset (length to.old) }
 {
     let from = offset as u64;
-    let mut i = 0;
-    while i < to.len() {
-        let past = (8 * i) as u64;
-        to[i] = u64_from(bundle, from, past);
-        i += 1;
+    for (i, word) in to.iter_mut().enumerate() {
+        *word = u64_from(bundle, from, (8 * i) as u64);
     }
 }
 
@@ -164,12 +161,10 @@ pub fn words_at(bundle: &[u8], offset: usize, to: &mut [u64])
 fn counts_fit(bundle: &[u8]) -> bool
     ensures { result ≡ counts_fit (before bundle) }
 {
-    let mut k = 0;
-    while k < COUNTS {
+    for k in 0..COUNTS {
         if word_at(bundle, 8 * k) > LONGEST {
             return false;
         }
-        k += 1;
     }
     true
 }

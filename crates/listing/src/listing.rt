@@ -91,7 +91,7 @@ fn carried(high: u64, low: u64) -> u64
     ensures { result ≡ carried high low }
 {
     if low == 0 {
-        return std::num::wrapping_add_u64(high, 1);
+        return high.wrapping_add(1);
     }
     high
 }
@@ -137,30 +137,17 @@ impl Listing {
     fn go_to(self, at: At) -> Listing
         ensures { state_of result ≡ go_to (state_of self) at }
     {
-        let section = self.section;
-        let setting = self.setting;
-        Listing {
-            setting,
-            at,
-            section,
-            records: self.records,
-            settled_high: self.settled_high,
-            settled_low: self.settled_low,
-        }
+        Listing { at, ..self }
     }
 
     // At another place, with another section walk.
     fn in_section(self, at: At, section: Section) -> Listing
         ensures { state_of result ≡ in_section (state_of self) at (section_walk_of section) }
     {
-        let setting = self.setting;
         Listing {
-            setting,
             at,
             section,
-            records: self.records,
-            settled_high: self.settled_high,
-            settled_low: self.settled_low,
+            ..self
         }
     }
 
@@ -168,15 +155,10 @@ impl Listing {
     fn with_record(self, at: At) -> Listing
         ensures { state_of result ≡ with_record (state_of self) at }
     {
-        let section = self.section;
-        let setting = self.setting;
         Listing {
-            setting,
             at,
-            section,
-            records: std::num::wrapping_add_u64(self.records, 1),
-            settled_high: self.settled_high,
-            settled_low: self.settled_low,
+            records: self.records.wrapping_add(1),
+            ..self
         }
     }
 
@@ -184,16 +166,12 @@ impl Listing {
     fn with_entry(self, at: At) -> Listing
         ensures { state_of result ≡ with_entry (state_of self) at }
     {
-        let section = self.section;
-        let setting = self.setting;
-        let settled_low = std::num::wrapping_add_u64(self.settled_low, 1);
+        let settled_low = self.settled_low.wrapping_add(1);
         Listing {
-            setting,
             at,
-            section,
-            records: self.records,
             settled_high: carried(self.settled_high, settled_low),
             settled_low,
+            ..self
         }
     }
 

@@ -106,42 +106,21 @@ impl Section {
     fn with_classes(self, classes: ClassWalk) -> Section
         ensures { section_walk_of result ≡ with_classes (section_walk_of self) (class_begun classes) }
     {
-        let protocols = self.protocols;
-        let categories = self.categories;
-        Section {
-            stage: self.stage,
-            classes,
-            protocols,
-            categories,
-        }
+        Section { classes, ..self }
     }
 
     // Another protocol walk.
     fn with_protocols(self, protocols: ProtocolWalk) -> Section
         ensures { section_walk_of result ≡ with_protocols (section_walk_of self) (protocol_begun protocols) }
     {
-        let classes = self.classes;
-        let categories = self.categories;
-        Section {
-            stage: self.stage,
-            classes,
-            protocols,
-            categories,
-        }
+        Section { protocols, ..self }
     }
 
     // Another category walk.
     fn with_categories(self, categories: CategoryWalk) -> Section
         ensures { section_walk_of result ≡ with_categories (section_walk_of self) (category_begun categories) }
     {
-        let classes = self.classes;
-        let protocols = self.protocols;
-        Section {
-            stage: self.stage,
-            classes,
-            protocols,
-            categories,
-        }
+        Section { categories, ..self }
     }
 
     // A step of the class walk.

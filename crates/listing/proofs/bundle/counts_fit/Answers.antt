@@ -6,15 +6,15 @@ use Rattle.listing.proofs.bundle.counts_fit.Goals as goal
 
 pub loop-k-init : goal.loop-k-init
 unfolding every
-loop-k-init c = (omega arith, refl)
+loop-k-init c = refl
 
 pub returns-then-word_at-gt-LONGEST : goal.returns-then-word_at-gt-LONGEST
-returns-then-word_at-gt-LONGEST c = every_fails _ _ _ c.loop-k-test.true (count_over _ _ _ c.word_at.ensures c.if-word_at-gt-LONGEST.true)
+returns-then-word_at-gt-LONGEST c = every_fails _ _ _ (omega arith) (count_over _ _ _ c.word_at.ensures c.if-word_at-gt-LONGEST.true)
 
 pub loop-k-preserved : goal.loop-k-preserved
-loop-k-preserved c = (omega arith, every_more _ _ c.loop-k.invariant.1 (count_within _ _ _ c.word_at.ensures c.if-word_at-gt-LONGEST.false))
+loop-k-preserved c = every_more _ _ c.loop-k.invariant (count_within _ _ _ c.word_at.ensures c.if-word_at-gt-LONGEST.false)
 
 pub returns : goal.returns
 returns c =
     let past : c.loop-k.k ≡ 7 = omega arith in
-    sym (rw past at c.loop-k.invariant.1)
+    sym (rw past at c.loop-k.invariant)

@@ -3,4 +3,4 @@ use Rattle.listing.proofs.TwoWords.{one_more}
 use Rattle.listing.proofs.listing.Listing.with_entry.Goals as goal
 
 pub returns : goal.returns
-returns c = rw (c.carried.ensures, c.wrapping_add_u64-settled_low.ensures.value, one_more c.args.self.settled_high c.args.self.settled_low (omega arith) (omega arith))
+returns c = rw (c.carried.ensures, one_more c.args.self.settled_high c.args.self.settled_low (omega arith) (omega arith))
