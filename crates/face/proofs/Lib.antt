@@ -2,4 +2,5 @@
 pub mod Told
 pub mod Settings
 pub mod Copies
+pub mod Codes
 pub mod RowLaws

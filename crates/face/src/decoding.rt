@@ -12,7 +12,7 @@ ghost use Rattle.face.specs.Decoding.{class_told, ro_told, protocol_told, catego
 
 use crate::status::Status;
 use crate::words::{CategoryWords, ClassWords, ProtocolWords, RoWords, TextWords, setting_in};
-use reads::text::{Text, TextAnswer};
+use reads::text::TextAnswer;
 use records::calls::{decode_category, decode_class, decode_class_name, decode_protocol};
 use records::category::{CategoryAnswer, ObjcCategory};
 use records::class::{ClassAnswer, ClassRoAnswer, ObjcClass};
@@ -63,16 +63,18 @@ impl ClassTold {
             cls: ClassWords::none(),
         }
     }
+}
 
-    fn of(answer: ClassAnswer) -> ClassTold
-        ensures { result ≡ class_told (given (class_outcome answer)) }
-    {
+impl From<ClassAnswer> for ClassTold {
+    ghost from_gives = { λ x w. w ≡ class_told (given (class_outcome x)) };
+
+    fn from(answer: ClassAnswer) -> ClassTold {
         match answer {
             ClassAnswer::Class(x) => ClassTold {
                 status: Status::found(),
-                cls: ClassWords::of(x),
+                cls: ClassWords::from(x),
             },
-            ClassAnswer::Missing(m) => ClassTold::none(Status::missing(m)),
+            ClassAnswer::Missing(m) => ClassTold::none(Status::from(m)),
         }
     }
 }
@@ -87,16 +89,18 @@ impl RoTold {
             ro: RoWords::none(),
         }
     }
+}
 
-    fn of(answer: ClassRoAnswer) -> RoTold
-        ensures { result ≡ ro_told (given (class_ro_outcome answer)) }
-    {
+impl From<ClassRoAnswer> for RoTold {
+    ghost from_gives = { λ x w. w ≡ ro_told (given (class_ro_outcome x)) };
+
+    fn from(answer: ClassRoAnswer) -> RoTold {
         match answer {
             ClassRoAnswer::Ro(x) => RoTold {
                 status: Status::found(),
-                ro: RoWords::of(x),
+                ro: RoWords::from(x),
             },
-            ClassRoAnswer::Missing(m) => RoTold::none(Status::missing(m)),
+            ClassRoAnswer::Missing(m) => RoTold::none(Status::from(m)),
         }
     }
 }
@@ -111,16 +115,18 @@ impl ProtocolTold {
             protocol: ProtocolWords::none(),
         }
     }
+}
 
-    fn of(answer: ProtocolAnswer) -> ProtocolTold
-        ensures { result ≡ protocol_told (given (protocol_outcome answer)) }
-    {
+impl From<ProtocolAnswer> for ProtocolTold {
+    ghost from_gives = { λ x w. w ≡ protocol_told (given (protocol_outcome x)) };
+
+    fn from(answer: ProtocolAnswer) -> ProtocolTold {
         match answer {
             ProtocolAnswer::Protocol(x) => ProtocolTold {
                 status: Status::found(),
-                protocol: ProtocolWords::of(x),
+                protocol: ProtocolWords::from(x),
             },
-            ProtocolAnswer::Missing(m) => ProtocolTold::none(Status::missing(m)),
+            ProtocolAnswer::Missing(m) => ProtocolTold::none(Status::from(m)),
         }
     }
 }
@@ -135,16 +141,18 @@ impl CategoryTold {
             category: CategoryWords::none(),
         }
     }
+}
 
-    fn of(answer: CategoryAnswer) -> CategoryTold
-        ensures { result ≡ category_told (given (category_outcome answer)) }
-    {
+impl From<CategoryAnswer> for CategoryTold {
+    ghost from_gives = { λ x w. w ≡ category_told (given (category_outcome x)) };
+
+    fn from(answer: CategoryAnswer) -> CategoryTold {
         match answer {
             CategoryAnswer::Category(x) => CategoryTold {
                 status: Status::found(),
-                category: CategoryWords::of(x),
+                category: CategoryWords::from(x),
             },
-            CategoryAnswer::Missing(m) => CategoryTold::none(Status::missing(m)),
+            CategoryAnswer::Missing(m) => CategoryTold::none(Status::from(m)),
         }
     }
 }
@@ -159,16 +167,18 @@ impl NameTold {
             name: TextWords::none(),
         }
     }
+}
 
-    fn of(answer: TextAnswer) -> NameTold
-        ensures { result ≡ name_told (given (text_outcome answer)) }
-    {
+impl From<TextAnswer> for NameTold {
+    ghost from_gives = { λ x w. w ≡ name_told (given (text_outcome x)) };
+
+    fn from(answer: TextAnswer) -> NameTold {
         match answer {
             TextAnswer::Found(x) => NameTold {
                 status: Status::found(),
-                name: TextWords::of(x),
+                name: TextWords::from(x),
             },
-            TextAnswer::Missing(m) => NameTold::none(Status::missing(m)),
+            TextAnswer::Missing(m) => NameTold::none(Status::from(m)),
         }
     }
 }
@@ -203,7 +213,7 @@ pub extern "C" fn objclist_class(
         address,
         is_meta != 0,
     );
-    ClassTold::of(answer)
+    ClassTold::from(answer)
 }
 
 // The class_ro_t of a class.
@@ -223,17 +233,11 @@ pub extern "C" fn objclist_class_ro(
         result ≡ ro_told (given (guarded t (ro_of t (class_in cls)))) }
 {
     let setting = setting_in(old_reading);
-    let class = ObjcClass {
-        address: cls.address,
-        isa: cls.isa,
-        superclass_address: cls.superclass_address,
-        bits: cls.bits,
-        is_meta: cls.is_meta != 0,
-    };
+    let class = ObjcClass::from(cls);
     let answer = class.ro(
         files, segments, sections, info, rebases, binds, index, setting,
     );
-    RoTold::of(answer)
+    RoTold::from(answer)
 }
 
 // The name of the class at an address.
@@ -256,7 +260,7 @@ pub extern "C" fn objclist_class_name(
     let answer = decode_class_name(
         files, segments, sections, info, rebases, binds, index, setting, address,
     );
-    NameTold::of(answer)
+    NameTold::from(answer)
 }
 
 // The name of a class's superclass: decoded, or by its bind.
@@ -276,17 +280,11 @@ pub extern "C" fn objclist_superclass_name(
         result ≡ name_told (given (guarded t (superclass_name t (class_in cls)))) }
 {
     let setting = setting_in(old_reading);
-    let class = ObjcClass {
-        address: cls.address,
-        isa: cls.isa,
-        superclass_address: cls.superclass_address,
-        bits: cls.bits,
-        is_meta: cls.is_meta != 0,
-    };
+    let class = ObjcClass::from(cls);
     let answer = class.superclass_name(
         files, segments, sections, info, rebases, binds, index, setting,
     );
-    NameTold::of(answer)
+    NameTold::from(answer)
 }
 
 // The protocol at an address.
@@ -309,7 +307,7 @@ pub extern "C" fn objclist_protocol(
     let answer = decode_protocol(
         files, segments, sections, info, rebases, binds, index, setting, address,
     );
-    ProtocolTold::of(answer)
+    ProtocolTold::from(answer)
 }
 
 // The category at an address.
@@ -332,7 +330,7 @@ pub extern "C" fn objclist_category(
     let answer = decode_category(
         files, segments, sections, info, rebases, binds, index, setting, address,
     );
-    CategoryTold::of(answer)
+    CategoryTold::from(answer)
 }
 
 // The name of a category's class: decoded, or by its bind.
@@ -352,23 +350,9 @@ pub extern "C" fn objclist_category_class_name(
         result ≡ name_told (given (guarded t (category_class_name t (category_in category)))) }
 {
     let setting = setting_in(old_reading);
-    let name = category.name;
-    let extended = ObjcCategory {
-        address: category.address,
-        name: Text {
-            file: name.file,
-            offset: name.offset,
-            len: name.len,
-        },
-        class_address: category.class_address,
-        instance_methods: category.instance_methods,
-        class_methods: category.class_methods,
-        protocols: category.protocols,
-        instance_properties: category.instance_properties,
-        class_properties: category.class_properties,
-    };
+    let extended = ObjcCategory::from(category);
     let answer = extended.class_name(
         files, segments, sections, info, rebases, binds, index, setting,
     );
-    NameTold::of(answer)
+    NameTold::from(answer)
 }

@@ -64,34 +64,36 @@ const RECORDS: u64 = 16_777_215;
 // The bytes of a slot of a section.
 const SLOT: u64 = 8;
 
-fn part_words(answer: PartAnswer) -> FilePart
-    ensures { result ≡ part_words answer }
-{
-    match answer {
-        PartAnswer::Found(p) => FilePart {
-            status: 0,
-            number: 0,
-            cputype: p.cputype,
-            cpusubtype: p.cpusubtype,
-            offset: p.offset,
-            size: p.size,
-        },
-        PartAnswer::Absent => FilePart {
-            status: 2,
-            number: 0,
-            cputype: 0,
-            cpusubtype: 0,
-            offset: 0,
-            size: 0,
-        },
-        PartAnswer::Refused(k) => FilePart {
-            status: 1,
-            number: k as u64,
-            cputype: 0,
-            cpusubtype: 0,
-            offset: 0,
-            size: 0,
-        },
+impl From<PartAnswer> for FilePart {
+    ghost from_gives = { λ x w. w ≡ part_words x };
+
+    fn from(answer: PartAnswer) -> FilePart {
+        match answer {
+            PartAnswer::Found(p) => FilePart {
+                status: 0,
+                number: 0,
+                cputype: p.cputype,
+                cpusubtype: p.cpusubtype,
+                offset: p.offset,
+                size: p.size,
+            },
+            PartAnswer::Absent => FilePart {
+                status: 2,
+                number: 0,
+                cputype: 0,
+                cpusubtype: 0,
+                offset: 0,
+                size: 0,
+            },
+            PartAnswer::Refused(k) => FilePart {
+                status: 1,
+                number: k as u64,
+                cputype: 0,
+                cpusubtype: 0,
+                offset: 0,
+                size: 0,
+            },
+        }
     }
 }
 
@@ -100,7 +102,7 @@ fn part_words(answer: PartAnswer) -> FilePart
 pub extern "C" fn objclist_part(file: &[u8]) -> FilePart
     ensures { result ≡ part_words (part_wanted (before file) wanted.Default) }
 {
-    part_words(find_part(file, Wanted::Default))
+    FilePart::from(find_part(file, Wanted::Default))
 }
 
 // The part of an architecture (machine.h); a cpusubtype of 0xffffffff is any.
@@ -112,7 +114,7 @@ pub extern "C" fn objclist_part_of(file: &[u8], cputype: u64, cpusubtype: u64) -
         cputype,
         cpusubtype,
     };
-    part_words(find_part(file, Wanted::Arch(arch)))
+    FilePart::from(find_part(file, Wanted::Arch(arch)))
 }
 
 // Part i of a file, in table order.
@@ -120,7 +122,7 @@ pub extern "C" fn objclist_part_of(file: &[u8], cputype: u64, cpusubtype: u64) -
 pub extern "C" fn objclist_part_at(file: &[u8], i: u64) -> FilePart
     ensures { result ≡ part_words (part_at (before file) i) }
 {
-    part_words(part_at(file, i))
+    FilePart::from(part_at(file, i))
 }
 
 // The elements to lend for a file of n bytes.
@@ -138,30 +140,32 @@ pub extern "C" fn objclist_sizes(n: u64) -> Sizes
     }
 }
 
-fn tables_words(answer: FileTables) -> Counts
-    ensures { result ≡ tables_words (tables_outcome answer) }
-{
-    match answer {
-        FileTables::Tables(rebases, binds) => Counts {
-            status: 0,
-            number: 0,
-            rebases,
-            binds,
-        },
-        FileTables::Missing(m) => match m {
-            Missing::Absent(_) => Counts {
-                status: 2,
+impl From<FileTables> for Counts {
+    ghost from_gives = { λ x w. w ≡ tables_words (tables_outcome x) };
+
+    fn from(answer: FileTables) -> Counts {
+        match answer {
+            FileTables::Tables(rebases, binds) => Counts {
+                status: 0,
                 number: 0,
-                rebases: 0,
-                binds: 0,
+                rebases,
+                binds,
             },
-            Missing::Refused(k) => Counts {
-                status: 1,
-                number: k as u64,
-                rebases: 0,
-                binds: 0,
+            FileTables::Missing(m) => match m {
+                Missing::Absent(_) => Counts {
+                    status: 2,
+                    number: 0,
+                    rebases: 0,
+                    binds: 0,
+                },
+                Missing::Refused(k) => Counts {
+                    status: 1,
+                    number: k as u64,
+                    rebases: 0,
+                    binds: 0,
+                },
             },
-        },
+        }
     }
 }
 
@@ -172,7 +176,7 @@ pub extern "C" fn objclist_tables(file: &[u8], rebases: &mut [u64], binds: &mut 
     ensures rebases { rebases.new ≡ (settled (file_records (before file)) rebases.old binds.old).rebases }
     ensures binds { binds.new ≡ (settled (file_records (before file)) rebases.old binds.old).binds }
 {
-    tables_words(file_tables(file, rebases, binds))
+    Counts::from(file_tables(file, rebases, binds))
 }
 
 // Writes the listing of a file to a file descriptor, its methods marked for frames and slides in these ranges.

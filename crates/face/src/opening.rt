@@ -41,10 +41,10 @@ pub struct FileTold {
     pub file: FileWords,
 }
 
-impl FileWords {
-    fn of(opened: OpenedFile) -> FileWords
-        ensures { result ≡ file_words opened }
-    {
+impl From<OpenedFile> for FileWords {
+    ghost from_gives = { λ x w. w ≡ file_words x };
+
+    fn from(opened: OpenedFile) -> FileWords {
         let info = opened.info;
         FileWords {
             segments: opened.segments,
@@ -54,7 +54,9 @@ impl FileWords {
             info_len: opened.info_len,
         }
     }
+}
 
+impl FileWords {
     fn none() -> FileWords
         ensures { result ≡ no_file }
     {
@@ -68,27 +70,27 @@ impl FileWords {
     }
 }
 
-impl FileTold {
-    fn of(answer: FileAnswer) -> FileTold
-        ensures { result ≡ file_told (given (file_outcome answer)) }
-    {
+impl From<FileAnswer> for FileTold {
+    ghost from_gives = { λ x w. w ≡ file_told (given (file_outcome x)) };
+
+    fn from(answer: FileAnswer) -> FileTold {
         match answer {
             FileAnswer::File(opened) => FileTold {
                 status: Status::found(),
-                file: FileWords::of(opened),
+                file: FileWords::from(opened),
             },
             FileAnswer::Missing(m) => FileTold {
-                status: Status::missing(m),
+                status: Status::from(m),
                 file: FileWords::none(),
             },
         }
     }
 }
 
-impl InfoTold {
-    fn of(answer: ImageInfoAnswer) -> InfoTold
-        ensures { result ≡ opened_words (given (info_outcome answer)) }
-    {
+impl From<ImageInfoAnswer> for InfoTold {
+    ghost from_gives = { λ x w. w ≡ opened_words (given (info_outcome x)) };
+
+    fn from(answer: ImageInfoAnswer) -> InfoTold {
         match answer {
             ImageInfoAnswer::Info(info) => InfoTold {
                 status: Status::found(),
@@ -96,7 +98,7 @@ impl InfoTold {
                 flags: info.flags as u64,
             },
             ImageInfoAnswer::Missing(m) => InfoTold {
-                status: Status::missing(m),
+                status: Status::from(m),
                 version: 0,
                 flags: 0,
             },
@@ -121,7 +123,7 @@ pub extern "C" fn objclist_open(
         index.new ≡ opened_index t }
 {
     let answer = open(files, segments, sections, info, rebases, binds, index);
-    InfoTold::of(answer)
+    InfoTold::from(answer)
 }
 
 // Opens a Mach-O file: fills the segments and the sections by loader.h and writes the index; with a number all three are as they were.
@@ -140,5 +142,5 @@ pub extern "C" fn objclist_open_file(
     ensures index { index.new ≡ index_left (before file) segments.old sections.old (before rebases) (before binds) index.old }
 {
     let answer = open_file(file, segments, sections, rebases, binds, index);
-    FileTold::of(answer)
+    FileTold::from(answer)
 }

@@ -2,13 +2,13 @@
 ghost use Rattle.std.specs.Prelude.{◌≡◌};
 ghost use Rattle.walks.specs.Walk.{step_answer, list_answer};
 ghost use Rattle.walks.specs.ProtocolNames.{name_answer, names_answer};
-ghost use Rattle.face.specs.Row.{number_of, imp_number, offset_number, alignment_number, aligned_code, form_code, method_words, ivar_words, property_words, row_words, name_words, skipped_words, said_row, said_none, list_row, name_row};
+ghost use Rattle.face.specs.Row.{number_of, imp_number, offset_number, alignment_number, aligned_code, method_words, ivar_words, property_words, row_words, name_words, skipped_words, said_row, said_none, list_row, name_row};
 
 use crate::status::Status;
 use reads::answer::Reason;
 use reads::text::Text;
 use records::ivar::{Aligned, Alignment, Ivar, IvarOffset};
-use records::method::{Imp, Method, MethodKind};
+use records::method::{Imp, Method};
 use records::property::Property;
 use records::row::Row;
 use walks::list_walk::{ListStep, ListWalked};
@@ -55,33 +55,40 @@ impl Number {
     }
 }
 
-fn imp_number(imp: Imp) -> Number
-    ensures { result ≡ imp_number imp }
-{
-    match imp {
-        Imp::At(n) => Number::at(n),
-        Imp::Nothing => Number::none(),
+impl From<Imp> for Number {
+    ghost from_gives = { λ x n. n ≡ imp_number x };
+
+    fn from(imp: Imp) -> Number {
+        match imp {
+            Imp::At(n) => Number::at(n),
+            Imp::Nothing => Number::none(),
+        }
     }
 }
 
-fn offset_number(offset: IvarOffset) -> Number
-    ensures { result ≡ offset_number offset }
-{
-    match offset {
-        IvarOffset::At(n) => Number::at(n as u64),
-        IvarOffset::Nothing => Number::none(),
+impl From<IvarOffset> for Number {
+    ghost from_gives = { λ x n. n ≡ offset_number x };
+
+    fn from(offset: IvarOffset) -> Number {
+        match offset {
+            IvarOffset::At(n) => Number::at(n as u64),
+            IvarOffset::Nothing => Number::none(),
+        }
     }
 }
 
-fn alignment_number(alignment: Alignment) -> Number
-    ensures { result ≡ alignment_number alignment }
-{
-    match alignment {
-        Alignment::Log2(n) => Number::at(n as u64),
-        Alignment::Nothing => Number::none(),
+impl From<Alignment> for Number {
+    ghost from_gives = { λ x n. n ≡ alignment_number x };
+
+    fn from(alignment: Alignment) -> Number {
+        match alignment {
+            Alignment::Log2(n) => Number::at(n as u64),
+            Alignment::Nothing => Number::none(),
+        }
     }
 }
 
+// Not a cast: the numbers are the C interface's, in another order.
 fn aligned_code(aligned: Aligned) -> u64
     ensures { result ≡ aligned_code aligned }
 {
@@ -92,16 +99,6 @@ fn aligned_code(aligned: Aligned) -> u64
     }
 }
 
-fn form_code(kind: MethodKind) -> u64
-    ensures { result ≡ form_code kind }
-{
-    match kind {
-        MethodKind::Legacy => 0,
-        MethodKind::SmallIndirect => 1,
-        MethodKind::SmallDirect => 2,
-    }
-}
-
 fn method_words(m: Method) -> [u64; ROW_WORDS]
     ensures { result ≡ method_words m }
 {
@@ -109,8 +106,7 @@ fn method_words(m: Method) -> [u64; ROW_WORDS]
     let types = m.types;
     let implementation = m.implementation;
     let kind = m.kind;
-    let imp = imp_number(implementation);
-    let form = form_code(kind);
+    let imp = Number::from(implementation);
     [
         METHOD,
         0,
@@ -123,7 +119,7 @@ fn method_words(m: Method) -> [u64; ROW_WORDS]
         types.len,
         imp.here,
         imp.n,
-        form,
+        kind as u64,
         0,
         0,
         0,
@@ -138,8 +134,8 @@ fn ivar_words(v: Ivar) -> [u64; ROW_WORDS]
     let offset = v.offset;
     let log2_alignment = v.log2_alignment;
     let aligned = v.aligned;
-    let place = offset_number(offset);
-    let alignment = alignment_number(log2_alignment);
+    let place = Number::from(offset);
+    let alignment = Number::from(log2_alignment);
     let code = aligned_code(aligned);
     [
         IVAR,
@@ -219,7 +215,7 @@ fn name_words(name: Text) -> [u64; ROW_WORDS]
 fn skipped_words(why: Reason, place: Number) -> [u64; ROW_WORDS]
     ensures { result ≡ skipped_words why place }
 {
-    let status = Status::absent(why);
+    let status = Status::from(why);
     [
         SKIPPED,
         status.code,
@@ -277,7 +273,7 @@ pub(crate) fn list_said(walked: ListWalked) -> RowSaid
 {
     match walked {
         ListWalked::Step(step) => list_step_said(step),
-        ListWalked::Absent(why) => RowSaid::none(Status::absent(why)),
+        ListWalked::Absent(why) => RowSaid::none(Status::from(why)),
     }
 }
 
@@ -298,6 +294,6 @@ pub(crate) fn names_said(walked: ProtocolNamesWalked) -> RowSaid
 {
     match walked {
         ProtocolNamesWalked::Step(step) => name_step_said(step),
-        ProtocolNamesWalked::Absent(why) => RowSaid::none(Status::absent(why)),
+        ProtocolNamesWalked::Absent(why) => RowSaid::none(Status::from(why)),
     }
 }

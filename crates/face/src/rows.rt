@@ -67,12 +67,7 @@ impl RowWalk {
     {
         RowTurn {
             said,
-            walk: RowWalk {
-                list: self.list,
-                kind: self.kind,
-                cursor,
-                old_reading: self.old_reading,
-            },
+            walk: RowWalk { cursor, ..self },
         }
     }
 
@@ -182,24 +177,12 @@ impl RowsTold {
     }
 }
 
-// Writes words into a table from word `from` on.
-fn put(table: &mut [u64], from: usize, words: &[u64])
-    requires { from + length words.now ≤ length table.old }
-    ensures { table.new ≡ sets table.old from (before words) }
-{
-    let mut i = 0;
-    while i < words.len() {
-        table[from + i] = words[i];
-        i += 1;
-    }
-}
-
-// The same, of a row.
+// Writes a row's words into a table from word `from` on.
 fn put_row(table: &mut [u64], from: usize, words: [u64; ROW_WORDS])
     requires { from + 15 ≤ length table.old }
     ensures { table.new ≡ sets table.old from words }
 {
-    put(table, from, &words);
+    table[from..from + ROW_WORDS].copy_from_slice(&words);
 }
 
 // At most `room` steps over tables that no question refuses, each with its row.
@@ -220,8 +203,7 @@ fn gather_rows(
         record { told = result; table = table.new } ≡ gather (turn_over t) room walk 0 table.old }
 {
     let mut at = walk;
-    let mut n: usize = 0;
-    while n < room {
+    for n in 0..room {
         let turn = at.next(files, segments, sections, info, rebases, binds, index);
         let said = turn.said;
         let status = said.status;
@@ -235,11 +217,10 @@ fn gather_rows(
         }
         let words = said.words;
         put_row(table, ROW_WORDS * n, words);
-        n += 1;
     }
     RowsTold {
         status: Status::of(Status::MORE),
-        rows: n as u64,
+        rows: room as u64,
         walk: at,
     }
 }

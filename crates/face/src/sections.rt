@@ -55,9 +55,9 @@ fn class_step_told(step: RecordStep<ObjcClass>) -> ClassTold
     match step {
         RecordStep::Record(c) => ClassTold {
             status: Status::found(),
-            cls: ClassWords::of(c),
+            cls: ClassWords::from(c),
         },
-        RecordStep::Passed(why) => ClassTold::none(Status::absent(why)),
+        RecordStep::Passed(why) => ClassTold::none(Status::from(why)),
         RecordStep::Dropped => ClassTold::none(Status::of(Status::DROPPED)),
         RecordStep::Finished => ClassTold::none(Status::of(Status::FINISHED)),
         RecordStep::Refused(k) => ClassTold::none(Status::refused(k)),
@@ -70,9 +70,9 @@ fn category_step_told(step: RecordStep<ObjcCategory>) -> CategoryTold
     match step {
         RecordStep::Record(k) => CategoryTold {
             status: Status::found(),
-            category: CategoryWords::of(k),
+            category: CategoryWords::from(k),
         },
-        RecordStep::Passed(why) => CategoryTold::none(Status::absent(why)),
+        RecordStep::Passed(why) => CategoryTold::none(Status::from(why)),
         RecordStep::Dropped => CategoryTold::none(Status::of(Status::DROPPED)),
         RecordStep::Finished => CategoryTold::none(Status::of(Status::FINISHED)),
         RecordStep::Refused(k) => CategoryTold::none(Status::refused(k)),
@@ -85,9 +85,9 @@ fn protocol_step_told(step: RecordStep<ObjcProtocol>) -> ProtocolTold
     match step {
         RecordStep::Record(p) => ProtocolTold {
             status: Status::found(),
-            protocol: ProtocolWords::of(p),
+            protocol: ProtocolWords::from(p),
         },
-        RecordStep::Passed(why) => ProtocolTold::none(Status::absent(why)),
+        RecordStep::Passed(why) => ProtocolTold::none(Status::from(why)),
         RecordStep::Dropped => ProtocolTold::none(Status::of(Status::DROPPED)),
         RecordStep::Finished => ProtocolTold::none(Status::of(Status::FINISHED)),
         RecordStep::Refused(k) => ProtocolTold::none(Status::refused(k)),
@@ -136,7 +136,7 @@ pub extern "C" fn objclist_next_class(
             used: next.slots.slots.used,
             highest: next.slots.slots.highest,
             waiting: next.slots.meta,
-            old_reading: walk.old_reading,
+            ..walk
         },
     }
 }
@@ -182,7 +182,7 @@ pub extern "C" fn objclist_next_category(
             used: next.slots.slots.used,
             highest: next.slots.slots.highest,
             waiting: 0,
-            old_reading: walk.old_reading,
+            ..walk
         },
     }
 }
@@ -226,7 +226,7 @@ pub extern "C" fn objclist_next_protocol(
             used: 0,
             highest: 0,
             waiting: 0,
-            old_reading: walk.old_reading,
+            ..walk
         },
     }
 }

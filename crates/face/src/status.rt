@@ -53,9 +53,21 @@ impl Status {
         }
     }
 
-    pub(crate) fn absent(why: Reason) -> Status
-        ensures { result ≡ says_absent why }
+    pub(crate) fn refused(k: u8) -> Status
+        ensures { result ≡ says_refused k }
     {
+        Status {
+            kind: Status::REFUSED,
+            code: k as u64,
+            at: 0,
+        }
+    }
+}
+
+impl From<Reason> for Status {
+    ghost from_gives = { λ x s. s ≡ says_absent x };
+
+    fn from(why: Reason) -> Status {
         match why {
             Reason::NullAddress => Status::reason(1),
             Reason::Unmapped => Status::reason(2),
@@ -76,22 +88,14 @@ impl Status {
             Reason::Malformed => Status::reason(13),
         }
     }
+}
 
-    pub(crate) fn refused(k: u8) -> Status
-        ensures { result ≡ says_refused k }
-    {
-        Status {
-            kind: Status::REFUSED,
-            code: k as u64,
-            at: 0,
-        }
-    }
+impl From<Missing> for Status {
+    ghost from_gives = { λ x s. s ≡ says_missing x };
 
-    pub(crate) fn missing(m: Missing) -> Status
-        ensures { result ≡ says_missing m }
-    {
+    fn from(m: Missing) -> Status {
         match m {
-            Missing::Absent(why) => Status::absent(why),
+            Missing::Absent(why) => Status::from(why),
             Missing::Refused(k) => Status::refused(k),
         }
     }

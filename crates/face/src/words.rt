@@ -1,6 +1,6 @@
 // Texts and records as structs of words.
 ghost use Rattle.std.specs.Prelude.{◌≡◌};
-ghost use Rattle.face.specs.Words.{flag, setting_in, text, no_text, class, no_class, class_ro, no_ro, protocol, no_protocol, category, no_category};
+ghost use Rattle.face.specs.Words.{setting_in, text, no_text, class, no_class, class_in, class_ro, no_ro, protocol, no_protocol, category, no_category, category_in};
 
 use pointers::setting::Setting;
 use reads::text::{Reading, Text};
@@ -72,16 +72,6 @@ pub struct CategoryWords {
     pub class_properties: u64,
 }
 
-// 1 or 0.
-fn flag_of(set: bool) -> u64
-    ensures { result ≡ flag set }
-{
-    if set {
-        return 1;
-    }
-    0
-}
-
 // The new reading, or the old one where the word is not 0.
 pub(crate) fn setting_in(old_reading: u64) -> Setting
     ensures { result ≡ setting_in old_reading }
@@ -92,17 +82,19 @@ pub(crate) fn setting_in(old_reading: u64) -> Setting
     Setting::under(Reading::Old)
 }
 
-impl TextWords {
-    pub(crate) fn of(t: Text) -> TextWords
-        ensures { result ≡ text t }
-    {
+impl From<Text> for TextWords {
+    ghost from_gives = { λ x w. w ≡ text x };
+
+    fn from(t: Text) -> TextWords {
         TextWords {
             file: t.file,
             offset: t.offset,
             len: t.len,
         }
     }
+}
 
+impl TextWords {
     pub(crate) fn none() -> TextWords
         ensures { result ≡ no_text }
     {
@@ -114,19 +106,21 @@ impl TextWords {
     }
 }
 
-impl ClassWords {
-    pub(crate) fn of(c: ObjcClass) -> ClassWords
-        ensures { result ≡ class c }
-    {
+impl From<ObjcClass> for ClassWords {
+    ghost from_gives = { λ x w. w ≡ class x };
+
+    fn from(c: ObjcClass) -> ClassWords {
         ClassWords {
             address: c.address,
             isa: c.isa,
             superclass_address: c.superclass_address,
             bits: c.bits,
-            is_meta: flag_of(c.is_meta),
+            is_meta: u64::from(c.is_meta),
         }
     }
+}
 
+impl ClassWords {
     pub(crate) fn none() -> ClassWords
         ensures { result ≡ no_class }
     {
@@ -140,17 +134,31 @@ impl ClassWords {
     }
 }
 
-impl RoWords {
-    pub(crate) fn of(ro: ClassRo) -> RoWords
-        ensures { result ≡ class_ro ro }
-    {
+impl From<ClassWords> for ObjcClass {
+    ghost from_gives = { λ w c. c ≡ class_in w };
+
+    fn from(w: ClassWords) -> ObjcClass {
+        ObjcClass {
+            address: w.address,
+            isa: w.isa,
+            superclass_address: w.superclass_address,
+            bits: w.bits,
+            is_meta: w.is_meta != 0,
+        }
+    }
+}
+
+impl From<ClassRo> for RoWords {
+    ghost from_gives = { λ x w. w ≡ class_ro x };
+
+    fn from(ro: ClassRo) -> RoWords {
         let name = ro.name;
         RoWords {
             address: ro.address,
             flags: ro.flags as u64,
             instance_start: ro.instance_start as u64,
             instance_size: ro.instance_size as u64,
-            name: TextWords::of(name),
+            name: TextWords::from(name),
             ivar_layout_address: ro.ivar_layout_address,
             methods: ro.methods,
             protocols: ro.protocols,
@@ -159,7 +167,9 @@ impl RoWords {
             properties: ro.properties,
         }
     }
+}
 
+impl RoWords {
     pub(crate) fn none() -> RoWords
         ensures { result ≡ no_ro }
     {
@@ -179,14 +189,14 @@ impl RoWords {
     }
 }
 
-impl ProtocolWords {
-    pub(crate) fn of(p: ObjcProtocol) -> ProtocolWords
-        ensures { result ≡ protocol p }
-    {
+impl From<ObjcProtocol> for ProtocolWords {
+    ghost from_gives = { λ x w. w ≡ protocol x };
+
+    fn from(p: ObjcProtocol) -> ProtocolWords {
         let name = p.name;
         ProtocolWords {
             address: p.address,
-            name: TextWords::of(name),
+            name: TextWords::from(name),
             protocols: p.protocols,
             instance_methods: p.instance_methods,
             class_methods: p.class_methods,
@@ -198,7 +208,9 @@ impl ProtocolWords {
             flags: p.flags as u64,
         }
     }
+}
 
+impl ProtocolWords {
     pub(crate) fn none() -> ProtocolWords
         ensures { result ≡ no_protocol }
     {
@@ -218,14 +230,14 @@ impl ProtocolWords {
     }
 }
 
-impl CategoryWords {
-    pub(crate) fn of(k: ObjcCategory) -> CategoryWords
-        ensures { result ≡ category k }
-    {
+impl From<ObjcCategory> for CategoryWords {
+    ghost from_gives = { λ x w. w ≡ category x };
+
+    fn from(k: ObjcCategory) -> CategoryWords {
         let name = k.name;
         CategoryWords {
             address: k.address,
-            name: TextWords::of(name),
+            name: TextWords::from(name),
             class_address: k.class_address,
             instance_methods: k.instance_methods,
             class_methods: k.class_methods,
@@ -234,7 +246,9 @@ impl CategoryWords {
             class_properties: k.class_properties,
         }
     }
+}
 
+impl CategoryWords {
     pub(crate) fn none() -> CategoryWords
         ensures { result ≡ no_category }
     {
@@ -247,6 +261,28 @@ impl CategoryWords {
             protocols: 0,
             instance_properties: 0,
             class_properties: 0,
+        }
+    }
+}
+
+impl From<CategoryWords> for ObjcCategory {
+    ghost from_gives = { λ w k. k ≡ category_in w };
+
+    fn from(w: CategoryWords) -> ObjcCategory {
+        let name = w.name;
+        ObjcCategory {
+            address: w.address,
+            name: Text {
+                file: name.file,
+                offset: name.offset,
+                len: name.len,
+            },
+            class_address: w.class_address,
+            instance_methods: w.instance_methods,
+            class_methods: w.class_methods,
+            protocols: w.protocols,
+            instance_properties: w.instance_properties,
+            class_properties: w.class_properties,
         }
     }
 }

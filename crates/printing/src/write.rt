@@ -4,8 +4,9 @@ ghost use Rattle.reads.specs.Reference.{before};
 ghost use Rattle.printing.specs.BundleLent.{tables_lent};
 ghost use Rattle.printing.specs.Pieces.{standing_of, to_come};
 
-use crate::bundle::next_piece;
+use crate::bundle::{decode, next_piece, open};
 use crate::pieces::Progress;
+use reads::text::Reading;
 
 // Whether every write went well, and where the printing stands.
 #[derive(Clone, Copy)]
@@ -47,4 +48,23 @@ pub fn write_pieces(
             };
         }
     }
+}
+
+// Decodes and opens a bundle, and writes its listing under a reading.
+pub fn write_under(
+    fd: i32,
+    reading: Reading,
+    input: &[u8; 32769],
+    n: usize,
+    words: &mut [u64; 4096],
+    index: &mut [u32; 10240],
+    ledger: &mut [u64; 8192],
+    out: &mut [u8; 4096],
+) -> Written
+    ensures { let t = tables_lent (take n (before input)) words.new index.new in
+        (result.whole ≡ true → to_come t (standing_of result.progress ledger.new) ≡ []) }
+{
+    decode(input, n, words);
+    let start = Progress::under(reading, open(input, n, words, index));
+    write_pieces(fd, start, input, n, words, index, ledger, out)
 }

@@ -6,9 +6,7 @@
 ghost use Rattle.std.specs.Prelude.{◌≤◌, length};
 ghost use Rattle.replay.specs.Parts.{size_of};
 
-use printing::bundle::{decode, open};
-use printing::pieces::Progress;
-use printing::write::write_pieces;
+use printing::write::write_under;
 use reads::answer::Word;
 use reads::place::read_u64_le_at;
 use reads::text::Reading;
@@ -79,22 +77,6 @@ fn write_title(title: &[u8]) -> bool {
     io::write_all(STDOUT, b"\n")
 }
 
-// The listing of a bundle under a reading: whether it was written.
-fn write_under(
-    reading: Reading,
-    input: &[u8; 32769],
-    n: usize,
-    words: &mut [u64; 4096],
-    index: &mut [u32; 10240],
-    ledger: &mut [u64; 8192],
-    out: &mut [u8; 4096],
-) -> bool {
-    decode(input, n, words);
-    let start = Progress::under(reading, open(input, n, words, index));
-    let written = write_pieces(STDOUT, start, input, n, words, index, ledger, out);
-    written.whole
-}
-
 // Both listings of a bundle, first under the old reading.
 fn write_listings(
     input: &[u8; 32769],
@@ -104,11 +86,11 @@ fn write_listings(
     ledger: &mut [u64; 8192],
     out: &mut [u8; 4096],
 ) -> Replayed {
-    if !write_under(Reading::Old, input, n, words, index, ledger, out) {
-        return Replayed::Unwritten;
-    }
-    if !write_under(Reading::New, input, n, words, index, ledger, out) {
-        return Replayed::Unwritten;
+    for reading in [Reading::Old, Reading::New] {
+        let written = write_under(STDOUT, reading, input, n, words, index, ledger, out);
+        if !written.whole {
+            return Replayed::Unwritten;
+        }
     }
     Replayed::Whole
 }
@@ -151,8 +133,7 @@ fn replay_all(
     ledger: &mut [u64; 8192],
     out: &mut [u8; 4096],
 ) -> Replayed {
-    let mut left = count;
-    while left > 0 {
+    for _ in 0..count {
         let title = replay_title(file, input);
         let Replayed::Whole = title else {
             return title;
@@ -161,7 +142,6 @@ fn replay_all(
         let Replayed::Whole = bundle else {
             return bundle;
         };
-        left -= 1;
     }
     Replayed::Whole
 }

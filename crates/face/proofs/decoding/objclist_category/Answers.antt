@@ -4,4 +4,4 @@ use Rattle.face.specs.Decoding.{category_told}
 use Rattle.face.proofs.decoding.objclist_category.Goals as goal
 
 pub returns : goal.returns
-returns c = rw (← c.setting_in-setting.ensures) (c.of.ensures ∙ ap (λ o. category_told (given o)) c.decode_category-answer.ensures)
+returns c = rw (← c.setting_in-setting.ensures) (c.from.ensures ∙ ap (λ o. category_told (given o)) c.decode_category-answer.ensures)

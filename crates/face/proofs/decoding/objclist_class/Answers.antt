@@ -4,4 +4,4 @@ use Rattle.face.specs.Decoding.{class_told}
 use Rattle.face.proofs.decoding.objclist_class.Goals as goal
 
 pub returns : goal.returns
-returns c = rw (← c.setting_in-setting.ensures) (c.of.ensures ∙ ap (λ o. class_told (given o)) c.decode_class-answer.ensures)
+returns c = rw (← c.setting_in-setting.ensures) (c.from.ensures ∙ ap (λ o. class_told (given o)) c.decode_class-answer.ensures)

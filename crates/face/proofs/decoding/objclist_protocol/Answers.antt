@@ -4,4 +4,4 @@ use Rattle.face.specs.Decoding.{protocol_told}
 use Rattle.face.proofs.decoding.objclist_protocol.Goals as goal
 
 pub returns : goal.returns
-returns c = rw (← c.setting_in-setting.ensures) (c.of.ensures ∙ ap (λ o. protocol_told (given o)) c.decode_protocol-answer.ensures)
+returns c = rw (← c.setting_in-setting.ensures) (c.from.ensures ∙ ap (λ o. protocol_told (given o)) c.decode_protocol-answer.ensures)

@@ -3,4 +3,4 @@ use Rattle.face.specs.File.{part_words}
 use Rattle.face.proofs.file.objclist_part_of.Goals as goal
 
 pub returns : goal.returns
-returns c = c.part_words.ensures ∙ ap part_words c.find_part.ensures
+returns c = c.from.ensures ∙ ap part_words c.find_part.ensures

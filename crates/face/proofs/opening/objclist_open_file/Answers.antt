@@ -5,7 +5,7 @@ use Rattle.face.proofs.opening.objclist_open_file.Goals as goal
 
 pub returns : goal.returns
 returns c = record {
-  answer = c.of.ensures ∙ ap (λ o. file_told (given o)) c.open_file-answer.ensures.outcome;
+  answer = c.from.ensures ∙ ap (λ o. file_told (given o)) c.open_file-answer.ensures.outcome;
   segments = c.open_file-answer.ensures.segments;
   sections = c.open_file-answer.ensures.sections;
   index = c.open_file-answer.ensures.index;

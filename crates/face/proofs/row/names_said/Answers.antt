@@ -5,4 +5,4 @@ pub returns-in-Step : goal.returns-in-Step
 returns-in-Step c = c.name_step_said.ensures ∙ rw c.in-Step.is
 
 pub returns-in-Absent : goal.returns-in-Absent
-returns-in-Absent c = c.none.ensures ∙ rw (c.absent.ensures, c.in-Absent.is)
+returns-in-Absent c = c.none.ensures ∙ rw (c.from.ensures, c.in-Absent.is)

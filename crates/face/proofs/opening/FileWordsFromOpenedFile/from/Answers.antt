@@ -1,0 +1,4 @@
+use Rattle.face.proofs.opening.FileWordsFromOpenedFile.from.Goals as goal
+
+pub returns : goal.returns
+returns c = cc
