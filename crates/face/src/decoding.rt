@@ -60,7 +60,7 @@ impl ClassTold {
     {
         ClassTold {
             status,
-            cls: ClassWords::none(),
+            cls: ClassWords::default(),
         }
     }
 }
@@ -86,7 +86,7 @@ impl RoTold {
     {
         RoTold {
             status,
-            ro: RoWords::none(),
+            ro: RoWords::default(),
         }
     }
 }
@@ -112,7 +112,7 @@ impl ProtocolTold {
     {
         ProtocolTold {
             status,
-            protocol: ProtocolWords::none(),
+            protocol: ProtocolWords::default(),
         }
     }
 }
@@ -138,7 +138,7 @@ impl CategoryTold {
     {
         CategoryTold {
             status,
-            category: CategoryWords::none(),
+            category: CategoryWords::default(),
         }
     }
 }
@@ -164,7 +164,7 @@ impl NameTold {
     {
         NameTold {
             status,
-            name: TextWords::none(),
+            name: TextWords::default(),
         }
     }
 }

@@ -26,7 +26,7 @@ use universal::part::{PartAnswer, find_part, part_at};
 
 // A part of a universal file. Status 0: it was found; 1: refused, by the number; 2: there is none.
 #[repr(C)]
-#[derive(Clone, Copy)]
+#[derive(Clone, Copy, Default)]
 pub struct FilePart {
     pub status: u64,
     pub number: u64,
@@ -38,7 +38,7 @@ pub struct FilePart {
 
 // How many rebases and binds were written. Status 0: these; 1: refused, by the number, and nothing was written; 2 is never given.
 #[repr(C)]
-#[derive(Clone, Copy)]
+#[derive(Clone, Copy, Default)]
 pub struct Counts {
     pub status: u64,
     pub number: u64,
@@ -79,19 +79,12 @@ impl From<PartAnswer> for FilePart {
             },
             PartAnswer::Absent => FilePart {
                 status: 2,
-                number: 0,
-                cputype: 0,
-                cpusubtype: 0,
-                offset: 0,
-                size: 0,
+                ..FilePart::default()
             },
             PartAnswer::Refused(k) => FilePart {
                 status: 1,
                 number: k as u64,
-                cputype: 0,
-                cpusubtype: 0,
-                offset: 0,
-                size: 0,
+                ..FilePart::default()
             },
         }
     }
@@ -154,15 +147,12 @@ impl From<FileTables> for Counts {
             FileTables::Missing(m) => match m {
                 Missing::Absent(_) => Counts {
                     status: 2,
-                    number: 0,
-                    rebases: 0,
-                    binds: 0,
+                    ..Counts::default()
                 },
                 Missing::Refused(k) => Counts {
                     status: 1,
                     number: k as u64,
-                    rebases: 0,
-                    binds: 0,
+                    ..Counts::default()
                 },
             },
         }

@@ -7,7 +7,7 @@ ghost use Rattle.pointers.specs.Open.{opening, opened_index};
 ghost use Rattle.pointers.specs.Tables.{tables_of};
 ghost use Rattle.face.specs.Status.{given};
 ghost use Rattle.macho.specs.OpenFile.{file_outcome, opening_file, segments_left, sections_left, index_left};
-ghost use Rattle.face.specs.Opening.{opened_words, file_words, no_file, file_told};
+ghost use Rattle.face.specs.Opening.{opened_words, file_words, file_told};
 
 use crate::status::Status;
 use macho::open::{FileAnswer, OpenedFile, open_file};
@@ -25,7 +25,7 @@ pub struct InfoTold {
 
 // An opened file: how many segments it has, its image info, and where the bytes of that lie in the file.
 #[repr(C)]
-#[derive(Clone, Copy)]
+#[derive(Clone, Copy, Default)]
 pub struct FileWords {
     pub segments: u64,
     pub version: u64,
@@ -56,20 +56,6 @@ impl From<OpenedFile> for FileWords {
     }
 }
 
-impl FileWords {
-    fn none() -> FileWords
-        ensures { result ≡ no_file }
-    {
-        FileWords {
-            segments: 0,
-            version: 0,
-            flags: 0,
-            info_at: 0,
-            info_len: 0,
-        }
-    }
-}
-
 impl From<FileAnswer> for FileTold {
     ghost from_gives = { λ x w. w ≡ file_told (given (file_outcome x)) };
 
@@ -81,7 +67,7 @@ impl From<FileAnswer> for FileTold {
             },
             FileAnswer::Missing(m) => FileTold {
                 status: Status::from(m),
-                file: FileWords::none(),
+                file: FileWords::default(),
             },
         }
     }

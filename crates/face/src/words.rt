@@ -1,6 +1,6 @@
-// Texts and records as structs of words.
+// Texts and records as structs of words; by default, where there is none, all are 0.
 ghost use Rattle.std.specs.Prelude.{◌≡◌};
-ghost use Rattle.face.specs.Words.{setting_in, text, no_text, class, no_class, class_in, class_ro, no_ro, protocol, no_protocol, category, no_category, category_in};
+ghost use Rattle.face.specs.Words.{setting_in, text, class, class_in, class_ro, protocol, category, category_in};
 
 use pointers::setting::Setting;
 use reads::text::{Reading, Text};
@@ -10,7 +10,7 @@ use records::protocol::ObjcProtocol;
 
 // A text: `len` bytes of a file from an offset on.
 #[repr(C)]
-#[derive(Clone, Copy)]
+#[derive(Clone, Copy, Default)]
 pub struct TextWords {
     pub file: u64,
     pub offset: u64,
@@ -18,7 +18,7 @@ pub struct TextWords {
 }
 
 #[repr(C)]
-#[derive(Clone, Copy)]
+#[derive(Clone, Copy, Default)]
 pub struct ClassWords {
     pub address: u64,
     pub isa: u64,
@@ -28,7 +28,7 @@ pub struct ClassWords {
 }
 
 #[repr(C)]
-#[derive(Clone, Copy)]
+#[derive(Clone, Copy, Default)]
 pub struct RoWords {
     pub address: u64,
     pub flags: u64,
@@ -44,7 +44,7 @@ pub struct RoWords {
 }
 
 #[repr(C)]
-#[derive(Clone, Copy)]
+#[derive(Clone, Copy, Default)]
 pub struct ProtocolWords {
     pub address: u64,
     pub name: TextWords,
@@ -60,7 +60,7 @@ pub struct ProtocolWords {
 }
 
 #[repr(C)]
-#[derive(Clone, Copy)]
+#[derive(Clone, Copy, Default)]
 pub struct CategoryWords {
     pub address: u64,
     pub name: TextWords,
@@ -94,18 +94,6 @@ impl From<Text> for TextWords {
     }
 }
 
-impl TextWords {
-    pub(crate) fn none() -> TextWords
-        ensures { result ≡ no_text }
-    {
-        TextWords {
-            file: 0,
-            offset: 0,
-            len: 0,
-        }
-    }
-}
-
 impl From<ObjcClass> for ClassWords {
     ghost from_gives = { λ x w. w ≡ class x };
 
@@ -116,20 +104,6 @@ impl From<ObjcClass> for ClassWords {
             superclass_address: c.superclass_address,
             bits: c.bits,
             is_meta: u64::from(c.is_meta),
-        }
-    }
-}
-
-impl ClassWords {
-    pub(crate) fn none() -> ClassWords
-        ensures { result ≡ no_class }
-    {
-        ClassWords {
-            address: 0,
-            isa: 0,
-            superclass_address: 0,
-            bits: 0,
-            is_meta: 0,
         }
     }
 }
@@ -169,26 +143,6 @@ impl From<ClassRo> for RoWords {
     }
 }
 
-impl RoWords {
-    pub(crate) fn none() -> RoWords
-        ensures { result ≡ no_ro }
-    {
-        RoWords {
-            address: 0,
-            flags: 0,
-            instance_start: 0,
-            instance_size: 0,
-            name: TextWords::none(),
-            ivar_layout_address: 0,
-            methods: 0,
-            protocols: 0,
-            ivars: 0,
-            weak_ivar_layout_address: 0,
-            properties: 0,
-        }
-    }
-}
-
 impl From<ObjcProtocol> for ProtocolWords {
     ghost from_gives = { λ x w. w ≡ protocol x };
 
@@ -210,26 +164,6 @@ impl From<ObjcProtocol> for ProtocolWords {
     }
 }
 
-impl ProtocolWords {
-    pub(crate) fn none() -> ProtocolWords
-        ensures { result ≡ no_protocol }
-    {
-        ProtocolWords {
-            address: 0,
-            name: TextWords::none(),
-            protocols: 0,
-            instance_methods: 0,
-            class_methods: 0,
-            optional_instance_methods: 0,
-            optional_class_methods: 0,
-            instance_properties: 0,
-            class_properties: 0,
-            size: 0,
-            flags: 0,
-        }
-    }
-}
-
 impl From<ObjcCategory> for CategoryWords {
     ghost from_gives = { λ x w. w ≡ category x };
 
@@ -244,23 +178,6 @@ impl From<ObjcCategory> for CategoryWords {
             protocols: k.protocols,
             instance_properties: k.instance_properties,
             class_properties: k.class_properties,
-        }
-    }
-}
-
-impl CategoryWords {
-    pub(crate) fn none() -> CategoryWords
-        ensures { result ≡ no_category }
-    {
-        CategoryWords {
-            address: 0,
-            name: TextWords::none(),
-            class_address: 0,
-            instance_methods: 0,
-            class_methods: 0,
-            protocols: 0,
-            instance_properties: 0,
-            class_properties: 0,
         }
     }
 }
