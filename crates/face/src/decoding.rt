@@ -18,6 +18,7 @@ use records::category::{CategoryAnswer, ObjcCategory};
 use records::class::{ClassAnswer, ClassRoAnswer, ObjcClass};
 use records::protocol::ProtocolAnswer;
 
+// Five structs and not a generic one: a function for C takes and gives none.
 #[repr(C)]
 #[derive(Clone, Copy)]
 pub struct ClassTold {

@@ -43,10 +43,7 @@ fn index_words(rebases: &[u64], binds: &[u64], lent: usize) -> usize
     ensures { result ≡ min (index_length (before rebases) (before binds)) lent }
 {
     let asked = HEADS + rebases.len() / Rebase::WORDS + binds.len() / Bind::WORDS;
-    if lent <= asked {
-        return lent;
-    }
-    asked
+    asked.min(lent)
 }
 
 // The words of so many segments, or all that are lent.

@@ -64,6 +64,7 @@ fn whole_piece(
 }
 
 // Hands all pieces that are still to come to the file descriptor; after a write that failed nothing more.
+// Not printing's loop with a closure for the next piece: the closure would hold the buffer that the loop then writes from.
 fn write_pieces(
     fd: i32,
     start: Progress,

@@ -26,6 +26,7 @@ fn class_letter(meta: bool) -> u8
 
 impl Out<'_> {
     // A field that is none.
+    #[tactic(auto, unfolding(crate::specs::LineText::none_field))]
     fn none(&mut self)
         ensures { Puts self.old none_field self.new }
     {
