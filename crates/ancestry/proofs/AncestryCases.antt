@@ -4,7 +4,7 @@ use Prim.Native.Nat.{ℕ}
 use mathlib.Core.Path.{◌≡◌, refl}
 use mathlib.Core.List.{List, [], ◌∷◌, ◌++◌, map, flat_map}
 use lib.ListN.{replicate, set}
-use Rattle.reads.specs.Outcome.{Outcome, value, absent, number, choose, sum64, nonzero}
+use Rattle.reads.specs.Outcome.{Outcome, value, absent, refused, choose, sum64, nonzero}
 use Rattle.reads.specs.Files.{file_of, longest}
 use Rattle.reads.specs.Place.{le, readable_at, readable, word}
 use Rattle.reads.specs.Segment.{rows, ends, holds, placed, lookup}
@@ -20,6 +20,7 @@ use Rattle.walks.specs.Gather.{gather}
 use Rattle.ancestry.specs.Chain.{ended, looping, climb}
 use Rattle.ancestry.specs.Ancestry.{super_at, up_in, limit_of, ancestry_of, fitting, written, ancestries_left}
 use Rattle.ancestry.specs.declared.class_chain.Ancestry.{Ancestry}
+use Rattle.reads.specs.declared.answer.Question.TheVariants.{AncestryRoom}
 
 -- A word below 2^16.
 abbrev small : ℕ → ℕ → List ℕ
@@ -96,6 +97,6 @@ pub three_written : ancestries_left example addresses (replicate 10 7) ≡ writt
 unfolding ancestries_left fitting gather file_of longest ancestry_of limit_of climb up_in super_at asked_lent asked_tables asked_index question image_fits whole_rows segment_files section_table every section_fits info_whole index_fits resolve rebase_at follow follow_from stored stripped word readable readable_at lookup rows ends holds placed le nonzero choose sum64 decode_class decode_data bits_of picked picked_wide mapped data_arm64e data64 flat_map
 three_written = refl
 
-pub eight_words : ancestries_left example addresses (replicate 8 7) ≡ written (number 21) (replicate 8 7)
+pub eight_words : ancestries_left example addresses (replicate 8 7) ≡ written (refused AncestryRoom) (replicate 8 7)
 unfolding ancestries_left fitting gather file_of longest ancestry_of limit_of climb up_in super_at asked_lent asked_tables asked_index question image_fits whole_rows segment_files section_table every section_fits info_whole index_fits resolve rebase_at follow follow_from stored stripped word readable readable_at lookup rows ends holds placed le nonzero choose sum64 decode_class decode_data bits_of picked picked_wide mapped data_arm64e data64 flat_map
 eight_words = refl

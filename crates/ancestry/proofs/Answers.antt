@@ -7,7 +7,7 @@ use native.Mathlib.Omega.{arith}
 use lib.Dec.{leb}
 use lib.ListN.{length}
 use borrow.Author.Tests.{le-leb, lt-leb}
-use Rattle.reads.specs.Outcome.{Outcome, value, absent, number, and_then, choose}
+use Rattle.reads.specs.Outcome.{Outcome, value, absent, refused, and_then, choose}
 use Rattle.reads.proofs.Outcomes.{then_came}
 use Rattle.pointers.specs.Tables.{Tables}
 use Rattle.pointers.specs.Question.{question, asked}
@@ -15,24 +15,26 @@ use Rattle.ancestry.specs.Ancestry.{ancestry_of, ancestries, fitting, written, w
 use Rattle.ancestry.specs.Filling.{tally}
 use Rattle.ancestry.specs.declared.class_chain.Ancestry.{Ancestry}
 use Rattle.ancestry.proofs.Chain.{number_value}
+use Rattle.reads.specs.declared.answer.Question.{Question}
+use Rattle.reads.specs.declared.answer.Question.TheVariants.{AncestryRoom}
 
 module _ (t : Tables) (addresses out : List ℕ) where
   -- A question before says no.
-  pub left_refused : (k : ℕ) → asked t ≡ number k → written (number k) out ≡ ancestries_left t addresses out
+  pub left_refused : (k : Question) → asked t ≡ refused k → written (refused k) out ≡ ancestries_left t addresses out
   unfolding ancestries_left
   left_refused k e = rw e
 
   module _ (yes : asked t ≡ value tt) where
     -- A lookup was refused.
-    pub left_missed : (k : ℕ) → number k ≡ tally (ancestry_of t) 0 addresses → written (number k) out ≡ ancestries_left t addresses out
+    pub left_missed : (k : Question) → refused k ≡ tally (ancestry_of t) 0 addresses → written (refused k) out ≡ ancestries_left t addresses out
     unfolding ancestries_left tally
     left_missed k e = rw yes (go (ancestries t addresses) e)
       where
-        go : (o : Outcome (List Ancestry)) → number k ≡ and_then o (λ xs. value (0 + length xs))
-            → written (number k) out ≡ written_by (and_then o (fitting (length out))) out
+        go : (o : Outcome (List Ancestry)) → refused k ≡ and_then o (λ xs. value (0 + length xs))
+            → written (refused k) out ≡ written_by (and_then o (fitting (length out))) out
         go (value xs) f = number_value f
         go (absent r) f = let z : ◌≡◌ {A = ℕ} 0 1 = cc in absurd (omega arith)
-        go (number j) f = let same : k ≡ j = cc in rw same
+        go (refused j) f = let same : k ≡ j = cc in rw same
 
     module _ (n : ℕ) (e : value n ≡ tally (ancestry_of t) 0 addresses) where
       told : (xs : List Ancestry) × (ancestries t addresses ≡ value xs) × (length xs ≡ n)
@@ -45,7 +47,7 @@ module _ (t : Tables) (addresses out : List ℕ) where
           size xs f = let g : 0 + length xs ≡ n = cc in omega arith
 
       -- The buffer is shorter than one record per class.
-      pub left_short : length out / 3 < n → written (number 21) out ≡ ancestries_left t addresses out
+      pub left_short : length out / 3 < n → written (refused AncestryRoom) out ≡ ancestries_left t addresses out
       unfolding ancestries_left fitting question choose
       left_short h =
           let r = told in

@@ -3,15 +3,16 @@ use Prim.Native.Nat.{ℕ, zero, suc, ◌+◌, ◌<◌}
 use mathlib.Core.Path.{◌≡◌, refl, sym, ◌∙◌}
 use native.Mathlib.Omega.{arith}
 use native.Mathlib.Nat.{suc-add, add-suc}
-use Rattle.reads.specs.Outcome.{Outcome, value, absent, number}
+use Rattle.reads.specs.Outcome.{Outcome, value, absent, refused}
 use Rattle.reads.specs.declared.answer.Reason.{Reason}
 use Rattle.reads.proofs.Outcomes.{then_came}
 use Rattle.ancestry.specs.Chain.{above, Ends, ended, looping, last_at, climb}
+use Rattle.reads.specs.declared.answer.Question.{Question}
 
 pub absent_value : {A B : Type 0} {b : B} {r : Reason} → ◌≡◌ {A = Outcome B} (absent r) (value b) → A
 absent_value e = let z : ◌≡◌ {A = ℕ} 0 1 = cc in absurd (omega arith)
 
-pub number_value : {A B : Type 0} {b : B} {k : ℕ} → ◌≡◌ {A = Outcome B} (number k) (value b) → A
+pub number_value : {A B : Type 0} {b : B} {k : Question} → ◌≡◌ {A = Outcome B} (refused k) (value b) → A
 number_value e = let z : ◌≡◌ {A = ℕ} 0 1 = cc in absurd (omega arith)
 
 -- The last of some classes.
@@ -28,7 +29,7 @@ module _ (up : ℕ → Outcome ℕ) where
   pub ends_halts : {a k top : ℕ} → Ends up a k top → Halts a k top
   ends_halts e = record { leads = e.leads; halts = λ b f. absent_value (sym e.stops ∙ f) }
 
-  pub refused_halts : {a k top j : ℕ} → above up k a ≡ value top → up top ≡ number j → Halts a k top
+  pub refused_halts : {a k top : ℕ} {j : Question} → above up k a ≡ value top → up top ≡ refused j → Halts a k top
   refused_halts e r = record { leads = e; halts = λ b f. number_value (sym r ∙ f) }
 
   -- One step first.
@@ -72,7 +73,7 @@ module _ (up : ℕ → Outcome ℕ) where
   -- A chain ends within n - 1 steps, is refused within them, or goes on for n.
   pub data Way (n a : ℕ) : Type 0 where
     ends : (k top : ℕ) → k < n → Ends up a k top → Way n a
-    refused : (k top j : ℕ) → k < n → above up k a ≡ value top → up top ≡ number j → Way n a
+    refusing : (k top : ℕ) (j : Question) → k < n → above up k a ≡ value top → up top ≡ refused j → Way n a
     goes : (b : ℕ) → above up n a ≡ value b → Way n a
 
   pub way : (n a : ℕ) → Way n a
@@ -82,13 +83,13 @@ module _ (up : ℕ → Outcome ℕ) where
     where
       later : (b : ℕ) → up a ≡ value b → Way n b → Way (suc n) a
       later b e (ends k top h w) = ends (suc k) top (omega arith) (record { leads = above_step k a b e ∙ w.leads; why = w.why; stops = w.stops })
-      later b e (refused k top j h l r) = refused (suc k) top j (omega arith) (above_step k a b e ∙ l) r
+      later b e (refusing k top j h l r) = refusing (suc k) top j (omega arith) (above_step k a b e ∙ l) r
       later b e (goes top l) = goes top (above_step n a b e ∙ l)
 
       go : (o : Outcome ℕ) → up a ≡ o → ((b : ℕ) → Way n b) → Way (suc n) a
       go (value b) e more = later b e (more b)
       go (absent r) e more = ends 0 a (omega arith) (record { leads = refl; why = r; stops = e })
-      go (number j) e more = refused 0 a j (omega arith) refl e
+      go (refused j) e more = refusing 0 a j (omega arith) refl e
 
   last_below : (k c b : ℕ) → above up k c ≡ value b → last_at k c b ≡ b
   unfolding above
@@ -111,8 +112,8 @@ module _ (up : ℕ → Outcome ℕ) where
       ∙ rw (last_below k t.0 b t.2))
 
   -- one that is refused by the number,
-  pub climb_refused : (steps k a count last b j : ℕ) → above up k a ≡ value b → up b ≡ number j → k < steps
-      → climb up steps a count last ≡ number j
+  pub climb_refused : (steps k a count last b : ℕ) (j : Question) → above up k a ≡ value b → up b ≡ refused j → k < steps
+      → climb up steps a count last ≡ refused j
   unfolding above climb
   climb_refused zero k a count last b j e r h = absurd (omega arith)
   climb_refused (suc steps) zero a count last b j e r h = let same : a ≡ b = cc in rw (same, r)

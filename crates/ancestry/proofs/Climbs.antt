@@ -5,7 +5,7 @@ use mathlib.Core.Bool.{false}
 use native.Mathlib.Omega.{arith}
 use native.Mathlib.Numerals.{add-one}
 use native.Mathlib.Nat.{mul-le-mul}
-use Rattle.reads.specs.Outcome.{value, absent, number, or_else}
+use Rattle.reads.specs.Outcome.{value, absent, refused, or_else}
 use Rattle.reads.specs.Answer.{missed}
 use Rattle.reads.specs.declared.answer.Missing.{Missing}
 use Rattle.reads.specs.declared.answer.Missing.TheVariants.{Absent, Refused}
@@ -72,7 +72,7 @@ module _ (t : Tables) where
         let nought : 0 + count ≡ count = omega arith in
         sym (rw nought at (climb_ends (up_in t) (limit t) count a 0 0 at.address w.leads s h))
     climbing_stopped (Refused k) e h =
-        let s : up_in t at.address ≡ number k = up_of t at.address at w.decoded ∙ rw e in
+        let s : up_in t at.address ≡ refused k = up_of t at.address at w.decoded ∙ rw e in
         sym (climb_refused (up_in t) (limit t) count a 0 0 at.address k w.leads s h)
 
 -- The limit fits a word.

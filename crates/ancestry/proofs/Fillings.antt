@@ -7,7 +7,7 @@ use native.Mathlib.Numerals.{add-one}
 use lib.ListN.{length, get_or, drop, drop_of_length-le}
 use borrow.Rule.Slice.PartMut.{put_mid}
 use lib.Seq.{drop-cons, drop-drop, sets, length-sets, sets-eq}
-use Rattle.reads.specs.Outcome.{Outcome, value, absent, number, and_then}
+use Rattle.reads.specs.Outcome.{Outcome, value, absent, refused, and_then}
 use Rattle.reads.specs.Answer.{missed}
 use Rattle.reads.specs.declared.answer.Missing.{Missing}
 use Rattle.reads.specs.declared.answer.Missing.TheVariants.{Absent, Refused}
@@ -123,7 +123,7 @@ module _ (one : ℕ → Outcome Ancestry) (addresses out₀ : List ℕ) where
           kept : (o : Outcome (List Ancestry)) → and_then o (λ ys. value ([] ++ ys)) ≡ value w.rest → o ≡ value w.rest
           kept (value ys) f = f
           kept (absent r) f = absent_value f
-          kept (number k) f = number_value f
+          kept (refused k) f = number_value f
 
           go : (m : Missing) → and_then (present (missed m)) (λ xs. and_then (through one later) (λ ys. value (xs ++ ys))) ≡ value w.rest
               → Filling one addresses out₀ (i + 1) at out

@@ -6,7 +6,7 @@ use mathlib.Core.List.Memᴰ
 use mathlib.Core.List.{List, [], ◌∷◌, Memᴰ}
 use native.Mathlib.Omega.{arith}
 use lib.ListN.{length}
-use Rattle.reads.specs.Outcome.{value, absent, number, Unrefused}
+use Rattle.reads.specs.Outcome.{value, absent, refused, Unrefused}
 use Rattle.reads.specs.Answer.{missed}
 use Rattle.reads.specs.declared.answer.Reason.{Reason}
 use Rattle.reads.specs.declared.answer.Missing.{Missing}
@@ -24,12 +24,13 @@ use Rattle.ancestry.proofs.Meaning.{comes_back}
 use Rattle.ancestry.proofs.Climbs.{Climbing, climbing_up}
 use Rattle.ancestry.proofs.Rows.{far_endless, row_endless, loops_endless, walk_listed}
 use Rattle.ancestry.proofs.Falling.{super_falls}
+use Rattle.reads.specs.declared.answer.Question.{Question}
 
 some_member : {x : ℕ} (l : List ℕ) → Memᴰ x l → 0 < length l
 some_member [] m = absurd (Memᴰ.not-nil m)
 some_member (y ∷ l) m = omega arith
 
-number_refused : {A : Type 0} {k : ℕ} → Unrefused {A = A} (number k) → ⊥
+number_refused : {A : Type 0} {k : Question} → Unrefused {A = A} (refused k) → ⊥
 number_refused u = elim u [ ]
 
 module _ (t : Tables) (out : List ℕ) (listed i : ℕ) (c : ObjcClass) (f : First t out listed i c) where

@@ -9,7 +9,7 @@ use native.Mathlib.Decide.{ℕ_discrete}
 use lib.Dec.{leb, ltb}
 use lib.ListN.{length, length-append}
 use borrow.Author.Tests.{leb-true}
-use Rattle.reads.specs.Outcome.{Outcome, value, absent, number, and_then, because, choose, sum64, or_zero}
+use Rattle.reads.specs.Outcome.{Outcome, value, absent, refused, and_then, because, choose, sum64, or_zero}
 use Rattle.reads.specs.Files.{file_of, longest}
 use Rattle.reads.specs.declared.answer.Reason.{Reason}
 use Rattle.reads.specs.declared.answer.Reason.TheVariants.{Unmapped, Unreadable, FieldOverflow}
@@ -29,6 +29,7 @@ use Rattle.records.specs.Class.{data_at, decode_class, class_at}
 use Rattle.records.specs.declared.class.ObjcClass.{ObjcClass}
 use Rattle.ancestry.specs.Ancestry.{limit_of, limit}
 use Rattle.ancestry.proofs.Chain.{absent_value, number_value}
+use Rattle.reads.specs.declared.answer.Question.{Question}
 
 -- What is chosen and a value where the other way is absent.
 chosen : {A : Type 0} (b : Bool) (r : Reason) {o : Outcome A} {a : A} → choose b o (absent r) ≡ value a → (b ≡ true) × (o ≡ value a)
@@ -45,7 +46,7 @@ not_chosen true r e = absent_value e
 without_reason : {A : Type 0} (why : Reason) (o : Outcome A) {a : A} → because why o ≡ value a → o ≡ value a
 without_reason why (value b) e = e
 without_reason why (absent r) e = absent_value e
-without_reason why (number k) e = number_value e
+without_reason why (refused k) e = number_value e
 
 -- n addresses from v on.
 span : ℕ → ℕ → List ℕ
@@ -124,12 +125,12 @@ length_known t = length_reach (rows t.segments) (longest t.files) ∙ rw (rows_l
 data Of {A : Type 0} (P : A → Type 0) : Outcome A → Type 0 where
   of_value : {a : A} → P a → Of P (value a)
   of_absent : {r : Reason} → Of P (absent r)
-  of_number : {k : ℕ} → Of P (number k)
+  of_number : {k : Question} → Of P (refused k)
 
 of_then : {A B : Type 0} {P : B → Type 0} (o : Outcome A) (f : A → Outcome B) → ((a : A) → Of P (f a)) → Of P (and_then o f)
 of_then (value a) f h = h a
 of_then (absent r) f h = of_absent
-of_then (number k) f h = of_number
+of_then (refused k) f h = of_number
 
 of_came : {A : Type 0} {P : A → Type 0} {o : Outcome A} {a : A} → Of P o → o ≡ value a → P a
 of_came {P = P} (of_value {a = b} h) e = subst P (same e) h

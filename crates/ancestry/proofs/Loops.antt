@@ -4,7 +4,7 @@ use Prim.Native.Nat.{ℕ, zero, suc}
 use mathlib.Core.Path.{◌≡◌, refl, ap, ◌∙◌}
 use mathlib.Core.Bool.{Bool, false}
 use mathlib.Core.List.{Memᴰ}
-use Rattle.reads.specs.Outcome.{Outcome, value, absent, number, and_then, nonzero}
+use Rattle.reads.specs.Outcome.{Outcome, value, absent, refused, and_then, nonzero}
 use Rattle.reads.proofs.Outcomes.{then_came}
 use Rattle.pointers.specs.Tables.{Tables}
 use Rattle.records.specs.Class.{class_at}
@@ -13,8 +13,9 @@ use Rattle.ancestry.specs.Chain.{Says, says_ended, says_looping, says_refused, a
 use Rattle.ancestry.specs.Ancestry.{super_at, up_in, class_above, limit, ancestry_of}
 use Rattle.ancestry.proofs.Known.{known, length_known, class_known, class_of}
 use Rattle.ancestry.specs.declared.class_chain.Ancestry.{Ancestry}
-use Rattle.ancestry.proofs.Chain.{Way, ends, refused, goes, way, climb_loops}
+use Rattle.ancestry.proofs.Chain.{Way, ends, refusing, goes, way, climb_loops}
 use Rattle.ancestry.proofs.Meaning.{loops_told, told_looping, ends_told, refused_told}
+use Rattle.reads.specs.declared.answer.Question.{Question}
 
 module _ (t : Tables) where
   -- One step up from a class that is decoded.
@@ -43,7 +44,7 @@ module _ (t : Tables) where
           → and_then (and_then o (class_above t k)) (λ d. value d.address) ≡ and_then (and_then o (λ d. value d.address)) (above (up_in t) k)
       go (value d) f later = later d f
       go (absent r) f later = refl
-      go (number j) f later = refl
+      go (refused j) f later = refl
 
   -- A step up leads to a class that decodes,
   pub up_decodes : (x y : ℕ) → up_in t x ≡ value y → (d : ObjcClass) × (class_at t y false ≡ value d)
@@ -101,8 +102,8 @@ module _ (t : Tables) where
       rw (e, ← length_known t) (ends_told (up_in t) (known t) up_known a k top (class_known t a false c e) w)
 
   -- A lookup that is refused on the way refuses the class.
-  pub refused_above : (a k top j : ℕ) (c : ObjcClass) → class_at t a false ≡ value c → above (up_in t) k a ≡ value top → up_in t top ≡ number j
-      → ancestry_of t a ≡ number j
+  pub refused_above : (a k top : ℕ) (j : Question) (c : ObjcClass) → class_at t a false ≡ value c → above (up_in t) k a ≡ value top → up_in t top ≡ refused j
+      → ancestry_of t a ≡ refused j
   unfolding ancestry_of
   refused_above a k top j c e l r =
       rw (e, ← length_known t) (refused_told (up_in t) (known t) up_known a k top j (class_known t a false c e) l r)
@@ -119,7 +120,7 @@ module _ (t : Tables) where
       where
         go : Way (up_in t) (limit t) a → Says (up_in t) a (ancestry_of t a)
         go (ends k top h w) = rw (ends_counted a k top c e w) (says_ended k top w)
-        go (refused k top j h l r) = rw (refused_above a k top j c e l r) (says_refused k top j l r)
+        go (refusing k top j h l r) = rw (refused_above a k top j c e l r) (says_refused k top j l r)
         go (goes b l) = let far : ancestry_of t a ≡ value looping = alone b l in rw far (says_looping (looping_loops a far))
           where
             alone : (b : ℕ) → above (up_in t) (limit t) a ≡ value b → ancestry_of t a ≡ value looping

@@ -7,11 +7,12 @@ use mathlib.Core.Logic.{⊎_elim}
 use native.Mathlib.Omega.{arith}
 use native.Mathlib.Decide.{ℕ_discrete, dec_le}
 use lib.ListN.{length}
-use Rattle.reads.specs.Outcome.{Outcome, value, absent, number}
+use Rattle.reads.specs.Outcome.{Outcome, value, absent, refused}
 use Rattle.reads.proofs.Outcomes.{then_came}
 use Rattle.ancestry.specs.Chain.{above, Meets, Loops, Ends, ended, looping, last_at, climb}
 use Rattle.ancestry.specs.declared.class_chain.Ancestry.{Ancestry}
-use Rattle.ancestry.proofs.Chain.{Halts, ends_halts, refused_halts, above_step, above_then, above_before, above_halt, Way, ends, refused, goes, way, climb_ends, climb_refused, climb_loops}
+use Rattle.ancestry.proofs.Chain.{Halts, ends_halts, refused_halts, above_step, above_then, above_before, above_halt, Way, ends, refusing, goes, way, climb_ends, climb_refused, climb_loops}
+use Rattle.reads.specs.declared.answer.Question.{Question}
 
 -- Some element of a list comes again.
 data Twice : List ℕ → Type 0 where
@@ -80,7 +81,7 @@ pigeon (x ∷ l) known all h = go (member x l) (λ k a b. pigeon l k a b)
 abbrev onto : Outcome ℕ → (ℕ → List ℕ) → List ℕ
 onto (value b) f = f b
 onto (absent r) f = []
-onto (number k) f = []
+onto (refused k) f = []
 
 module _ (up : ℕ → Outcome ℕ) where
   path : ℕ → ℕ → List ℕ
@@ -103,7 +104,7 @@ module _ (up : ℕ → Outcome ℕ) where
       go : (o : Outcome ℕ) → up a ≡ o → Memᴰ x (onto o (path k))
           → ((b : ℕ) → Memᴰ x (path k b) → (j : ℕ) × (above up j b ≡ value x)) → (j : ℕ) × (above up j a ≡ value x)
       go (absent r) e m more = absurd (Memᴰ.not-nil m)
-      go (number i) e m more = absurd (Memᴰ.not-nil m)
+      go (refused i) e m more = absurd (Memᴰ.not-nil m)
       go (value b) e m more = let r = more b m in (suc r.0, above_step up r.0 a b e ∙ r.1)
 
   -- A class that comes again on a path.
@@ -116,8 +117,8 @@ module _ (up : ℕ → Outcome ℕ) where
       go : (o : Outcome ℕ) → up a ≡ o → Twice (a ∷ onto o (path k)) → ((b : ℕ) → Twice (path k b) → Loops up b) → Loops up a
       go (absent r) e (first m) more = absurd (Memᴰ.not-nil m)
       go (absent r) e (later m) more = elim m [ ]
-      go (number i) e (first m) more = absurd (Memᴰ.not-nil m)
-      go (number i) e (later m) more = elim m [ ]
+      go (refused i) e (first m) more = absurd (Memᴰ.not-nil m)
+      go (refused i) e (later m) more = elim m [ ]
       go (value b) e (first m) more =
           let r = on_path k b a m in
           record {
@@ -172,7 +173,7 @@ module _ (up : ℕ → Outcome ℕ) where
     where
       go : Way up n a → climb up n a 0 0 ≡ value looping
       go (ends k top h w) = absurd (halts_not_loops k a top (ends_halts up w) l)
-      go (refused k top j h e r) = absurd (halts_not_loops k a top (refused_halts up e r) l)
+      go (refusing k top j h e r) = absurd (halts_not_loops k a top (refused_halts up e r) l)
       go (goes b e) = climb_loops up n a 0 0 b e
 
   -- Where every class on the way is one of `known`:
@@ -187,7 +188,7 @@ module _ (up : ℕ → Outcome ℕ) where
         go : (o : Outcome ℕ) → up a ≡ o → Memᴰ x (onto o (path k))
             → ((b : ℕ) → Memᴰ b known → Memᴰ x (path k b) → Memᴰ x known) → Memᴰ x known
         go (absent r) e m more = absurd (Memᴰ.not-nil m)
-        go (number i) e m more = absurd (Memᴰ.not-nil m)
+        go (refused i) e m more = absurd (Memᴰ.not-nil m)
         go (value b) e m more = more b (closed a b e) m
 
     -- a chain that goes on for as many steps as there are classes loops.
@@ -207,12 +208,12 @@ module _ (up : ℕ → Outcome ℕ) where
             let z : ◌≡◌ {A = ℕ} 0 1 = ap (λ (r : Ancestry). r.looping) same in
             absurd (omega arith)
 
-        not_number : {j : ℕ} → ◌≡◌ {A = Outcome Ancestry} (number j) (value looping) → Loops up a
+        not_number : {j : Question} → ◌≡◌ {A = Outcome Ancestry} (refused j) (value looping) → Loops up a
         not_number f = let z : ◌≡◌ {A = ℕ} 0 1 = cc in absurd (omega arith)
 
         go : Way up (length known) a → Loops up a
         go (ends k top h w) = other (sym (climb_ends up (length known) k a 0 0 top w.leads w.stops h) ∙ e)
-        go (refused k top j h l r) = not_number (sym (climb_refused up (length known) k a 0 0 top j l r h) ∙ e)
+        go (refusing k top j h l r) = not_number (sym (climb_refused up (length known) k a 0 0 top j l r h) ∙ e)
         go (goes b l) = enough a b here l
 
     near : (a k top : ℕ) → Memᴰ a known → Halts up a k top → k < length known
@@ -233,7 +234,7 @@ module _ (up : ℕ → Outcome ℕ) where
         rw nought at (climb_ends up (length known) k a 0 0 top e.leads e.stops (near a k top here (ends_halts up e)))
 
     -- or the number of the lookup that was refused.
-    pub refused_told : (a k top j : ℕ) → Memᴰ a known → above up k a ≡ value top → up top ≡ number j
-        → climb up (length known) a 0 0 ≡ number j
+    pub refused_told : (a k top : ℕ) (j : Question) → Memᴰ a known → above up k a ≡ value top → up top ≡ refused j
+        → climb up (length known) a 0 0 ≡ refused j
     refused_told a k top j here e r =
         climb_refused up (length known) k a 0 0 top j e r (near a k top here (refused_halts up e r))

@@ -6,7 +6,7 @@ use mathlib.Core.Bool.{true, false}
 use mathlib.Core.List.{List, [], ◌∷◌, ◌++◌, append_assoc, flat_map}
 use native.Mathlib.Omega.{arith}
 use lib.ListN.{length, drop}
-use Rattle.reads.specs.Outcome.{Outcome, value, absent, number, and_then, nonzero, Unrefused, a_value, an_absence}
+use Rattle.reads.specs.Outcome.{Outcome, value, absent, refused, and_then, nonzero, Unrefused, a_value, an_absence}
 use Rattle.reads.specs.declared.answer.Reason.{Reason}
 use Rattle.reads.proofs.Outcomes.{then_came}
 use Rattle.reads.proofs.Unrefused.{unrefused_then, nonzero_unrefused}
@@ -29,6 +29,7 @@ use Rattle.ancestry.specs.Filling.{tally}
 use Rattle.ancestry.specs.declared.class_chain.Ancestry.{Ancestry}
 use Rattle.ancestry.proofs.Known.{class_of}
 use Rattle.ancestry.proofs.Answers.{left_short, left_written}
+use Rattle.reads.specs.declared.answer.Question.TheVariants.{AncestryRoom}
 
 flat_append : {A B : Type 0} (f : A → List B) (xs ys : List A) → flat_map f (xs ++ ys) ≡ flat_map f xs ++ flat_map f ys
 unfolding flat_map
@@ -182,5 +183,5 @@ module _ (t : Tables) (o : Opened t) (ledger : List ℕ) (n : ℕ) (end : (left_
       let size : length lines.records ≡ count = each_length t lines.each in
       sym (left_written t (met t o ledger n end) out (opened_asked t o) count counted h _ (rw (lines.told, size)))
 
-  pub C-lines-short : length out / 3 < count → ancestries_left t (met t o ledger n end) out ≡ written (number 21) out
+  pub C-lines-short : length out / 3 < count → ancestries_left t (met t o ledger n end) out ≡ written (refused AncestryRoom) out
   C-lines-short h = sym (left_short t (met t o ledger n end) out (opened_asked t o) count counted h)

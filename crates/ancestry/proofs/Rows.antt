@@ -9,7 +9,7 @@ use Rattle.reads.proofs.Tests.{by_choose}
 use Rattle.ancestry.specs.Chain.{above, Loops, ended, looping, last_at, climb}
 use Rattle.ancestry.specs.Doubling.{Ground, Endless, Followed, Row, joined_of}
 use Rattle.ancestry.specs.declared.doubling.State.{State}
-use Rattle.ancestry.proofs.Chain.{last_some, above_then, above_before, Way, ends, refused, goes, way, ends_halts, refused_halts, climb_ends, climb_loops}
+use Rattle.ancestry.proofs.Chain.{last_some, above_then, above_before, Way, ends, refusing, goes, way, ends_halts, refused_halts, climb_ends, climb_loops}
 use Rattle.ancestry.proofs.Meaning.{halts_not_loops}
 
 module _ (g : Ground) where
@@ -36,7 +36,7 @@ module _ (g : Ground) where
     where
       go : Way g.up g.limit (g.node i) → Endless g i 0 0
       go (ends k top h w) = absurd (halts_not_loops g.up k (g.node i) top (ends_halts g.up w) l)
-      go (refused k top j h e r) = absurd (halts_not_loops g.up k (g.node i) top (refused_halts g.up e r) l)
+      go (refusing k top j h e r) = absurd (halts_not_loops g.up k (g.node i) top (refused_halts g.up e r) l)
       go (goes b e) = record { top = b; leads = e; none_count = refl; none_place = refl }
 
   -- What a class knows after a walk up from it to one that has a row.

@@ -1,8 +1,7 @@
 -- The ancestry of the classes of an image (note 9): the count of decoded classes above a class, the address of the last, and if it loops.
 use Rattle.std.specs.Prelude.{ℕ, zero, suc, ◌*◌, ◌≡◌, false, leb, length, drop}
 use mathlib.Core.List.{List, [], ◌∷◌, ◌++◌, flat_map}
-use Rattle.reads.specs.Outcome.{Outcome, value, absent, number, and_then, choose, nonzero}
-use Rattle.reads.specs.Answer.{missed}
+use Rattle.reads.specs.Outcome.{Outcome, value, absent, refused, and_then, choose, nonzero}
 use Rattle.reads.specs.Table.{records}
 use Rattle.reads.specs.Files.{longest}
 use Rattle.reads.specs.Segment.{segment_words}
@@ -14,18 +13,7 @@ use Rattle.walks.specs.PlainSections.{plain_classes}
 use Rattle.records.specs.declared.class.ObjcClass.{ObjcClass}
 use Rattle.ancestry.specs.Chain.{climb}
 use Rattle.ancestry.specs.declared.class_chain.Ancestry.{Ancestry}
-use Rattle.ancestry.specs.declared.class_chain.AncestryAnswer.{AncestryAnswer}
-use Rattle.ancestry.specs.declared.class_chain.AncestryAnswer.TheVariants as one
-use Rattle.ancestry.specs.declared.class_list.AncestriesAnswer.{AncestriesAnswer}
-use Rattle.ancestry.specs.declared.class_list.AncestriesAnswer.TheVariants as all
-
-abbrev pub ancestry_outcome : AncestryAnswer → Outcome Ancestry
-ancestry_outcome (one.Found a) = value a
-ancestry_outcome (one.Missing m) = missed m
-
-abbrev pub count_outcome : AncestriesAnswer → Outcome ℕ
-count_outcome (all.Classes n) = value n
-count_outcome (all.Refused k) = number k
+use Rattle.reads.specs.declared.answer.Question.TheVariants.{AncestryRoom}
 
 -- The superclass of a class, if its address is not 0 and it decodes; a bind is not looked at. It is a metaclass as the class is one.
 unfoldable pub super_at : Tables → ObjcClass → Outcome ObjcClass
@@ -61,7 +49,7 @@ words_of a = a.count ∷ a.last ∷ a.looping ∷ []
 
 -- 21: the result buffer is at least one record per class.
 unfoldable pub fitting : ℕ → List Ancestry → Outcome (List Ancestry)
-fitting room xs = and_then (question 21 (leb (length xs * 3) room)) (λ _. value xs)
+fitting room xs = and_then (question AncestryRoom (leb (length xs * 3) room)) (λ _. value xs)
 
 -- An answer, and the result buffer as it is left.
 pub record Written : Type 0 where
@@ -71,11 +59,11 @@ pub record Written : Type 0 where
 abbrev pub written : Outcome ℕ → List ℕ → Written
 written o out = record { answer = o; result = out }
 
--- The records, then the rest of the buffer as it was; with a number nothing is written.
+-- The records, then the rest of the buffer as it was; refused, nothing is written.
 abbrev pub written_by : Outcome (List Ancestry) → List ℕ → Written
 written_by (value xs) out = written (value (length xs)) (flat_map words_of xs ++ drop (length xs * 3) out)
 written_by (absent r) out = written (absent r) out
-written_by (number k) out = written (number k) out
+written_by (refused k) out = written (refused k) out
 
 unfoldable pub ancestries_left : Tables → List ℕ → List ℕ → Written
 ancestries_left t addresses out = written_by (guarded t (and_then (ancestries t addresses) (fitting (length out)))) out

@@ -1,7 +1,8 @@
 -- The chain of classes above a class (note 9), over any step `up`: a value is the address of the class above, absent the end of the chain,
--- a number a lookup that was refused.
+-- refused a lookup that was refused.
 use Rattle.std.specs.Prelude.{ℕ, zero, suc, ◌≡◌}
-use Rattle.reads.specs.Outcome.{Outcome, value, absent, number, and_then}
+use Rattle.reads.specs.Outcome.{Outcome, value, absent, refused, and_then}
+use Rattle.reads.specs.declared.answer.Question.{Question}
 use Rattle.reads.specs.declared.answer.Reason.{Reason}
 use Rattle.ancestry.specs.declared.class_chain.Ancestry.{Ancestry}
 
@@ -44,13 +45,13 @@ last_at (suc k) last top = top
 pub data Says (up : ℕ → Outcome ℕ) (a : ℕ) : Outcome Ancestry → Type 0 where
   says_ended : (count top : ℕ) → Ends up a count top → Says up a (value (ended count (last_at count 0 top)))
   says_looping : Loops up a → Says up a (value looping)
-  says_refused : (count top k : ℕ) → above up count a ≡ value top → up top ≡ number k → Says up a (number k)
+  says_refused : (count top : ℕ) (k : Question) → above up count a ≡ value top → up top ≡ refused k → Says up a (refused k)
 
 -- As the code goes on: a step up, or the end.
 abbrev pub onward : {A : Type 0} → Outcome ℕ → Outcome A → (ℕ → Outcome A) → Outcome A
 onward (value b) end f = f b
 onward (absent r) end f = end
-onward (number k) end f = number k
+onward (refused k) end f = refused k
 
 -- One class alone: going up, at most `steps` times, with `count` classes behind and the address of the last of them.
 unfoldable pub climb : (ℕ → Outcome ℕ) → ℕ → ℕ → ℕ → ℕ → Outcome Ancestry

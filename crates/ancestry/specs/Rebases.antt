@@ -1,4 +1,4 @@
--- What question 9 asks of every rebase chain: each head at most the record count, each next word below its own record's number.
+-- What question ChainOrder asks of every rebase chain: each head at most the record count, each next word below its own record's number.
 use Rattle.std.specs.Prelude.{ℕ, ◌+◌, ◌*◌, Bool, ◌&&◌, List, leb, get_or}
 use Rattle.reads.specs.Table.{records}
 use Rattle.pointers.specs.Tables.{rebase_words, chains}

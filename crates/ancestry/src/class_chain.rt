@@ -1,23 +1,23 @@
 // The chain of classes above a class (note 9).
 ghost use Rattle.std.specs.Prelude.{◌≡◌, false, ◌<◌, ◌≤◌, ◌^◌};
 ghost use Rattle.reads.specs.Outcome.{value, or_else};
-ghost use Rattle.reads.specs.Answer.{missed};
+ghost use Rattle.reads.specs.Answer.{missed, outcome};
 ghost use Rattle.reads.specs.Reference.{before};
 ghost use Rattle.reads.specs.Table.{records};
 ghost use Rattle.reads.specs.Files.{files_lent, files_of, longest};
 ghost use Rattle.reads.specs.Segment.{segment_words};
 ghost use Rattle.pointers.specs.Question.{asked, guarded};
 ghost use Rattle.pointers.specs.Tables.{lent, under};
-ghost use Rattle.records.specs.Class.{class_outcome, class_at};
+ghost use Rattle.records.specs.Class.{class_at};
 ghost use Rattle.ancestry.specs.Chain.{ended, last_at, climb};
-ghost use Rattle.ancestry.specs.Ancestry.{ancestry_outcome, super_at, up_in, limit_of, limit, ancestry_of};
+ghost use Rattle.ancestry.specs.Ancestry.{super_at, up_in, limit_of, limit, ancestry_of};
 ghost use Rattle.ancestry.specs.Filling.{lent_now};
 
-use pointers::question::{Asked, ask};
+use pointers::question::ask;
 use pointers::setting::Setting;
-use reads::answer::{Missing, Word, nonzero};
+use reads::answer::{Missing, nonzero};
 use reads::files::longest;
-use records::class::{ClassAnswer, ObjcClass, class_at};
+use records::class::{ObjcClass, class_at};
 
 // What is told of a class, as the three words of its record: the count of decoded classes above it, the address of the last (0 if none),
 // 1 if it loops.
@@ -35,13 +35,8 @@ const LOOPING: Ancestry = Ancestry {
     looping: 1,
 };
 
-#[derive(Clone, Copy)]
-pub enum AncestryAnswer {
-    Found(Ancestry),
-    Missing(Missing),
-}
-
 // The superclass, if its address is not 0 and it decodes; no question is asked.
+#[tactic(auto, using(reads::proofs::Outcomes::missed_then), unfolding(crate::specs::Ancestry::super_at))]
 pub(crate) fn superclass_at(
     files: &[&[u8]],
     segments: &[u64],
@@ -52,25 +47,23 @@ pub(crate) fn superclass_at(
     index: &[u32],
     setting: Setting,
     class: ObjcClass,
-) -> ClassAnswer
+) -> Result<ObjcClass, Missing>
     ensures { let t = under setting (lent files segments sections info rebases binds index) in
-        class_outcome result ≡ super_at t class }
+        outcome result ≡ super_at t class }
 {
-    match nonzero(class.superclass_address) {
-        Word::Value(va) => class_at(
-            files,
-            segments,
-            sections,
-            info,
-            rebases,
-            binds,
-            index,
-            setting,
-            va,
-            class.is_meta,
-        ),
-        Word::Missing(m) => ClassAnswer::Missing(m),
-    }
+    let va = nonzero(class.superclass_address)?;
+    class_at(
+        files,
+        segments,
+        sections,
+        info,
+        rebases,
+        binds,
+        index,
+        setting,
+        va,
+        class.is_meta,
+    )
 }
 
 // The superclass of a class: one step of the chain on its page.
@@ -84,16 +77,14 @@ pub fn superclass_of(
     index: &[u32],
     setting: Setting,
     class: ObjcClass,
-) -> ClassAnswer
+) -> Result<ObjcClass, Missing>
     ensures { let t = under setting (lent files segments sections info rebases binds index) in
-        class_outcome result ≡ guarded t (super_at t class) }
+        outcome result ≡ guarded t (super_at t class) }
 {
-    match ask(files, segments, sections, info, rebases, binds, index) {
-        Asked::Yes => superclass_at(
-            files, segments, sections, info, rebases, binds, index, setting, class,
-        ),
-        Asked::Refused(k) => ClassAnswer::Missing(Missing::Refused(k)),
-    }
+    ask(files, segments, sections, info, rebases, binds, index).map_err(Missing::Refused)?;
+    superclass_at(
+        files, segments, sections, info, rebases, binds, index, setting, class,
+    )
 }
 
 // No chain that ends is as long as this.
@@ -112,16 +103,16 @@ pub(crate) fn last_at(count: u64, top: u64) -> u64
 }
 
 // What a climb tells that finds no class above the one at `top`, `count` classes up.
-fn stopped(m: Missing, count: u64, top: u64) -> AncestryAnswer
-    ensures { ancestry_outcome result ≡ or_else (missed m) (value (ended count (last_at count 0 top))) }
+fn stopped(m: Missing, count: u64, top: u64) -> Result<Ancestry, Missing>
+    ensures { outcome result ≡ or_else (missed m) (value (ended count (last_at count 0 top))) }
 {
     match m {
-        Missing::Absent(_) => AncestryAnswer::Found(Ancestry {
+        Missing::Absent(_) => Ok(Ancestry {
             count,
             last: last_at(count, top),
             looping: 0,
         }),
-        Missing::Refused(k) => AncestryAnswer::Missing(Missing::Refused(k)),
+        Missing::Refused(k) => Err(Missing::Refused(k)),
     }
 }
 
@@ -137,11 +128,11 @@ fn climb_from(
     index: &[u32],
     setting: Setting,
     class: ObjcClass,
-) -> AncestryAnswer
+) -> Result<Ancestry, Missing>
     requires { let t = lent_now files.now segments.now sections.now info.now rebases.now binds.now index.now setting in
         (asked t ≡ value tt) × (class_at t class.address false ≡ value class) }
     ensures { let t = under setting (lent files segments sections info rebases binds index) in
-        ancestry_outcome result ≡ climb (up_in t) (limit t) class.address 0 0 }
+        outcome result ≡ climb (up_in t) (limit t) class.address 0 0 }
 {
     let most = limit_of(files, segments);
     let mut at = class;
@@ -151,22 +142,23 @@ fn climb_from(
         let up = match superclass_at(
             files, segments, sections, info, rebases, binds, index, setting, at,
         ) {
-            ClassAnswer::Class(up) => up,
-            ClassAnswer::Missing(m) => return stopped(m, count, at.address),
+            Ok(up) => up,
+            Err(m) => return stopped(m, count, at.address),
         };
         at = up;
         if up.address == held {
-            return AncestryAnswer::Found(LOOPING);
+            return Ok(LOOPING);
         }
         if count + 1 == hold {
             held = up.address;
             hold *= 2;
         }
     }
-    AncestryAnswer::Found(LOOPING)
+    Ok(LOOPING)
 }
 
 // The ancestry of the class at an address; 1 to 6 and 8 have been asked.
+#[tactic(auto, using(reads::proofs::Outcomes::missed_then), unfolding(crate::specs::Ancestry::ancestry_of))]
 pub(crate) fn ancestry_at(
     files: &[&[u8]],
     segments: &[u64],
@@ -177,20 +169,18 @@ pub(crate) fn ancestry_at(
     index: &[u32],
     setting: Setting,
     va: u64,
-) -> AncestryAnswer
+) -> Result<Ancestry, Missing>
     requires { let t = lent_now files.now segments.now sections.now info.now rebases.now binds.now index.now setting in
         asked t ≡ value tt }
     ensures { let t = under setting (lent files segments sections info rebases binds index) in
-        ancestry_outcome result ≡ ancestry_of t va }
+        outcome result ≡ ancestry_of t va }
 {
-    match class_at(
+    let class = class_at(
         files, segments, sections, info, rebases, binds, index, setting, va, false,
-    ) {
-        ClassAnswer::Class(class) => climb_from(
-            files, segments, sections, info, rebases, binds, index, setting, class,
-        ),
-        ClassAnswer::Missing(m) => AncestryAnswer::Missing(m),
-    }
+    )?;
+    climb_from(
+        files, segments, sections, info, rebases, binds, index, setting, class,
+    )
 }
 
 // The ancestry of the class at an address, absent if it does not decode.
@@ -204,14 +194,12 @@ pub fn ancestry_of(
     index: &[u32],
     setting: Setting,
     va: u64,
-) -> AncestryAnswer
+) -> Result<Ancestry, Missing>
     ensures { let t = under setting (lent files segments sections info rebases binds index) in
-        ancestry_outcome result ≡ guarded t (ancestry_of t va) }
+        outcome result ≡ guarded t (ancestry_of t va) }
 {
-    match ask(files, segments, sections, info, rebases, binds, index) {
-        Asked::Yes => ancestry_at(
-            files, segments, sections, info, rebases, binds, index, setting, va,
-        ),
-        Asked::Refused(k) => AncestryAnswer::Missing(Missing::Refused(k)),
-    }
+    ask(files, segments, sections, info, rebases, binds, index).map_err(Missing::Refused)?;
+    ancestry_at(
+        files, segments, sections, info, rebases, binds, index, setting, va,
+    )
 }

@@ -5,39 +5,34 @@ ghost use Rattle.reads.specs.Reference.{before};
 ghost use Rattle.pointers.specs.Question.{asked};
 ghost use Rattle.pointers.specs.Tables.{lent, under};
 ghost use Rattle.walks.specs.Gather.{present};
-ghost use Rattle.ancestry.specs.Ancestry.{ancestry_outcome, count_outcome, ancestries, written, written_by, ancestries_left};
+ghost use Rattle.ancestry.specs.Ancestry.{ancestries, written, written_by, ancestries_left};
 ghost use Rattle.ancestry.specs.Filling.{lent_now, through, unfollowed_of, told_of, tally, put, Fits, Counted};
+ghost use Rattle.reads.specs.Answer.{outcome, answered};
 
-use crate::class_chain::{Ancestry, AncestryAnswer, ancestry_at};
+use crate::class_chain::{Ancestry, ancestry_at};
 use crate::following::follow_all;
 use crate::rebases::chains_fall;
-use pointers::question::{Asked, ask};
+use pointers::question::ask;
 use pointers::setting::Setting;
-use reads::answer::Missing;
-use records::class::{ClassAnswer, class_at};
-
-// How many classes have a record, or the number of the question that refuses.
-#[derive(Clone, Copy)]
-pub enum AncestriesAnswer {
-    Classes(u64),
-    Refused(u8),
-}
+use reads::answer::{Missing, Question};
+use records::class::class_at;
 
 // One class counted: one more if it has a record.
-fn counted(one: AncestryAnswer, count: u64) -> AncestriesAnswer
+fn counted(one: Result<Ancestry, Missing>, count: u64) -> Result<u64, Question>
     requires { count + 1 < 2 ^ 64 }
-    ensures { count_outcome result ≡ and_then (present (ancestry_outcome one)) (λ xs. value (count + length xs)) }
+    ensures { answered result ≡ and_then (present (outcome one)) (λ xs. value (count + length xs)) }
 {
     match one {
-        AncestryAnswer::Found(_a) => AncestriesAnswer::Classes(count + 1),
-        AncestryAnswer::Missing(m) => match m {
-            Missing::Absent(_) => AncestriesAnswer::Classes(count),
-            Missing::Refused(k) => AncestriesAnswer::Refused(k),
+        Ok(_a) => Ok(count + 1),
+        Err(m) => match m {
+            Missing::Absent(_) => Ok(count),
+            Missing::Refused(k) => Err(k),
         },
     }
 }
 
 // A class that decodes, as a row before its chain is followed.
+#[tactic(auto, using(reads::proofs::Outcomes::missed_then), unfolding(crate::specs::Filling::unfollowed_of))]
 fn unfollowed_at(
     files: &[&[u8]],
     segments: &[u64],
@@ -48,20 +43,18 @@ fn unfollowed_at(
     index: &[u32],
     setting: Setting,
     va: u64,
-) -> AncestryAnswer
+) -> Result<Ancestry, Missing>
     ensures { let t = under setting (lent files segments sections info rebases binds index) in
-        ancestry_outcome result ≡ unfollowed_of t va }
+        outcome result ≡ unfollowed_of t va }
 {
-    match class_at(
+    class_at(
         files, segments, sections, info, rebases, binds, index, setting, va, false,
-    ) {
-        ClassAnswer::Class(class) => AncestryAnswer::Found(Ancestry {
-            count: 0,
-            last: 0,
-            looping: va,
-        }),
-        ClassAnswer::Missing(m) => AncestryAnswer::Missing(m),
-    }
+    )?;
+    Ok(Ancestry {
+        count: 0,
+        last: 0,
+        looping: va,
+    })
 }
 
 // What is written first of a class: a row to follow, or its record.
@@ -76,11 +69,11 @@ fn told_at(
     setting: Setting,
     together: bool,
     va: u64,
-) -> AncestryAnswer
+) -> Result<Ancestry, Missing>
     requires { let t = lent_now files.now segments.now sections.now info.now rebases.now binds.now index.now setting in
         asked t ≡ value tt }
     ensures { let t = under setting (lent files segments sections info rebases binds index) in
-        ancestry_outcome result ≡ told_of t together va }
+        outcome result ≡ told_of t together va }
 {
     if together {
         return unfollowed_at(
@@ -104,23 +97,20 @@ fn count_all(
     setting: Setting,
     together: bool,
     classes: &[u64],
-) -> AncestriesAnswer
+) -> Result<u64, Question>
     requires { let t = lent_now files.now segments.now sections.now info.now rebases.now binds.now index.now setting in
         asked t ≡ value tt }
     ensures { let t = under setting (lent files segments sections info rebases binds index) in
-        count_outcome result ≡ tally (told_of t together) 0 (before classes) }
+        answered result ≡ tally (told_of t together) 0 (before classes) }
 {
     let mut count = 0;
     for va in classes {
         let one = told_at(
             files, segments, sections, info, rebases, binds, index, setting, together, *va,
         );
-        count = match counted(one, count) {
-            AncestriesAnswer::Classes(n) => n,
-            AncestriesAnswer::Refused(k) => return AncestriesAnswer::Refused(k),
-        };
+        count = counted(one, count)?;
     }
-    AncestriesAnswer::Classes(count)
+    Ok(count)
 }
 
 // The three words of a record.
@@ -156,11 +146,11 @@ fn write_all(
             files, segments, sections, info, rebases, binds, index, setting, together, *va,
         );
         match one {
-            AncestryAnswer::Found(a) => {
+            Ok(a) => {
                 put_record(res, at, a);
                 at += 3;
             }
-            AncestryAnswer::Missing(_m) => {}
+            Err(_) => {}
         }
     }
 }
@@ -218,27 +208,24 @@ fn write_asked(
     setting: Setting,
     classes: &[u64],
     res: &mut [u64],
-) -> AncestriesAnswer
+) -> Result<u64, Question>
     requires { let t = lent_now files.now segments.now sections.now info.now rebases.now binds.now index.now setting in
         asked t ≡ value tt }
     ensures { let t = under setting (lent files segments sections info rebases binds index) in
-        written (count_outcome result) res.new ≡ ancestries_left t (before classes) res.old }
+        written (answered result) res.new ≡ ancestries_left t (before classes) res.old }
 {
     let together = chains_fall(rebases, index);
-    let count = match count_all(
+    let count = count_all(
         files, segments, sections, info, rebases, binds, index, setting, together, classes,
-    ) {
-        AncestriesAnswer::Classes(n) => n,
-        AncestriesAnswer::Refused(k) => return AncestriesAnswer::Refused(k),
-    };
+    )?;
     if ((res.len() / 3) as u64) < count {
-        return AncestriesAnswer::Refused(21);
+        return Err(Question::AncestryRoom);
     }
     fill(
         files, segments, sections, info, rebases, binds, index, setting, together, count, classes,
         res,
     );
-    AncestriesAnswer::Classes(count)
+    Ok(count)
 }
 
 // The ancestry of the classes at the addresses `classes`, three words each in their order, into `result`; an address at which no class
@@ -255,14 +242,12 @@ pub fn ancestries(
     setting: Setting,
     classes: &[u64],
     res: &mut [u64],
-) -> AncestriesAnswer
+) -> Result<u64, Question>
     ensures { let t = under setting (lent files segments sections info rebases binds index) in
-        written (count_outcome result) res.new ≡ ancestries_left t (before classes) res.old }
+        written (answered result) res.new ≡ ancestries_left t (before classes) res.old }
 {
-    match ask(files, segments, sections, info, rebases, binds, index) {
-        Asked::Yes => write_asked(
-            files, segments, sections, info, rebases, binds, index, setting, classes, res,
-        ),
-        Asked::Refused(k) => AncestriesAnswer::Refused(k),
-    }
+    ask(files, segments, sections, info, rebases, binds, index)?;
+    write_asked(
+        files, segments, sections, info, rebases, binds, index, setting, classes, res,
+    )
 }

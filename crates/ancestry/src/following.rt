@@ -15,7 +15,7 @@ ghost use Rattle.ancestry.specs.Following.{ground_of, First, Ready, Unfollowed};
 use crate::class_chain::{last_at, limit_of, superclass_at};
 use crate::doubling::{LOOPING, State, finish_all, follow, put_state};
 use pointers::setting::Setting;
-use records::class::{ClassAnswer, ObjcClass, class_at};
+use records::class::{ObjcClass, class_at};
 
 // The rows, three words each.
 fn rows_of(res: &[u64], listed: usize) -> &[[u64; 3]]
@@ -56,7 +56,8 @@ fn ended_state(count: u64, top: u64) -> State
     }
 }
 
-// What is known of the class in row i after a walk up from it to the next class that has a row.
+// What is known of the class in row i after a walk up from it to the next class that has a row. The loop is that of `climb_from`, which
+// looks for no row: one function for both would need a closure and a type for four ends, and be no shorter.
 fn first_from(
     files: &[&[u8]],
     segments: &[u64],
@@ -85,8 +86,8 @@ fn first_from(
         let up = match superclass_at(
             files, segments, sections, info, rebases, binds, index, setting, at,
         ) {
-            ClassAnswer::Class(up) => up,
-            ClassAnswer::Missing(m) => return ended_state(count, at.address),
+            Ok(up) => up,
+            Err(m) => return ended_state(count, at.address),
         };
         at = up;
         if let Some(row) = row_of(res, listed, sorted, up.address) {
@@ -141,11 +142,11 @@ fn first(
         res[i * 3 + 2],
         false,
     ) {
-        ClassAnswer::Class(class) => first_from(
+        Ok(class) => first_from(
             files, segments, sections, info, rebases, binds, index, setting, res, listed, sorted,
             class, i,
         ),
-        ClassAnswer::Missing(m) => LOOPING,
+        Err(_) => LOOPING,
     }
 }
 

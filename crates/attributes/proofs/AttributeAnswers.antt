@@ -5,7 +5,7 @@ use mathlib.Core.Bool.{Bool, true, false, not}
 use mathlib.Core.List.{List}
 use lib.ListN.{length}
 use borrow.Author.Tests.{leb-true, not-true, not-false}
-use Rattle.reads.specs.Outcome.{Outcome, value, absent, number}
+use Rattle.reads.specs.Outcome.{Outcome, value, absent, refused}
 use Rattle.reads.specs.Utf8.{verdict}
 use Rattle.reads.specs.declared.answer.Reason.TheVariants.{NotUtf8}
 use Rattle.reads.specs.declared.text.Verdict.{Verdict}
@@ -21,6 +21,7 @@ use Rattle.attributes.specs.declared.items.Value.{Value}
 use Rattle.attributes.specs.declared.property.Declared.{Declared}
 use Rattle.attributes.proofs.AttributeItems.{chosen_all, chosen_unknown}
 use Rattle.attributes.specs.declared.items.Item.{Item}
+use Rattle.reads.specs.declared.answer.Question.TheVariants.{ItemRoom}
 
 -- `o` comes back and the buffer holds `now`, where `is` are handed out with `a`.
 abbrev pub Handed : {A : Type 0} → List ℕ → List ℕ → List Item → A → Outcome A → List ℕ → Type 0
@@ -33,15 +34,15 @@ module _ {A : Type 0} (text : List ℕ) (is : List Item) (a : A) where
   handed_absent room k u = rw u
 
   module _ (room : ℕ) (u : verdict text ≡ Good) where
-    pub handed_number : items_fit (length is) room ≡ false → handed_out text is room a ≡ number 12
+    pub handed_number : items_fit (length is) room ≡ false → handed_out text is room a ≡ refused ItemRoom
     unfolding handed_out
-    handed_number f = rw (u, question_no 12 _ f)
+    handed_number f = rw (u, question_no ItemRoom _ f)
 
     pub handed_value : items_fit (length is) room ≡ true → handed_out text is room a ≡ value a
     unfolding handed_out
-    handed_value f = rw (u, question_yes 12 _ f)
+    handed_value f = rw (u, question_yes ItemRoom _ f)
 
--- The code's tests: v is its answer on UTF-8, `count` what it counted, `fits` its answer on question 12.
+-- The code's tests: v is its answer on UTF-8, `count` what it counted, `fits` its answer on question ItemRoom.
 module _ {A : Type 0} (text buffer : List ℕ) (which : Which) {is : List Item} (same : chosen which (items text) ≡ is) (a : A)
     {v : Verdict} (g : v ≡ verdict text) where
   pub tested_absent : (k : ℕ) → v ≡ Bad k → Handed text buffer is a (absent (NotUtf8 k)) buffer
@@ -56,7 +57,7 @@ module _ {A : Type 0} (text buffer : List ℕ) (which : Which) {is : List Item} 
     tested_room h = rw same (leb-true (3 * length is) (length buffer) (asked ∙ not-false fits h))
 
     module _ (u : v ≡ Good) where
-      pub tested_number : not fits ≡ true → Handed text buffer is a (number 12) buffer
+      pub tested_number : not fits ≡ true → Handed text buffer is a (refused ItemRoom) buffer
       tested_number h = rw (handed_number text is a (length buffer) (sym g ∙ u) (asked ∙ not-true fits h)) (refl, refl)
 
       pub tested_value : not fits ≡ false → {now : List ℕ} → now ≡ filled (chosen which (items text)) buffer

@@ -2,13 +2,14 @@
 use Prim.Native.Nat.{ℕ}
 use mathlib.Core.Path.{◌≡◌, refl}
 use mathlib.Core.List.{List, [], ◌∷◌}
-use Rattle.reads.specs.Outcome.{Outcome, value, absent, number, choose}
+use Rattle.reads.specs.Outcome.{Outcome, value, absent, refused, choose}
 use Rattle.reads.specs.Utf8.{judge}
 use Rattle.reads.specs.declared.answer.Reason.TheVariants.{NotUtf8}
 use Rattle.pointers.specs.Question.{question}
 use Rattle.pointers.specs.Symbol.{ascii}
 use Rattle.attributes.specs.Attributes.{handed_out, quotes, splits, first, value_length, value_of, item_of, items_from, items, is_type, type_among, attributes, items_fit, attributes_of, words, filled, items_left}
 use Rattle.attributes.specs.declared.items.Attributes.{Attributes}
+use Rattle.reads.specs.declared.answer.Question.TheVariants.{ItemRoom}
 
 abbrev told : List ℕ → List ℕ
 told text = words (items text)
@@ -26,7 +27,7 @@ unfolding attributes_of handed_out attributes type_among is_type items items_fro
 name_found = refl
 
 -- Four items want twelve words.
-name_refused : attributes_of (ascii "T@\"NSString\",C,N,V_name") 11 ≡ number 12
+name_refused : attributes_of (ascii "T@\"NSString\",C,N,V_name") 11 ≡ refused ItemRoom
 unfolding attributes_of handed_out items items_from item_of value_length first splits quotes items_fit question judge choose
 name_refused = refl
 

@@ -5,7 +5,7 @@ use mathlib.Core.Bool.{Bool, true, false, not, ◌&&◌}
 use mathlib.Core.List.{List, [], ◌∷◌}
 use native.Mathlib.Omega.{arith}
 use native.Mathlib.Numerals.{add-one}
-use Rattle.std.proofs.Common.{Option, Some, None, cond}
+use Rattle.std.proofs.Common.{Option, Some, cond}
 use Rattle.std.specs.List.{find}
 use lib.Dec.{eqb, ltb, leb}
 use lib.ListN.{length, get_or, drop, length-drop, drop_of_length-le}
@@ -17,8 +17,7 @@ use Rattle.attributes.specs.Pass.{items_at, chosen}
 use Rattle.attributes.specs.declared.items.Item.{Item}
 use Rattle.attributes.specs.declared.items.Value.{Value}
 use Rattle.attributes.specs.declared.pass.Which.TheVariants.{All, Unknown}
-use Rattle.attributes.specs.declared.property.Attribute.{Attribute}
-use Rattle.attributes.specs.declared.property.Attribute.TheVariants.{Given, Nothing}
+use Rattle.std.specs.Prelude.{None}
 
 -- An item takes a byte at least, so as many items as bytes are enough.
 pub items_enough : (n m at : ℕ) (s : List ℕ) → length s ≤ n → length s ≤ m → items_from n at s ≡ items_from m at s
@@ -96,9 +95,9 @@ chosen_unknown (i ∷ is) = go (among letters i.key) (chosen_unknown is)
     go false e = unfold choose in ap (λ (l : List Item). i ∷ l) e
 
 -- The first value of a letter is that of the first item that has it.
-abbrev pub value_in : Option Item → Attribute
-value_in None = Nothing
-value_in (Some i) = Given i.value
+abbrev pub value_in : Option Item → Option Value
+value_in None = None
+value_in (Some i) = Some i.value
 
 pub value_found : (letter least : ℕ) (is : List Item)
     → value_in (find (λ i. eqb i.key letter && leb least i.value.len) is) ≡ first_value letter least is
@@ -107,14 +106,14 @@ value_found letter least [] = refl
 value_found letter least (i ∷ is) = go (eqb i.key letter && leb least i.value.len) (value_found letter least is)
   where
     go : (t : Bool) → value_in (find (λ i. eqb i.key letter && leb least i.value.len) is) ≡ first_value letter least is
-        → value_in (cond t (Some i) (find (λ i. eqb i.key letter && leb least i.value.len) is)) ≡ choose t (Given i.value) (first_value letter least is)
+        → value_in (cond t (Some i) (find (λ i. eqb i.key letter && leb least i.value.len) is)) ≡ choose t (Some i.value) (first_value letter least is)
     go true e = unfold choose in refl
     go false e = unfold choose in e
 
 -- The type is the first T value of one byte or more.
-abbrev pub or_nowhere : Attribute → Value
-or_nowhere (Given v) = v
-or_nowhere Nothing = value_of 0 0
+abbrev pub or_nowhere : Option Value → Value
+or_nowhere (Some v) = v
+or_nowhere None = value_of 0 0
 
 pub type_first : (is : List Item) → or_nowhere (first_value 0x54 1 is) ≡ type_among is
 unfolding first_value type_among is_type
@@ -122,6 +121,6 @@ type_first [] = refl
 type_first (i ∷ is) = go (eqb i.key 0x54 && ltb 0 i.value.len) (type_first is)
   where
     go : (t : Bool) → or_nowhere (first_value 0x54 1 is) ≡ type_among is
-        → or_nowhere (choose t (Given i.value) (first_value 0x54 1 is)) ≡ choose t i.value (type_among is)
+        → or_nowhere (choose t (Some i.value) (first_value 0x54 1 is)) ≡ choose t i.value (type_among is)
     go true e = unfold choose in refl
     go false e = unfold choose in e

@@ -9,7 +9,7 @@ use lib.Dec.{leb}
 use lib.ListN.{length, get_or, take, drop, length-map}
 use lib.Seq.{get_or-drop, take_at}
 use borrow.Author.Tests.{leb-true, le-leb}
-use Rattle.reads.specs.Outcome.{value, number, and_then, choose}
+use Rattle.reads.specs.Outcome.{value, refused, and_then, choose}
 use Rattle.reads.specs.Utf8.{verdict}
 use Rattle.reads.specs.declared.text.Verdict.{Verdict}
 use Rattle.reads.specs.declared.text.Verdict.TheVariants.{Good, Bad}
@@ -26,6 +26,7 @@ use Rattle.attributes.proofs.WrittenAnswers.{value_left}
 use Rattle.attributes.proofs.RoundTrip.{text_round_trip}
 use Rattle.attributes.proofs.Utf8Cuts.{accepts_bytes}
 use Rattle.attributes.proofs.WrittenUtf8.{good_accepts, written_utf8}
+use Rattle.reads.specs.declared.answer.Question.TheVariants.{ItemRoom}
 
 -- Where a value comes back, the text is UTF-8 and the items fit.
 pub record Gave {A : Type 0} (text : List ℕ) (is : List Item) (room : ℕ) (a b : A) : Type 0 where
@@ -38,7 +39,7 @@ unfolding handed_out question choose
 gave {A} text is room a b e = go (verdict text) refl (items_fit (length is) room) refl e
   where
     go : (v : Verdict) → verdict text ≡ v → (t : Bool) → items_fit (length is) room ≡ t
-        → if_utf8 v (and_then (choose t (value tt) (number 12)) (λ (_ : Unit {0}). value a)) ≡ value b → Gave text is room a b
+        → if_utf8 v (and_then (choose t (value tt) (refused ItemRoom)) (λ (_ : Unit {0}). value a)) ≡ value b → Gave text is room a b
     go Good u true f q = record { utf8 = u; fits = f; same = unfold choose in cc }
     go Good u false f q = unfold choose in (let z : ◌≡◌ {A = ℕ} 0 1 = cc in absurd (omega arith))
     go (Bad k) u t f q = let z : ◌≡◌ {A = ℕ} 0 1 = cc in absurd (omega arith)
@@ -104,7 +105,7 @@ unfolding written_of question
 wrote_whole text d rows out n e = go (leb (length (written_text text d rows)) (length out)) refl e
   where
     go : (t : Bool) → leb (length (written_text text d rows)) (length out) ≡ t
-        → and_then (choose t (value tt) (number 12)) (λ (_ : Unit {0}). value (length (written_text text d rows))) ≡ value n
+        → and_then (choose t (value tt) (refused ItemRoom)) (λ (_ : Unit {0}). value (length (written_text text d rows))) ≡ value n
         → take n (written_left text d rows out) ≡ written_text text d rows
     go true f q =
         let size : length (written_text text d rows) ≡ n = unfold choose in cc in

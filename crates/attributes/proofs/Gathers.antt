@@ -3,7 +3,6 @@ use Prim.Native.Nat.{ℕ, suc}
 use mathlib.Core.Path.{◌≡◌, refl, ap, sym, ◌∙◌}
 use mathlib.Core.Bool.{Bool, true, false, not, ◌&&◌, ◌||◌, true≢false}
 use mathlib.Core.List.{List, [], ◌∷◌, ◌++◌, map, append_assoc, append-nil}
-use mathlib.Core.Option.{Option, none, some, none-ne-some}
 use native.Mathlib.Omega.{arith}
 use lib.Dec.{eqb}
 use lib.ListN.{length}
@@ -17,11 +16,12 @@ use Rattle.attributes.specs.Property.{letters, among, unknowns, first_value, dec
 use Rattle.attributes.specs.Written.{Part, Declaration, front_letters, back_letters, bytes_of, bytes_given, part_of, declaration_in, declaration, given, in_order}
 use Rattle.attributes.specs.RoundTrip.{Each, Shaped}
 use Rattle.attributes.specs.declared.items.Item.{Item}
-use Rattle.attributes.specs.declared.property.Attribute.TheVariants.{Given}
+use Rattle.std.specs.Prelude.{Some, Option, None}
+use Rattle.reads.proofs.Options.{none_not_some}
 
 unfoldable pub first_part : ℕ → List Part → Option (List ℕ)
-first_part letter [] = none
-first_part letter (p ∷ ps) = choose (eqb p.key letter) (some p.value) (first_part letter ps)
+first_part letter [] = None
+first_part letter (p ∷ ps) = choose (eqb p.key letter) (Some p.value) (first_part letter ps)
 
 unfoldable pub first_parts : List ℕ → List Part → List (Option (List ℕ))
 first_parts [] ps = []
@@ -42,8 +42,8 @@ module _ (text : List ℕ) where
   first_bytes letter (i ∷ is) = rw (le-leb 0 i.value.len (omega arith)) (go (eqb i.key letter) (first_bytes letter is))
     where
       go : (t : Bool) → bytes_given text (first_value letter 0 is) ≡ first_part letter (map (part_of text) is)
-          → bytes_given text (choose (t && true) (Given i.value) (first_value letter 0 is))
-          ≡ choose t (some (bytes_of text i.value)) (first_part letter (map (part_of text) is))
+          → bytes_given text (choose (t && true) (Some i.value) (first_value letter 0 is))
+          ≡ choose t (Some (bytes_of text i.value)) (first_part letter (map (part_of text) is))
       go true e = unfold choose in refl
       go false e = unfold choose in e
 
@@ -63,37 +63,37 @@ module _ (text : List ℕ) where
   declaration_gathered = simp (first_bytes, unknown_bytes)
 
 -- No part has the letter.
-abbrev None : ℕ → List Part → Type 0
-None l ps = first_part l ps ≡ none
+abbrev NoPart : ℕ → List Part → Type 0
+NoPart l ps = first_part l ps ≡ None
 
 neither : (a b : Bool) → (a || b) ≡ false → (a ≡ false) × (b ≡ false)
 neither true b e = (cc, cc)
 neither false b e = (refl, e)
 
-none_then : (l : ℕ) (ps qs : List Part) → None l ps → first_part l (ps ++ qs) ≡ first_part l qs
+none_then : (l : ℕ) (ps qs : List Part) → NoPart l ps → first_part l (ps ++ qs) ≡ first_part l qs
 unfolding first_part
 none_then l [] qs e = refl
 none_then l (p ∷ ps) qs e = go (eqb p.key l) e (none_then l ps qs)
   where
-    go : (t : Bool) → choose t (some p.value) (first_part l ps) ≡ none → (None l ps → first_part l (ps ++ qs) ≡ first_part l qs)
-        → choose t (some p.value) (first_part l (ps ++ qs)) ≡ first_part l qs
-    go true f more = absurd (none-ne-some p.value (sym (unfold choose in f)))
+    go : (t : Bool) → choose t (Some p.value) (first_part l ps) ≡ None → (NoPart l ps → first_part l (ps ++ qs) ≡ first_part l qs)
+        → choose t (Some p.value) (first_part l (ps ++ qs)) ≡ first_part l qs
+    go true f more = absurd (none_not_some p.value (sym (unfold choose in f)))
     go false f more = unfold choose in more (unfold choose in f)
 
 -- Among given letters there is no other one.
-none_given : (l : ℕ) (ls : List ℕ) (vs : List (Option (List ℕ))) → among ls l ≡ false → None l (given ls vs)
+none_given : (l : ℕ) (ls : List ℕ) (vs : List (Option (List ℕ))) → among ls l ≡ false → NoPart l (given ls vs)
 unfolding first_part given among
 none_given l [] vs e = refl
 none_given l (x ∷ ls) [] e = refl
-none_given l (x ∷ ls) (none ∷ vs) e = none_given l ls vs (neither (eqb x l) (among ls l) e).1
-none_given l (x ∷ ls) (some v ∷ vs) e =
+none_given l (x ∷ ls) (None ∷ vs) e = none_given l ls vs (neither (eqb x l) (among ls l) e).1
+none_given l (x ∷ ls) (Some v ∷ vs) e =
     let n = neither (eqb x l) (among ls l) e in
-    choose_false (some v) (first_part l (given ls vs)) n.0 ∙ none_given l ls vs n.1
+    choose_false (Some v) (first_part l (given ls vs)) n.0 ∙ none_given l ls vs n.1
 
 -- No part has one of the letters.
 abbrev NoneOf : List ℕ → List Part → Type 0
 NoneOf [] ps = Unit {0}
-NoneOf (l ∷ ls) ps = None l ps × NoneOf ls ps
+NoneOf (l ∷ ls) ps = NoPart l ps × NoneOf ls ps
 
 none_of_none : (ls : List ℕ) → NoneOf ls []
 unfolding first_part
@@ -110,7 +110,7 @@ none_of_one [] p e = tt
 none_of_one (l ∷ ls) p e =
     let n = neither (eqb l p.key) (among ls p.key) e in
     let other : eqb p.key l ≡ false = ne_eqb p.key l (λ f. eqb-false l p.key n.0 (sym f)) in
-    (choose_false (some p.value) none other, none_of_one ls p n.1)
+    (choose_false (Some p.value) None other, none_of_one ls p n.1)
 
 distinct : List ℕ → Bool
 distinct [] = true
@@ -123,7 +123,7 @@ unfolding first_parts given distinct
 firsts_given [] [] ps qs d e a b = refl
 firsts_given [] (v ∷ vs) ps qs d e a b = absurd (omega arith)
 firsts_given (l ∷ ls) [] ps qs d e a b = absurd (omega arith)
-firsts_given (l ∷ ls) (none ∷ vs) ps qs d e a b =
+firsts_given (l ∷ ls) (None ∷ vs) ps qs d e a b =
     let t = both_true (not (among ls l)) (distinct ls) d in
     rw (
       none_then l ps (given ls vs ++ qs) a.0,
@@ -131,14 +131,14 @@ firsts_given (l ∷ ls) (none ∷ vs) ps qs d e a b =
       b.0,
       firsts_given ls vs ps qs t.1 (omega arith) a.1 b.1,
     )
-firsts_given (l ∷ ls) (some v ∷ vs) ps qs d e a b =
+firsts_given (l ∷ ls) (Some v ∷ vs) ps qs d e a b =
     let t = both_true (not (among ls l)) (distinct ls) d in
     let p : Part = record { key = l; value = v } in
-    let here : first_part l (ps ++ (p ∷ (given ls vs ++ qs))) ≡ some v =
-    none_then l ps (p ∷ (given ls vs ++ qs)) a.0 ∙ unfold first_part in choose_true (some v) _ (eq-eqb l l refl) in
+    let here : first_part l (ps ++ (p ∷ (given ls vs ++ qs))) ≡ Some v =
+    none_then l ps (p ∷ (given ls vs ++ qs)) a.0 ∙ unfold first_part in choose_true (Some v) _ (eq-eqb l l refl) in
     let more = firsts_given ls vs (ps ++ (p ∷ [])) qs t.1 (omega arith)
     (none_of_both ls ps (p ∷ []) a.1 (none_of_one ls p (not-true (among ls l) t.0))) b.1 in
-    rw here (ap (λ (r : List (Option (List ℕ))). some v ∷ r) (ap (first_parts ls) (sym (append_snoc ps p (given ls vs ++ qs))) ∙ more))
+    rw here (ap (λ (r : List (Option (List ℕ))). Some v ∷ r) (ap (first_parts ls) (sym (append_snoc ps p (given ls vs ++ qs))) ∙ more))
 
 none_of_given : (ls ks : List ℕ) (vs : List (Option (List ℕ))) → all (λ l. not (among ks l)) ls ≡ true → NoneOf ls (given ks vs)
 none_of_given [] ks vs e = tt
@@ -150,13 +150,13 @@ none_of_given (l ∷ ls) ks vs e =
 abbrev Unknown : List Part → Type 0
 Unknown ps = Each (λ p. among letters p.key ≡ false) ps
 
-none_unknown : (l : ℕ) (ps : List Part) → among letters l ≡ true → Unknown ps → None l ps
+none_unknown : (l : ℕ) (ps : List Part) → among letters l ≡ true → Unknown ps → NoPart l ps
 unfolding first_part
 none_unknown l [] e u = refl
 none_unknown l (p ∷ ps) e u =
     let other : eqb p.key l ≡ false =
     ne_eqb p.key l (λ f. true≢false (sym e ∙ ap (among letters) (sym f) ∙ u.0)) in
-    choose_false (some p.value) (first_part l ps) other ∙ none_unknown l ps e u.1
+    choose_false (Some p.value) (first_part l ps) other ∙ none_unknown l ps e u.1
 
 none_of_unknown : (ls : List ℕ) (ps : List Part) → all (among letters) ls ≡ true → Unknown ps → NoneOf ls ps
 none_of_unknown [] ps e u = tt
@@ -178,8 +178,8 @@ unknown_given : (ls : List ℕ) (vs : List (Option (List ℕ))) → all (among l
 unfolding unknown_parts given
 unknown_given [] vs e = refl
 unknown_given (l ∷ ls) [] e = refl
-unknown_given (l ∷ ls) (none ∷ vs) e = unknown_given ls vs (both_true (among letters l) (all (among letters) ls) e).1
-unknown_given (l ∷ ls) (some v ∷ vs) e =
+unknown_given (l ∷ ls) (None ∷ vs) e = unknown_given ls vs (both_true (among letters l) (all (among letters) ls) e).1
+unknown_given (l ∷ ls) (Some v ∷ vs) e =
     let b = both_true (among letters l) (all (among letters) ls) e in
     choose_true (unknown_parts (given ls vs)) _ b.0 ∙ unknown_given ls vs b.1
 

@@ -2,7 +2,7 @@
 use Prim.Native.Nat.{ℕ}
 use mathlib.Core.Path.{◌≡◌, refl}
 use mathlib.Core.List.{[], ◌∷◌}
-use Rattle.reads.specs.Outcome.{value, absent, number, choose}
+use Rattle.reads.specs.Outcome.{value, absent, refused, choose}
 use Rattle.reads.specs.Utf8.{judge, verdict}
 use Rattle.reads.specs.declared.answer.Reason.TheVariants.{NotUtf8}
 use Rattle.reads.specs.declared.text.Verdict.TheVariants.{Bad}
@@ -11,20 +11,21 @@ use Rattle.pointers.specs.Symbol.{ascii}
 use Rattle.attributes.specs.Attributes.{handed_out, quotes, splits, first, value_length, value_of, item_of, items_from, items, items_fit, words, filled}
 use Rattle.attributes.specs.Property.{among, unknowns, first_value, declared, declared_of, unknown_left}
 use Rattle.attributes.specs.Written.{bytes_of, declaration_in, declaration, given, in_order, following, joined, written, items_in, written_text, written_of, written_left}
-use Rattle.attributes.specs.declared.property.Attribute.{Attribute}
-use Rattle.attributes.specs.declared.property.Attribute.TheVariants.{Given, Nothing}
 use Rattle.attributes.specs.declared.property.Declared.{Declared}
+use Rattle.std.specs.Prelude.{Option, Some, None}
+use Rattle.attributes.specs.declared.items.Value.{Value}
+use Rattle.reads.specs.declared.answer.Question.TheVariants.{ItemRoom}
 
 -- A letter that is not given, and a value of n bytes from k on.
-abbrev o : Attribute
-o = Nothing
+abbrev o : Option Value
+o = None
 
-abbrev at : ℕ → ℕ → Attribute
-at k n = Given (value_of k n)
+abbrev at : ℕ → ℕ → Option Value
+at k n = Some (value_of k n)
 
 -- What is given of T R C & N D W P G S t V, and how many letters are unknown.
-abbrev property : Attribute → Attribute → Attribute → Attribute → Attribute → Attribute
-    → Attribute → Attribute → Attribute → Attribute → Attribute → Attribute → ℕ → Declared
+abbrev property : Option Value → Option Value → Option Value → Option Value → Option Value → Option Value
+    → Option Value → Option Value → Option Value → Option Value → Option Value → Option Value → ℕ → Declared
 property type readonly copy retain nonatomic dynamic weak collectable getter setter old variable n =
     record {
       type_encoding = type;
@@ -89,7 +90,7 @@ unfolding written in_order given joined following declaration declaration_in byt
 unknown_written = refl
 
 -- 12: an unknown letter wants three words, and with a number nothing is written; not UTF-8 comes before it.
-unknown_refused : declared_of (ascii "x,R") 2 ≡ number 12
+unknown_refused : declared_of (ascii "x,R") 2 ≡ refused ItemRoom
 unfolding declared_of handed_out declared first_value unknowns among items items_from item_of value_length first splits quotes items_fit question judge choose
 unknown_refused = refl
 
@@ -111,7 +112,7 @@ text_fits : written_of (ascii "R,x1") (property o (at 1 0) o o o o o o o o o o 1
 unfolding written_of written_text written in_order given joined following declaration_in bytes_of items_in question choose
 text_fits = refl
 
-text_refused : written_of (ascii "R,x1") (property o (at 1 0) o o o o o o o o o o 1) (0x78 ∷ 3 ∷ 1 ∷ []) 3 ≡ number 12
+text_refused : written_of (ascii "R,x1") (property o (at 1 0) o o o o o o o o o o 1) (0x78 ∷ 3 ∷ 1 ∷ []) 3 ≡ refused ItemRoom
 unfolding written_of written_text written in_order given joined following declaration_in bytes_of items_in question choose
 text_refused = refl
 

@@ -3,7 +3,6 @@ use Prim.Native.Nat.{ℕ, ◌+◌, ◌≤◌, ◌<◌, ◌^◌}
 use mathlib.Core.Path.{◌≡◌, refl, ap, sym, ◌∙◌}
 use mathlib.Core.List.{List, [], ◌∷◌, ◌++◌, map, append_assoc, append-nil, map-append}
 use mathlib.Core.Logic.{◌⊎◌, inl, inr}
-use mathlib.Core.Option.{Option, none, some}
 use native.Mathlib.Omega.{arith}
 use native.Mathlib.Numerals.{add-one}
 use lib.ListN.{length, take}
@@ -13,11 +12,10 @@ use Rattle.attributes.specs.Written.{Part, bytes_given, part_of, front_letters, 
 use Rattle.attributes.specs.Puts.{Put, comma_at, behind, item_at}
 use Rattle.attributes.specs.declared.items.Item.{Item}
 use Rattle.attributes.specs.declared.items.Value.{Value}
-use Rattle.attributes.specs.declared.property.Attribute.{Attribute}
-use Rattle.attributes.specs.declared.property.Attribute.TheVariants.{Given, Nothing}
 use Rattle.attributes.specs.declared.property.Declared.{Declared}
 use Rattle.attributes.proofs.Puts.{put_then, put_parts, put_no_part, behind_one}
 use Rattle.attributes.proofs.Rows.{item_in_row}
+use Rattle.std.specs.Prelude.{Some, None, Option}
 
 -- A comma, a key and a value.
 pub put_one : (p : Part) {at key_at value_at to : ℕ} {out one two left : List ℕ} → length out < 2 ^ 63
@@ -27,14 +25,14 @@ put_one p {at} small c k v =
     rw (behind_one at p, ← append_assoc (comma_at at) (p.key ∷ []) p.value) (put_then small (put_then small c k) v)
 
 -- A letter that is given, or not.
-module _ (text : List ℕ) (letter : ℕ) {attribute : Attribute} {at : ℕ} {out : List ℕ} where
-  pub put_given : {v : Value} {to : ℕ} {left : List ℕ} → attribute ≡ Given v
+module _ (text : List ℕ) (letter : ℕ) {attribute : (Option Value)} {at : ℕ} {out : List ℕ} where
+  pub put_given : {v : Value} {to : ℕ} {left : List ℕ} → attribute ≡ Some v
       → Put (behind at (part_of text (record { key = letter; value = v }) ∷ [])) at out to left
       → Put (behind at (given (letter ∷ []) (bytes_given text attribute ∷ []))) at out to left
   unfolding given
   put_given e p = rw e p
 
-  pub put_not_given : attribute ≡ Nothing → at < 2 ^ 64
+  pub put_not_given : attribute ≡ None → at < 2 ^ 64
       → Put (behind at (given (letter ∷ []) (bytes_given text attribute ∷ []))) at out at out
   unfolding given
   put_not_given e h = rw e (put_no_part at out h)
@@ -42,8 +40,8 @@ module _ (text : List ℕ) (letter : ℕ) {attribute : Attribute} {at : ℕ} {ou
 given_cons : (l : ℕ) (ls : List ℕ) (v : Option (List ℕ)) (vs : List (Option (List ℕ)))
     → given (l ∷ ls) (v ∷ vs) ≡ given (l ∷ []) (v ∷ []) ++ given ls vs
 unfolding given
-given_cons l ls none vs = refl
-given_cons l ls (some v) vs = refl
+given_cons l ls None vs = refl
+given_cons l ls (Some v) vs = refl
 
 given_none : (ls : List ℕ) → given ls [] ≡ []
 unfolding given
@@ -51,7 +49,7 @@ given_none [] = refl
 given_none (l ∷ ls) = refl
 
 -- No letters, or no values, are no parts.
-given_nothing : (text ls : List ℕ) (given_of : List Attribute) → (length ls ≡ 0) ⊎ (length given_of ≡ 0)
+given_nothing : (text ls : List ℕ) (given_of : List (Option Value)) → (length ls ≡ 0) ⊎ (length given_of ≡ 0)
     → given ls (map (bytes_given text) given_of) ≡ []
 unfolding given
 given_nothing text [] given_of h = refl
@@ -65,27 +63,27 @@ unfolding given
 given_enough [] more [] h = given_none more
 given_enough [] more (v ∷ vs) h = absurd (omega arith)
 given_enough (l ∷ ls) more [] h = refl
-given_enough (l ∷ ls) more (none ∷ vs) h = given_enough ls more vs (omega arith)
-given_enough (l ∷ ls) more (some v ∷ vs) h =
+given_enough (l ∷ ls) more (None ∷ vs) h = given_enough ls more vs (omega arith)
+given_enough (l ∷ ls) more (Some v ∷ vs) h =
     ap (λ (ps : List Part). record { key = l; value = v } ∷ ps) (given_enough ls more vs (omega arith))
 
 module _ (text : List ℕ) (d : Declared) where
   -- Some of the front letters are put, and ls with what is given of them are left.
-  pub record Fronted (old ls : List ℕ) (given_of : List Attribute) (at : ℕ) (out : List ℕ) : Type 0 where
+  pub record Fronted (old ls : List ℕ) (given_of : List (Option Value)) (at : ℕ) (out : List ℕ) : Type 0 where
     parts : List Part
     whole : parts ++ given ls (map (bytes_given text) given_of) ≡ given letters (map (bytes_given text) (front_of d))
     pub put : Put (behind 0 parts) 0 old at out
 
   module _ {old : List ℕ} where
-    pub fronted_start : {ls : List ℕ} {given_of : List Attribute} → ls ≡ letters → given_of ≡ front_of d → Fronted old ls given_of 0 old
+    pub fronted_start : {ls : List ℕ} {given_of : List (Option Value)} → ls ≡ letters → given_of ≡ front_of d → Fronted old ls given_of 0 old
     fronted_start e g = record {
       parts = [];
       whole = rw (e, g);
       put = put_no_part 0 old (omega arith);
     }
 
-    module _ {ls : List ℕ} {given_of : List Attribute} {at : ℕ} {out : List ℕ} (f : Fronted old ls given_of at out) where
-      pub fronted_next : {l to : ℕ} {more left : List ℕ} {a : Attribute} {rest : List Attribute} → length old < 2 ^ 63
+    module _ {ls : List ℕ} {given_of : List (Option Value)} {at : ℕ} {out : List ℕ} (f : Fronted old ls given_of at out) where
+      pub fronted_next : {l to : ℕ} {more left : List ℕ} {a : (Option Value)} {rest : List (Option Value)} → length old < 2 ^ 63
           → ls ≡ l ∷ more → given_of ≡ a ∷ rest
           → Put (behind at (given (l ∷ []) (bytes_given text a ∷ []))) at out to left → Fronted old more rest to left
       fronted_next {l} {to} {more} {left} {a} {rest} small e g p =

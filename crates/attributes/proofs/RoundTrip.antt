@@ -3,7 +3,6 @@ use Prim.Native.Nat.{ℕ, ◌<◌}
 use mathlib.Core.Path.{◌≡◌, refl, ap, ◌∙◌}
 use mathlib.Core.Bool.{true}
 use mathlib.Core.List.{List, [], ◌∷◌, ◌++◌, map}
-use mathlib.Core.Option.{Option, none, some}
 use native.Mathlib.Omega.{arith}
 use lib.Dec.{ltb}
 use lib.ListN.{length}
@@ -15,6 +14,7 @@ use Rattle.attributes.specs.Written.{Part, Declaration, front_letters, back_lett
 use Rattle.attributes.specs.RoundTrip.{Each, Writable, Shaped}
 use Rattle.attributes.proofs.Parts.{parts_of, parts_joined}
 use Rattle.attributes.proofs.Gathers.{gathered, declaration_gathered, gathered_in_order, gathered_shaped}
+use Rattle.std.specs.Prelude.{Option, None, Some}
 
 pub each_both : (P : Part → Type 0) (ps qs : List Part) → Each P ps → Each P qs → Each P (ps ++ qs)
 each_both P [] qs a b = b
@@ -24,8 +24,8 @@ ascii_given : (ls : List ℕ) (vs : List (Option (List ℕ))) → all (λ l. ltb
 unfolding given
 ascii_given [] vs e = tt
 ascii_given (l ∷ ls) [] e = tt
-ascii_given (l ∷ ls) (none ∷ vs) e = ascii_given ls vs (both_true (ltb l 0x80) (all (λ x. ltb x 0x80) ls) e).1
-ascii_given (l ∷ ls) (some v ∷ vs) e =
+ascii_given (l ∷ ls) (None ∷ vs) e = ascii_given ls vs (both_true (ltb l 0x80) (all (λ x. ltb x 0x80) ls) e).1
+ascii_given (l ∷ ls) (Some v ∷ vs) e =
     let b = both_true (ltb l 0x80) (all (λ x. ltb x 0x80) ls) e in
     (ltb-true l 0x80 b.0, ascii_given ls vs b.1)
 

@@ -3,7 +3,6 @@ use Prim.Native.Nat.{ℕ, zero, suc, ◌+◌, ◌%◌, ◌≤◌, ◌<◌}
 use mathlib.Core.Path.{◌≡◌, refl, ap, sym, ◌∙◌}
 use mathlib.Core.Bool.{Bool, true, false, ◌&&◌, false≢true}
 use mathlib.Core.List.{List, [], ◌∷◌, ◌++◌}
-use mathlib.Core.Option.{Option, none, some, some-injective, none-ne-some}
 use native.Mathlib.Omega.{arith}
 use native.Mathlib.Numerals.{add-one}
 use lib.Dec.{leb, ltb, eqb}
@@ -19,34 +18,36 @@ use Rattle.attributes.specs.Attributes.{quotes, splits, first, value_length}
 use Rattle.attributes.specs.RoundTrip.{Each}
 use Rattle.attributes.proofs.ValueEnds.{first_hit, first_miss}
 use Rattle.attributes.proofs.Parts.{parts_from}
+use Rattle.reads.proofs.Options.{none_not_some, some_same}
+use Rattle.std.specs.Prelude.{Option, None, Some}
 
 -- Bytes above ASCII.
 abbrev upper : Range → Bool
 upper (lo to hi) = leb 0x80 lo && ltb hi 0x100
 
 -- What is due inside a character lies above ASCII, and every byte is below 256.
-due_first : (b : ℕ) (w : List Range) → due_after [] b ≡ some w → (all upper w ≡ true) × (b < 0x100)
+due_first : (b : ℕ) (w : List Range) → due_after [] b ≡ Some w → (all upper w ≡ true) × (b < 0x100)
 unfolding choose
 due_first b w q = go (leb 0x80 b) refl
   where
-    small : begun multi b ≡ some w → (t : Bool) → leb b 0xF4 ≡ t → b < 0x100
+    small : begun multi b ≡ Some w → (t : Bool) → leb b 0xF4 ≡ t → b < 0x100
     small m true e = omega (arith, leb-true b 0xF4 e)
-    small m false e = absurd (none-ne-some w (sym (multi_over b (leb-false b 0xF4 e)) ∙ m))
+    small m false e = absurd (none_not_some w (sym (multi_over b (leb-false b 0xF4 e)) ∙ m))
 
     go : (t : Bool) → leb 0x80 b ≡ t → (all upper w ≡ true) × (b < 0x100)
     go true e =
-        let m : begun multi b ≡ some w = unfold choose in simp (inside_over 0x00 0x7F b (omega (arith, leb-true 0x80 b e))) at q in
+        let m : begun multi b ≡ Some w = unfold choose in simp (inside_over 0x00 0x7F b (omega (arith, leb-true 0x80 b e))) at q in
         (begun_all upper multi b w refl m, small m (leb b 0xF4) refl)
     go false e =
         let less = leb-false 0x80 b e in
-        let m : some [] ≡ some w = unfold choose in simp (inside_between 0x00 0x7F b (omega arith) (omega arith)) at q in
-        (ap (all upper) (sym (some-injective [] w m)), omega arith)
+        let m : Some [] ≡ Some w = unfold choose in simp (inside_between 0x00 0x7F b (omega arith) (omega arith)) at q in
+        (ap (all upper) (sym (some_same [] w m)), omega arith)
 
-due_next : (r : Range) (rs w : List Range) (b : ℕ) → all upper (r ∷ rs) ≡ true → due_after (r ∷ rs) b ≡ some w
+due_next : (r : Range) (rs w : List Range) (b : ℕ) → all upper (r ∷ rs) ≡ true → due_after (r ∷ rs) b ≡ Some w
     → (all upper w ≡ true) × ((0x80 ≤ b) × (b < 0x100))
 due_next (lo to hi) rs w b a q = go (inside (lo to hi) b) refl q
   where
-    go : (t : Bool) → inside (lo to hi) b ≡ t → choose t (some rs) none ≡ some w → (all upper w ≡ true) × ((0x80 ≤ b) × (b < 0x100))
+    go : (t : Bool) → inside (lo to hi) b ≡ t → choose t (Some rs) None ≡ Some w → (all upper w ≡ true) × ((0x80 ≤ b) × (b < 0x100))
     go true i m =
         let r = both_true (upper (lo to hi)) (all upper rs) a in
         let ends = both_true (leb 0x80 lo) (ltb hi 0x100) r.0 in
@@ -55,17 +56,17 @@ due_next (lo to hi) rs w b a q = go (inside (lo to hi) b) refl q
         let high = ltb-true hi 0x100 ends.1 in
         let above = leb-true lo b b-in.0 in
         let below = leb-true b hi b-in.1 in
-        (ap (all upper) (sym (some-injective rs w (unfold choose in m))) ∙ r.1, (omega arith, omega arith))
-    go false i m = absurd (none-ne-some w (unfold choose in m))
+        (ap (all upper) (sym (some_same rs w (unfold choose in m))) ∙ r.1, (omega arith, omega arith))
+    go false i m = absurd (none_not_some w (unfold choose in m))
 
-due_upper : (w : List Range) (b : ℕ) (w' : List Range) → all upper w ≡ true → due_after w b ≡ some w' → (all upper w' ≡ true) × (b < 0x100)
+due_upper : (w : List Range) (b : ℕ) (w' : List Range) → all upper w ≡ true → due_after w b ≡ Some w' → (all upper w' ≡ true) × (b < 0x100)
 due_upper [] b w' a q = due_first b w' q
 due_upper (r ∷ rs) b w' a q = let n = due_next r rs w' b a q in (n.0, n.1.1)
 
 -- A text goes on past its first byte.
 record Onward (w : List Range) (b : ℕ) (s : List ℕ) : Type 0 where
   due : List Range
-  is : due_after w b ≡ some due
+  is : due_after w b ≡ Some due
   accepted : accepts due s ≡ true
 
 goes_on : (w : List Range) (b : ℕ) (s : List ℕ) → accepts w (b ∷ s) ≡ true → Onward w b s
@@ -73,10 +74,10 @@ unfolding accepts
 goes_on w b s e = go (due_after w b) refl e
   where
     go : (o : Option (List Range)) → due_after w b ≡ o → onward o (λ w'. accepts w' s) ≡ true → Onward w b s
-    go none q f = absurd (false≢true f)
-    go (some w') q f = record { due = w'; is = q; accepted = f }
+    go None q f = absurd (false≢true f)
+    go (Some w') q f = record { due = w'; is = q; accepted = f }
 
-came_on : (w : List Range) (b : ℕ) (s : List ℕ) (w' : List Range) → due_after w b ≡ some w' → accepts w' s ≡ true → accepts w (b ∷ s) ≡ true
+came_on : (w : List Range) (b : ℕ) (s : List ℕ) (w' : List Range) → due_after w b ≡ Some w' → accepts w' s ≡ true → accepts w (b ∷ s) ≡ true
 unfolding accepts
 came_on w b s w' q e = rw q e
 

@@ -1,4 +1,4 @@
--- What write_attributes gives and leaves in the lent buffer, by question 12.
+-- What write_attributes gives and leaves in the lent buffer, by question ItemRoom.
 use Prim.Native.Nat.{ℕ, ◌+◌, ◌≤◌, ◌<◌, ◌^◌}
 use mathlib.Core.Path.{◌≡◌, refl, ap, sym, ◌∙◌}
 use mathlib.Core.List.{List, [], ◌∷◌, ◌++◌}
@@ -6,21 +6,22 @@ use native.Mathlib.Omega.{arith}
 use lib.ListN.{length, drop}
 use lib.Seq.{sets-eq}
 use borrow.Author.Tests.{le-leb, lt-leb}
-use Rattle.reads.specs.Outcome.{value, number}
+use Rattle.reads.specs.Outcome.{value, refused}
 use Rattle.pointers.proofs.Questions.{question_yes, question_no}
 use Rattle.attributes.specs.Written.{written_text, written_of, written_left}
 use Rattle.attributes.specs.Puts.{Put}
 use Rattle.attributes.specs.declared.property.Declared.{Declared}
+use Rattle.reads.specs.declared.answer.Question.TheVariants.{ItemRoom}
 
 module _ (text : List ℕ) (d : Declared) (rows : List ℕ) where
-  pub written_number : (room : ℕ) → room < length (written_text text d rows) → written_of text d rows room ≡ number 12
+  pub written_number : (room : ℕ) → room < length (written_text text d rows) → written_of text d rows room ≡ refused ItemRoom
   unfolding written_of
-  written_number room h = rw (question_no 12 _ (lt-leb (length (written_text text d rows)) room h))
+  written_number room h = rw (question_no ItemRoom _ (lt-leb (length (written_text text d rows)) room h))
 
   pub written_value : (room : ℕ) → length (written_text text d rows) ≤ room
       → written_of text d rows room ≡ value (length (written_text text d rows))
   unfolding written_of
-  written_value room h = rw (question_yes 12 _ (le-leb (length (written_text text d rows)) room h))
+  written_value room h = rw (question_yes ItemRoom _ (le-leb (length (written_text text d rows)) room h))
 
   pub number_left : (out : List ℕ) → length out < length (written_text text d rows) → written_left text d rows out ≡ out
   unfolding written_left
@@ -40,7 +41,7 @@ module _ (text : List ℕ) (d : Declared) (rows : List ℕ) where
     unchanged : none ++ out ≡ out
     unchanged = ap (λ (l : List ℕ). l ++ out) (empty none p.same)
 
-    pub asked_number : length (none ++ out) < len → (number 12 ≡ written_of text d rows (length out)) × (none ++ out ≡ written_left text d rows out)
+    pub asked_number : length (none ++ out) < len → (refused ItemRoom ≡ written_of text d rows (length out)) × (none ++ out ≡ written_left text d rows out)
     asked_number h =
         let more : length out < length (written_text text d rows) = omega (arith, p.ends, ap length unchanged) in
         (sym (written_number (length out) more), unchanged ∙ sym (number_left out more))

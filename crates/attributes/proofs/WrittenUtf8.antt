@@ -3,7 +3,6 @@ use Prim.Native.Nat.{ℕ, ◌<◌}
 use mathlib.Core.Path.{◌≡◌, refl, ap, sym, subst, ◌∙◌}
 use mathlib.Core.Bool.{Bool, true, false, false≢true}
 use mathlib.Core.List.{List, [], ◌∷◌, ◌++◌}
-use mathlib.Core.Option.{Option, none, some, some-injective, none-ne-some}
 use native.Mathlib.Omega.{arith}
 use lib.Dec.{eqb}
 use lib.ListN.{length}
@@ -20,19 +19,21 @@ use Rattle.attributes.proofs.Parts.{parts_from, parts_of}
 use Rattle.attributes.proofs.Gathers.{first_part, first_parts, unknown_parts, gathered, declaration_gathered}
 use Rattle.attributes.proofs.RoundTrip.{each_both, ascii_in_order}
 use Rattle.attributes.proofs.Utf8Cuts.{accepts_ascii, accepts_both, parts_utf8}
+use Rattle.reads.proofs.Options.{none_not_some, some_same}
+use Rattle.std.specs.Prelude.{Option, None, Some}
 
 -- What is gathered from parts consists of these parts.
 module _ (P : Part → Type 0) where
-  each_first : (l : ℕ) (ps : List Part) (v : List ℕ) → Each P ps → first_part l ps ≡ some v → P (record { key = l; value = v })
+  each_first : (l : ℕ) (ps : List Part) (v : List ℕ) → Each P ps → first_part l ps ≡ Some v → P (record { key = l; value = v })
   unfolding first_part
-  each_first l [] v a e = absurd (none-ne-some v e)
+  each_first l [] v a e = absurd (none_not_some v e)
   each_first l (p ∷ ps) v a e = go (eqb p.key l) refl e (each_first l ps v a.1)
     where
-      go : (t : Bool) → eqb p.key l ≡ t → choose t (some p.value) (first_part l ps) ≡ some v
-          → (first_part l ps ≡ some v → P (record { key = l; value = v })) → P (record { key = l; value = v })
+      go : (t : Bool) → eqb p.key l ≡ t → choose t (Some p.value) (first_part l ps) ≡ Some v
+          → (first_part l ps ≡ Some v → P (record { key = l; value = v })) → P (record { key = l; value = v })
       go true f q more =
           let key = eqb-true p.key l f in
-          let value = some-injective p.value v (unfold choose in q) in
+          let value = some_same p.value v (unfold choose in q) in
           subst (λ (x : List ℕ). P (record { key = l; value = x })) value
           (subst (λ (k : ℕ). P (record { key = k; value = p.value })) key a.0)
       go false f q more = more (unfold choose in q)
@@ -43,8 +44,8 @@ module _ (P : Part → Type 0) where
   each_given (l ∷ ls) ps a = go (first_part l ps) refl (each_given ls ps a)
     where
       go : (o : Option (List ℕ)) → first_part l ps ≡ o → Each P (given ls (first_parts ls ps)) → Each P (given (l ∷ ls) (o ∷ first_parts ls ps))
-      go none e more = unfold given in more
-      go (some v) e more = unfold given in (each_first l ps v a e, more)
+      go None e more = unfold given in more
+      go (Some v) e more = unfold given in (each_first l ps v a e, more)
 
   each_unknown : (ps : List Part) → Each P ps → Each P (unknown_parts ps)
   unfolding unknown_parts

@@ -1,7 +1,6 @@
 -- The attribute string of a property (document 01, Attributes; property.rs, parse_attributes): items, each a key byte and a
 -- value, that commas outside double quotes end.
 use Rattle.std.specs.Prelude.{ℕ, zero, suc, ◌+◌, ◌*◌, ◌%◌, Bool, ◌&&◌, List, [], ◌∷◌, ◌++◌, leb, ltb, eqb, length, get_or, take, drop}
-use Rattle.reads.specs.Answer.{missed}
 use Rattle.reads.specs.Outcome.{Outcome, value, absent, and_then, choose}
 use Rattle.reads.specs.Utf8.{verdict}
 use Rattle.reads.specs.declared.answer.Reason.TheVariants.{NotUtf8}
@@ -10,16 +9,11 @@ use Rattle.reads.specs.declared.text.Verdict.TheVariants.{Good, Bad}
 use Rattle.pointers.specs.Open.{left_by}
 use Rattle.pointers.specs.Question.{question}
 use Rattle.attributes.specs.declared.items.Attributes.{Attributes}
-use Rattle.attributes.specs.declared.items.AttributesAnswer.{AttributesAnswer}
-use Rattle.attributes.specs.declared.items.AttributesAnswer.TheVariants as answer
 use Rattle.attributes.specs.declared.items.Item.{Item}
 use Rattle.attributes.specs.declared.items.Value.{Value}
+use Rattle.reads.specs.declared.answer.Question.TheVariants.{ItemRoom}
 
 -- Document 01's outcome of each case of the code's answer.
-abbrev pub attributes_outcome : AttributesAnswer → Outcome Attributes
-attributes_outcome (answer.Attributes a) = value a
-attributes_outcome (answer.Missing m) = missed m
-
 -- How many of the bytes are double quotes.
 unfoldable pub quotes : List ℕ → ℕ
 quotes [] = 0
@@ -79,9 +73,9 @@ abbrev pub if_utf8 : {A : Type 0} → Verdict → Outcome A → Outcome A
 if_utf8 Good o = o
 if_utf8 (Bad k) o = absent (NotUtf8 k)
 
--- What comes back where items of a text are handed out into a buffer of `room` words: absent unless UTF-8, then question 12.
+-- What comes back where items of a text are handed out into a buffer of `room` words: absent unless UTF-8, then question ItemRoom.
 unfoldable pub handed_out : {A : Type 0} → List ℕ → List Item → ℕ → A → Outcome A
-handed_out text is room a = if_utf8 (verdict text) (and_then (question 12 (items_fit (length is) room)) (λ _. value a))
+handed_out text is room a = if_utf8 (verdict text) (and_then (question ItemRoom (items_fit (length is) room)) (λ _. value a))
 
 -- What parse_attributes gives, of a text and the words of the lent buffer.
 unfoldable pub attributes_of : List ℕ → ℕ → Outcome Attributes

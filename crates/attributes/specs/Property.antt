@@ -1,24 +1,16 @@
 -- The property that an attribute string declares (note 1; Apple, "Declared Properties"): the first value of each letter of
 -- Apple's list, and the items of all other letters, in order.
-use Rattle.std.specs.Prelude.{ℕ, Bool, false, ◌&&◌, ◌||◌, List, [], ◌∷◌, leb, eqb, length}
+use Rattle.std.specs.Prelude.{ℕ, Bool, false, ◌&&◌, ◌||◌, List, [], ◌∷◌, leb, eqb, length, Option, Some, None}
 use Prim.Native.Char.{code}
-use Rattle.reads.specs.Answer.{missed}
-use Rattle.reads.specs.Outcome.{Outcome, value, choose}
+use Rattle.reads.specs.Outcome.{Outcome, choose}
 use Rattle.pointers.specs.Open.{left_by}
 use Rattle.pointers.specs.Symbol.{ascii}
 use Rattle.attributes.specs.Attributes.{items, handed_out, filled}
 use Rattle.attributes.specs.declared.items.Item.{Item}
-use Rattle.attributes.specs.declared.property.Attribute.{Attribute}
-use Rattle.attributes.specs.declared.property.Attribute.TheVariants.{Given, Nothing}
 use Rattle.attributes.specs.declared.property.Declared.{Declared}
-use Rattle.attributes.specs.declared.property.DeclaredAnswer.{DeclaredAnswer}
-use Rattle.attributes.specs.declared.property.DeclaredAnswer.TheVariants as answer
+use Rattle.attributes.specs.declared.items.Value.{Value}
 
 -- Document 01's outcome of each case of the code's answer.
-abbrev pub declared_outcome : DeclaredAnswer → Outcome Declared
-declared_outcome (answer.Declared d) = value d
-declared_outcome (answer.Missing m) = missed m
-
 -- Apple's letters.
 abbrev pub letters : List ℕ
 letters = ascii "TRC&NDWPGStV"
@@ -34,10 +26,10 @@ unknowns [] = []
 unknowns (i ∷ is) = choose (among letters i.key) (unknowns is) (i ∷ unknowns is)
 
 -- The first value of a letter that has `least` bytes or more.
-unfoldable pub first_value : ℕ → ℕ → List Item → Attribute
-first_value letter least [] = Nothing
+unfoldable pub first_value : ℕ → ℕ → List Item → Option Value
+first_value letter least [] = None
 first_value letter least (i ∷ is) =
-    choose (eqb i.key letter && leb least i.value.len) (Given i.value) (first_value letter least is)
+    choose (eqb i.key letter && leb least i.value.len) (Some i.value) (first_value letter least is)
 
 -- The first value of each letter, of any length, and how many items have other letters.
 unfoldable pub declared : List ℕ → Declared

@@ -1,6 +1,5 @@
 -- The text that a declared property is written out as (note 1). Values are taken as bytes.
-use Rattle.std.specs.Prelude.{ℕ, zero, suc, ◌%◌, List, [], ◌∷◌, ◌++◌, map, leb, length, take, drop}
-use Rattle.std.proofs.Math.Option.{Option, none, some}
+use Rattle.std.specs.Prelude.{ℕ, zero, suc, ◌%◌, List, [], ◌∷◌, ◌++◌, map, leb, length, take, drop, Some, None, Option}
 use Rattle.reads.specs.Outcome.{Outcome, value, and_then}
 use Rattle.pointers.specs.Open.{left_by}
 use Rattle.pointers.specs.Question.{question}
@@ -9,9 +8,8 @@ use Rattle.attributes.specs.Attributes.{items, value_of}
 use Rattle.attributes.specs.Property.{unknowns, declared}
 use Rattle.attributes.specs.declared.items.Item.{Item}
 use Rattle.attributes.specs.declared.items.Value.{Value}
-use Rattle.attributes.specs.declared.property.Attribute.{Attribute}
-use Rattle.attributes.specs.declared.property.Attribute.TheVariants.{Given, Nothing}
 use Rattle.attributes.specs.declared.property.Declared.{Declared}
+use Rattle.reads.specs.declared.answer.Question.TheVariants.{ItemRoom}
 
 -- A letter and its value.
 pub record Part : Type 0 where
@@ -32,7 +30,7 @@ abbrev pub back_letters : List ℕ
 back_letters = ascii "V"
 
 -- What is given of the front letters.
-abbrev pub front_of : Declared → List Attribute
+abbrev pub front_of : Declared → List (Option Value)
 front_of d =
     d.type_encoding
     ∷ d.readonly
@@ -51,9 +49,9 @@ front_of d =
 unfoldable pub bytes_of : List ℕ → Value → List ℕ
 bytes_of text v = take v.len (drop v.start text)
 
-abbrev pub bytes_given : List ℕ → Attribute → Option (List ℕ)
-bytes_given text (Given v) = some (bytes_of text v)
-bytes_given text Nothing = none
+abbrev pub bytes_given : List ℕ → Option Value → Option (List ℕ)
+bytes_given text (Some v) = Some (bytes_of text v)
+bytes_given text None = None
 
 abbrev pub part_of : List ℕ → Item → Part
 part_of text i = record { key = i.key; value = bytes_of text i.value }
@@ -71,8 +69,8 @@ declaration text = declaration_in text (declared text) (unknowns (items text))
 unfoldable pub given : List ℕ → List (Option (List ℕ)) → List Part
 given [] vs = []
 given (l ∷ ls) [] = []
-given (l ∷ ls) (none ∷ vs) = given ls vs
-given (l ∷ ls) (some v ∷ vs) = record { key = l; value = v } ∷ given ls vs
+given (l ∷ ls) (None ∷ vs) = given ls vs
+given (l ∷ ls) (Some v ∷ vs) = record { key = l; value = v } ∷ given ls vs
 
 -- T, the flags, G, S, t, the unknown letters, V.
 unfoldable pub in_order : Declaration → List Part
@@ -106,7 +104,7 @@ written_text text d rows = written (declaration_in text d (items_in d.unknown_co
 -- What write_attributes gives, of a buffer of `room` bytes: the length of the text, or 12 where it does not fit.
 unfoldable pub written_of : List ℕ → Declared → List ℕ → ℕ → Outcome ℕ
 written_of text d rows room =
-    and_then (question 12 (leb (length (written_text text d rows)) room)) (λ _. value (length (written_text text d rows)))
+    and_then (question ItemRoom (leb (length (written_text text d rows)) room)) (λ _. value (length (written_text text d rows)))
 
 -- What the buffer holds afterwards: the text in front and behind it as it was, or with a number what it held.
 unfoldable pub written_left : List ℕ → Declared → List ℕ → List ℕ → List ℕ

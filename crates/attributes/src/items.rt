@@ -1,11 +1,11 @@
 // The items of an attribute string, as `T@"NSString",C,N,V_name`: property.rs, parse_attributes.
 ghost use Rattle.std.specs.Prelude.{◌≡◌, length};
 ghost use Rattle.reads.specs.Reference.{before};
-ghost use Rattle.attributes.specs.Attributes.{attributes_outcome, items, type_among, attributes_of, items_left};
+ghost use Rattle.attributes.specs.Attributes.{items, type_among, attributes_of, items_left};
+ghost use Rattle.reads.specs.Answer.{outcome};
 
 use crate::pass::{Which, count_items, first_value, items_fit, write_items};
-use crate::property::Attribute;
-use reads::answer::{Missing, Reason};
+use reads::answer::{Missing, Question, Reason};
 use reads::text::{Verdict, utf8_verdict};
 
 // A value: the part of the text from `start`, `len` bytes long.
@@ -29,40 +29,33 @@ pub struct Attributes {
     pub type_encoding: Value,
 }
 
-// The attributes, or none.
-#[derive(Clone, Copy)]
-pub enum AttributesAnswer {
-    Attributes(Attributes),
-    Missing(Missing),
-}
-
 // The first T value that is not empty.
 fn type_encoding(text: &[u8]) -> Value
     ensures { result ≡ type_among (items (before text)) }
 {
     match first_value(text, b'T', 1) {
-        Attribute::Given(value) => value,
-        Attribute::Nothing => Value { start: 0, len: 0 },
+        Some(value) => value,
+        None => Value { start: 0, len: 0 },
     }
 }
 
 // The items of a text, three words each, into the lent buffer.
-pub fn parse_attributes(text: &[u8], buffer: &mut [u64]) -> AttributesAnswer
-    ensures outcome { attributes_outcome result ≡ attributes_of (before text) (length buffer.old) }
+pub fn parse_attributes(text: &[u8], buffer: &mut [u64]) -> Result<Attributes, Missing>
+    ensures outcome { outcome result ≡ attributes_of (before text) (length buffer.old) }
     ensures contents { buffer.new ≡ items_left (before text) buffer.old }
 {
     match utf8_verdict(text) {
         Verdict::Good => {}
         Verdict::Bad(k) => {
-            return AttributesAnswer::Missing(Missing::Absent(Reason::NotUtf8(k)));
+            return Err(Missing::Absent(Reason::NotUtf8(k)));
         }
     }
     let count = count_items(text, Which::All);
     if !items_fit(count, buffer.len()) {
-        return AttributesAnswer::Missing(Missing::Refused(12));
+        return Err(Missing::Refused(Question::ItemRoom));
     }
     write_items(text, Which::All, buffer);
-    AttributesAnswer::Attributes(Attributes {
+    Ok(Attributes {
         count,
         type_encoding: type_encoding(text),
     })

@@ -7,7 +7,6 @@ ghost use Rattle.attributes.specs.Property.{letters, among, first_value};
 ghost use Rattle.attributes.specs.Pass.{items_left_of, wanted, chosen};
 
 use crate::items::{Item, Value};
-use crate::property::Attribute;
 
 // The letters of Apple's list, in the order in which they are written: T, the flags, G, S, t, and V after the unknown letters.
 pub const LETTERS: [u8; 12] = *b"TRC&NDWPGStV";
@@ -130,11 +129,11 @@ pub fn write_items(text: &[u8], which: Which, buffer: &mut [u64])
 }
 
 // The first value of a letter that has `least` bytes or more.
-pub fn first_value(text: &[u8], letter: u8, least: u64) -> Attribute
+pub fn first_value(text: &[u8], letter: u8, least: u64) -> Option<Value>
     ensures { result ≡ first_value letter least (items (before text)) }
 {
     match items_of(text).find(|item| item.key == letter && least <= item.value.len) {
-        Some(item) => Attribute::Given(item.value),
-        None => Attribute::Nothing,
+        Some(item) => Some(item.value),
+        None => None,
     }
 }

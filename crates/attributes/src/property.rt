@@ -1,55 +1,42 @@
 // The property that an attribute string declares, by the letters of Apple's "Declared Properties".
 ghost use Rattle.std.specs.Prelude.{◌≡◌, length};
 ghost use Rattle.reads.specs.Reference.{before};
-ghost use Rattle.attributes.specs.Property.{declared_outcome, declared, declared_of, unknown_left};
+ghost use Rattle.attributes.specs.Property.{declared, declared_of, unknown_left};
+ghost use Rattle.reads.specs.Answer.{outcome};
 
 use crate::items::Value;
 use crate::pass::{Which, count_items, first_value, items_fit, write_items};
-use reads::answer::{Missing, Reason};
+use reads::answer::{Missing, Question, Reason};
 use reads::text::{Verdict, utf8_verdict};
-
-// A letter that is given, with its value (of most flags the empty one), or not given.
-#[derive(Clone, Copy)]
-pub enum Attribute {
-    Given(Value),
-    Nothing,
-}
 
 // A declared property: the first value of each letter, and how many items have other letters.
 #[derive(Clone, Copy)]
 pub struct Declared {
     // T
-    pub type_encoding: Attribute,
+    pub type_encoding: Option<Value>,
     // R
-    pub readonly: Attribute,
+    pub readonly: Option<Value>,
     // C
-    pub copy: Attribute,
+    pub copy: Option<Value>,
     // &
-    pub retain: Attribute,
+    pub retain: Option<Value>,
     // N
-    pub nonatomic: Attribute,
+    pub nonatomic: Option<Value>,
     // D
-    pub dynamic: Attribute,
+    pub dynamic: Option<Value>,
     // W
-    pub weak: Attribute,
+    pub weak: Option<Value>,
     // P, eligible for garbage collection
-    pub collectable: Attribute,
+    pub collectable: Option<Value>,
     // G
-    pub getter: Attribute,
+    pub getter: Option<Value>,
     // S
-    pub setter: Attribute,
+    pub setter: Option<Value>,
     // t, the type in the old-style encoding
-    pub old_type_encoding: Attribute,
+    pub old_type_encoding: Option<Value>,
     // V, the backing ivar
-    pub variable: Attribute,
+    pub variable: Option<Value>,
     pub unknown_count: u64,
-}
-
-// A declared property, or none.
-#[derive(Clone, Copy)]
-pub enum DeclaredAnswer {
-    Declared(Declared),
-    Missing(Missing),
 }
 
 // The property that a text declares.
@@ -74,20 +61,20 @@ fn declared_by(text: &[u8]) -> Declared
 }
 
 // The property that a text declares; the items of unknown letters, three words each, into the lent buffer.
-pub fn decode_attributes(text: &[u8], buffer: &mut [u64]) -> DeclaredAnswer
-    ensures outcome { declared_outcome result ≡ declared_of (before text) (length buffer.old) }
+pub fn decode_attributes(text: &[u8], buffer: &mut [u64]) -> Result<Declared, Missing>
+    ensures outcome { outcome result ≡ declared_of (before text) (length buffer.old) }
     ensures contents { buffer.new ≡ unknown_left (before text) buffer.old }
 {
     match utf8_verdict(text) {
         Verdict::Good => {}
         Verdict::Bad(k) => {
-            return DeclaredAnswer::Missing(Missing::Absent(Reason::NotUtf8(k)));
+            return Err(Missing::Absent(Reason::NotUtf8(k)));
         }
     }
     let declared = declared_by(text);
     if !items_fit(declared.unknown_count, buffer.len()) {
-        return DeclaredAnswer::Missing(Missing::Refused(12));
+        return Err(Missing::Refused(Question::ItemRoom));
     }
     write_items(text, Which::Unknown, buffer);
-    DeclaredAnswer::Declared(declared)
+    Ok(declared)
 }

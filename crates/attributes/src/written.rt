@@ -1,14 +1,14 @@
 // The text of a declared property: its letters in a fixed order, the unknown ones among them, with commas between them.
 ghost use Rattle.std.specs.Prelude.{◌≡◌, [], ◌∷◌, map, ◌+◌, ◌*◌, ◌≤◌, length};
 ghost use Rattle.reads.specs.Reference.{before};
-ghost use Rattle.reads.specs.Answer.{word_outcome};
 ghost use Rattle.attributes.specs.Written.{bytes_of, bytes_given, part_of, front_letters, front_of, given, joined, items_in, written_text, written_of, written_left};
 ghost use Rattle.attributes.specs.Puts.{Put, comma_at, behind, item_at};
+ghost use Rattle.reads.specs.Answer.{outcome};
 
 use crate::items::{Item, Value};
 use crate::pass::LETTERS;
-use crate::property::{Attribute, Declared};
-use reads::answer::{Missing, Word};
+use crate::property::Declared;
+use reads::answer::{Missing, Question};
 
 // The bytes that the text has of a value.
 fn inside(text: &[u8], value: Value) -> &[u8]
@@ -51,17 +51,23 @@ fn put_item(text: &[u8], item: Item, out: &mut [u8], at: usize) -> usize
 }
 
 // Puts a letter behind `at` bytes, if it is given.
-fn put_attribute(text: &[u8], letter: u8, attribute: Attribute, out: &mut [u8], at: usize) -> usize
+fn put_attribute(
+    text: &[u8],
+    letter: u8,
+    attribute: Option<Value>,
+    out: &mut [u8],
+    at: usize,
+) -> usize
     ensures { Put (behind at (given (letter ∷ []) (bytes_given (before text) attribute ∷ []))) at out.old result out.new }
 {
     match attribute {
-        Attribute::Given(value) => put_item(text, Item { key: letter, value }, out, at),
-        Attribute::Nothing => at,
+        Some(value) => put_item(text, Item { key: letter, value }, out, at),
+        None => at,
     }
 }
 
 // What is given of the front letters.
-fn front(declared: Declared) -> [Attribute; 11]
+fn front(declared: Declared) -> [Option<Value>; 11]
     ensures { result ≡ front_of declared }
 {
     [
@@ -135,14 +141,19 @@ fn put_all(text: &[u8], declared: Declared, unknown: &[u64], out: &mut [u8]) -> 
 
 // The text of a declared property, whose values stand in `text` and whose unknown letters are the rows of `unknown`, into the
 // lent buffer; its length.
-pub fn write_attributes(text: &[u8], declared: Declared, unknown: &[u64], out: &mut [u8]) -> Word
-    ensures outcome { word_outcome result ≡ written_of (before text) declared (before unknown) (length out.old) }
+pub fn write_attributes(
+    text: &[u8],
+    declared: Declared,
+    unknown: &[u64],
+    out: &mut [u8],
+) -> Result<u64, Missing>
+    ensures outcome { outcome result ≡ written_of (before text) declared (before unknown) (length out.old) }
     ensures contents { out.new ≡ written_left (before text) declared (before unknown) out.old }
 {
     let len = put_all(text, declared, unknown, &mut out[0..0]);
     if out.len() < len {
-        return Word::Missing(Missing::Refused(12));
+        return Err(Missing::Refused(Question::ItemRoom));
     }
     put_all(text, declared, unknown, out);
-    Word::Value(len as u64)
+    Ok(len as u64)
 }

@@ -8,12 +8,9 @@ use native.Mathlib.Omega.{arith}
 use lib.Dec.{eqb}
 use lib.ListN.{length, get_or, drop, drop_of_length-le}
 use borrow.Author.Tests.{eqb-true}
-use Rattle.reads.specs.Outcome.{Outcome, value, absent, number, and_then}
+use Rattle.reads.specs.Outcome.{Outcome, value, absent, refused, and_then}
 use Rattle.reads.proofs.Outcomes.{then_came}
 use Rattle.pointers.specs.Tables.{Tables}
-use Rattle.pointers.specs.Question.{asked_outcome}
-use Rattle.pointers.specs.declared.question.Asked.{Asked}
-use Rattle.pointers.specs.declared.question.Asked.TheVariants as asks
 use Rattle.records.specs.Category.{category_at}
 use Rattle.records.specs.declared.category.ObjcCategory.{ObjcCategory}
 use Rattle.walks.specs.Gather.{joined, gather, of_value, present}
@@ -23,38 +20,41 @@ use Rattle.walks.proofs.Gathers.{gather_none, gather_parts, Held, held_one, held
 use Rattle.walks.proofs.PlainWalks.{slots_from_lem}
 use Rattle.dispatch.specs.Asking.{each_settled}
 use Rattle.dispatch.specs.SlotSources.{category_slots, settled, records_in}
+use Rattle.std.specs.Prelude.{Result, Ok, Err}
+use Rattle.reads.specs.Answer.{answered}
+use Rattle.reads.specs.declared.answer.Question.{Question}
 
 -- A value is settled; what is joined to a value settles as the rest does.
 pub settled_value : {A : Type 0} (o : Outcome A) → settled o ≡ value tt → (a : A) × (o ≡ value a)
 settled_value (value a) e = (a, refl)
 settled_value (absent why) e = let z : ◌≡◌ {A = ℕ} 0 1 = cc in absurd (omega arith)
-settled_value (number k) e = let z : ◌≡◌ {A = ℕ} 0 1 = cc in absurd (omega arith)
+settled_value (refused k) e = let z : ◌≡◌ {A = ℕ} 0 1 = cc in absurd (omega arith)
 
-pub settled_number : {A : Type 0} (o : Outcome A) {k : ℕ} → settled o ≡ number k → o ≡ number k
+pub settled_number : {A : Type 0} (o : Outcome A) {k : Question} → settled o ≡ refused k → o ≡ refused k
 settled_number (value a) e = let z : ◌≡◌ {A = ℕ} 0 1 = cc in absurd (omega arith)
 settled_number (absent why) e = let z : ◌≡◌ {A = ℕ} 0 1 = cc in absurd (omega arith)
-settled_number (number j) e = ap (λ (o : Outcome (Unit {0})). number (number_of o)) e
+settled_number (refused j) e = ap (λ (o : Outcome (Unit {0})). refused (asked o)) e
   where
-    number_of : Outcome (Unit {0}) → ℕ
-    number_of (value a) = 0
-    number_of (absent why) = 0
-    number_of (number i) = i
+    asked : Outcome (Unit {0}) → Question
+    asked (value a) = j
+    asked (absent why) = j
+    asked (refused i) = i
 
 module _ {A : Type 0} where
   settled_second : (xs : List A) (p : Outcome (List A)) → settled (joined (value xs) p) ≡ settled p
   settled_second xs (value ys) = refl
   settled_second xs (absent why) = refl
-  settled_second xs (number k) = refl
+  settled_second xs (refused k) = refl
 
   joined_on : (o p : Outcome (List A)) → settled o ≡ value tt → settled (joined o p) ≡ settled p
   joined_on (value xs) p e = settled_second xs p
   joined_on (absent why) p e = let z : ◌≡◌ {A = ℕ} 0 1 = cc in absurd (omega arith)
-  joined_on (number k) p e = let z : ◌≡◌ {A = ℕ} 0 1 = cc in absurd (omega arith)
+  joined_on (refused k) p e = let z : ◌≡◌ {A = ℕ} 0 1 = cc in absurd (omega arith)
 
   joined_same : (o p q : Outcome (List A)) → (settled o ≡ value tt → settled p ≡ settled q) → settled (joined o p) ≡ settled (joined o q)
   joined_same (value xs) p q f = settled_second xs p ∙ f refl ∙ sym (settled_second xs q)
   joined_same (absent why) p q f = refl
-  joined_same (number k) p q f = refl
+  joined_same (refused k) p q f = refl
 
 -- One slot after the other.
 module _ (s : ℕ → Outcome (Unit {0})) (slots : List ℕ) (k : ℕ) where
@@ -62,7 +62,7 @@ module _ (s : ℕ → Outcome (Unit {0})) (slots : List ℕ) (k : ℕ) where
   unfolding each_settled
   each_next h e = sym (rw (slots_from_lem slots k h, e))
 
-  pub each_stop : k < length slots → {n : ℕ} → s (get_or slots k 0) ≡ number n → number n ≡ each_settled s (drop k slots)
+  pub each_stop : k < length slots → {n : Question} → s (get_or slots k 0) ≡ refused n → refused n ≡ each_settled s (drop k slots)
   unfolding each_settled
   each_stop h e = sym (rw (slots_from_lem slots k h, e))
 
@@ -78,16 +78,16 @@ settled_gather f (a ∷ slots) = rw (settled_gather f slots) (sym (settled_joine
     settled_joined : {A : Type 0} (o p : Outcome (List A)) → settled (joined o p) ≡ and_then (settled o) (λ _. settled p)
     settled_joined (value xs) p = settled_second xs p
     settled_joined (absent why) p = refl
-    settled_joined (number k) p = refl
+    settled_joined (refused k) p = refl
 
 -- What the slots' lookups say together, and what their categories' do.
-module _ (t : Tables) (a : Asked) where
-  pub all_slots : asked_outcome a ≡ each_settled (λ a. settled (present (address_in t a))) (category_slots t.sections) → asked_outcome a ≡ settled (addresses_in t (category_slots t.sections))
+module _ (t : Tables) (a : Result (Unit {0}) Question) where
+  pub all_slots : answered a ≡ each_settled (λ a. settled (present (address_in t a))) (category_slots t.sections) → answered a ≡ settled (addresses_in t (category_slots t.sections))
   unfolding addresses_in
   all_slots e = e ∙ settled_gather (λ a. present (address_in t a)) (category_slots t.sections)
 
-  pub all_records : asked_outcome a ≡ each_settled (λ a. settled (of_value (address_in t a) (λ va. present (category_at t va)))) (category_slots t.sections)
-      → asked_outcome a ≡ settled (records_in t (category_slots t.sections))
+  pub all_records : answered a ≡ each_settled (λ a. settled (of_value (address_in t a) (λ va. present (category_at t va)))) (category_slots t.sections)
+      → answered a ≡ settled (records_in t (category_slots t.sections))
   unfolding records_in
   all_records e = e ∙ settled_gather (λ a. of_value (address_in t a) (λ va. present (category_at t va))) (category_slots t.sections)
 
@@ -126,7 +126,7 @@ records_of t (a ∷ l) bs e =
         joined_nothing : (o : Outcome (List ObjcCategory)) → joined (value []) o ≡ o
         joined_nothing (value xs) = refl
         joined_nothing (absent why) = refl
-        joined_nothing (number k) = refl
+        joined_nothing (refused k) = refl
 
 module _ (t : Tables) where
   plain_of : (bs : List ℕ) → addresses_in t (category_slots t.sections) ≡ value bs → plain_categories t ≡ gather (λ a. present (category_at t a)) (once bs)
@@ -149,12 +149,12 @@ module _ (t : Tables) where
   records_plain bs e =
       ap settled (records_of t (category_slots t.sections) bs e) ∙ sym (once_same (λ a. present (category_at t a)) bs) ∙ ap settled (sym (plain_of bs e))
 
-  pub ask_records_by : (a b : Asked) → asked_outcome a ≡ settled (addresses_in t (category_slots t.sections)) → a ≡ asks.Yes
-      → asked_outcome b ≡ settled (records_in t (category_slots t.sections)) → asked_outcome b ≡ settled (plain_categories t)
+  pub ask_records_by : (a b : Result (Unit {0}) Question) → answered a ≡ settled (addresses_in t (category_slots t.sections)) → a ≡ (Ok tt)
+      → answered b ≡ settled (records_in t (category_slots t.sections)) → answered b ≡ settled (plain_categories t)
   ask_records_by a b e g h =
-      let p = settled_value (addresses_in t (category_slots t.sections)) (sym e ∙ ap asked_outcome g) in
+      let p = settled_value (addresses_in t (category_slots t.sections)) (sym e ∙ ap answered g) in
       h ∙ records_plain p.0 p.1
 
-  pub ask_refused_by : (a : Asked) {n : ℕ} → asked_outcome a ≡ settled (addresses_in t (category_slots t.sections)) → a ≡ asks.Refused n → number n ≡ settled (plain_categories t)
+  pub ask_refused_by : (a : Result (Unit {0}) Question) {n : Question} → answered a ≡ settled (addresses_in t (category_slots t.sections)) → a ≡ Err n → refused n ≡ settled (plain_categories t)
   unfolding plain_categories listed
-  ask_refused_by a e g = rw (settled_number (addresses_in t (category_slots t.sections)) (sym e ∙ ap asked_outcome g))
+  ask_refused_by a e g = rw (settled_number (addresses_in t (category_slots t.sections)) (sym e ∙ ap answered g))

@@ -4,7 +4,7 @@ use mathlib.Core.Path.{◌≡◌, refl}
 use mathlib.Core.List.{List, [], ◌∷◌, ◌++◌, map}
 use lib.ListN.{replicate}
 use Rattle.reads.specs.Breaks.{can_read}
-use Rattle.reads.specs.Outcome.{value, absent, number, choose, sum64, nonzero, text_of}
+use Rattle.reads.specs.Outcome.{value, absent, refused, choose, sum64, nonzero, text_of}
 use Rattle.reads.specs.Files.{file_of, longest}
 use Rattle.reads.specs.Place.{le, readable_at, readable, word, word_in, le_in}
 use Rattle.reads.specs.Address.{stripped, data_arm64e, data64, mapped, picked_wide, picked}
@@ -35,6 +35,7 @@ use Rattle.dispatch.specs.declared.rows.Appearance.{Appearance}
 use Rattle.dispatch.specs.Sources.{list_of, metaclass_of, own_source, methods_on, of_class}
 use Rattle.dispatch.specs.Appearances.{appearance, entry_rows, list_rows, source_rows, category_rows, appearances}
 use Rattle.dispatch.specs.Dispatch.{same_bytes, same_selector, comes_before, has_earlier, firsts, supersedes, standing, standing_for, effective_of, effective_among, effective, words, filled, Left, leaves, left}
+use Rattle.reads.specs.declared.answer.Question.TheVariants.{SelectorRoom}
 
 -- class_t at 0x1000, with isa 0x1028 and class_ro 0x1050; at 0x1028 another, with isa 0 and no class_ro.
 abbrev classes_bytes : List ℕ
@@ -159,7 +160,7 @@ calls =
     ∷ case 0x1028 Instance (replicate 8 7) (leaves (value 2) (1 ∷ 3 ∷ 2 ∷ 0x11C8 ∷ 1 ∷ 0 ∷ 2 ∷ 0x11C8 ∷ []))
     ∷ case 0x1028 Class (replicate 4 7) (leaves (value 1) (0 ∷ 0x1A0 ∷ 2 ∷ 0x11C8 ∷ []))
     ∷ case 0x3000 Instance (replicate 4 7) (leaves (absent Unreadable) (replicate 4 7))
-    ∷ case 0x1000 Instance (replicate 7 7) (leaves (number 22) (replicate 7 7))
+    ∷ case 0x1000 Instance (replicate 7 7) (leaves (refused SelectorRoom) (replicate 7 7))
     ∷ []
 
 pub calls_hold : map (λ (c : Case). left (effective example c.side c.class) c.result) calls ≡ map (λ (c : Case). c.expected) calls

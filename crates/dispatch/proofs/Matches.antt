@@ -7,7 +7,7 @@ use native.Mathlib.Omega.{arith}
 use lib.Dec.{leb, ltb}
 use lib.ListN.{length, drop}
 use borrow.Author.Tests.{lt-ltb, le-ltb}
-use Rattle.reads.specs.Outcome.{Outcome, value, absent, number, and_then, choose}
+use Rattle.reads.specs.Outcome.{Outcome, value, absent, refused, and_then, choose}
 use Rattle.pointers.specs.Tables.{Tables, image_in}
 use Rattle.records.specs.List.{list_at, entry_address}
 use Rattle.records.specs.Search.{readables}
@@ -24,6 +24,7 @@ use Rattle.dispatch.specs.Claims.{Ordered}
 use Rattle.dispatch.specs.Table.{note, note_all}
 use Rattle.dispatch.proofs.Effects.{never}
 use Rattle.dispatch.proofs.Notes.{note_effective}
+use Rattle.reads.specs.declared.answer.Question.TheVariants.{SelectorRoom}
 
 -- The same rows, of source n in one numbering and of source m in the other, or of later sources in both.
 pub data Matched : ℕ → ℕ → List Appearance → List Appearance → Type 0 where
@@ -113,7 +114,7 @@ module _ (files : List (List ℕ)) where
     left_value =
         let e = effective_same.0 in
         let g = effective_same.1 in
-        λ i. choose (leb (4 * g i) (length result)) (leaves (value (g i)) (e i ++ drop (4 * g i) result)) (leaves (number 22) result)
+        λ i. choose (leb (4 * g i) (length result)) (leaves (value (g i)) (e i ++ drop (4 * g i) result)) (leaves (refused SelectorRoom) result)
 
     -- The call's answer and its result buffer are the same.
     pub left_same : left (effective_among files r) result ≡ left (effective_among files q) result
@@ -123,7 +124,7 @@ module _ (files : List (List ℕ)) where
         go : (o : Outcome (Unit {0})) → left (and_then o (λ _. value (effective_of files r.rows))) result ≡ left (and_then o (λ _. value (effective_of files q.rows))) result
         go (value u) = left_value
         go (absent why) = refl
-        go (number k) = refl
+        go (refused k) = refl
 
 -- The rows of one source, numbered n and m, with the same rows after them.
 module _ (t : Tables) (n m : ℕ) where
@@ -137,7 +138,7 @@ module _ (t : Tables) (n m : ℕ) where
   adding_matched origin j (value (row.Ivar v)) w = w
   adding_matched origin j (value (row.Property p)) w = w
   adding_matched origin j (absent why) w = w
-  adding_matched origin j (number k) w = record { rows = matched_none; ends = refl }
+  adding_matched origin j (refused k) w = record { rows = matched_none; ends = refl }
 
   entries_matched : (origin : ℕ) (h : Layout) (js : List ℕ) {rest others : Rows} → MatchedRows n m rest others
       → MatchedRows n m (entry_rows t n origin h js rest) (entry_rows t m origin h js others)
@@ -150,10 +151,10 @@ module _ (t : Tables) (n m : ℕ) where
   unfolding list_rows
   list_matched origin (value h) w = entries_matched origin h (readables (image_in t) h) w
   list_matched origin (absent why) w = w
-  list_matched origin (number k) w = record { rows = matched_none; ends = refl }
+  list_matched origin (refused k) w = record { rows = matched_none; ends = refl }
 
   pub source_matched : (o : Outcome Source) {rest others : Rows} → MatchedRows n m rest others → MatchedRows n m (source_rows t n o rest) (source_rows t m o others)
   unfolding source_rows
   source_matched (value x) w = list_matched x.origin (list_at t Methods x.list) w
   source_matched (absent why) w = w
-  source_matched (number k) w = record { rows = matched_none; ends = refl }
+  source_matched (refused k) w = record { rows = matched_none; ends = refl }

@@ -4,7 +4,7 @@ use mathlib.Core.Path.{◌≡◌, refl, ap, sym, subst, ◌∙◌}
 use mathlib.Core.List.Memᴰ
 use mathlib.Core.List.{List, [], ◌∷◌}
 use native.Mathlib.Omega.{arith}
-use Rattle.reads.specs.Outcome.{Outcome, value, absent, number, and_then, choose}
+use Rattle.reads.specs.Outcome.{Outcome, value, absent, refused, and_then, choose}
 use Rattle.reads.specs.declared.answer.Reason.{Reason}
 use Rattle.reads.proofs.Outcomes.{then_came}
 use Rattle.reads.proofs.Tests.{by_choose}
@@ -45,7 +45,7 @@ module _ (P : Appearance → Type 0) (t : Tables) (n origin : ℕ) (made : (a : 
   adding_every j (value (row.Ivar v)) rest f = f
   adding_every j (value (row.Property p)) rest f = f
   adding_every j (absent why) rest f = f
-  adding_every j (number k) rest f = λ a m. absurd (Memᴰ.not-nil m)
+  adding_every j (refused k) rest f = λ a m. absurd (Memᴰ.not-nil m)
 
   entries_every : (h : Layout) (js : List ℕ) (rest : Rows) → Every P rest → Every P (entry_rows t n origin h js rest)
   unfolding entry_rows appearance
@@ -56,18 +56,18 @@ module _ (P : Appearance → Type 0) (t : Tables) (n origin : ℕ) (made : (a : 
   unfolding list_rows Every
   list_every (value h) rest f = entries_every h (readables (image_in t) h) rest f
   list_every (absent why) rest f = f
-  list_every (number k) rest f = λ a m. absurd (Memᴰ.not-nil m)
+  list_every (refused k) rest f = λ a m. absurd (Memᴰ.not-nil m)
 
 -- A category has the address that it was decoded at: whatever is looked up before, the last step gives it.
 abbrev Addressed : ℕ → Outcome ObjcCategory → Type 0
 Addressed va (value c) = c.address ≡ va
 Addressed va (absent why) = Unit {0}
-Addressed va (number k) = Unit {0}
+Addressed va (refused k) = Unit {0}
 
 then_addressed : {A : Type 0} (va : ℕ) (o : Outcome A) (f : A → Outcome ObjcCategory) → ((a : A) → Addressed va (f a)) → Addressed va (and_then o f)
 then_addressed va (value a) f h = h a
 then_addressed va (absent why) f h = tt
-then_addressed va (number k) f h = tt
+then_addressed va (refused k) f h = tt
 
 category_addressed : (t : Tables) (va : ℕ) → Addressed va (category_at t va)
 unfolding decode_category decode_category_of
@@ -92,7 +92,7 @@ module _ (t : Tables) (s : Side) (class own : ℕ) where
   source_every n (value x) rest g f =
       list_every Right t n x.origin (λ a p q. q ∙ g x refl ∙ ap (origin_of own t) (sym p)) (list_at t Methods x.list) rest f
   source_every n (absent why) rest g f = f
-  source_every n (number k) rest g f = λ a m. absurd (Memᴰ.not-nil m)
+  source_every n (refused k) rest g f = λ a m. absurd (Memᴰ.not-nil m)
 
   taken_origin : (k va : ℕ) (c : ObjcCategory) (x : Source) → taking t s class k va c ≡ value x → x.origin ≡ c.address
   unfolding taking

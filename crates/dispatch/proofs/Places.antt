@@ -7,7 +7,7 @@ use mathlib.Core.List.{List, [], ◌∷◌}
 use native.Mathlib.Omega.{arith}
 use lib.Dec.{eqb, ltb}
 use borrow.Author.Tests.{eq-eqb, lt-ltb, le-ltb, ltb-true, ltb-false, eqb-true}
-use Rattle.reads.specs.Outcome.{Outcome, value, absent, number, and_then}
+use Rattle.reads.specs.Outcome.{Outcome, value, absent, refused, and_then}
 use Rattle.reads.proofs.Tests.{by_choose, both_true}
 use Rattle.pointers.specs.Tables.{Tables, image_in}
 use Rattle.records.specs.List.{list_at, entry_address, entry}
@@ -105,7 +105,7 @@ module _ (t : Tables) (n origin : ℕ) (h : Layout) where
   adding_along i (value (row.Ivar v)) rest w = along_back (omega arith) w
   adding_along i (value (row.Property p)) rest w = along_back (omega arith) w
   adding_along i (absent why) rest w = along_back (omega arith) w
-  adding_along i (number k) rest w = along_none
+  adding_along i (refused k) rest w = along_none
 
   entry_along : (i : ℕ) (js : List ℕ) (rest : Rows) → Along n (suc i) (entry_rows t n origin h js rest).rows → Along n i (entry_rows t n origin h (i ∷ js) rest).rows
   unfolding entry_rows appearance
@@ -124,14 +124,14 @@ module _ (t : Tables) (n : ℕ) where
   unfolding list_rows readables
   list_along origin (value h) rest w = entries_along t n origin h (entry (image_in t) h) h.count 0 rest w
   list_along origin (absent why) rest w = w 0
-  list_along origin (number k) rest w = along_none
+  list_along origin (refused k) rest w = along_none
 
   source_along : (o : Outcome Source) (rest : Rows) → Along (suc n) 0 rest.rows → Along n 0 (source_rows t n o rest).rows
   unfolding source_rows
   source_along (value s) rest w =
       let g : n < suc n = omega arith in list_along s.origin (list_at t Methods s.list) rest (λ j. along_later (suc n) g w)
   source_along (absent why) rest w = let g : n < suc n = omega arith in along_later (suc n) g w
-  source_along (number k) rest w = along_none
+  source_along (refused k) rest w = along_none
 
 pub categories_along : (t : Tables) (s : Side) (i : ℕ) (categories : List ObjcCategory) → Along (suc i) 0 (category_rows t s i categories).rows
 unfolding category_rows

@@ -3,36 +3,29 @@ use Prim.Native.Nat.{ℕ, suc, ◌+◌, ◌-◌, ◌^◌, ◌<◌, ◌≤◌}
 use mathlib.Core.Path.{◌≡◌, refl, ap, sym, subst, ◌∙◌}
 use native.Mathlib.Numerals.{add-one}
 use native.Mathlib.Omega.{arith}
-use mathlib.Core.Option.{none, some}
 use Rattle.reads.specs.Outcome.{Outcome, value, absent, and_then}
 use Rattle.reads.specs.declared.answer.Missing.{Missing}
 use Rattle.reads.specs.declared.answer.Reason.{Reason}
 use Rattle.reads.specs.declared.answer.Missing.TheVariants.{Absent, Refused}
 use Rattle.pointers.specs.Tables.{Tables, image_in}
-use Rattle.records.specs.List.{layout_outcome, list_at, entry_address}
-use Rattle.records.specs.Row.{row_outcome, row_at}
-use Rattle.records.specs.declared.row.RowAnswer.{RowAnswer}
+use Rattle.records.specs.List.{list_at, entry_address}
+use Rattle.records.specs.Row.{row_at}
 use Rattle.records.specs.Search.{all_from, first_readable}
 use Rattle.records.specs.declared.list.Layout.{Layout}
-use Rattle.records.specs.declared.list.LayoutAnswer.{LayoutAnswer}
-use Rattle.records.specs.declared.list.LayoutAnswer.TheVariants as lists
+use Rattle.records.specs.declared.row.Row.{Row}
 use Rattle.records.specs.declared.list.ListKind.TheVariants.{Methods}
 use Rattle.records.proofs.Readables.{rest_of_some, rest_of_none, rest_from_0, found}
 use Rattle.dispatch.specs.declared.sources.Side.{Side}
 use Rattle.dispatch.specs.declared.sources.Source.{Source}
-use Rattle.dispatch.specs.declared.sources.SourceAnswer.{SourceAnswer}
-use Rattle.dispatch.specs.declared.sources.SourceAnswer.TheVariants as sources
 use Rattle.dispatch.specs.declared.rows.Appearance.{Appearance}
-use Rattle.dispatch.specs.declared.rows.AppearanceAnswer.{AppearanceAnswer}
-use Rattle.dispatch.specs.declared.rows.AppearanceAnswer.TheVariants as answer
 use Rattle.dispatch.specs.declared.rows.Position.{Position}
-use Rattle.dispatch.specs.declared.rows.Entered.{Entered}
-use Rattle.dispatch.specs.declared.rows.Entered.TheVariants as entered
 use Rattle.dispatch.specs.declared.rows.Step.TheVariants as step
-use Rattle.dispatch.specs.Sources.{source_outcome}
 use Rattle.dispatch.specs.SlotSources.{slot_source, slot_rows, slot_total}
-use Rattle.dispatch.specs.Appearances.{Rows, adding, appearance_outcome, appearing, appearance, entry_rows, list_rows, source_rows}
+use Rattle.dispatch.specs.Appearances.{Rows, adding, appearing, appearance, entry_rows, list_rows, source_rows}
 use Rattle.dispatch.specs.Position.{moved_to, nowhere, in_list, ahead, weight, EnteredAt, SteppedFrom}
+use Rattle.std.specs.Prelude.{Result, Ok, Err, None, Some}
+use Rattle.reads.specs.Answer.{outcome}
+use Rattle.reads.specs.declared.answer.Question.{Question}
 
 -- Entering source n.
 module _ (t : Tables) (n : ℕ) where
@@ -40,38 +33,38 @@ module _ (t : Tables) (n : ℕ) where
   unfolding in_list entry_rows all_from
   nothing_in rest = refl
 
-  empty : (o : Outcome Source) → ((rest : Rows) → source_rows t n o rest ≡ rest) → {p : Position} → p ≡ nowhere n → EnteredAt t n o (entered.At p)
+  empty : (o : Outcome Source) → ((rest : Rows) → source_rows t n o rest ≡ rest) → {p : Position} → p ≡ nowhere n → EnteredAt t n o (Ok p)
   empty o f e = record { came = (ap (λ (q : Position). q.source) e, λ rest. f rest ∙ sym (ap (λ (q : Position). in_list t q rest) e ∙ nothing_in rest)) }
 
-  module _ (s : Source) {a : LayoutAnswer} (e : layout_outcome a ≡ list_at t Methods s.list) where
-    pub enter_there : {h : Layout} → a ≡ lists.List h → EnteredAt t n (value s) (entered.At (record { source = n; origin = s.origin; list = h; entry = 0 }))
+  module _ (s : Source) {a : (Result Layout Missing)} (e : outcome a ≡ list_at t Methods s.list) where
+    pub enter_there : {h : Layout} → a ≡ Ok h → EnteredAt t n (value s) (Ok (record { source = n; origin = s.origin; list = h; entry = 0 }))
     unfolding source_rows list_rows in_list
     enter_there {h} g = record { came = (refl, λ rest. rw (← e, g, rest_from_0 (image_in t) h)) }
 
-    pub enter_no_list : {m : Missing} {why : Reason} {p : Position} → a ≡ lists.Missing m → m ≡ Absent why → p ≡ nowhere n → EnteredAt t n (value s) (entered.At p)
+    pub enter_no_list : {m : Missing} {why : Reason} {p : Position} → a ≡ Err m → m ≡ Absent why → p ≡ nowhere n → EnteredAt t n (value s) (Ok p)
     unfolding source_rows list_rows
     enter_no_list g h = empty (value s) (λ rest. rw (← e, g, h))
 
-    pub enter_list_refused : {m : Missing} {k : ℕ} → a ≡ lists.Missing m → m ≡ Refused k → EnteredAt t n (value s) (entered.Refused k)
+    pub enter_list_refused : {m : Missing} {k : Question} → a ≡ Err m → m ≡ Refused k → EnteredAt t n (value s) (Err k)
     unfolding source_rows list_rows
     enter_list_refused g h = record { came = λ rest. rw (← e, g, h) }
 
-  module _ {a : SourceAnswer} where
-    pub enter_absent : {m : Missing} {why : Reason} {p : Position} → a ≡ sources.Missing m → m ≡ Absent why → p ≡ nowhere n → EnteredAt t n (source_outcome a) (entered.At p)
+  module _ {a : (Result Source Missing)} where
+    pub enter_absent : {m : Missing} {why : Reason} {p : Position} → a ≡ Err m → m ≡ Absent why → p ≡ nowhere n → EnteredAt t n (outcome a) (Ok p)
     unfolding source_rows
     enter_absent {why = why} g h e = rw (g, h) (empty (absent why) (λ rest. refl) e)
 
-    pub enter_refused : {m : Missing} {k : ℕ} → a ≡ sources.Missing m → m ≡ Refused k → EnteredAt t n (source_outcome a) (entered.Refused k)
+    pub enter_refused : {m : Missing} {k : Question} → a ≡ Err m → m ≡ Refused k → EnteredAt t n (outcome a) (Err k)
     unfolding source_rows
     enter_refused g h = rw (g, h) (record { came = λ rest. refl })
 
 -- What was entered, and what a step gave, by the case that the code found.
-pub was_entered : {t : Tables} {n : ℕ} {o : Outcome Source} {r q : Entered} → EnteredAt t n o r → r ≡ q → EnteredAt t n o q
-was_entered {t} {n} {o} h e = subst (λ (x : Entered). EnteredAt t n o x) e h
+pub was_entered : {t : Tables} {n : ℕ} {o : Outcome Source} {r q : (Result Position Question)} → EnteredAt t n o r → r ≡ q → EnteredAt t n o q
+was_entered {t} {n} {o} h e = subst (λ (x : Result Position Question). EnteredAt t n o x) e h
 
 module _ (t : Tables) (s : Side) (class : ℕ) (p : Position) where
   -- The next readable entry is j.
-  module _ (j : ℕ) (e : first_readable (image_in t) p.list p.entry ≡ some j) where
+  module _ (j : ℕ) (e : first_readable (image_in t) p.list p.entry ≡ Some j) where
     next_entry : ahead t s class p ≡ adding (appearance t p.source p.origin p.list j) (ahead t s class (moved_to p (suc j)))
     unfolding ahead in_list entry_rows
     next_entry = rw (rest_of_some (image_in t) p.list p.entry j e)
@@ -87,18 +80,18 @@ module _ (t : Tables) (s : Side) (class : ℕ) (p : Position) where
       light : weight t next < weight t p
       light = rw moved (lighter h)
 
-      module _ {a : AppearanceAnswer} (r : appearance_outcome a ≡ appearance t p.source p.origin p.list j) where
-        pub settle_row : {row : Appearance} → a ≡ answer.Row row → SteppedFrom t s class p (step.Row (record { row = row; next = next }))
+      module _ {a : (Result Appearance Missing)} (r : outcome a ≡ appearance t p.source p.origin p.list j) where
+        pub settle_row : {row : Appearance} → a ≡ Ok row → SteppedFrom t s class p (step.Row (record { row = row; next = next }))
         settle_row g = record { went = (rw (next_entry, ← r, g, moved), light) }
 
-        pub settle_passed : {m : Missing} {why : Reason} → a ≡ answer.Missing m → m ≡ Absent why → SteppedFrom t s class p (step.Passed next)
+        pub settle_passed : {m : Missing} {why : Reason} → a ≡ Err m → m ≡ Absent why → SteppedFrom t s class p (step.Passed next)
         settle_passed g q = record { went = (rw (next_entry, ← r, g, q, moved), light) }
 
-        pub settle_refused : {m : Missing} {k : ℕ} → a ≡ answer.Missing m → m ≡ Refused k → SteppedFrom t s class p (step.Refused k)
+        pub settle_refused : {m : Missing} {k : Question} → a ≡ Err m → m ≡ Refused k → SteppedFrom t s class p (step.Refused k)
         settle_refused g q = record { went = rw (next_entry, ← r, g, q) }
 
   -- No entry is left.
-  module _ (e : first_readable (image_in t) p.list p.entry ≡ none) where
+  module _ (e : first_readable (image_in t) p.list p.entry ≡ None) where
     next_list : ahead t s class p ≡ slot_rows t s class p.source (slot_total t - p.source)
     unfolding ahead in_list entry_rows
     next_list = rw (rest_of_none (image_in t) p.list p.entry e)
@@ -113,21 +106,21 @@ module _ (t : Tables) (s : Side) (class : ℕ) (p : Position) where
       unfolding slot_rows
       next_slot = let z : slot_total t - p.source ≡ suc (slot_total t - (p.source + 1)) = omega arith in next_list ∙ rw (z, add-one p.source)
 
-      module _ (a : SourceAnswer) (o : source_outcome a ≡ slot_source t s class p.source) {r : Entered}
-          (f : EnteredAt t (p.source + 1) (source_outcome a) r) where
-        pub next_entered : p.entry < 2 ^ 32 → {q : Position} → r ≡ entered.At q → SteppedFrom t s class p (step.Passed q)
+      module _ (a : Result Source Missing) (o : outcome a ≡ slot_source t s class p.source) {r : (Result Position Question)}
+          (f : EnteredAt t (p.source + 1) (outcome a) r) where
+        pub next_entered : p.entry < 2 ^ 32 → {q : Position} → r ≡ Ok q → SteppedFrom t s class p (step.Passed q)
         unfolding ahead weight
         next_entered b {q} g =
             let d = (was_entered f g).came in
             record { went = (rw (next_slot, ← o) (d.1 _ ∙ rw d.0), omega (arith, d.0)) }
 
-        pub next_refused : {k : ℕ} → r ≡ entered.Refused k → SteppedFrom t s class p (step.Refused k)
+        pub next_refused : {k : Question} → r ≡ Err k → SteppedFrom t s class p (step.Refused k)
         next_refused {k} g =
             let d = (was_entered f g).came in
             record { went = rw (next_slot, ← o) (d _) }
 
 -- The row of an entry.
-pub appearance_of : (t : Tables) (n origin : ℕ) (h : Layout) (j : ℕ) (r : AppearanceAnswer) (a : RowAnswer)
-    → appearance_outcome r ≡ and_then (row_outcome a) (appearing n origin j) → row_outcome a ≡ row_at t h.kind (entry_address h j) → appearance_outcome r ≡ appearance t n origin h j
+pub appearance_of : (t : Tables) (n origin : ℕ) (h : Layout) (j : ℕ) (r : Result Appearance Missing) (a : Result Row Missing)
+    → outcome r ≡ and_then (outcome a) (appearing n origin j) → outcome a ≡ row_at t h.kind (entry_address h j) → outcome r ≡ appearance t n origin h j
 unfolding appearance
 appearance_of t n origin h j r a e g = e ∙ ap (λ o. and_then o (appearing n origin j)) g

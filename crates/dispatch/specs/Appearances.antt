@@ -1,8 +1,8 @@
 -- The rows of the lists that take part (document 02, note 10), in the order in which they appear: those of the class's list, then those of
 -- its categories' as listed.
 use Rattle.std.specs.Prelude.{ℕ, suc, List, [], ◌∷◌}
-use Rattle.reads.specs.Answer.{missed}
-use Rattle.reads.specs.Outcome.{Outcome, value, absent, number, and_then}
+use Rattle.reads.specs.Outcome.{Outcome, value, absent, refused, and_then}
+use Rattle.reads.specs.declared.answer.Question.{Question}
 use Rattle.reads.specs.declared.answer.Reason.TheVariants.{NoRecord}
 use Rattle.pointers.specs.Tables.{Tables, image_in}
 use Rattle.records.specs.List.{list_at, entry_address}
@@ -17,13 +17,7 @@ use Rattle.records.specs.declared.row.Row.TheVariants as row
 use Rattle.dispatch.specs.declared.sources.Side.{Side}
 use Rattle.dispatch.specs.declared.sources.Source.{Source}
 use Rattle.dispatch.specs.declared.rows.Appearance.{Appearance}
-use Rattle.dispatch.specs.declared.rows.AppearanceAnswer.{AppearanceAnswer}
-use Rattle.dispatch.specs.declared.rows.AppearanceAnswer.TheVariants as answer
 use Rattle.dispatch.specs.Sources.{own_source, category_source, of_class}
-
-abbrev pub appearance_outcome : AppearanceAnswer → Outcome Appearance
-appearance_outcome (answer.Row a) = value a
-appearance_outcome (answer.Missing m) = missed m
 
 -- Rows in order, up to the end, or to a lookup that a question refuses.
 pub record Rows : Type 0 where
@@ -33,17 +27,17 @@ pub record Rows : Type 0 where
 abbrev pub ended : Rows
 ended = record { rows = []; end = value tt }
 
-abbrev pub refused : ℕ → Rows
-refused k = record { rows = []; end = number k }
+abbrev pub refusing : Question → Rows
+refusing k = record { rows = []; end = refused k }
 
 abbrev pub also : Appearance → Rows → Rows
 also a r = record { rows = a ∷ r.rows; end = r.end }
 
--- A row in front: one that is skipped gives none, and a number ends.
+-- A row in front: one that is skipped gives none, and a refusal ends.
 abbrev pub adding : Outcome Appearance → Rows → Rows
 adding (value a) r = also a r
 adding (absent why) r = r
-adding (number k) r = refused k
+adding (refused k) r = refusing k
 
 -- A row as it appears: its selector, the numbers of its source and of its entry, and the record that its list came from. A method list has
 -- no other rows.
@@ -64,12 +58,12 @@ entry_rows t source origin h (j ∷ js) rest = adding (appearance t source origi
 unfoldable pub list_rows : Tables → ℕ → ℕ → Outcome Layout → Rows → Rows
 list_rows t source origin (value h) rest = entry_rows t source origin h (readables (image_in t) h) rest
 list_rows t source origin (absent why) rest = rest
-list_rows t source origin (number k) rest = refused k
+list_rows t source origin (refused k) rest = refusing k
 
 unfoldable pub source_rows : Tables → ℕ → Outcome Source → Rows → Rows
 source_rows t source (value s) rest = list_rows t source s.origin (list_at t Methods s.list) rest
 source_rows t source (absent why) rest = rest
-source_rows t source (number k) rest = refused k
+source_rows t source (refused k) rest = refusing k
 
 -- The rows of categories, of which i came before.
 unfoldable pub category_rows : Tables → Side → ℕ → List ObjcCategory → Rows

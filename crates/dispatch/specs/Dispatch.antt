@@ -1,7 +1,6 @@
 -- Which method gets called (document 02, note 10): each selector once, by first appearance, with the row that stands.
 use Rattle.std.specs.Prelude.{ℕ, ◌*◌, Bool, true, false, ◌&&◌, ◌||◌, List, [], ◌∷◌, ◌++◌, leb, ltb, eqb, length, drop}
-use Rattle.reads.specs.Outcome.{Outcome, value, absent, number, and_then, choose}
-use Rattle.reads.specs.Answer.{missed}
+use Rattle.reads.specs.Outcome.{Outcome, value, absent, refused, and_then, choose}
 use Rattle.reads.specs.Files.{file_of}
 use Rattle.reads.specs.Place.{part}
 use Rattle.reads.specs.declared.text.Text.{Text}
@@ -11,13 +10,8 @@ use Rattle.records.specs.Class.{class_at}
 use Rattle.walks.specs.PlainSections.{plain_categories}
 use Rattle.dispatch.specs.declared.sources.Side.{Side}
 use Rattle.dispatch.specs.declared.rows.Appearance.{Appearance}
-use Rattle.dispatch.specs.declared.effective.MethodsAnswer.{MethodsAnswer}
-use Rattle.dispatch.specs.declared.effective.MethodsAnswer.TheVariants as answer
 use Rattle.dispatch.specs.Appearances.{Rows, appearances}
-
-abbrev pub methods_outcome : MethodsAnswer → Outcome ℕ
-methods_outcome (answer.Methods n) = value n
-methods_outcome (answer.Missing m) = missed m
+use Rattle.reads.specs.declared.answer.Question.TheVariants.{SelectorRoom}
 
 -- Selectors are compared as bytes, wherever they stand.
 abbrev pub selector_bytes : List (List ℕ) → Text → List ℕ
@@ -88,8 +82,8 @@ pub record Left : Type 0 where
 abbrev pub leaves : Outcome ℕ → List ℕ → Left
 leaves answer result = record { answer = answer; result = result }
 
--- 22, asked last: does the result buffer hold four words for each selector? With a number or absent it is as it was.
+-- 22, asked last: does the result buffer hold four words for each selector? Refused or absent, it is as it was.
 unfoldable pub left : Outcome (List Appearance) → List ℕ → Left
-left (value more) result = choose (leb (4 * length more) (length result)) (leaves (value (length more)) (filled more result)) (leaves (number 22) result)
+left (value more) result = choose (leb (4 * length more) (length result)) (leaves (value (length more)) (filled more result)) (leaves (refused SelectorRoom) result)
 left (absent why) result = leaves (absent why) result
-left (number k) result = leaves (number k) result
+left (refused k) result = leaves (refused k) result

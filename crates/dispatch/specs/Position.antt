@@ -1,5 +1,5 @@
 -- A position among the rows that take part: what lies ahead of it, and what a step from it gives.
-use Rattle.std.specs.Prelude.{ℕ, ◌+◌, ◌-◌, ◌*◌, ◌^◌, ◌<◌, ◌≡◌}
+use Rattle.std.specs.Prelude.{ℕ, ◌+◌, ◌-◌, ◌*◌, ◌^◌, ◌<◌, ◌≡◌, Result, Ok, Err}
 use Rattle.reads.specs.Outcome.{Outcome}
 use Rattle.pointers.specs.Tables.{Tables, image_in}
 use Rattle.records.specs.List.{entry}
@@ -8,14 +8,13 @@ use Rattle.records.specs.declared.list.RowKind.TheVariants as kinds
 use Rattle.dispatch.specs.declared.sources.Side.{Side}
 use Rattle.dispatch.specs.declared.sources.Source.{Source}
 use Rattle.dispatch.specs.declared.rows.Position.{Position}
-use Rattle.dispatch.specs.declared.rows.Entered.{Entered}
-use Rattle.dispatch.specs.declared.rows.Entered.TheVariants as entered
 use Rattle.dispatch.specs.declared.rows.Next.{Next}
 use Rattle.dispatch.specs.declared.rows.Next.TheVariants as next
 use Rattle.dispatch.specs.declared.rows.Step.{Step}
 use Rattle.dispatch.specs.declared.rows.Step.TheVariants as step
-use Rattle.dispatch.specs.Appearances.{Rows, ended, refused, also, entry_rows, source_rows}
+use Rattle.dispatch.specs.Appearances.{Rows, ended, refusing, also, entry_rows, source_rows}
 use Rattle.dispatch.specs.SlotSources.{slot_rows, slot_total}
+use Rattle.reads.specs.declared.answer.Question.{Question}
 
 -- The same position at another entry.
 abbrev pub moved_to : Position → ℕ → Position
@@ -37,12 +36,12 @@ ahead t s class p = in_list t p (slot_rows t s class p.source (slot_total t - p.
 unfoldable pub weight : Tables → Position → ℕ
 weight t p = (slot_total t - p.source) * 2 ^ 33 + (2 ^ 32 - p.entry)
 
--- What entering source n gives: the position of its first entry, or the number that refuses.
-abbrev pub Came : Tables → ℕ → Outcome Source → Entered → Type 0
-Came t n o (entered.At p) = (p.source ≡ n) × ((rest : Rows) → source_rows t n o rest ≡ in_list t p rest)
-Came t n o (entered.Refused k) = (rest : Rows) → source_rows t n o rest ≡ refused k
+-- What entering source n gives: the position of its first entry, or the question that refuses.
+abbrev pub Came : Tables → ℕ → Outcome Source → Result Position Question → Type 0
+Came t n o (Ok p) = (p.source ≡ n) × ((rest : Rows) → source_rows t n o rest ≡ in_list t p rest)
+Came t n o (Err k) = (rest : Rows) → source_rows t n o rest ≡ refusing k
 
-pub record EnteredAt (t : Tables) (n : ℕ) (o : Outcome Source) (r : Entered) : Type 0 where
+pub record EnteredAt (t : Tables) (n : ℕ) (o : Outcome Source) (r : Result Position Question) : Type 0 where
   pub came : Came t n o r
 
 -- What a step gives: the next row and the position after it, or a position with the same rows ahead, or the end.
@@ -50,7 +49,7 @@ abbrev pub Went : Tables → Side → ℕ → Position → Step → Type 0
 Went t s class p (step.Row r) = (ahead t s class p ≡ also r.row (ahead t s class r.next)) × (weight t r.next < weight t p)
 Went t s class p (step.Passed q) = (ahead t s class p ≡ ahead t s class q) × (weight t q < weight t p)
 Went t s class p step.End = ahead t s class p ≡ ended
-Went t s class p (step.Refused k) = ahead t s class p ≡ refused k
+Went t s class p (step.Refused k) = ahead t s class p ≡ refusing k
 
 pub record SteppedFrom (t : Tables) (s : Side) (class : ℕ) (p : Position) (r : Step) : Type 0 where
   pub went : Went t s class p r
@@ -59,7 +58,7 @@ pub record SteppedFrom (t : Tables) (s : Side) (class : ℕ) (p : Position) (r :
 abbrev pub Comes : Tables → Side → ℕ → Position → Position → Next → Type 0
 Comes t s class p q (next.Row row) = (ahead t s class p ≡ also row (ahead t s class q)) × (weight t q < weight t p)
 Comes t s class p q next.End = ahead t s class p ≡ ended
-Comes t s class p q (next.Refused k) = ahead t s class p ≡ refused k
+Comes t s class p q (next.Refused k) = ahead t s class p ≡ refusing k
 
 pub record NextFrom (t : Tables) (s : Side) (class : ℕ) (p q : Position) (r : Next) : Type 0 where
   pub comes : Comes t s class p q r

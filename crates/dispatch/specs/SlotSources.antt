@@ -56,7 +56,7 @@ slot_total t = length (category_slots t.sections)
 unfoldable pub slot_appearances : Tables → Side → ObjcClass → Rows
 slot_appearances t s c = source_rows t 0 (own_source t s c) (slot_rows t s c.address 0 (slot_total t))
 
--- No lookup is refused, or the first number.
+-- No lookup is refused, or the first question that refuses one.
 abbrev pub settled : {A : Type 0} → Outcome A → Outcome (Unit {0})
 settled o = and_then o (λ _. value tt)
 

@@ -1,7 +1,6 @@
 -- The method lists that take part (document 02, note 10): the class's or metaclass's own, and those of the categories of the class.
 use Rattle.std.specs.Prelude.{ℕ, true, List, [], ◌∷◌, eqb}
 use Rattle.reads.specs.Outcome.{Outcome, value, and_then, choose, nonzero}
-use Rattle.reads.specs.Answer.{missed}
 use Rattle.pointers.specs.Tables.{Tables}
 use Rattle.records.specs.Class.{class_at, ro_of}
 use Rattle.walks.specs.Sections.{meta_of}
@@ -10,12 +9,6 @@ use Rattle.records.specs.declared.category.ObjcCategory.{ObjcCategory}
 use Rattle.dispatch.specs.declared.sources.Side.{Side}
 use Rattle.dispatch.specs.declared.sources.Side.TheVariants as side
 use Rattle.dispatch.specs.declared.sources.Source.{Source}
-use Rattle.dispatch.specs.declared.sources.SourceAnswer.{SourceAnswer}
-use Rattle.dispatch.specs.declared.sources.SourceAnswer.TheVariants as answer
-
-abbrev pub source_outcome : SourceAnswer → Outcome Source
-source_outcome (answer.Source s) = value s
-source_outcome (answer.Missing m) = missed m
 
 abbrev pub source_of : ℕ → ℕ → Source
 source_of origin list = record { origin = origin; list = list }

@@ -3,7 +3,7 @@ use Rattle.std.specs.Prelude.{ℕ, ◌*◌, ◌≤◌, ◌≡◌, Bool, true, fa
 use Rattle.dispatch.specs.declared.rows.Appearance.{Appearance}
 use Rattle.dispatch.specs.declared.effective.Counted.{Counted}
 use Rattle.dispatch.specs.declared.effective.Counted.TheVariants as counted
-use Rattle.reads.specs.Outcome.{value, number}
+use Rattle.reads.specs.Outcome.{value, refused}
 use Rattle.dispatch.specs.declared.effective.Survey.{Survey}
 use Rattle.dispatch.specs.declared.effective.Survey.TheVariants as survey
 use Rattle.dispatch.specs.declared.effective.Fit.{Fit}
@@ -24,7 +24,7 @@ few_rows rows room = leb (length rows) room
 abbrev pub Surveys : Rows → ℕ → Survey → Type 0
 Surveys rs room survey.Fits = (rs.end ≡ value tt) × (few_rows rs.rows room ≡ true)
 Surveys rs room survey.More = rs.end ≡ value tt
-Surveys rs room (survey.Refused k) = rs.end ≡ number k
+Surveys rs room (survey.Refused k) = rs.end ≡ refused k
 
 pub record Surveyed (rs : Rows) (room : ℕ) (r : Survey) : Type 0 where
   pub found : Surveys rs room r
@@ -33,7 +33,7 @@ pub record Surveyed (rs : Rows) (room : ℕ) (r : Survey) : Type 0 where
 abbrev pub Rooms : List (List ℕ) → Rows → ℕ → Fit → Type 0
 Rooms files rs room fit.Enough = (rs.end ≡ value tt) × (few_firsts files rs.rows rs.rows room ≡ true)
 Rooms files rs room fit.Short = (rs.end ≡ value tt) × (few_firsts files rs.rows rs.rows room ≡ false)
-Rooms files rs room (fit.Refused k) = rs.end ≡ number k
+Rooms files rs room (fit.Refused k) = rs.end ≡ refused k
 
 pub record RoomFor (files : List (List ℕ)) (rs : Rows) (room : ℕ) (r : Fit) : Type 0 where
   pub told : Rooms files rs room r

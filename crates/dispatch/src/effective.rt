@@ -6,26 +6,20 @@ ghost use Rattle.pointers.specs.Tables.{tables_of, lent, under};
 ghost use Rattle.walks.specs.PlainSections.{plain_categories};
 ghost use Rattle.dispatch.specs.Appearances.{appearances};
 ghost use Rattle.dispatch.specs.SlotSources.{slot_appearances};
-ghost use Rattle.dispatch.specs.Dispatch.{methods_outcome, has_earlier, firsts, effective_among, effective, leaves, left};
+ghost use Rattle.dispatch.specs.Dispatch.{has_earlier, firsts, effective_among, effective, leaves, left};
 ghost use Rattle.dispatch.specs.Position.{ahead};
 ghost use Rattle.dispatch.specs.Written.{few_firsts, Surveyed, CountedAll, RoomFor, Tabled, WroteAll};
+ghost use Rattle.reads.specs.Answer.{outcome};
 
 use crate::asks::ask_categories;
-use crate::rows::{Appearance, Entered, Next, Position, enter, next_row};
+use crate::rows::{Appearance, Next, Position, enter, next_row};
 use crate::selectors::{comes_before, same_selector};
 use crate::sources::{Side, own_source};
 use crate::table::{name_records, note_row};
-use pointers::question::{Asked, ask};
+use pointers::question::ask;
 use pointers::setting::Setting;
-use reads::answer::Missing;
-use records::class::{ClassAnswer, ObjcClass, class_at};
-
-// How many selectors there are.
-#[derive(Clone, Copy)]
-pub enum MethodsAnswer {
-    Methods(u64),
-    Missing(Missing),
-}
+use reads::answer::{Missing, Question};
+use records::class::{ObjcClass, class_at};
 
 // How many selectors there are, or that there are at least so many.
 #[derive(Clone, Copy)]
@@ -34,20 +28,20 @@ pub enum Counted {
     AtLeast(usize),
 }
 
-// All rows can be reached and are at most so many; they can be reached and are more; or the number of the question that refuses.
+// All rows can be reached and are at most so many; they can be reached and are more; or the question that refuses.
 #[derive(Clone, Copy)]
 pub enum Survey {
     Fits,
     More,
-    Refused(u8),
+    Refused(Question),
 }
 
-// There is room for each selector, or not; or the number of the question that refuses.
+// There is room for each selector, or not; or the question that refuses.
 #[derive(Clone, Copy)]
 pub enum Fit {
     Enough,
     Short,
-    Refused(u8),
+    Refused(Question),
 }
 
 // Goes over all rows to the end, and counts them as far as the room.
@@ -231,7 +225,8 @@ fn count_few(
     )
 }
 
-// Keeps the table of selectors in the result buffer, row by row; its last words are the numbers of sources.
+// Keeps the table of selectors in the result buffer, row by row; its last words are the numbers of sources. Not one with
+// `count_selectors`, which stops where its words are used up: here each selector has room.
 fn note_rows(
     files: &[&[u8]],
     segments: &[u64],
@@ -373,10 +368,10 @@ fn effective_from(
     class: u64,
     start: Position,
     res: &mut [u64],
-) -> MethodsAnswer
+) -> Result<u64, Missing>
     requires { start.source ≡ 0 }
     ensures { let t = under setting (lent files segments sections info rebases binds index) in
-        leaves (methods_outcome result) res.new ≡ left (effective_among (files_of files) (ahead t side class start)) res.old }
+        leaves (outcome result) res.new ≡ left (effective_among (files_of files) (ahead t side class start)) res.old }
 {
     let room = (res.len() / 4) as u64;
     match has_room(
@@ -384,19 +379,20 @@ fn effective_from(
     ) {
         Fit::Enough => {}
         Fit::Short => {
-            return MethodsAnswer::Missing(Missing::Refused(22));
+            return Err(Missing::Refused(Question::SelectorRoom));
         }
         Fit::Refused(k) => {
-            return MethodsAnswer::Missing(Missing::Refused(k));
+            return Err(Missing::Refused(k));
         }
     }
     let count = write_selectors(
         files, segments, sections, info, rebases, binds, index, setting, side, class, start, res,
     );
-    MethodsAnswer::Methods(count)
+    Ok(count)
 }
 
 // The effective methods of a class, its categories taken by their slots.
+#[tactic(auto, using(crate::proofs::Answers::of_start, crate::proofs::Answers::of_refused))]
 fn effective_by_slots(
     files: &[&[u8]],
     segments: &[u64],
@@ -409,32 +405,31 @@ fn effective_by_slots(
     side: Side,
     class: ObjcClass,
     res: &mut [u64],
-) -> MethodsAnswer
+) -> Result<u64, Missing>
     ensures { let t = under setting (lent files segments sections info rebases binds index) in
-        leaves (methods_outcome result) res.new ≡ left (effective_among (files_of files) (slot_appearances t side class)) res.old }
+        leaves (outcome result) res.new ≡ left (effective_among (files_of files) (slot_appearances t side class)) res.old }
 {
     let own = own_source(
         files, segments, sections, info, rebases, binds, index, setting, side, class,
     );
-    match enter(
+    let start = enter(
         files, segments, sections, info, rebases, binds, index, setting, 0, own,
-    ) {
-        Entered::At(start) => effective_from(
-            files,
-            segments,
-            sections,
-            info,
-            rebases,
-            binds,
-            index,
-            setting,
-            side,
-            class.address,
-            start,
-            res,
-        ),
-        Entered::Refused(k) => MethodsAnswer::Missing(Missing::Refused(k)),
-    }
+    )
+    .map_err(Missing::Refused)?;
+    effective_from(
+        files,
+        segments,
+        sections,
+        info,
+        rebases,
+        binds,
+        index,
+        setting,
+        side,
+        class.address,
+        start,
+        res,
+    )
 }
 
 // The effective methods of a class.
@@ -450,22 +445,21 @@ fn effective_of(
     side: Side,
     class: ObjcClass,
     res: &mut [u64],
-) -> MethodsAnswer
+) -> Result<u64, Missing>
     ensures { let t = under setting (lent files segments sections info rebases binds index) in
-        leaves (methods_outcome result) res.new ≡ left (and_then (plain_categories t) (λ categories. effective_among (files_of files) (appearances t side categories class))) res.old }
+        leaves (outcome result) res.new ≡ left (and_then (plain_categories t) (λ categories. effective_among (files_of files) (appearances t side categories class))) res.old }
 {
-    match ask_categories(
+    ask_categories(
         files, segments, sections, info, rebases, binds, index, setting,
-    ) {
-        Asked::Yes => effective_by_slots(
-            files, segments, sections, info, rebases, binds, index, setting, side, class, res,
-        ),
-        Asked::Refused(k) => MethodsAnswer::Missing(Missing::Refused(k)),
-    }
+    )
+    .map_err(Missing::Refused)?;
+    effective_by_slots(
+        files, segments, sections, info, rebases, binds, index, setting, side, class, res,
+    )
 }
 
-// The effective methods of the class at an address, on one side: four words for each selector, by first appearance. With absent or a
-// number the result buffer is as it was.
+// The effective methods of the class at an address, on one side: four words for each selector, by first appearance. Absent or
+// refused, the result buffer is as it was.
 pub fn effective_methods(
     files: &[&[u8]],
     segments: &[u64],
@@ -478,22 +472,15 @@ pub fn effective_methods(
     class: u64,
     side: Side,
     res: &mut [u64],
-) -> MethodsAnswer
+) -> Result<u64, Missing>
     ensures { let t = under setting (lent files segments sections info rebases binds index) in
-        leaves (methods_outcome result) res.new ≡ left (effective t side class) res.old }
+        leaves (outcome result) res.new ≡ left (effective t side class) res.old }
 {
-    match ask(files, segments, sections, info, rebases, binds, index) {
-        Asked::Yes => {}
-        Asked::Refused(k) => {
-            return MethodsAnswer::Missing(Missing::Refused(k));
-        }
-    }
-    match class_at(
+    ask(files, segments, sections, info, rebases, binds, index).map_err(Missing::Refused)?;
+    let c = class_at(
         files, segments, sections, info, rebases, binds, index, setting, class, false,
-    ) {
-        ClassAnswer::Class(c) => effective_of(
-            files, segments, sections, info, rebases, binds, index, setting, side, c, res,
-        ),
-        ClassAnswer::Missing(m) => MethodsAnswer::Missing(m),
-    }
+    )?;
+    effective_of(
+        files, segments, sections, info, rebases, binds, index, setting, side, c, res,
+    )
 }

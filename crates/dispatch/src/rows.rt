@@ -1,24 +1,22 @@
 // The rows of the lists that take part, one by one, in the order in which they appear.
-ghost use Rattle.std.specs.Prelude.{◌≡◌, ◌<◌, ◌^◌};
-ghost use Rattle.std.proofs.Math.Option.{none, some};
+ghost use Rattle.std.specs.Prelude.{◌≡◌, ◌<◌, ◌^◌, None, Some};
 ghost use Rattle.reads.specs.Outcome.{value, and_then};
 ghost use Rattle.reads.specs.Files.{files_lent};
 ghost use Rattle.reads.specs.Place.{image_of};
 ghost use Rattle.pointers.specs.Tables.{lent, under};
 ghost use Rattle.records.specs.Search.{first_readable};
 ghost use Rattle.records.specs.List.{entry_address};
-ghost use Rattle.records.specs.Row.{row_outcome};
-ghost use Rattle.dispatch.specs.Appearances.{appearance_outcome, appearing, appearance};
-ghost use Rattle.dispatch.specs.Sources.{source_outcome};
+ghost use Rattle.dispatch.specs.Appearances.{appearing, appearance};
 ghost use Rattle.dispatch.specs.Position.{EnteredAt, SteppedFrom, NextFrom, moved_to, nowhere};
+ghost use Rattle.reads.specs.Answer.{outcome};
 
 use crate::slots::slot_count;
-use crate::sources::{Side, Source, SourceAnswer, slot_source};
+use crate::sources::{Side, Source, slot_source};
 use pointers::setting::Setting;
-use reads::answer::{Missing, Reason};
+use reads::answer::{Missing, Question, Reason};
 use reads::text::Text;
-use records::list::{Entry, Layout, LayoutAnswer, ListKind, RowKind, first_readable, list_at};
-use records::row::{Row, RowAnswer, row_at};
+use records::list::{Layout, ListKind, RowKind, first_readable, list_at};
+use records::row::{Row, row_at};
 
 // A row as it appears: its selector, the numbers of its source and of its entry, and the address of the record that its list
 // came from.
@@ -39,19 +37,6 @@ pub struct Position {
     pub entry: u32,
 }
 
-#[derive(Clone, Copy)]
-pub enum AppearanceAnswer {
-    Row(Appearance),
-    Missing(Missing),
-}
-
-// The first entry of a source, or the number of the question that refuses.
-#[derive(Clone, Copy)]
-pub enum Entered {
-    At(Position),
-    Refused(u8),
-}
-
 // A row, and the position after it.
 #[derive(Clone, Copy)]
 pub struct Reached {
@@ -59,22 +44,21 @@ pub struct Reached {
     pub next: Position,
 }
 
-// A step gives the next row, or nothing from what it took, or there was nothing left; or the number of the question that
-// refuses.
+// A step gives the next row, or nothing from what it took, or there was nothing left; or the question that refuses.
 #[derive(Clone, Copy)]
 pub enum Step {
     Row(Reached),
     Passed(Position),
     End,
-    Refused(u8),
+    Refused(Question),
 }
 
-// The next row, or the end; or the number of the question that refuses.
+// The next row, or the end; or the question that refuses.
 #[derive(Clone, Copy)]
 pub enum Next {
     Row(Appearance),
     End,
-    Refused(u8),
+    Refused(Question),
 }
 
 impl Position {
@@ -115,7 +99,7 @@ fn enter_list(
     setting: Setting,
     number: u64,
     source: Source,
-) -> Entered
+) -> Result<Position, Question>
     ensures { let t = under setting (lent files segments sections info rebases binds index) in
         EnteredAt t number (value source) result }
 {
@@ -131,15 +115,15 @@ fn enter_list(
         ListKind::Methods,
         source.list,
     ) {
-        LayoutAnswer::List(list) => Entered::At(Position {
+        Ok(list) => Ok(Position {
             source: number,
             origin: source.origin,
             list,
             entry: 0,
         }),
-        LayoutAnswer::Missing(m) => match m {
-            Missing::Absent(_) => Entered::At(no_rows(number)),
-            Missing::Refused(k) => Entered::Refused(k),
+        Err(m) => match m {
+            Missing::Absent(_) => Ok(no_rows(number)),
+            Missing::Refused(k) => Err(k),
         },
     }
 }
@@ -155,41 +139,43 @@ pub(crate) fn enter(
     index: &[u32],
     setting: Setting,
     number: u64,
-    source: SourceAnswer,
-) -> Entered
+    source: Result<Source, Missing>,
+) -> Result<Position, Question>
     ensures { let t = under setting (lent files segments sections info rebases binds index) in
-        EnteredAt t number (source_outcome source) result }
+        EnteredAt t number (outcome source) result }
 {
     match source {
-        SourceAnswer::Source(source) => enter_list(
+        Ok(source) => enter_list(
             files, segments, sections, info, rebases, binds, index, setting, number, source,
         ),
-        SourceAnswer::Missing(m) => match m {
-            Missing::Absent(_) => Entered::At(no_rows(number)),
-            Missing::Refused(k) => Entered::Refused(k),
+        Err(m) => match m {
+            Missing::Absent(_) => Ok(no_rows(number)),
+            Missing::Refused(k) => Err(k),
         },
     }
 }
 
 // A row of a method list, by what was read.
-fn appearing(source: u64, origin: u64, j: u64, answer: RowAnswer) -> AppearanceAnswer
-    ensures { appearance_outcome result ≡ and_then (row_outcome answer) (appearing source origin j) }
+fn appearing(
+    source: u64,
+    origin: u64,
+    j: u64,
+    answer: Result<Row, Missing>,
+) -> Result<Appearance, Missing>
+    ensures { outcome result ≡ and_then (outcome answer) (appearing source origin j) }
 {
-    match answer {
-        RowAnswer::Row(row) => match row {
-            Row::Method(m) => {
-                let selector = m.selector;
-                AppearanceAnswer::Row(Appearance {
-                    selector,
-                    source,
-                    entry: j,
-                    origin,
-                })
-            }
-            Row::Ivar(_) => AppearanceAnswer::Missing(Missing::Absent(Reason::NoRecord)),
-            Row::Property(_) => AppearanceAnswer::Missing(Missing::Absent(Reason::NoRecord)),
-        },
-        RowAnswer::Missing(m) => AppearanceAnswer::Missing(m),
+    match answer? {
+        Row::Method(m) => {
+            let selector = m.selector;
+            Ok(Appearance {
+                selector,
+                source,
+                entry: j,
+                origin,
+            })
+        }
+        Row::Ivar(_) => Err(Missing::Absent(Reason::NoRecord)),
+        Row::Property(_) => Err(Missing::Absent(Reason::NoRecord)),
     }
 }
 
@@ -205,10 +191,10 @@ fn appearance_at(
     setting: Setting,
     p: Position,
     j: u64,
-) -> AppearanceAnswer
+) -> Result<Appearance, Missing>
     requires { (j < 2 ^ 32) × (entry_address p.list j < 2 ^ 64) }
     ensures { let t = under setting (lent files segments sections info rebases binds index) in
-        appearance_outcome result ≡ appearance t p.source p.origin p.list j }
+        outcome result ≡ appearance t p.source p.origin p.list j }
 {
     let h = p.list;
     let kind = h.kind;
@@ -234,7 +220,7 @@ fn settle(
     p: Position,
     j: u64,
 ) -> Step
-    requires { first_readable (image_of (files_lent files.now) segments.now) p.list p.entry ≡ some j }
+    requires { first_readable (image_of (files_lent files.now) segments.now) p.list p.entry ≡ Some j }
     ensures { let t = under setting (lent files segments sections info rebases binds index) in
         SteppedFrom t side class p result }
 {
@@ -243,8 +229,8 @@ fn settle(
     );
     let next = p.at(j as u32 + 1);
     match answer {
-        AppearanceAnswer::Row(row) => Step::Row(Reached { row, next }),
-        AppearanceAnswer::Missing(m) => match m {
+        Ok(row) => Step::Row(Reached { row, next }),
+        Err(m) => match m {
             Missing::Absent(_) => Step::Passed(next),
             Missing::Refused(k) => Step::Refused(k),
         },
@@ -265,7 +251,7 @@ fn next_source(
     class: u64,
     p: Position,
 ) -> Step
-    requires { first_readable (image_of (files_lent files.now) segments.now) p.list p.entry ≡ none }
+    requires { first_readable (image_of (files_lent files.now) segments.now) p.list p.entry ≡ None }
     ensures { let t = under setting (lent files segments sections info rebases binds index) in
         SteppedFrom t side class p result }
 {
@@ -288,8 +274,8 @@ fn next_source(
         k + 1,
         source,
     ) {
-        Entered::At(q) => Step::Passed(q),
-        Entered::Refused(n) => Step::Refused(n),
+        Ok(q) => Step::Passed(q),
+        Err(n) => Step::Refused(n),
     }
 }
 
@@ -313,10 +299,10 @@ fn step_from(
     let h = p.list;
     let entry = p.entry;
     match first_readable(files, segments, h, entry) {
-        Entry::At(j) => settle(
+        Some(j) => settle(
             files, segments, sections, info, rebases, binds, index, setting, side, class, p, j,
         ),
-        Entry::Nothing => next_source(
+        None => next_source(
             files, segments, sections, info, rebases, binds, index, setting, side, class, p,
         ),
     }

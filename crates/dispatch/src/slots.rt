@@ -1,15 +1,15 @@
 // The slots of cat_list and nlcat_list, with no ledger.
 ghost use Rattle.std.specs.Prelude.{◌≡◌, ◌≤◌, length, get_or};
 ghost use Rattle.reads.specs.Reference.{before};
-ghost use Rattle.reads.specs.Answer.{word_outcome};
 ghost use Rattle.pointers.specs.Tables.{lent, under};
 ghost use Rattle.reads.specs.Text.{or_none};
 ghost use Rattle.dispatch.specs.SlotSources.{category_slots, listed_at, held_before};
+ghost use Rattle.reads.specs.Answer.{outcome};
 
 use pointers::section::ObjcSection;
 use pointers::setting::Setting;
 use pointers::slot::slot_or_0;
-use reads::answer::{Missing, Word, nonzero};
+use reads::answer::{Missing, nonzero};
 use reads::relative::slot_address;
 
 // How many slots there are: each section has fewer than 2^61.
@@ -37,6 +37,7 @@ fn slot_at(sections: &[u64], k: u64) -> u64
 }
 
 // The address in slot k, absent if it is 0.
+#[tactic(auto, using(reads::proofs::Outcomes::missed_then, crate::proofs::Held::listed_by), unfolding(walks::specs::Slots::decode_address))]
 pub(crate) fn listed_at(
     files: &[&[u8]],
     segments: &[u64],
@@ -47,15 +48,13 @@ pub(crate) fn listed_at(
     index: &[u32],
     setting: Setting,
     k: u64,
-) -> Word
+) -> Result<u64, Missing>
     ensures { let t = under setting (lent files segments sections info rebases binds index) in
-        word_outcome result ≡ listed_at t k }
+        outcome result ≡ listed_at t k }
 {
     let slot = slot_at(sections, k);
-    match slot_or_0(files, segments, rebases, index, setting, slot) {
-        Word::Value(va) => nonzero(va),
-        Word::Missing(m) => Word::Missing(m),
-    }
+    let va = slot_or_0(files, segments, rebases, index, setting, slot)?;
+    nonzero(va)
 }
 
 // The same, 0 where it is none.
@@ -76,11 +75,8 @@ pub(crate) fn held_at(
     match listed_at(
         files, segments, sections, info, rebases, binds, index, setting, k,
     ) {
-        Word::Value(va) => va,
-        Word::Missing(m) => match m {
-            Missing::Absent(_) => 0,
-            Missing::Refused(_) => 0,
-        },
+        Ok(va) => va,
+        Err(_) => 0,
     }
 }
 

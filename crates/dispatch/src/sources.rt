@@ -1,16 +1,16 @@
 // The lists that take part: the class's or metaclass's own, and those of the categories of the class.
 ghost use Rattle.std.specs.Prelude.{◌≡◌, ◌≤◌, length};
 ghost use Rattle.pointers.specs.Tables.{lent, under};
-ghost use Rattle.records.specs.Class.{class_outcome};
 ghost use Rattle.walks.specs.Sections.{meta_of};
-ghost use Rattle.dispatch.specs.Sources.{source_outcome, list_of, metaclass_of, own_source, methods_on};
+ghost use Rattle.dispatch.specs.Sources.{list_of, metaclass_of, own_source, methods_on};
 ghost use Rattle.dispatch.specs.SlotSources.{category_slots, taking, slot_source};
+ghost use Rattle.reads.specs.Answer.{outcome};
 
 use crate::slots::{held_before, listed_at};
 use pointers::setting::Setting;
-use reads::answer::{Missing, Reason, Word, nonzero};
-use records::category::{CategoryAnswer, ObjcCategory, category_at};
-use records::class::{ClassAnswer, ClassRoAnswer, ObjcClass, class_at, ro_of};
+use reads::answer::{Missing, Reason, nonzero};
+use records::category::{ObjcCategory, category_at};
+use records::class::{ObjcClass, class_at, ro_of};
 
 // Instance methods, or class methods.
 #[derive(Clone, Copy)]
@@ -26,13 +26,8 @@ pub struct Source {
     pub list: u64,
 }
 
-#[derive(Clone, Copy)]
-pub enum SourceAnswer {
-    Source(Source),
-    Missing(Missing),
-}
-
 // The method list of a class's class_ro_t.
+#[tactic(auto, using(reads::proofs::Outcomes::missed_then), unfolding(crate::specs::Sources::list_of))]
 fn list_of(
     files: &[&[u8]],
     segments: &[u64],
@@ -43,19 +38,17 @@ fn list_of(
     index: &[u32],
     setting: Setting,
     class: ObjcClass,
-) -> SourceAnswer
+) -> Result<Source, Missing>
     ensures { let t = under setting (lent files segments sections info rebases binds index) in
-        source_outcome result ≡ list_of t class }
+        outcome result ≡ list_of t class }
 {
-    match ro_of(
+    let ro = ro_of(
         files, segments, sections, info, rebases, binds, index, setting, class,
-    ) {
-        ClassRoAnswer::Ro(ro) => SourceAnswer::Source(Source {
-            origin: class.address,
-            list: ro.methods,
-        }),
-        ClassRoAnswer::Missing(m) => SourceAnswer::Missing(m),
-    }
+    )?;
+    Ok(Source {
+        origin: class.address,
+        list: ro.methods,
+    })
 }
 
 // The address of the metaclass: isa, 0 where it is the class itself.
@@ -69,6 +62,7 @@ fn meta_of(class: ObjcClass) -> u64
 }
 
 // The metaclass, if isa is neither 0 nor the class and decodes.
+#[tactic(auto, using(reads::proofs::Outcomes::missed_then), unfolding(crate::specs::Sources::metaclass_of))]
 fn metaclass_of(
     files: &[&[u8]],
     segments: &[u64],
@@ -79,20 +73,18 @@ fn metaclass_of(
     index: &[u32],
     setting: Setting,
     class: ObjcClass,
-) -> ClassAnswer
+) -> Result<ObjcClass, Missing>
     ensures { let t = under setting (lent files segments sections info rebases binds index) in
-        class_outcome result ≡ metaclass_of t class }
+        outcome result ≡ metaclass_of t class }
 {
-    let meta = meta_of(class);
-    match nonzero(meta) {
-        Word::Value(va) => class_at(
-            files, segments, sections, info, rebases, binds, index, setting, va, true,
-        ),
-        Word::Missing(m) => ClassAnswer::Missing(m),
-    }
+    let va = nonzero(meta_of(class))?;
+    class_at(
+        files, segments, sections, info, rebases, binds, index, setting, va, true,
+    )
 }
 
 // The class's own list: of class methods it is the metaclass's.
+#[tactic(auto, using(reads::proofs::Outcomes::missed_then), unfolding(crate::specs::Sources::own_source))]
 pub(crate) fn own_source(
     files: &[&[u8]],
     segments: &[u64],
@@ -104,22 +96,22 @@ pub(crate) fn own_source(
     setting: Setting,
     side: Side,
     class: ObjcClass,
-) -> SourceAnswer
+) -> Result<Source, Missing>
     ensures { let t = under setting (lent files segments sections info rebases binds index) in
-        source_outcome result ≡ own_source t side class }
+        outcome result ≡ own_source t side class }
 {
     match side {
         Side::Instance => list_of(
             files, segments, sections, info, rebases, binds, index, setting, class,
         ),
-        Side::Class => match metaclass_of(
-            files, segments, sections, info, rebases, binds, index, setting, class,
-        ) {
-            ClassAnswer::Class(metaclass) => list_of(
+        Side::Class => {
+            let metaclass = metaclass_of(
+                files, segments, sections, info, rebases, binds, index, setting, class,
+            )?;
+            list_of(
                 files, segments, sections, info, rebases, binds, index, setting, metaclass,
-            ),
-            ClassAnswer::Missing(m) => SourceAnswer::Missing(m),
-        },
+            )
+        }
     }
 }
 
@@ -148,27 +140,28 @@ fn taking(
     k: u64,
     va: u64,
     category: ObjcCategory,
-) -> SourceAnswer
+) -> Result<Source, Missing>
     requires { k ≤ length (category_slots sections.now) }
     ensures { let t = under setting (lent files segments sections info rebases binds index) in
-        source_outcome result ≡ taking t side class k va category }
+        outcome result ≡ taking t side class k va category }
 {
     if category.class_address != class {
-        return SourceAnswer::Missing(Missing::Absent(Reason::NoRecord));
+        return Err(Missing::Absent(Reason::NoRecord));
     }
     if held_before(
         files, segments, sections, info, rebases, binds, index, setting, k, va,
     ) {
-        return SourceAnswer::Missing(Missing::Absent(Reason::NoRecord));
+        return Err(Missing::Absent(Reason::NoRecord));
     }
     let list = methods_on(side, category);
-    SourceAnswer::Source(Source {
+    Ok(Source {
         origin: category.address,
         list,
     })
 }
 
 // The list of the category in slot k, if it takes part.
+#[tactic(auto, using(reads::proofs::Outcomes::missed_then), unfolding(crate::specs::SlotSources::slot_source))]
 pub(crate) fn slot_source(
     files: &[&[u8]],
     segments: &[u64],
@@ -181,23 +174,19 @@ pub(crate) fn slot_source(
     side: Side,
     class: u64,
     k: u64,
-) -> SourceAnswer
+) -> Result<Source, Missing>
     requires { k ≤ length (category_slots sections.now) }
     ensures { let t = under setting (lent files segments sections info rebases binds index) in
-        source_outcome result ≡ slot_source t side class k }
+        outcome result ≡ slot_source t side class k }
 {
-    match listed_at(
+    let va = listed_at(
         files, segments, sections, info, rebases, binds, index, setting, k,
-    ) {
-        Word::Value(va) => match category_at(
-            files, segments, sections, info, rebases, binds, index, setting, va,
-        ) {
-            CategoryAnswer::Category(category) => taking(
-                files, segments, sections, info, rebases, binds, index, setting, side, class, k,
-                va, category,
-            ),
-            CategoryAnswer::Missing(m) => SourceAnswer::Missing(m),
-        },
-        Word::Missing(m) => SourceAnswer::Missing(m),
-    }
+    )?;
+    let category = category_at(
+        files, segments, sections, info, rebases, binds, index, setting, va,
+    )?;
+    taking(
+        files, segments, sections, info, rebases, binds, index, setting, side, class, k, va,
+        category,
+    )
 }

@@ -8,7 +8,7 @@ use lib.Dec.{leb}
 use lib.ListN.{length}
 use borrow.Author.Tests.{leb-true, leb-false, not-true, not-false}
 use Rattle.reads.specs.Answer.{missed}
-use Rattle.reads.specs.Outcome.{Outcome, value, absent, number}
+use Rattle.reads.specs.Outcome.{Outcome, value, absent, refused}
 use Rattle.reads.specs.declared.answer.Missing.{Missing}
 use Rattle.reads.specs.declared.answer.Reason.{Reason}
 use Rattle.pointers.specs.Open.{left_by}
@@ -22,6 +22,8 @@ use Rattle.encodings.proofs.Depth.{seventeen_deeper, outside_unread, deeper_seve
 use Rattle.encodings.proofs.Reached.{missing_value}
 use Rattle.encodings.proofs.Shows.{counted_types}
 use Rattle.encodings.proofs.Sound.{first_good, sound}
+use Rattle.reads.specs.declared.answer.Question.{Question}
+use Rattle.reads.specs.declared.answer.Question.TheVariants.{ItemRoom}
 
 -- o comes back, and the buffer holds `now`.
 abbrev pub Answers : List ℕ → List ℕ → Outcome ℕ → List ℕ → Type 0
@@ -34,18 +36,18 @@ module _ (text buffer : List ℕ) where
   answers e = rw e (refl, refl)
 
   module _ {ts : Types} (e : parse 32 text ≡ value ts) where
-    answers_short : words_fit (count ts) (length buffer) ≡ false → Answers text buffer (number 12) buffer
-    answers_short f = rw (question_no 12 (words_fit (count ts) (length buffer)) f) at (answers e)
+    answers_short : words_fit (count ts) (length buffer) ≡ false → Answers text buffer (refused ItemRoom) buffer
+    answers_short f = rw (question_no ItemRoom (words_fit (count ts) (length buffer)) f) at (answers e)
 
     answers_types : words_fit (count ts) (length buffer) ≡ true → Answers text buffer (value (count ts)) (filled ts buffer)
-    answers_types f = rw (question_yes 12 (words_fit (count ts) (length buffer)) f) at (answers e)
+    answers_types f = rw (question_yes ItemRoom (words_fit (count ts) (length buffer)) f) at (answers e)
 
 -- ---- The code's first call, on no words of the buffer, says how many types there are; its second puts their words there
 
 read_of : (n : ℕ) (o : Outcome Types) → value n ≡ counted_types o → (ts : Types) × (o ≡ value ts) × (count ts ≡ n)
 read_of n (value ts) e = (ts, refl, cc)
 read_of n (absent r) e = let z : ◌≡◌ {A = ℕ} 0 1 = cc in absurd (omega arith)
-read_of n (number k) e = let z : ◌≡◌ {A = ℕ} 0 1 = cc in absurd (omega arith)
+read_of n (refused k) e = let z : ◌≡◌ {A = ℕ} 0 1 = cc in absurd (omega arith)
 
 empty : (l : List ℕ) → length l ≡ 0 → l ≡ []
 empty [] e = refl
@@ -61,7 +63,7 @@ module _ (text buffer : List ℕ) {o : Outcome ℕ} {left : List ℕ} (r : Read 
       go : (p : Outcome Types) → parse 32 text ≡ p → missed m ≡ counted_types p → Answers text buffer (missed m) (left ++ buffer)
       go (value ts) q c = absurd (missing_value m (count ts) c)
       go (absent k) q c = let a = answers text buffer q in (c ∙ a.0, unchanged ∙ a.1)
-      go (number k) q c = let a = answers text buffer q in (c ∙ a.0, unchanged ∙ a.1)
+      go (refused k) q c = let a = answers text buffer q in (c ∙ a.0, unchanged ∙ a.1)
 
   module _ (n : ℕ) (e : o ≡ value n) {fits : Bool} (f : fits ≡ words_fit n (length (left ++ buffer))) where
     reading : (ts : Types) × (parse 32 text ≡ value ts) × (count ts ≡ n)
@@ -70,7 +72,7 @@ module _ (text buffer : List ℕ) {o : Outcome ℕ} {left : List ℕ} (r : Read 
     asked : words_fit (count reading.0) (length buffer) ≡ fits
     asked = ap (λ (k : ℕ). words_fit k (length buffer)) reading.2 ∙ ap (λ (l : List ℕ). words_fit n (length l)) (sym unchanged) ∙ sym f
 
-    pub answers_number : not fits ≡ true → Answers text buffer (number 12) (left ++ buffer)
+    pub answers_number : not fits ≡ true → Answers text buffer (refused ItemRoom) (left ++ buffer)
     answers_number h = let a = answers_short text buffer reading.1 (asked ∙ not-true fits h) in (a.0, unchanged ∙ a.1)
 
     pub answers_value : not fits ≡ false → {o' : Outcome ℕ} {now : List ℕ} → Read text (left ++ buffer) o' now → Answers text buffer (value n) now
@@ -104,8 +106,8 @@ says text buffer = go (parse 32 text) refl (run_known 32 text (at none wanted []
         let q : parse 32 text ≡ outside = e ∙ ap (λ (x : Reason). absent x) k in
         let a = answers text buffer q in
         says_absent (outside_unread 32 text q) (λ d. outside_deep (sym q ∙ deeper_seventeen 32 text d)) (sym a.0) (sym a.1)
-    go (number n) e k =
-        let q : parse 32 text ≡ too_deep = e ∙ ap (λ (x : ℕ). number x) k in
+    go (refused n) e k =
+        let q : parse 32 text ≡ too_deep = e ∙ ap (λ (x : Question). refused x) k in
         let a = answers text buffer q in
         says_deeper (seventeen_deeper 32 text q) (sym a.0) (sym a.1)
 

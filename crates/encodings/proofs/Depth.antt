@@ -10,7 +10,7 @@ use native.Mathlib.Omega.{arith}
 use borrow.Author.Tests.{ltb-true, ltb-false, lt-ltb, eq-eqb}
 use lib.Dec.{ltb}
 use Rattle.pointers.specs.Symbol.{ascii}
-use Rattle.reads.specs.Outcome.{Outcome, value, absent, number, and_then, choose}
+use Rattle.reads.specs.Outcome.{Outcome, value, absent, refused, and_then, choose}
 use Rattle.reads.specs.declared.answer.Reason.{Reason}
 use Rattle.reads.specs.declared.answer.Reason.TheVariants.{Malformed}
 use Rattle.reads.proofs.Tests.{by_choose, choose_true, choose_false}
@@ -23,6 +23,8 @@ use Rattle.encodings.proofs.Choices.{by_both}
 use Rattle.encodings.proofs.States.{spell_state, Good, Keeps}
 use Rattle.encodings.proofs.Sound.{step_keeps, first_good, sound}
 use Rattle.encodings.proofs.Complete.{Closing, closing, closing_bracket, no_quoted, close_name, moves, complete}
+use Rattle.reads.specs.declared.answer.Question.{Question}
+use Rattle.reads.specs.declared.answer.Question.TheVariants.{Depth}
 
 -- A value, outside and too_deep are apart.
 value_outside : (ts : Types) → ◌≡◌ {A = Outcome Types} (value ts) outside → ⊥
@@ -106,7 +108,7 @@ module _ (l : ℕ) where
 abbrev Grows : ℕ → Outcome State → Outcome State → Type 0
 Grows b (value x) o = o ≡ value x
 Grows b (absent r) o = (r ≡ Malformed) × (o ≡ absent r)
-Grows b (number k) o = (among (ascii "^[{(") b ≡ true) × (k ≡ 17) × (y : State) × (o ≡ value y)
+Grows b (refused k) o = (among (ascii "^[{(") b ≡ true) × (k ≡ Depth) × (y : State) × (o ≡ value y)
 
 module _ (l m : ℕ) (more : l < m) where
   module _ (b : ℕ) where
@@ -167,14 +169,14 @@ module _ (l m : ℕ) (more : l < m) where
           → (and_then o (λ y. run l s y) ≡ too_deep) ⊎ (and_then o (λ y. run l s y) ≡ and_then (step m x b (class_of b)) (λ y. run m s y))
       go (value y) k w f = rw w (f y k.0)
       go (absent r) k w f = inr (rw w.1)
-      go (number n) k w f = inl (ap (λ (i : ℕ). number i) w.1)
+      go (refused n) k w f = inl (ap (λ (i : Question). refused i) w.1)
 
 -- ---- What the machine may say: a reading, outside, or, before the text ends, too_deep
 
 abbrev Ended : Outcome Types → Type 0
 Ended (value ts) = Unit {0}
 Ended (absent r) = r ≡ Malformed
-Ended (number k) = ⊥
+Ended (refused k) = ⊥
 
 outermost_ended : (ts : Types) (os : List Open) (e : Encoding) → Ended (outermost ts os e)
 outermost_ended ts [] e = tt
@@ -199,7 +201,7 @@ finish_ended (at ts (offset e d ds) os) = tt
 abbrev pub Known : Outcome Types → Type 0
 Known (value ts) = Unit {0}
 Known (absent r) = r ≡ Malformed
-Known (number k) = k ≡ 17
+Known (refused k) = k ≡ Depth
 
 pub run_known : (l : ℕ) (s : List ℕ) (x : State) → Good l x → Known (run l s x)
 unfolding run
@@ -208,7 +210,7 @@ run_known l [] x g = go (finish x) (finish_ended x)
     go : (o : Outcome Types) → Ended o → Known o
     go (value ts) e = tt
     go (absent r) e = e
-    go (number k) e = absurd e
+    go (refused k) e = absurd e
 run_known l (b ∷ s) x g =
     go (step l x b (class_of b)) (step_keeps l x g b (class_of b) refl) (step_grows l (suc l) (omega arith) b x g (class_of b) refl) (λ y. run_known l s y)
   where
@@ -216,7 +218,7 @@ run_known l (b ∷ s) x g =
         → ((y : State) → Good l y → Known (run l s y)) → Known (and_then o (λ y. run l s y))
     go (value y) k w f = f y k.0
     go (absent r) k w f = w.0
-    go (number n) k w f = w.1
+    go (refused n) k w f = w.1
 
 module _ (l : ℕ) where
   -- A reading beyond the limit is too deep for the machine.
@@ -255,7 +257,7 @@ module _ (l : ℕ) where
       go : (o : Outcome State) → step l x b (class_of b) ≡ o → Keeps l (λ s. spell_state x (b ∷ s)) o → Grows b o (step (suc l) x b (class_of b))
           → and_then o (λ y. run l t y) ≡ too_deep → ((y : State) → Good l y → run l t y ≡ too_deep → DeepAt y t) → DeepAt x (b ∷ t)
       go (absent r) e k w q' f = absurd (absent_deep r q')
-      go (number n) e k w q' f =
+      go (refused n) e k w q' f =
           record {
             before = [];
             opening = b;
@@ -265,7 +267,7 @@ module _ (l : ℕ) where
             is = refl;
             opens = w.0;
             goes = λ s. refl;
-            stops = e ∙ ap (λ (i : ℕ). number i) w.1;
+            stops = e ∙ ap (λ (i : Question). refused i) w.1;
             more = λ s. moves (suc l) b s x w.2 w.3;
           }
       go (value y) e k w q' f =
@@ -337,8 +339,8 @@ module _ (l : ℕ) where
       go (absent r) e f =
           ends_at (absent r) (λ ts q. let z : ◌≡◌ {A = ℕ} 0 1 = cc in absurd (omega arith))
           (λ s. ap (λ (o : Outcome State). and_then o (λ y. run l (p ++ s) y)) e)
-      go (number k) e f =
-          ends_at (number k) (λ ts q. let z : ◌≡◌ {A = ℕ} 0 1 = cc in absurd (omega arith))
+      go (refused k) e f =
+          ends_at (refused k) (λ ts q. let z : ◌≡◌ {A = ℕ} 0 1 = cc in absurd (omega arith))
           (λ s. ap (λ (o : Outcome State). and_then o (λ y. run l (p ++ s) y)) e)
 
   -- A text that the machine refuses is outside the grammar.

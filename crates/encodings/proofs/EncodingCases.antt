@@ -7,10 +7,11 @@ use mathlib.Core.List.{List, [], ◌∷◌, ◌++◌}
 use lib.ListN.{replicate}
 use Rattle.pointers.specs.Question.{question}
 use Rattle.pointers.specs.Symbol.{ascii}
-use Rattle.reads.specs.Outcome.{Outcome, value, absent, number, choose}
+use Rattle.reads.specs.Outcome.{Outcome, value, absent, refused, choose}
 use Rattle.encodings.specs.Grammar.{structure, union, basic, object, instance, bit_field, pointer, array, opaque, defined, nothing, ◌then◌, Types, none, plain, framed, among, digit_byte, name_byte, quoted_byte}
 use Rattle.encodings.specs.Machine.{class_of, outside, run, parse}
 use Rattle.encodings.specs.Words.{words_fit, types_of, types_left}
+use Rattle.reads.specs.declared.answer.Question.TheVariants.{ItemRoom, Depth}
 
 -- ---- `@16@0:8`: an object, frame of 16 bytes; an object at 0; a selector at 8
 
@@ -30,7 +31,7 @@ unfolding types_left types_of words_fit question run class_of among choose digit
 method_words = refl
 
 -- 12: eleven words are too few, and stay.
-method_short : types_of (ascii "@16@0:8") 11 ≡ number 12
+method_short : types_of (ascii "@16@0:8") 11 ≡ refused ItemRoom
 unfolding types_of words_fit question run class_of among choose digit_byte name_byte quoted_byte
 method_short = refl
 
@@ -105,7 +106,7 @@ name_bytes = refl
 abbrev is_outside : Outcome Types → Bool
 is_outside (value ts) = false
 is_outside (absent r) = true
-is_outside (number k) = false
+is_outside (refused k) = false
 
 abbrev all_outside : List (List ℕ) → Bool
 all_outside [] = true
@@ -135,7 +136,7 @@ levels_32 : types_of (carets 28 ++ ascii "[1{a=(b=c{d}^c)}]") 4 ≡ value 1
 unfolding types_of words_fit question run class_of among choose digit_byte name_byte quoted_byte
 levels_32 = refl
 
-levels_33 : types_of (carets 29 ++ ascii "[1{a=(b=c{d}^c)}]") 4 ≡ number 17
+levels_33 : types_of (carets 29 ++ ascii "[1{a=(b=c{d}^c)}]") 4 ≡ refused Depth
 unfolding types_of words_fit question run class_of among choose digit_byte name_byte quoted_byte
 levels_33 = refl
 
@@ -144,7 +145,7 @@ unfolding types_left types_of words_fit question run class_of among choose digit
 pointers_32 = refl
 
 -- 17 goes before all that follows the 33rd opening byte, and before 12; the words stay.
-junk_behind : types_of (carets 32 ++ ascii "{%]") 0 ≡ number 17
+junk_behind : types_of (carets 32 ++ ascii "{%]") 0 ≡ refused Depth
 unfolding types_of words_fit question run class_of among choose digit_byte name_byte quoted_byte
 junk_behind = refl
 

@@ -9,7 +9,7 @@ use native.Mathlib.Numerals.{add-one}
 use lib.ListN.{length, get_or, drop, drop_of_length-le}
 use lib.Seq.{drop-cons, sets}
 use Rattle.reads.specs.Answer.{missed}
-use Rattle.reads.specs.Outcome.{Outcome, value, absent, number, and_then}
+use Rattle.reads.specs.Outcome.{Outcome, value, absent, refused, and_then}
 use Rattle.reads.specs.declared.answer.Missing.{Missing}
 use Rattle.reads.specs.declared.answer.Missing.TheVariants.{Absent, Refused}
 use Rattle.encodings.specs.Grammar.{Types, none, count, size, filled}
@@ -24,6 +24,7 @@ use Rattle.encodings.proofs.Sound.{step_keeps, first_good}
 use Rattle.encodings.proofs.States.{spell_state, Good, Keeps}
 use Rattle.encodings.proofs.Steps.{kept_types, kept_start, kept_offset}
 use Rattle.encodings.proofs.Turns.{types_at, offset_at, Adds, Turns, row_filled, step_turns, finish_adds, start_before, ordered}
+use Rattle.reads.specs.declared.answer.Question.{Question}
 
 -- After i bytes of a text, with a buffer that held w₀ and holds w.
 pub record Reached (text w₀ w : List ℕ) (m : Mode) (p : Parser) (i : ℕ) : Type 0 where
@@ -57,9 +58,9 @@ missing_value (Refused k) a e = let z : ◌≡◌ {A = ℕ} 0 1 = cc in absurd (
 missing_shown : {A : Type 0} (m : Missing) (o : Outcome State) (f : State → Outcome A) → missed m ≡ shown o → missed m ≡ and_then o f
 missing_shown m (value y) f e = absurd (missing_value m (show y) e)
 missing_shown (Absent r) (absent r') f e = let z : r ≡ r' = cc in ap (λ (x : _). absent x) z
-missing_shown (Absent r) (number k) f e = let z : ◌≡◌ {A = ℕ} 0 1 = cc in absurd (omega arith)
+missing_shown (Absent r) (refused k) f e = let z : ◌≡◌ {A = ℕ} 0 1 = cc in absurd (omega arith)
 missing_shown (Refused k) (absent r) f e = let z : ◌≡◌ {A = ℕ} 0 1 = cc in absurd (omega arith)
-missing_shown (Refused k) (number k') f e = let z : k ≡ k' = cc in ap (λ (x : ℕ). number x) z
+missing_shown (Refused k) (refused k') f e = let z : k ≡ k' = cc in ap (λ (x : Question). refused x) z
 
 -- What a parser keeps of a state, part by part.
 parts : (m : Mode) (p : Parser) (x : State) → kept_in m p ≡ show x
@@ -121,7 +122,7 @@ module _ {text w₀ w : List ℕ} {mode : Mode} {p : Parser} {i : ℕ} (z : Reac
         go : (o : Outcome State) → value (kept_in n q) ≡ shown o → and_then o (λ y. run 32 (drop (i + 1) text) y) ≡ parse 32 text
             → Keeps 32 (λ s. spell_state x (b ∷ s)) o → Turns (types_at x) (offset_at x) i o → Reached text w₀ left n q (i + 1)
         go (absent r) s m k a = let z : ◌≡◌ {A = ℕ} 0 1 = cc in absurd (omega arith)
-        go (number u) s m k a = let z : ◌≡◌ {A = ℕ} 0 1 = cc in absurd (omega arith)
+        go (refused u) s m k a = let z : ◌≡◌ {A = ℕ} 0 1 = cc in absurd (omega arith)
         go (value y) s m k a =
             record {
               state = y;
@@ -162,7 +163,7 @@ module _ {text w₀ w : List ℕ} {mode : Mode} {p : Parser} {i : ℕ} (z : Reac
                 → and_then o (λ y. counted_types (run 32 (drop (i + 1) text) y)) ≡ counted_types (and_then o (λ y. run 32 (drop (i + 1) text) y))
             assoc (value y) = refl
             assoc (absent r) = refl
-            assoc (number k) = refl
+            assoc (refused k) = refl
 
   -- ---- The end of the text
 

@@ -5,7 +5,7 @@ use mathlib.Core.Bool.{Bool, true, false, true≢false}
 use mathlib.Core.List.{List, [], ◌∷◌, ◌++◌}
 use native.Mathlib.Omega.{arith}
 use borrow.Author.Tests.{eqb-true, ltb-true}
-use Rattle.reads.specs.Outcome.{Outcome, value, absent, number, and_then}
+use Rattle.reads.specs.Outcome.{Outcome, value, absent, refused, and_then}
 use Rattle.reads.proofs.Tests.{by_choose}
 use Rattle.encodings.specs.Grammar.{closer, Encoding, object, bit_field, qualified, pointer, nothing, ◌then◌, Types, none, plain, framed, spell, spell_types, Each, digit_byte, name_byte, quoted_byte, Allowed, AllowedTypes, ends_in_bits, nesting, nesting_types, count, Reading}
 use Rattle.encodings.specs.Machine.{class_of, Open, qualifying, pointing, in_array, in_composite, wanted, counting, counted, naming, named, quoting, sizing, sized, at_sign, ended, offset, State, at, depth, begin, after, step, outermost, finish, run, parse}
@@ -107,7 +107,7 @@ step_keeps l (at ts (offset e d ds) os) g b c q =
 abbrev Reads : ℕ → List ℕ → Outcome Types → Type 0
 Reads l t (value ts) = (0 < count ts) × AllowedTypes ts × (nesting_types ts ≤ l) × (spell_types ts [] ≡ t)
 Reads l t (absent r) = Unit {0}
-Reads l t (number k) = Unit {0}
+Reads l t (refused k) = Unit {0}
 
 outermost_reads : (l : ℕ) (ts : Types) → AllowedTypes ts → nesting_types ts ≤ l → (os : List Open) → GoodOpen l os → (e : Encoding) → Allowed e
     → nesting e + depth os ≤ l → Reads l (spell_types ts (spell_open os (spell e []))) (outermost ts os e)
@@ -139,7 +139,7 @@ run_reads l (b ∷ s) x g = go (step l x b (class_of b)) (step_keeps l x g b (cl
         → Reads l (spell_state x (b ∷ s)) (and_then o (λ y. run l s y))
     go (value y) k f = subst (λ (t : List ℕ). Reads l t (run l s y)) (k.1 s) (f y k.0)
     go (absent r) k f = tt
-    go (number n) k f = tt
+    go (refused n) k f = tt
 
 -- The state before the first byte.
 pub first_good : (l : ℕ) → Good l (at none wanted [])

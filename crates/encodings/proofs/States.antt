@@ -4,7 +4,7 @@ use Prim.Native.Char.{code}
 use mathlib.Core.Path.{◌≡◌}
 use mathlib.Core.Bool.{false, true}
 use mathlib.Core.List.{List, [], ◌∷◌, ◌++◌}
-use Rattle.reads.specs.Outcome.{Outcome, value, absent, number}
+use Rattle.reads.specs.Outcome.{Outcome, value, absent, refused}
 use Rattle.encodings.specs.Grammar.{qualifiers, opener, spell, spell_fields, spell_types, among, digit_byte, name_byte, quoted_byte, Each, Allowed, AllowedFields, AllowedTypes, ends_in_bits, nesting, nesting_fields, nesting_types}
 use Rattle.encodings.specs.Machine.{Open, qualifying, pointing, in_array, in_composite, Doing, wanted, counting, counted, naming, named, quoting, sizing, sized, at_sign, ended, offset, State, at, depth}
 
@@ -61,4 +61,4 @@ Good l (at ts m os) = AllowedTypes ts × (nesting_types ts ≤ l) × GoodOpen l 
 abbrev pub Keeps : ℕ → (List ℕ → List ℕ) → Outcome State → Type 0
 Keeps l t (value y) = Good l y × ((s : List ℕ) → spell_state y s ≡ t s)
 Keeps l t (absent r) = Unit {0}
-Keeps l t (number k) = Unit {0}
+Keeps l t (refused k) = Unit {0}

@@ -7,7 +7,7 @@ use native.Mathlib.Omega.{arith}
 use borrow.Author.Tests.{ne_eqb}
 use lib.ListN.{length, drop, length-append, length-drop}
 use lib.Seq.{sets, sets-eq, take_at, drop-append-add, drop-drop}
-use Rattle.reads.specs.Outcome.{Outcome, value, absent, number}
+use Rattle.reads.specs.Outcome.{Outcome, value, absent, refused}
 use Rattle.reads.proofs.Tests.{by_choose, choose_true, choose_false}
 use Rattle.encodings.specs.Grammar.{Encoding, object, bit_field, qualified, pointer, nothing, ◌then◌, Types, none, plain, framed, spell, spell_types, count, size, words_of, filled}
 use Rattle.encodings.specs.Machine.{Open, qualifying, pointing, in_array, in_composite, wanted, counting, counted, naming, named, quoting, sizing, sized, at_sign, ended, offset, State, at, outside, begin, after, step, outermost, finish}
@@ -92,12 +92,12 @@ offset_at (at ts m os) = offset_in ts m
 abbrev Same : Types → Outcome State → Type 0
 Same ts (value x) = types_at x ≡ ts
 Same ts (absent r) = Unit {0}
-Same ts (number k) = Unit {0}
+Same ts (refused k) = Unit {0}
 
 abbrev pub Turns : Types → ℕ → ℕ → Outcome State → Type 0
 Turns ts o i (value x) = (types_at x ≡ ts) ⊎ Adds ts o i (types_at x)
 Turns ts o i (absent r) = Unit {0}
-Turns ts o i (number k) = Unit {0}
+Turns ts o i (refused k) = Unit {0}
 
 begin_same : (ts : Types) (os : List Open) (b : ℕ) (c : Class) → Same ts (begin 32 ts os b c)
 begin_same ts os b Basic = refl
@@ -113,7 +113,7 @@ begin_same ts os b Other = tt
 new_turns : (ts us : Types) (o i : ℕ) → Adds ts o i us → (x : Outcome State) → Same us x → Turns ts o i x
 new_turns ts us o i a (value x) s = inr (subst (λ (y : Types). Adds ts o i y) (sym s) a)
 new_turns ts us o i a (absent r) s = tt
-new_turns ts us o i a (number k) s = tt
+new_turns ts us o i a (refused k) s = tt
 
 begin_turns : (ts : Types) (o i : ℕ) (os : List Open) (b : ℕ) (c : Class) → Turns ts o i (begin 32 ts os b c)
 begin_turns ts o i os b c = go (begin 32 ts os b c) (begin_same ts os b c)
@@ -121,7 +121,7 @@ begin_turns ts o i os b c = go (begin 32 ts os b c) (begin_same ts os b c)
     go : (x : Outcome State) → Same ts x → Turns ts o i x
     go (value x) s = inl s
     go (absent r) s = tt
-    go (number k) s = tt
+    go (refused k) s = tt
 
 after_turns : (ts : Types) (os : List Open) (e : Encoding) (b : ℕ) (c : Class) (i : ℕ) → length (spell_types ts (spell_open os (spell e []))) ≡ i
     → Turns ts 0 i (after 32 ts os e b c)

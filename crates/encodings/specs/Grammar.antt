@@ -4,8 +4,9 @@
 use Rattle.std.specs.Prelude.{ℕ, suc, ◌+◌, ◌*◌, ◌≤◌, ◌<◌, max, ◌≡◌, Bool, true, false, not, ◌&&◌, ◌||◌, List, [], ◌∷◌, ◌++◌, eqb, leb, length, drop}
 use Prim.Native.Char.{code}
 use Rattle.pointers.specs.Symbol.{ascii}
-use Rattle.reads.specs.Outcome.{Outcome, value, absent, number}
+use Rattle.reads.specs.Outcome.{Outcome, value, absent, refused}
 use Rattle.reads.specs.declared.answer.Reason.TheVariants.{Malformed}
+use Rattle.reads.specs.declared.answer.Question.TheVariants.{ItemRoom, Depth}
 
 -- Types of one byte (table 6-1), with what Apple calls them. `@`, an object, is below.
 abbrev pub codes : List ℕ
@@ -225,6 +226,6 @@ pub data Says (text old : List ℕ) (o : Outcome ℕ) (new : List ℕ) : Type 0 
   says_types : (ts : Types) → Reading text ts → nesting_types ts ≤ 32 → 4 * count ts ≤ length old → o ≡ value (count ts)
       → new ≡ filled ts old → Says text old o new
   says_absent : ((ts : Types) → Reading text ts → ⊥) → (Deeper 32 text → ⊥) → o ≡ absent Malformed → new ≡ old → Says text old o new
-  says_deeper : Deeper 32 text → o ≡ number 17 → new ≡ old → Says text old o new
-  says_short : (ts : Types) → Reading text ts → nesting_types ts ≤ 32 → length old < 4 * count ts → o ≡ number 12 → new ≡ old
+  says_deeper : Deeper 32 text → o ≡ refused Depth → new ≡ old → Says text old o new
+  says_short : (ts : Types) → Reading text ts → nesting_types ts ≤ 32 → length old < 4 * count ts → o ≡ refused ItemRoom → new ≡ old
       → Says text old o new

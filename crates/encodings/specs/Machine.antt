@@ -2,11 +2,12 @@
 -- grammar.
 use Rattle.std.specs.Prelude.{ℕ, List, [], ◌∷◌, ◌++◌, length, eqb, ltb}
 use Prim.Native.Char.{code}
-use Rattle.reads.specs.Outcome.{Outcome, value, absent, number, and_then, choose}
+use Rattle.reads.specs.Outcome.{Outcome, value, absent, refused, and_then, choose}
 use Rattle.reads.specs.declared.answer.Reason.TheVariants.{Malformed}
 use Rattle.encodings.specs.Grammar.{codes, qualifiers, Composite, structure, union, closer, Encoding, basic, object, instance, bit_field, qualified, pointer, array, opaque, defined, Fields, nothing, ◌then◌, Types, none, plain, framed, among, digit_byte, name_byte, quoted_byte}
 use Rattle.encodings.specs.declared.bytes.Class.{Class}
 use Rattle.encodings.specs.declared.bytes.Class.TheVariants.{Basic, Qualifier, Object, BitField, Pointer, Array, Structure, Union, Other}
+use Rattle.reads.specs.declared.answer.Question.TheVariants.{Depth}
 
 -- What a byte begins, where a type may begin.
 unfoldable pub class_of : ℕ → Class
@@ -48,7 +49,7 @@ abbrev pub outside : {A : Type 0} → Outcome A
 outside = absent Malformed
 
 abbrev pub too_deep : {A : Type 0} → Outcome A
-too_deep = number 17
+too_deep = refused Depth
 
 -- The open levels, each as the byte that closes it, `^` for a pointer.
 abbrev pub levels : List Open → List ℕ

@@ -2,13 +2,13 @@
 ghost use Rattle.std.specs.Prelude.{◌≡◌, [], ◌+◌, ◌^◌, ◌<◌, get_or};
 ghost use Rattle.std.specs.Bool.{OnTrue, OnFalse};
 ghost use Rattle.reads.specs.Outcome.{value};
-ghost use Rattle.reads.specs.Answer.{word_outcome};
 ghost use Rattle.encodings.specs.Grammar.{digit_byte};
 ghost use Rattle.encodings.specs.Machine.{outside, class_of};
 ghost use Rattle.encodings.specs.Parser.{closers, levels_of, kept, kept_in, step_outcome, opened, begun, below_pointers, closes, below, inside, followed, step_as, end_of, finish_as};
+ghost use Rattle.reads.specs.Answer.{outcome};
 
 use crate::bytes::{Class, class_of, in_name, in_quotes, is_digit};
-use reads::answer::{Missing, Reason, Word};
+use reads::answer::{Missing, Question, Reason};
 
 // What was read last, and so what may come. Data and no closure: it is kept from byte to byte, and the end of the text asks it too.
 #[derive(Clone, Copy)]
@@ -95,7 +95,7 @@ fn open(p: Parser, kind: u64, mode: Mode) -> Next
     ensures { step_outcome result ≡ opened (get_or closers kind 0) mode (levels_of p) p.types p.start p.offset }
 {
     if p.depth >= 32 {
-        return Next::Missing(Missing::Refused(17));
+        return Next::Missing(Missing::Refused(Question::Depth));
     }
     let q = Parser {
         depth: p.depth + 1,
@@ -303,33 +303,33 @@ pub fn step(mode: Mode, p: Parser, byte: u8, at: usize) -> Next
 }
 
 // The text ends outside the grammar.
-fn malformed() -> Word
-    ensures { word_outcome result ≡ outside }
+fn malformed() -> Result<u64, Missing>
+    ensures { outcome result ≡ outside }
 {
-    Word::Missing(Missing::Absent(Reason::Malformed))
+    Err(Missing::Absent(Reason::Malformed))
 }
 
 // The text ends after a type: at the outermost level, or outside the grammar.
-fn end(p: Parser) -> Word
+fn end(p: Parser) -> Result<u64, Missing>
     requires { p.types < 2 ^ 63 }
-    ensures { word_outcome result ≡ end_of (below_pointers (levels_of p)) p.types }
+    ensures { outcome result ≡ end_of (below_pointers (levels_of p)) p.types }
 {
     let q = below_pointers(p);
     if q.depth == 0 {
-        return Word::Value((q.types + 1) as u64);
+        return Ok((q.types + 1) as u64);
     }
     malformed()
 }
 
 // How many types there are where the text ends.
-pub fn finish(mode: Mode, p: Parser) -> Word
+pub fn finish(mode: Mode, p: Parser) -> Result<u64, Missing>
     requires { p.types < 2 ^ 63 }
-    ensures { word_outcome result ≡ finish_as mode p }
+    ensures { outcome result ≡ finish_as mode p }
 {
     match mode {
         Mode::Wanted | Mode::Counting | Mode::Counted | Mode::Naming => malformed(),
         Mode::Named | Mode::Quoting | Mode::Sizing => malformed(),
         Mode::Sized | Mode::AtSign | Mode::Ended => end(p),
-        Mode::Offset => Word::Value((p.types + 1) as u64),
+        Mode::Offset => Ok((p.types + 1) as u64),
     }
 }

@@ -1,11 +1,11 @@
 // A text read to its end, and the words of its outermost types.
 ghost use Rattle.std.specs.Prelude.{◌≡◌};
 ghost use Rattle.reads.specs.Reference.{before};
-ghost use Rattle.reads.specs.Answer.{word_outcome};
 ghost use Rattle.encodings.specs.Parser.{type_end, Ordered, RowPut, Turned, Read};
+ghost use Rattle.reads.specs.Answer.{outcome};
 
 use crate::parser::{Mode, Next, Parser, finish, first, step};
-use reads::answer::Word;
+use reads::answer::Missing;
 
 // Where a type ends: at its frame offset, or where both end.
 fn type_end(offset: usize, end: usize) -> usize
@@ -48,8 +48,8 @@ fn put_before(p: Parser, next: Parser, at: usize, buffer: &mut [u64])
 }
 
 // How many outermost types a text has; the words of those that fit are put into the buffer. It stops at the byte that decides.
-pub fn read_types(text: &[u8], buffer: &mut [u64]) -> Word
-    ensures { Read (before text) buffer.old (word_outcome result) buffer.new }
+pub fn read_types(text: &[u8], buffer: &mut [u64]) -> Result<u64, Missing>
+    ensures { Read (before text) buffer.old (outcome result) buffer.new }
 {
     let mut mode = Mode::Wanted;
     let mut p = first();
@@ -61,15 +61,15 @@ pub fn read_types(text: &[u8], buffer: &mut [u64]) -> Word
                 p = next;
             }
             Next::Missing(m) => {
-                return Word::Missing(m);
+                return Err(m);
             }
         }
     }
     match finish(mode, p) {
-        Word::Value(count) => {
+        Ok(count) => {
             put_row(p, text.len(), buffer);
-            Word::Value(count)
+            Ok(count)
         }
-        Word::Missing(m) => Word::Missing(m),
+        Err(m) => Err(m),
     }
 }

@@ -8,7 +8,7 @@ use native.Mathlib.Numerals.{add-one}
 use lib.Dec.{ltb, eqb}
 use lib.Seq.{sets}
 use borrow.Author.Tests.{eq-eqb, ne_eqb, lt-ltb, le-ltb}
-use Rattle.reads.specs.Outcome.{value, number, choose}
+use Rattle.reads.specs.Outcome.{value, refused, choose}
 use Rattle.reads.proofs.Tests.{choose_true, choose_false}
 use Rattle.pointers.specs.Tables.{Tables}
 use Rattle.pointers.specs.Question.{asked}
@@ -22,6 +22,8 @@ use Rattle.face.specs.declared.rows.Listed.{Listed}
 use Rattle.face.specs.declared.rows.Listed.TheVariants.{Rows, Names, Nothing}
 use Rattle.face.specs.declared.rows.RowWalk.{RowWalk}
 use Rattle.face.specs.declared.rows.RowTurn.{RowTurn}
+use Rattle.reads.specs.declared.answer.Question.{Question}
+use Rattle.reads.specs.declared.answer.Question.TheVariants.{WalkState}
 
 pub lists_nothing : {n : ℕ} → (n ≡ 0 → ⊥) → (n ≡ 1 → ⊥) → (n ≡ 2 → ⊥) → (n ≡ 3 → ⊥) → Nothing ≡ listed n
 unfolding listed
@@ -30,7 +32,7 @@ lists_nothing a b c d = rw (choose_false _ _ (ne_eqb _ _ a), choose_false _ _ (n
 -- A step, by what is listed.
 module _ (t : Tables) (w : RowWalk) where
   module _ (k : ListKind) (e : listed w.kind ≡ Rows k) where
-    pub turn_past : 2 ^ 32 ≤ w.cursor → refused_turn w 10 ≡ turn_over t w
+    pub turn_past : 2 ^ 32 ≤ w.cursor → refused_turn w WalkState ≡ turn_over t w
     unfolding turn_over
     turn_past h = rw (e, choose_false _ _ (le-ltb _ _ h))
 
@@ -42,14 +44,14 @@ module _ (t : Tables) (w : RowWalk) where
   unfolding turn_over
   turn_names e = rw e
 
-  pub turn_nothing : listed w.kind ≡ Nothing → refused_turn w 10 ≡ turn_over t w
+  pub turn_nothing : listed w.kind ≡ Nothing → refused_turn w WalkState ≡ turn_over t w
   unfolding turn_over
   turn_nothing e = rw e
 
 -- Where the questions say yes, a step that asks them is one that does not.
 module _ (t : Tables) (e : asked t ≡ value tt) (w : RowWalk) where
-  asked_by : (l : Listed) → turn_by (list_over t) (names_over t) (refused_turn w 10) w l
-      ≡ turn_by (next_of t) (next_name t) (unless_refused (asked t) (refused_turn w) (refused_turn w 10)) w l
+  asked_by : (l : Listed) → turn_by (list_over t) (names_over t) (refused_turn w WalkState) w l
+      ≡ turn_by (next_of t) (next_name t) (unless_refused (asked t) (refused_turn w) (refused_turn w WalkState)) w l
   unfolding next_under next_name_under
   asked_by (Rows k) = rw e
   asked_by Names = rw e
@@ -60,13 +62,13 @@ module _ (t : Tables) (e : asked t ≡ value tt) (w : RowWalk) where
   asked_turn = asked_by (listed w.kind)
 
 -- Where one says no, so does the step.
-module _ (t : Tables) {j : ℕ} (e : asked t ≡ number j) (w : RowWalk) where
+module _ (t : Tables) {j : Question} (e : asked t ≡ refused j) (w : RowWalk) where
   either : (b : Bool) → refused_turn w j ≡ choose b (refused_turn w j) (refused_turn w j)
   unfolding choose
   either true = refl
   either false = refl
 
-  refused_by : (l : Listed) → refused_turn w j ≡ turn_by (next_of t) (next_name t) (unless_refused (asked t) (refused_turn w) (refused_turn w 10)) w l
+  refused_by : (l : Listed) → refused_turn w j ≡ turn_by (next_of t) (next_name t) (unless_refused (asked t) (refused_turn w) (refused_turn w WalkState)) w l
   unfolding next_under next_name_under
   refused_by (Rows k) = rw e (either (ltb w.cursor (2 ^ 32)))
   refused_by Names = rw e
@@ -91,6 +93,9 @@ module _ (turn : RowWalk → RowTurn) where
     pub gather_none : {k : ℕ} → k ≡ 0 → filled says_more n w table ≡ gather turn k w n table
     unfolding gather
     gather_none e = rw e
+
+    pub gather_all : {room : ℕ} → n ≡ room → filled says_more room w table ≡ gather turn (room - n) w n table
+    gather_all e = rw (← e) (gather_none (omega arith))
 
     module _ (x : RowTurn) (e : x ≡ turn w) where
       pub gather_first : (k : ℕ) → (k ≡ 0 → ⊥) → (x.said.status.kind ≡ 0 → ⊥) → filled x.said.status n x.walk table ≡ gather turn k w n table

@@ -1,18 +1,12 @@
 -- A row as the 15 words of the C face (include/objclist.h, objclist_row): what it is; code and offset of a reason; two texts; a number that may be
 -- none (0 0); form or size; an alignment that may be none; and whether the offset has it.
-use Rattle.std.specs.Prelude.{ℕ, List, [], ◌∷◌, replicate}
-use Rattle.reads.specs.Outcome.{Outcome, value, absent, number, text_of}
+use Rattle.std.specs.Prelude.{ℕ, List, [], ◌∷◌, replicate, Option, Some, None}
+use Rattle.reads.specs.Outcome.{Outcome, value, absent, refused, text_of}
 use Rattle.reads.specs.declared.answer.Reason.{Reason}
 use Rattle.reads.specs.declared.text.Text.{Text}
 use Rattle.records.specs.declared.ivar.Aligned.{Aligned}
 use Rattle.records.specs.declared.ivar.Aligned.TheVariants as aligned
-use Rattle.records.specs.declared.ivar.Alignment.{Alignment}
-use Rattle.records.specs.declared.ivar.Alignment.TheVariants as alignment
 use Rattle.records.specs.declared.ivar.Ivar.{Ivar}
-use Rattle.records.specs.declared.ivar.IvarOffset.{IvarOffset}
-use Rattle.records.specs.declared.ivar.IvarOffset.TheVariants as offset
-use Rattle.records.specs.declared.method.Imp.{Imp}
-use Rattle.records.specs.declared.method.Imp.TheVariants as imp
 use Rattle.records.specs.declared.method.Method.{Method}
 use Rattle.records.specs.declared.method.MethodKind.{MethodKind}
 use Rattle.records.specs.declared.method.MethodKind.TheVariants as kind
@@ -34,17 +28,17 @@ row_size = 15
 abbrev pub number_of : ℕ → ℕ → Number
 number_of here n = record { here = here; n = n }
 
-abbrev pub imp_number : Imp → Number
-imp_number (imp.At a) = number_of 1 a
-imp_number imp.Nothing = number_of 0 0
+abbrev pub imp_number : Option ℕ → Number
+imp_number (Some a) = number_of 1 a
+imp_number None = number_of 0 0
 
-abbrev pub offset_number : IvarOffset → Number
-offset_number (offset.At n) = number_of 1 n
-offset_number offset.Nothing = number_of 0 0
+abbrev pub offset_number : Option ℕ → Number
+offset_number (Some n) = number_of 1 n
+offset_number None = number_of 0 0
 
-abbrev pub alignment_number : Alignment → Number
-alignment_number (alignment.Log2 n) = number_of 1 n
-alignment_number alignment.Nothing = number_of 0 0
+abbrev pub alignment_number : Option ℕ → Number
+alignment_number (Some n) = number_of 1 n
+alignment_number None = number_of 0 0
 
 abbrev pub aligned_code : Aligned → ℕ
 aligned_code aligned.No = 0
@@ -99,11 +93,11 @@ list_row (value (row_reached r)) = said_row (row_words r)
 list_row (value (row_skipped j why)) = said_row (skipped_words why (number_of 1 j))
 list_row (value rows_finished) = said_none says_finished
 list_row (absent why) = said_none (says_absent why)
-list_row (number k) = said_none (says_refused k)
+list_row (refused k) = said_none (says_refused k)
 
 abbrev pub name_row : Outcome ReachedName → RowSaid
 name_row (value (name_reached name)) = said_row (name_words name)
 name_row (value (name_passed why)) = said_row (skipped_words why (number_of 0 0))
 name_row (value names_finished) = said_none says_finished
 name_row (absent why) = said_none (says_absent why)
-name_row (number k) = said_none (says_refused k)
+name_row (refused k) = said_none (says_refused k)

@@ -21,6 +21,8 @@ use Rattle.face.specs.declared.rows.Listed.TheVariants.{Rows, Names, Nothing}
 use Rattle.face.specs.declared.rows.RowWalk.{RowWalk}
 use Rattle.face.specs.declared.rows.RowTurn.{RowTurn}
 use Rattle.face.specs.declared.rows.RowsTold.{RowsTold}
+use Rattle.reads.specs.declared.answer.Question.{Question}
+use Rattle.reads.specs.declared.answer.Question.TheVariants.{WalkState}
 
 -- What a list lists, by the kind of its walk.
 unfoldable pub listed : ℕ → Listed
@@ -33,7 +35,7 @@ abbrev pub moved_to : RowWalk → ℕ → RowWalk
 moved_to w cursor = record { list = w.list; kind = w.kind; cursor = cursor; old_reading = w.old_reading }
 
 -- A refused step hands the walk back as given.
-abbrev pub refused_turn : RowWalk → ℕ → RowTurn
+abbrev pub refused_turn : RowWalk → Question → RowTurn
 refused_turn w k = record { said = said_none (says_refused k); walk = w }
 
 -- A step of the library's walk that the words say, and its answer in words.
@@ -56,7 +58,7 @@ turn_by rows names none w Nothing = none
 -- The step: what is no state is 10, after the questions 1 to 6 and 8.
 unfoldable pub row_turn : Tables → RowWalk → RowTurn
 row_turn t w =
-    turn_by (next_of t) (next_name t) (unless_refused (asked t) (refused_turn w) (refused_turn w 10)) w (listed w.kind)
+    turn_by (next_of t) (next_name t) (unless_refused (asked t) (refused_turn w) (refused_turn w WalkState)) w (listed w.kind)
 
 -- The same over tables of which these questions have been asked.
 abbrev pub list_over : Tables → ListWalk → RowLeft
@@ -66,7 +68,7 @@ abbrev pub names_over : Tables → ProtocolNameWalk → NameLeft
 names_over t w = over_names (under w.setting t) w (protocol_list_at (under w.setting t) w.list)
 
 unfoldable pub turn_over : Tables → RowWalk → RowTurn
-turn_over t w = turn_by (list_over t) (names_over t) (refused_turn w 10) w (listed w.kind)
+turn_over t w = turn_by (list_over t) (names_over t) (refused_turn w WalkState) w (listed w.kind)
 
 -- What a call leaves: what ended it, how many rows it gave and the walk after them; and the lent table.
 pub record Filled : Type 0 where

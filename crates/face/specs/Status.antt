@@ -1,12 +1,14 @@
 -- What an answer of the C face says first (include/objclist.h): its kind, with the code of a reason or the number of a question.
 use Rattle.std.specs.Prelude.{ℕ}
-use Rattle.reads.specs.Outcome.{Outcome, value, absent, number}
+use Rattle.reads.specs.Outcome.{Outcome, value, absent, refused}
 use Rattle.reads.specs.declared.answer.Missing.{Missing}
 use Rattle.reads.specs.declared.answer.Missing.TheVariants.{Absent, Refused}
 use Rattle.reads.specs.declared.answer.Reason.{Reason}
 use Rattle.reads.specs.declared.answer.Reason.TheVariants.{NullAddress, Unmapped, PastEnd, Unterminated, NotUtf8, NoData, Unresolved, Unreadable, FieldOverflow, NoRecord, OddList, ShortEntry, Malformed}
 use Rattle.walks.specs.Sections.{Step, found, passed, dropped, finished}
 use Rattle.face.specs.declared.status.Status.{Status}
+use Rattle.reads.specs.Question.{number_of}
+use Rattle.reads.specs.declared.answer.Question.{Question}
 
 abbrev pub status : ℕ → ℕ → ℕ → Status
 status kind code at = record { kind = kind; code = code; at = at }
@@ -21,8 +23,8 @@ says_dropped = status 4 0 0
 abbrev pub says_finished : Status
 says_finished = status 5 0 0
 
-abbrev pub says_refused : ℕ → Status
-says_refused k = status 1 k 0
+abbrev pub says_refused : Question → Status
+says_refused k = status 1 (number_of k) 0
 
 abbrev pub says_more : Status
 says_more = status 6 0 0
@@ -51,7 +53,7 @@ says_missing (Refused k) = says_refused k
 abbrev pub given : {A : Type 0} → Outcome A → Outcome (Step A)
 given (value a) = value (found a)
 given (absent r) = value (passed r)
-given (number k) = number k
+given (refused k) = refused k
 
 -- What an answer says first, and the words of what it found: `none` where it found nothing.
 abbrev pub says : {A : Type 0} → Outcome (Step A) → Status
@@ -60,7 +62,7 @@ says (value (passed r)) = says_absent r
 says (value dropped) = says_dropped
 says (value finished) = says_finished
 says (absent r) = says_absent r
-says (number k) = says_refused k
+says (refused k) = says_refused k
 
 abbrev pub words_or : {A W : Type 0} → W → (A → W) → Outcome (Step A) → W
 words_or none words (value (found a)) = words a
@@ -68,4 +70,4 @@ words_or none words (value (passed r)) = none
 words_or none words (value dropped) = none
 words_or none words (value finished) = none
 words_or none words (absent r) = none
-words_or none words (number k) = none
+words_or none words (refused k) = none

@@ -1,22 +1,23 @@
 // A record decoded at an address, or a name, as words.
 ghost use Rattle.std.specs.Prelude.{◌≡◌};
-ghost use Rattle.reads.specs.Answer.{text_outcome};
 ghost use Rattle.pointers.specs.Question.{guarded};
 ghost use Rattle.pointers.specs.Tables.{lent, under};
-ghost use Rattle.records.specs.Category.{category_outcome, category_at, category_class_name};
-ghost use Rattle.records.specs.Class.{class_outcome, class_ro_outcome, class_at, ro_of, class_name_at, superclass_name};
-ghost use Rattle.records.specs.Protocol.{protocol_outcome, protocol_at};
+ghost use Rattle.records.specs.Category.{category_at, category_class_name};
+ghost use Rattle.records.specs.Class.{class_at, ro_of, class_name_at, superclass_name};
+ghost use Rattle.records.specs.Protocol.{protocol_at};
 ghost use Rattle.face.specs.Status.{given};
 ghost use Rattle.face.specs.Words.{is_set, setting_in, no_text, no_class, class_in, no_ro, no_protocol, no_category, category_in};
 ghost use Rattle.face.specs.Decoding.{class_told, ro_told, protocol_told, category_told, name_told};
+ghost use Rattle.reads.specs.Answer.{outcome};
 
 use crate::status::Status;
 use crate::words::{CategoryWords, ClassWords, ProtocolWords, RoWords, TextWords, setting_in};
-use reads::text::TextAnswer;
+use reads::answer::Missing;
+use reads::text::Text;
 use records::calls::{decode_category, decode_class, decode_class_name, decode_protocol};
-use records::category::{CategoryAnswer, ObjcCategory};
-use records::class::{ClassAnswer, ClassRoAnswer, ObjcClass};
-use records::protocol::ProtocolAnswer;
+use records::category::ObjcCategory;
+use records::class::{ClassRo, ObjcClass};
+use records::protocol::ObjcProtocol;
 
 // Five structs and not a generic one: a function for C takes and gives none.
 #[repr(C)]
@@ -66,16 +67,16 @@ impl ClassTold {
     }
 }
 
-impl From<ClassAnswer> for ClassTold {
-    ghost from_gives = { λ x w. w ≡ class_told (given (class_outcome x)) };
+impl From<Result<ObjcClass, Missing>> for ClassTold {
+    ghost from_gives = { λ x w. w ≡ class_told (given (outcome x)) };
 
-    fn from(answer: ClassAnswer) -> ClassTold {
+    fn from(answer: Result<ObjcClass, Missing>) -> ClassTold {
         match answer {
-            ClassAnswer::Class(x) => ClassTold {
+            Ok(x) => ClassTold {
                 status: Status::found(),
                 cls: ClassWords::from(x),
             },
-            ClassAnswer::Missing(m) => ClassTold::none(Status::from(m)),
+            Err(m) => ClassTold::none(Status::from(m)),
         }
     }
 }
@@ -92,16 +93,16 @@ impl RoTold {
     }
 }
 
-impl From<ClassRoAnswer> for RoTold {
-    ghost from_gives = { λ x w. w ≡ ro_told (given (class_ro_outcome x)) };
+impl From<Result<ClassRo, Missing>> for RoTold {
+    ghost from_gives = { λ x w. w ≡ ro_told (given (outcome x)) };
 
-    fn from(answer: ClassRoAnswer) -> RoTold {
+    fn from(answer: Result<ClassRo, Missing>) -> RoTold {
         match answer {
-            ClassRoAnswer::Ro(x) => RoTold {
+            Ok(x) => RoTold {
                 status: Status::found(),
                 ro: RoWords::from(x),
             },
-            ClassRoAnswer::Missing(m) => RoTold::none(Status::from(m)),
+            Err(m) => RoTold::none(Status::from(m)),
         }
     }
 }
@@ -118,16 +119,16 @@ impl ProtocolTold {
     }
 }
 
-impl From<ProtocolAnswer> for ProtocolTold {
-    ghost from_gives = { λ x w. w ≡ protocol_told (given (protocol_outcome x)) };
+impl From<Result<ObjcProtocol, Missing>> for ProtocolTold {
+    ghost from_gives = { λ x w. w ≡ protocol_told (given (outcome x)) };
 
-    fn from(answer: ProtocolAnswer) -> ProtocolTold {
+    fn from(answer: Result<ObjcProtocol, Missing>) -> ProtocolTold {
         match answer {
-            ProtocolAnswer::Protocol(x) => ProtocolTold {
+            Ok(x) => ProtocolTold {
                 status: Status::found(),
                 protocol: ProtocolWords::from(x),
             },
-            ProtocolAnswer::Missing(m) => ProtocolTold::none(Status::from(m)),
+            Err(m) => ProtocolTold::none(Status::from(m)),
         }
     }
 }
@@ -144,16 +145,16 @@ impl CategoryTold {
     }
 }
 
-impl From<CategoryAnswer> for CategoryTold {
-    ghost from_gives = { λ x w. w ≡ category_told (given (category_outcome x)) };
+impl From<Result<ObjcCategory, Missing>> for CategoryTold {
+    ghost from_gives = { λ x w. w ≡ category_told (given (outcome x)) };
 
-    fn from(answer: CategoryAnswer) -> CategoryTold {
+    fn from(answer: Result<ObjcCategory, Missing>) -> CategoryTold {
         match answer {
-            CategoryAnswer::Category(x) => CategoryTold {
+            Ok(x) => CategoryTold {
                 status: Status::found(),
                 category: CategoryWords::from(x),
             },
-            CategoryAnswer::Missing(m) => CategoryTold::none(Status::from(m)),
+            Err(m) => CategoryTold::none(Status::from(m)),
         }
     }
 }
@@ -170,16 +171,16 @@ impl NameTold {
     }
 }
 
-impl From<TextAnswer> for NameTold {
-    ghost from_gives = { λ x w. w ≡ name_told (given (text_outcome x)) };
+impl From<Result<Text, Missing>> for NameTold {
+    ghost from_gives = { λ x w. w ≡ name_told (given (outcome x)) };
 
-    fn from(answer: TextAnswer) -> NameTold {
+    fn from(answer: Result<Text, Missing>) -> NameTold {
         match answer {
-            TextAnswer::Found(x) => NameTold {
+            Ok(x) => NameTold {
                 status: Status::found(),
                 name: TextWords::from(x),
             },
-            TextAnswer::Missing(m) => NameTold::none(Status::from(m)),
+            Err(m) => NameTold::none(Status::from(m)),
         }
     }
 }

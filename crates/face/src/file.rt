@@ -5,22 +5,22 @@ ghost use Rattle.reads.specs.declared.text.Reading.TheVariants.{New};
 ghost use Rattle.universal.specs.Architecture.{arch_of};
 ghost use Rattle.universal.specs.Parts.{part_wanted, part_at};
 ghost use Rattle.universal.specs.declared.arch.Wanted.TheVariants as wanted;
-ghost use Rattle.fixups.specs.Fixups.{settled};
-ghost use Rattle.filetables.specs.FileRecords.{file_records, tables_outcome};
+ghost use Rattle.fixups.specs.Fixups.{built_outcome, settled};
+ghost use Rattle.filetables.specs.FileRecords.{file_records};
 ghost use Rattle.printing.specs.Pieces.{begun};
 ghost use Rattle.filelist.specs.FileText.{file_setting, framed_file};
 ghost use Rattle.filelist.specs.FileLent.{index_used, segments_after, sections_after, index_after};
 ghost use Rattle.filewrite.specs.Written.{Written, tables_read};
 ghost use Rattle.face.specs.File.{part_words, tables_words, sizes_of, ranges_of};
 
-use filetables::build::{FileTables, file_tables};
+use filetables::build::file_tables;
 use filewrite::write::{Wrote, write_file};
 use frames::frames::Ranges;
 use macho::open::SEGMENT_TABLE_WORDS;
 use pointers::index::HEADS;
 use pointers::section::ObjcSection;
 use pointers::table::{Bind, Rebase};
-use reads::answer::Missing;
+use reads::answer::Question;
 use universal::arch::{Arch, Wanted};
 use universal::part::{PartAnswer, find_part, part_at};
 
@@ -83,7 +83,7 @@ impl From<PartAnswer> for FilePart {
             },
             PartAnswer::Refused(k) => FilePart {
                 status: 1,
-                number: k as u64,
+                number: k.number() as u64,
                 ..FilePart::default()
             },
         }
@@ -133,27 +133,21 @@ pub extern "C" fn objclist_sizes(n: u64) -> Sizes
     }
 }
 
-impl From<FileTables> for Counts {
-    ghost from_gives = { λ x w. w ≡ tables_words (tables_outcome x) };
+impl From<Result<(u64, u64), Question>> for Counts {
+    ghost from_gives = { λ x w. w ≡ tables_words (built_outcome x) };
 
-    fn from(answer: FileTables) -> Counts {
+    fn from(answer: Result<(u64, u64), Question>) -> Counts {
         match answer {
-            FileTables::Tables(rebases, binds) => Counts {
+            Ok((rebases, binds)) => Counts {
                 status: 0,
                 number: 0,
                 rebases,
                 binds,
             },
-            FileTables::Missing(m) => match m {
-                Missing::Absent(_) => Counts {
-                    status: 2,
-                    ..Counts::default()
-                },
-                Missing::Refused(k) => Counts {
-                    status: 1,
-                    number: k as u64,
-                    ..Counts::default()
-                },
+            Err(k) => Counts {
+                status: 1,
+                number: k.number() as u64,
+                ..Counts::default()
             },
         }
     }

@@ -2,17 +2,18 @@
 ghost use Rattle.std.specs.Prelude.{◌≡◌};
 ghost use Rattle.reads.specs.Files.{files_of};
 ghost use Rattle.reads.specs.Reference.{before};
-ghost use Rattle.pointers.specs.ImageInfo.{info_outcome};
 ghost use Rattle.pointers.specs.Open.{opening, opened_index};
 ghost use Rattle.pointers.specs.Tables.{tables_of};
 ghost use Rattle.face.specs.Status.{given};
-ghost use Rattle.macho.specs.OpenFile.{file_outcome, opening_file, segments_left, sections_left, index_left};
+ghost use Rattle.macho.specs.OpenFile.{opening_file, segments_left, sections_left, index_left};
 ghost use Rattle.face.specs.Opening.{opened_words, file_words, file_told};
+ghost use Rattle.reads.specs.Answer.{outcome};
 
 use crate::status::Status;
-use macho::open::{FileAnswer, OpenedFile, open_file};
-use pointers::imageinfo::ImageInfoAnswer;
+use macho::open::{OpenedFile, open_file};
+use pointers::imageinfo::ImageInfo;
 use pointers::open::open;
+use reads::answer::Missing;
 
 // The image info: version and flags.
 #[repr(C)]
@@ -56,16 +57,16 @@ impl From<OpenedFile> for FileWords {
     }
 }
 
-impl From<FileAnswer> for FileTold {
-    ghost from_gives = { λ x w. w ≡ file_told (given (file_outcome x)) };
+impl From<Result<OpenedFile, Missing>> for FileTold {
+    ghost from_gives = { λ x w. w ≡ file_told (given (outcome x)) };
 
-    fn from(answer: FileAnswer) -> FileTold {
+    fn from(answer: Result<OpenedFile, Missing>) -> FileTold {
         match answer {
-            FileAnswer::File(opened) => FileTold {
+            Ok(opened) => FileTold {
                 status: Status::found(),
                 file: FileWords::from(opened),
             },
-            FileAnswer::Missing(m) => FileTold {
+            Err(m) => FileTold {
                 status: Status::from(m),
                 file: FileWords::default(),
             },
@@ -73,17 +74,17 @@ impl From<FileAnswer> for FileTold {
     }
 }
 
-impl From<ImageInfoAnswer> for InfoTold {
-    ghost from_gives = { λ x w. w ≡ opened_words (given (info_outcome x)) };
+impl From<Result<ImageInfo, Missing>> for InfoTold {
+    ghost from_gives = { λ x w. w ≡ opened_words (given (outcome x)) };
 
-    fn from(answer: ImageInfoAnswer) -> InfoTold {
+    fn from(answer: Result<ImageInfo, Missing>) -> InfoTold {
         match answer {
-            ImageInfoAnswer::Info(info) => InfoTold {
+            Ok(info) => InfoTold {
                 status: Status::found(),
                 version: info.version as u64,
                 flags: info.flags as u64,
             },
-            ImageInfoAnswer::Missing(m) => InfoTold {
+            Err(m) => InfoTold {
                 status: Status::from(m),
                 version: 0,
                 flags: 0,

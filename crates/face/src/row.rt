@@ -7,8 +7,8 @@ ghost use Rattle.face.specs.Row.{number_of, imp_number, offset_number, alignment
 use crate::status::Status;
 use reads::answer::Reason;
 use reads::text::Text;
-use records::ivar::{Aligned, Alignment, Ivar, IvarOffset};
-use records::method::{Imp, Method};
+use records::ivar::{Aligned, Ivar};
+use records::method::Method;
 use records::property::Property;
 use records::row::Row;
 use walks::list_walk::{ListStep, ListWalked};
@@ -55,35 +55,35 @@ impl Number {
     }
 }
 
-impl From<Imp> for Number {
+impl From<Option<u64>> for Number {
     ghost from_gives = { λ x n. n ≡ imp_number x };
 
-    fn from(imp: Imp) -> Number {
+    fn from(imp: Option<u64>) -> Number {
         match imp {
-            Imp::At(n) => Number::at(n),
-            Imp::Nothing => Number::none(),
+            Some(n) => Number::at(n),
+            None => Number::none(),
         }
     }
 }
 
-impl From<IvarOffset> for Number {
+impl From<Option<u32>> for Number {
     ghost from_gives = { λ x n. n ≡ offset_number x };
 
-    fn from(offset: IvarOffset) -> Number {
+    fn from(offset: Option<u32>) -> Number {
         match offset {
-            IvarOffset::At(n) => Number::at(n as u64),
-            IvarOffset::Nothing => Number::none(),
+            Some(n) => Number::at(n as u64),
+            None => Number::none(),
         }
     }
 }
 
-impl From<Alignment> for Number {
+impl From<Option<u8>> for Number {
     ghost from_gives = { λ x n. n ≡ alignment_number x };
 
-    fn from(alignment: Alignment) -> Number {
+    fn from(alignment: Option<u8>) -> Number {
         match alignment {
-            Alignment::Log2(n) => Number::at(n as u64),
-            Alignment::Nothing => Number::none(),
+            Some(n) => Number::at(n as u64),
+            None => Number::none(),
         }
     }
 }

@@ -8,7 +8,8 @@ ghost use Rattle.face.specs.Rows.{listed, refused_turn, moved_to, list_turn, nam
 use crate::row::{ROW_WORDS, RowSaid, list_said, names_said};
 use crate::status::Status;
 use crate::words::setting_in;
-use pointers::question::{Asked, ask};
+use pointers::question::ask;
+use reads::answer::Question;
 use records::list::ListKind;
 use walks::list_walk::ListWalk;
 use walks::protocol_names::ProtocolNameWalk;
@@ -72,7 +73,7 @@ impl RowWalk {
     }
 
     // The walk as given, with a number.
-    fn refused(self, k: u8) -> RowTurn
+    fn refused(self, k: Question) -> RowTurn
         ensures { result ≡ refused_turn self k }
     {
         let said = RowSaid::none(Status::refused(k));
@@ -154,12 +155,12 @@ impl RowWalk {
         match listed {
             Listed::Rows(kind) => {
                 if 0x1_0000_0000 <= self.cursor {
-                    return self.refused(10);
+                    return self.refused(Question::WalkState);
                 }
                 self.list_turn(files, segments, sections, info, rebases, binds, index, kind)
             }
             Listed::Names => self.name_turn(files, segments, sections, info, rebases, binds, index),
-            Listed::Nothing => self.refused(10),
+            Listed::Nothing => self.refused(Question::WalkState),
         }
     }
 }
@@ -243,10 +244,10 @@ pub extern "C" fn objclist_rows(
 {
     let room = table.len() / ROW_WORDS;
     match ask(files, segments, sections, info, rebases, binds, index) {
-        Asked::Yes => gather_rows(
+        Ok(()) => gather_rows(
             files, segments, sections, info, rebases, binds, index, walk, room, table,
         ),
-        Asked::Refused(k) => {
+        Err(k) => {
             if room == 0 {
                 return RowsTold::none(Status::of(Status::MORE), walk);
             }

@@ -207,16 +207,7 @@ pub extern "C" fn objclist_next_protocol(
         slots: ProtocolSlots { slot: walk.slot },
         setting,
     };
-    let stepped = at.next(
-        files,
-        segments,
-        sections,
-        info,
-        rebases,
-        binds,
-        index,
-        &mut [],
-    );
+    let stepped = at.next_protocol(files, segments, sections, info, rebases, binds, index);
     let step = stepped.step;
     let next = stepped.walk;
     ProtocolWalked {

@@ -2,7 +2,7 @@
 ghost use Rattle.std.specs.Prelude.{◌≡◌};
 ghost use Rattle.face.specs.Status.{status, says_found, says_absent, says_refused, says_missing};
 
-use reads::answer::{Missing, Reason};
+use reads::answer::{Missing, Question, Reason};
 
 // The kind; the code of a reason or the number of a question; and of a text that is not UTF-8 the offset in it.
 #[repr(C)]
@@ -53,12 +53,12 @@ impl Status {
         }
     }
 
-    pub(crate) fn refused(k: u8) -> Status
+    pub(crate) fn refused(k: Question) -> Status
         ensures { result ≡ says_refused k }
     {
         Status {
             kind: Status::REFUSED,
-            code: k as u64,
+            code: k.number() as u64,
             at: 0,
         }
     }

@@ -9,8 +9,8 @@ use lib.Dec.{leb, eqb}
 use lib.ListN.{length, take, drop, drop_of_length-le}
 use lib.Seq.{drop-length}
 use borrow.Author.Tests.{leb-true, leb-false, ne_eqb}
-use Rattle.reads.specs.Answer.{missed}
-use Rattle.reads.specs.Outcome.{Outcome, value, absent, number, and_then, choose}
+use Rattle.reads.specs.Answer.{missed, outcome}
+use Rattle.reads.specs.Outcome.{Outcome, value, absent, refused, and_then, choose}
 use Rattle.reads.specs.Place.{part}
 use Rattle.reads.proofs.Tests.{by_choose}
 use Rattle.reads.specs.Segment.{segment_words}
@@ -24,10 +24,8 @@ use Rattle.pointers.specs.Tables.{Tables}
 use Rattle.pointers.specs.declared.setting.Setting.{Setting}
 use Rattle.macho.specs.Commands.{asked_commands}
 use Rattle.macho.specs.FileTables.{over_file, file_tables}
-use Rattle.macho.specs.OpenFile.{file_outcome, asked_lent, asked_file, opened_file, opening_file, segments_left, sections_left, index_left}
+use Rattle.macho.specs.OpenFile.{asked_lent, asked_file, opened_file, opening_file, segments_left, sections_left, index_left}
 use Rattle.macho.specs.declared.open.OpenedFile.{OpenedFile}
-use Rattle.macho.specs.declared.open.FileAnswer.{FileAnswer}
-use Rattle.macho.specs.declared.open.FileAnswer.TheVariants as answer
 use Rattle.macho.proofs.FileOpened.{number_keeps}
 use Rattle.frames.specs.Marks.{frames_of}
 use Rattle.frames.specs.declared.frames.Frames.{Frames}
@@ -39,9 +37,13 @@ use Rattle.printing.specs.Pieces.{Standing, begun, listable}
 use Rattle.printing.proofs.BundleAnswers.{first_bytes}
 use Rattle.filelist.specs.FileText.{info_in, framed_file, opened_by, refused_file}
 use Rattle.filelist.specs.FileLent.{index_used, segments_after, sections_after, index_after, tables_by}
+use Rattle.std.specs.Prelude.{Result, Ok, Err}
+use Rattle.reads.specs.declared.answer.Question.{Question}
+use Rattle.reads.specs.declared.answer.Question.TheVariants.{FileLength, SegmentTable, SectionTable, Header, LoadCommands, IndexLength}
+use Rattle.reads.specs.Question.{number_of}
 
 -- The image info of an answer.
-pub info_missing : (a : FileAnswer) (m : Missing) → a ≡ answer.Missing m → missed m ≡ info_in (file_outcome a)
+pub info_missing : (a : Result OpenedFile Missing) (m : Missing) → a ≡ Err m → missed m ≡ info_in (outcome a)
 info_missing a m e = rw e (go m)
   where
     go : (m : Missing) → ◌≡◌ {A = Outcome ImageInfo} (missed m) (info_in (missed m))
@@ -71,9 +73,9 @@ module _ (x : Ranges) (w : Frames) (e : frames_of x ≡ value w) (file segments 
           → and_then a (λ _. and_then o (λ info. value (opened_file file info))) ≡ opened_by file (and_then a (λ _. with_frames w o))
       go (value u) (value i) = refl
       go (value u) (absent r) = refl
-      go (value u) (number k) = refl
+      go (value u) (refused k) = refl
       go (absent r) o = refl
-      go (number k) o = refl
+      go (refused k) o = refl
 
   pub frames_begun : with_frames w (info_in (opening_file file segments sections rebases binds index)) ≡ framed_file x file segments sections rebases binds index
   unfolding opening_file framed_file
@@ -85,36 +87,36 @@ module _ (x : Ranges) (w : Frames) (e : frames_of x ≡ value w) (file segments 
           → with_frames w (info_in (and_then a (λ _. and_then o (λ info. value (opened_file file info))))) ≡ and_then a (λ _. with_frames w o)
       go (value u) (value i) = refl
       go (value u) (absent r) = refl
-      go (value u) (number k) = refl
+      go (value u) (refused k) = refl
       go (absent r) o = refl
-      go (number k) o = refl
+      go (refused k) o = refl
 
 -- Ranges that number k refuses.
-pub frames_refused : (x : Ranges) (k : ℕ) → frames_of x ≡ number k → (file segments sections rebases binds index : List ℕ)
+pub frames_refused : (x : Ranges) (k : Question) → frames_of x ≡ refused k → (file segments sections rebases binds index : List ℕ)
     → refused_file k file segments sections rebases binds index ≡ framed_file x file segments sections rebases binds index
 unfolding refused_file framed_file
 frames_refused x k e file segments sections rebases binds index =
     ap (λ (o : Outcome Framed). and_then (asked_file file (length segments) (length sections)) (λ _. o)) (framed_refused x (file_tables file rebases binds index) k e)
 
 -- A number of opening the file goes before 23.
-info_unrefused : (body : List ℕ) (f : ImageInfo → OpenedFile) (k : ℕ) → and_then (image_info body) (λ i. value (f i)) ≡ number k → ⊥
+info_unrefused : (body : List ℕ) (f : ImageInfo → OpenedFile) (k : Question) → and_then (image_info body) (λ i. value (f i)) ≡ refused k → ⊥
 unfolding image_info
 info_unrefused body f k =
-    by_choose (λ (o : Outcome ImageInfo). and_then o (λ i. value (f i)) ≡ number k → ⊥)
+    by_choose (λ (o : Outcome ImageInfo). and_then o (λ i. value (f i)) ≡ refused k → ⊥)
     (λ t e. let z : ◌≡◌ {A = ℕ} 0 1 = cc in omega arith)
     (λ t e. let z : ◌≡◌ {A = ℕ} 0 1 = cc in omega arith)
 
-first_number : (x : Ranges) (file body : List ℕ) (k : ℕ) (a o : Outcome (Unit {0}))
-    → and_then a (λ _. and_then (and_then o (λ _. image_info body)) (λ i. value (opened_file file i))) ≡ number k
-    → and_then a (λ _. and_then o (λ _. and_then (frames_of x) (λ w. with_frames w (image_info body)))) ≡ number k
+first_number : (x : Ranges) (file body : List ℕ) (k : Question) (a o : Outcome (Unit {0}))
+    → and_then a (λ _. and_then (and_then o (λ _. image_info body)) (λ i. value (opened_file file i))) ≡ refused k
+    → and_then a (λ _. and_then o (λ _. and_then (frames_of x) (λ w. with_frames w (image_info body)))) ≡ refused k
 first_number x file body k (value u) (value v) e = absurd (info_unrefused body (opened_file file) k e)
 first_number x file body k (value u) (absent r) e = let z : ◌≡◌ {A = ℕ} 0 1 = cc in absurd (omega arith)
-first_number x file body k (value u) (number n) e = let same : n ≡ k = cc in rw same
+first_number x file body k (value u) (refused n) e = let same : n ≡ k = cc in rw same
 first_number x file body k (absent r) o e = let z : ◌≡◌ {A = ℕ} 0 1 = cc in absurd (omega arith)
-first_number x file body k (number n) o e = let same : n ≡ k = cc in rw same
+first_number x file body k (refused n) o e = let same : n ≡ k = cc in rw same
 
-pub number_first : (x : Ranges) (file segments sections rebases binds index : List ℕ) (k : ℕ) → opening_file file segments sections rebases binds index ≡ number k
-    → framed_file x file segments sections rebases binds index ≡ number k
+pub number_first : (x : Ranges) (file segments sections rebases binds index : List ℕ) (k : Question) → opening_file file segments sections rebases binds index ≡ refused k
+    → framed_file x file segments sections rebases binds index ≡ refused k
 unfolding opening_file framed_file opening framed_opening
 number_first x file segments sections rebases binds index k e =
     first_number x file (file_tables file rebases binds index).info k (asked_file file (length segments) (length sections))
@@ -123,9 +125,9 @@ number_first x file segments sections rebases binds index k e =
 asked_not8 : (file : List ℕ) (segments sections : ℕ) → Not8 (asked_file file segments sections)
 unfolding asked_file asked_commands asked_lent
 asked_not8 file segments sections =
-    then_not8 (then_not8 (question_not8 15 (λ e. omega arith) _) (question_not8 16 (λ e. omega arith) _))
-    (then_not8 (question_not8 1 (λ e. omega arith) _)
-    (then_not8 (question_not8 2 (λ e. omega arith) _) (question_not8 3 (λ e. omega arith) _)))
+    then_not8 (then_not8 (question_not8 Header (λ e. omega arith) _) (question_not8 LoadCommands (λ e. omega arith) _))
+    (then_not8 (question_not8 FileLength (λ e. omega arith) _)
+    (then_not8 (question_not8 SegmentTable (λ e. omega arith) _) (question_not8 SectionTable (λ e. omega arith) _)))
 
 -- Opening over no index: what it says, and what then refuses.
 module _ (file segments sections rebases binds index : List ℕ) where
@@ -133,10 +135,10 @@ module _ (file segments sections rebases binds index : List ℕ) where
   lent_tables = file_tables file rebases binds index
 
   record Unopened : Type 0 where
-    refusal : ℕ
-    unopened : opening_file file segments sections rebases binds [] ≡ number refusal
-    refuses_then : (fits : Bool) (k : ℕ) → fits ≡ fits8 lent_tables
-        → number (choose (eqb refusal 8) (choose fits k 8) refusal) ≡ refused_file k file segments sections rebases binds index
+    refusal : Question
+    unopened : opening_file file segments sections rebases binds [] ≡ refused refusal
+    refuses_then : (fits : Bool) (k : Question) → fits ≡ fits8 lent_tables
+        → refused (choose (eqb (number_of refusal) 8) (choose fits k IndexLength) refusal) ≡ refused_file k file segments sections rebases binds index
 
   over_none : Unopened
   unfolding opening_file refused_file file_tables
@@ -153,10 +155,10 @@ module _ (file segments sections rebases binds index : List ℕ) where
           record {
             refusal = n;
             unopened = rw e;
-            refuses_then = λ fits k g. rw (e, ne_eqb n 8 h) (unfold choose in refl);
+            refuses_then = λ fits k g. rw (e, ne_eqb (number_of n) 8 h) (unfold choose in refl);
           }
 
-  pub refused_file_lem : (m : Missing) (fits : Bool) (k : ℕ) → missed m ≡ opening_file file segments sections rebases binds [] → fits ≡ fits8 lent_tables
+  pub refused_file_lem : (m : Missing) (fits : Bool) (k : Question) → missed m ≡ opening_file file segments sections rebases binds [] → fits ≡ fits8 lent_tables
       → missed (last_refusal fits k m) ≡ refused_file k file segments sections rebases binds index
   refused_file_lem m fits k e g = rw (missed_is m (e ∙ over_none.unopened)) (over_none.refuses_then fits k g)
 
@@ -213,7 +215,7 @@ module _ (u : Setting) (x : Ranges) (file segments sections rebases binds index 
         ),
       )
 
-  pub begins_refused : (k : ℕ) → frames_of x ≡ number k → (m : Missing) (q : List ℕ → Standing) (s c i : List ℕ) → q ≡ begun u (missed m)
+  pub begins_refused : (k : Question) → frames_of x ≡ refused k → (m : Missing) (q : List ℕ → Standing) (s c i : List ℕ) → q ≡ begun u (missed m)
       → ((missed m ≡ refused_file k file segments sections rebases binds (take (n - 0) (drop 0 index)))
       × ((s ≡ segments) × ((c ≡ sections) × (i ≡ take (n - 0) (drop 0 index)))))
       → Begins (missed m) q s c i
@@ -246,16 +248,16 @@ parts_same file segments sections info rebases binds index count w n e g =
     (first_bytes index (index_length rebases binds) n g)
 
 -- What an opened file is read from, and one that is not opened.
-module _ (a : FileAnswer) where
-  pub opened_parts : (o : OpenedFile) → a ≡ answer.File o → (file segments sections rebases binds index info : List ℕ)
+module _ (a : Result OpenedFile Missing) where
+  pub opened_parts : (o : OpenedFile) → a ≡ Ok o → (file segments sections rebases binds index info : List ℕ)
       → info ≡ part file o.info_at o.info_len
       → over_file file (take (segment_words * o.segments) segments) sections info rebases binds (index_used rebases binds index)
-      ≡ tables_by (file_outcome a) file segments sections rebases binds (index_used rebases binds index)
+      ≡ tables_by (outcome a) file segments sections rebases binds (index_used rebases binds index)
   opened_parts o e file segments sections rebases binds index info g = rw (e, g)
 
-  pub no_parts : (m : Missing) → a ≡ answer.Missing m → (file segments sections rebases binds index : List ℕ)
+  pub no_parts : (m : Missing) → a ≡ Err m → (file segments sections rebases binds index : List ℕ)
       → over_file file [] sections [] rebases binds (index_used rebases binds index)
-      ≡ tables_by (file_outcome a) file segments sections rebases binds (index_used rebases binds index)
+      ≡ tables_by (outcome a) file segments sections rebases binds (index_used rebases binds index)
   no_parts m e file segments sections rebases binds index = rw e (go m)
     where
       go : (m : Missing) → over_file file [] sections [] rebases binds (index_used rebases binds index)

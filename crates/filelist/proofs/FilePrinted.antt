@@ -6,7 +6,7 @@ use mathlib.Core.Bool.{Bool, true, false}
 use mathlib.Core.List.{List, [], ◌∷◌, ◌++◌}
 use lib.ListN.{length, take, drop, length-replicate, replicate, take-append-drop}
 use lib.Seq.{length-take-le, take_at}
-use Rattle.reads.specs.Outcome.{Outcome, value, absent, number, and_then}
+use Rattle.reads.specs.Outcome.{Outcome, value, absent, refused, and_then}
 use Rattle.reads.specs.declared.text.Reading.{Reading}
 use Rattle.reads.proofs.Outcomes.{then_came}
 use Rattle.pointers.specs.Index.{index_length}
@@ -41,6 +41,7 @@ use Rattle.printing.proofs.Printed.{begun_sound, listing_comes, over_comes}
 use Rattle.filelist.specs.FileText.{lookup_by, file_setting, zero_index, tables_for, framed_file, opened_by, file_opening, file_text}
 use Rattle.filelist.specs.FileLent.{index_used, segments_after, sections_after, index_after, tables_by, tables_lent}
 use Rattle.filelist.proofs.FileAnswers.{frames_taken}
+use Rattle.reads.specs.declared.answer.Question.{Question}
 
 -- Of what it fills and of the index opening asks the length alone.
 opens_same : (x : Ranges) (file rebases binds s t c d i j : List ℕ) → length s ≡ length t → length c ≡ length d → length i ≡ length j
@@ -129,9 +130,9 @@ module _ (u : Setting) (x : Ranges) (file segments sections rebases binds index 
       (index_after x file segments sections rebases binds index)
 
   -- A number comes as its text, and nothing lent is written with it.
-  module _ (k : ℕ) (e : gave ≡ number k) where
+  module _ (k : Question) (e : gave ≡ refused k) where
     pub refused_comes : to_come tables_after (begun u gave l) ≡ refused_text k
-    refused_comes = rw e (over_comes u _ tables_after (number k) l refl)
+    refused_comes = rw e (over_comes u _ tables_after (refused k) l refl)
 
     pub file_unwritten : (segments_after x file segments sections rebases binds index ≡ segments)
         × (sections_after x file segments sections rebases binds index ≡ sections)
@@ -151,7 +152,7 @@ module _ (u : Setting) (x : Ranges) (file segments sections rebases binds index 
             let kept = number_keeps file segments sections rebases binds (index_used rebases binds index) k refuses in
             (kept.0, kept.1, rw kept.2 whole)
         go (absent r) g = (refl, refl, whole)
-        go (number j) g = (refl, refl, whole)
+        go (refused j) g = (refl, refl, whole)
 
   module _ (long : index_length rebases binds ≤ length index) where
     -- The ledger has a word for each slot of the two class sections, and of the two category sections.
@@ -181,7 +182,7 @@ module _ (u : Setting) (x : Ranges) (file segments sections rebases binds index 
           go : (o : Outcome Framed) → gave ≡ o → to_come tables_after (begun u o l) ≡ opened_text (under u (tables_said file rebases binds)) o
           go (value f) e = opened_comes f e
           go (absent r) e = over_comes u tables_after (under u (tables_said file rebases binds)) (absent r) l refl
-          go (number k) e = over_comes u tables_after (under u (tables_said file rebases binds)) (number k) l refl
+          go (refused k) e = over_comes u tables_after (under u (tables_said file rebases binds)) (refused k) l refl
 
       module _ (rows : length segments ≡ segment_table_words) (words : length sections ≡ section_table_words) where
         asked_same : gave ≡ framed_file x file (replicate segment_table_words 0) (replicate section_table_words 0) rebases binds (zero_index rebases binds)
@@ -220,7 +221,7 @@ module _ (r : Reading) (x : Ranges) (file segments sections rebases binds index 
       let said = opened file segments sections rebases binds index long (opened_file file f.info) (opens_file u x file segments sections rebases binds index l long classes categories f e) in
       ap (λ (p : Outcome (List Line)). listing_text (file ∷ []) (and_then p (λ lines. value (marked_lines f.frames lines)))) (by_either r (tables_said file rebases binds) said)
   text_alike (absent why) e = refl
-  text_alike (number k) e = refl
+  text_alike (refused k) e = refl
 
   pub file_printed : to_come read (begun u answered l) ≡ file_text (reading_under r) x file rebases binds
   unfolding file_text file_opening

@@ -46,6 +46,7 @@ use Rattle.pointers.specs.declared.setting.Setting.{Setting}
 use Rattle.macho.proofs.FileCases.{u32, u64, header, command, section, good, made, short_case, seven_case}
 use Rattle.filelist.specs.FileText.{zero_index, framed_file, file_opening, file_text}
 use Rattle.filelist.proofs.FileAnswers.{number_first}
+use Rattle.reads.specs.declared.answer.Question.TheVariants.{Header, LoadCommands}
 
 -- One segment at 0x1000 that maps the file; __objc_classlist and __objc_imageinfo.
 abbrev commands : List ℕ
@@ -75,9 +76,9 @@ listed_case = refl
 pub refused_15_case : (u : Setting) (x : Ranges) (rebases binds : List ℕ) → file_text u x (take 31 good) rebases binds ≡ line (ascii "refused 15")
 unfolding file_text file_opening refused_text decimal_text places choose
 refused_15_case u x rebases binds =
-    rw (number_first x _ _ _ rebases binds _ 15 (short_case (replicate segment_table_words 0) (replicate section_table_words 0) rebases binds (zero_index rebases binds)))
+    rw (number_first x _ _ _ rebases binds _ Header (short_case (replicate segment_table_words 0) (replicate section_table_words 0) rebases binds (zero_index rebases binds)))
 
 pub refused_16_case : (u : Setting) (x : Ranges) (rebases binds : List ℕ) → file_text u x (made 0xFEEDFACF 2 544 7 576 0) rebases binds ≡ line (ascii "refused 16")
 unfolding file_text file_opening refused_text decimal_text places choose
 refused_16_case u x rebases binds =
-    rw (number_first x _ _ _ rebases binds _ 16 (seven_case (replicate segment_table_words 0) (replicate section_table_words 0) rebases binds (zero_index rebases binds)))
+    rw (number_first x _ _ _ rebases binds _ LoadCommands (seven_case (replicate segment_table_words 0) (replicate section_table_words 0) rebases binds (zero_index rebases binds)))

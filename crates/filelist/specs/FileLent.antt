@@ -1,6 +1,6 @@
 -- What the calls over a file are lent and leave.
 use Rattle.std.specs.Prelude.{ℕ, ◌*◌, List, [], ◌++◌, take, drop}
-use Rattle.reads.specs.Outcome.{Outcome, value, absent, number}
+use Rattle.reads.specs.Outcome.{Outcome, value, absent, refused}
 use Rattle.reads.specs.Place.{part}
 use Rattle.reads.specs.Segment.{segment_words}
 use Rattle.pointers.specs.Index.{index_length}
@@ -13,7 +13,7 @@ use Rattle.macho.specs.OpenFile.{segments_left, sections_left, index_left}
 use Rattle.macho.specs.declared.open.OpenedFile.{OpenedFile}
 use Rattle.printing.specs.Pieces.{listable}
 
--- The words of the index that are used: as many as question 8 asks.
+-- The words of the index that are used: as many as question IndexLength asks.
 abbrev pub index_used : List ℕ → List ℕ → List ℕ → List ℕ
 index_used rebases binds index = take (index_length rebases binds) index
 
@@ -36,7 +36,7 @@ abbrev pub tables_by : Outcome OpenedFile → List ℕ → List ℕ → List ℕ
 tables_by (value o) file segments sections rebases binds index =
     over_file file (take (segment_words * o.segments) segments) sections (part file o.info_at o.info_len) rebases binds index
 tables_by (absent r) file segments sections rebases binds index = over_file file [] sections [] rebases binds index
-tables_by (number k) file segments sections rebases binds index = over_file file [] sections [] rebases binds index
+tables_by (refused k) file segments sections rebases binds index = over_file file [] sections [] rebases binds index
 
 abbrev pub tables_lent : Outcome OpenedFile → List ℕ → List ℕ → List ℕ → List ℕ → List ℕ → List ℕ → Tables
 tables_lent o file segments sections rebases binds index =

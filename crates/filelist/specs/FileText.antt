@@ -2,7 +2,7 @@
 -- the plain listing over the tables that loader.h defines for the file, under a setting, which holds the reading, each m row with its mark for
 -- the ranges given (note 11).
 use Rattle.std.specs.Prelude.{ℕ, Bool, true, false, List, length, replicate}
-use Rattle.reads.specs.Outcome.{Outcome, value, number, and_then}
+use Rattle.reads.specs.Outcome.{Outcome, value, refused, and_then}
 use Rattle.reads.specs.declared.text.Reading.{Reading}
 use Rattle.pointers.specs.Index.{index_length}
 use Rattle.pointers.specs.Open.{asked_opening, opened_index}
@@ -19,6 +19,7 @@ use Rattle.frames.specs.declared.frames.Ranges.{Ranges}
 use Rattle.marking.specs.Framed.{framed_opening}
 use Rattle.marking.specs.declared.framed.Framed.{Framed}
 use Rattle.printing.specs.BundleText.{opened_text}
+use Rattle.reads.specs.declared.answer.Question.{Question}
 
 -- The setting of a file's listing: rebases by halves where their slots ascend, which lists the same (`file_printed`, proofs/FilePrinted.antt).
 abbrev pub lookup_by : Bool → Lookup
@@ -32,7 +33,7 @@ file_setting r rebases = record { reading = r; lookup = lookup_by (ascending reb
 abbrev pub info_in : Outcome OpenedFile → Outcome ImageInfo
 info_in o = and_then o (λ opened. value opened.info)
 
--- The index that question 8 asks, of zeros.
+-- The index that question IndexLength asks, of zeros.
 abbrev pub zero_index : List ℕ → List ℕ → List ℕ
 zero_index rebases binds = replicate (index_length rebases binds) 0
 
@@ -50,9 +51,9 @@ abbrev pub opened_by : List ℕ → Outcome Framed → Outcome OpenedFile
 opened_by file o = and_then o (λ f. value (opened_file file f.info))
 
 -- What refuses where number k refuses the ranges: a question of opening, or k.
-unfoldable pub refused_file : ℕ → List ℕ → List ℕ → List ℕ → List ℕ → List ℕ → List ℕ → Outcome Framed
+unfoldable pub refused_file : Question → List ℕ → List ℕ → List ℕ → List ℕ → List ℕ → List ℕ → Outcome Framed
 refused_file k file segments sections rebases binds index =
-    and_then (asked_file file (length segments) (length sections)) (λ _. and_then (asked_opening (file_tables file rebases binds index)) (λ _. number k))
+    and_then (asked_file file (length segments) (length sections)) (λ _. and_then (asked_opening (file_tables file rebases binds index)) (λ _. refused k))
 
 -- Opening over words of zeros, as many as are to be lent.
 unfoldable pub file_opening : Ranges → List ℕ → List ℕ → List ℕ → Outcome Framed

@@ -2,39 +2,38 @@
 // index as many words are used as question 8 asks. With a number, 23 of the ranges last, nothing lent is written, and the text is `refused` and
 // that number.
 ghost use Rattle.std.specs.Prelude.{◌*◌, min, ◌≡◌, length, take, drop};
-ghost use Rattle.reads.specs.Answer.{missed};
+ghost use Rattle.reads.specs.Answer.{missed, outcome};
 ghost use Rattle.reads.specs.Reference.{before};
 ghost use Rattle.reads.specs.Segment.{segment_words};
 ghost use Rattle.reads.specs.declared.text.Reading.TheVariants.{New};
-ghost use Rattle.pointers.specs.ImageInfo.{info_outcome};
 ghost use Rattle.pointers.specs.Index.{index_length};
 ghost use Rattle.macho.specs.FileTables.{over_file};
-ghost use Rattle.macho.specs.OpenFile.{file_outcome, opening_file, segments_left, sections_left, index_left};
+ghost use Rattle.macho.specs.OpenFile.{opening_file, segments_left, sections_left, index_left};
 ghost use Rattle.frames.specs.Frames.{no_ranges};
 ghost use Rattle.marking.specs.Framed.{with_frames};
 ghost use Rattle.printing.specs.Pieces.{standing_of, begun, listable, to_come, handed_of, piece_of};
 ghost use Rattle.filelist.specs.FileText.{file_setting, info_in, framed_file, opened_by, refused_file};
 ghost use Rattle.filelist.specs.FileLent.{index_used, segments_after, sections_after, index_after, tables_lent};
 
-use frames::frames::{Frames, FramesAnswer, Ranges};
+use frames::frames::{Frames, Ranges};
 use macho::header::range_of;
-use macho::open::{FileAnswer, open_file};
-use marking::framed::{FramedAnswer, refused_last, with_frames};
-use pointers::imageinfo::ImageInfoAnswer;
+use macho::open::{OpenedFile, open_file};
+use marking::framed::{refused_last, with_frames};
+use pointers::imageinfo::ImageInfo;
 use pointers::index::HEADS;
 use pointers::question::index_fits;
 use pointers::setting::{Lookup, Setting};
 use pointers::sorted::ascends;
 use pointers::table::{Bind, Rebase};
 use printing::pieces::{Piece, Progress};
-use reads::answer::Missing;
+use reads::answer::{Missing, Question};
 use reads::segment::Segment;
 use reads::text::Reading;
 
 // A listing that is begun: what opening the file answered, and where the printing stands.
 #[derive(Clone, Copy)]
 pub struct FileListing {
-    pub answer: FileAnswer,
+    pub answer: Result<OpenedFile, Missing>,
     pub progress: Progress,
 }
 
@@ -57,15 +56,15 @@ fn segment_words(count: u64, lent: usize) -> usize
 }
 
 // The image info of an opened file.
-fn info_of(answer: FileAnswer) -> ImageInfoAnswer
-    ensures { info_outcome result ≡ info_in (file_outcome answer) }
+fn info_of(answer: Result<OpenedFile, Missing>) -> Result<ImageInfo, Missing>
+    ensures { outcome result ≡ info_in (outcome answer) }
 {
     match answer {
-        FileAnswer::File(opened) => {
+        Ok(opened) => {
             let info = opened.info;
-            ImageInfoAnswer::Info(info)
+            Ok(info)
         }
-        FileAnswer::Missing(m) => ImageInfoAnswer::Missing(m),
+        Err(m) => Err(m),
     }
 }
 
@@ -80,8 +79,8 @@ fn begin(
     binds: &[u64],
     index: &mut [u32],
 ) -> FileListing
-    ensures answer { file_outcome result.answer ≡ opening_file (before file) segments.old sections.old (before rebases) (before binds) index.old }
-    ensures progress { standing_of result.progress ≡ begun setting (with_frames frames (info_in (file_outcome result.answer))) }
+    ensures answer { outcome result.answer ≡ opening_file (before file) segments.old sections.old (before rebases) (before binds) index.old }
+    ensures progress { standing_of result.progress ≡ begun setting (with_frames frames (info_in (outcome result.answer))) }
     ensures segments { segments.new ≡ segments_left (before file) segments.old sections.old (before rebases) (before binds) index.old }
     ensures sections { sections.new ≡ sections_left (before file) segments.old sections.old (before rebases) (before binds) index.old }
     ensures index { index.new ≡ index_left (before file) segments.old sections.old (before rebases) (before binds) index.old }
@@ -101,7 +100,7 @@ fn ranges_refused(
     rebases: &[u64],
     binds: &[u64],
     index: &mut [u32],
-    k: u8,
+    k: Question,
 ) -> Missing
     ensures outcome { missed result ≡ refused_file k (before file) segments.old sections.old (before rebases) (before binds) index.old }
     ensures segments { segments.new ≡ segments.old }
@@ -114,8 +113,8 @@ fn ranges_refused(
         index.len(),
     );
     match open_file(file, segments, sections, rebases, binds, &mut index[0..0]) {
-        FileAnswer::File(_) => Missing::Refused(k),
-        FileAnswer::Missing(m) => refused_last(m, fits, k),
+        Ok(_) => Missing::Refused(k),
+        Err(m) => refused_last(m, fits, k),
     }
 }
 
@@ -143,7 +142,7 @@ fn list_by(
     binds: &[u64],
     index: &mut [u32],
 ) -> FileListing
-    ensures answer { file_outcome result.answer ≡ opened_by (before file) (framed_file ranges (before file) segments.old sections.old (before rebases) (before binds) (index_used (before rebases) (before binds) index.old)) }
+    ensures answer { outcome result.answer ≡ opened_by (before file) (framed_file ranges (before file) segments.old sections.old (before rebases) (before binds) (index_used (before rebases) (before binds) index.old)) }
     ensures progress { standing_of result.progress ≡ begun setting (framed_file ranges (before file) segments.old sections.old (before rebases) (before binds) (index_used (before rebases) (before binds) index.old)) }
     ensures segments { segments.new ≡ segments_after ranges (before file) segments.old sections.old (before rebases) (before binds) index.old }
     ensures sections { sections.new ≡ sections_after ranges (before file) segments.old sections.old (before rebases) (before binds) index.old }
@@ -151,7 +150,7 @@ fn list_by(
 {
     let entries = index_words(rebases, binds, index.len());
     match Frames::new(ranges) {
-        FramesAnswer::Frames(frames) => begin(
+        Ok(frames) => begin(
             setting,
             frames,
             file,
@@ -161,7 +160,7 @@ fn list_by(
             binds,
             &mut index[0..entries],
         ),
-        FramesAnswer::Refused(k) => {
+        Err(k) => {
             let m = ranges_refused(
                 file,
                 segments,
@@ -172,8 +171,8 @@ fn list_by(
                 k,
             );
             FileListing {
-                answer: FileAnswer::Missing(m),
-                progress: Progress::starting(setting, FramedAnswer::Missing(m)),
+                answer: Err(m),
+                progress: Progress::starting(setting, Err(m)),
             }
         }
     }
@@ -188,7 +187,7 @@ pub fn list_file(
     binds: &[u64],
     index: &mut [u32],
 ) -> FileListing
-    ensures answer { file_outcome result.answer ≡ opened_by (before file) (framed_file no_ranges (before file) segments.old sections.old (before rebases) (before binds) (index_used (before rebases) (before binds) index.old)) }
+    ensures answer { outcome result.answer ≡ opened_by (before file) (framed_file no_ranges (before file) segments.old sections.old (before rebases) (before binds) (index_used (before rebases) (before binds) index.old)) }
     ensures progress { standing_of result.progress ≡ begun (file_setting New (before rebases)) (framed_file no_ranges (before file) segments.old sections.old (before rebases) (before binds) (index_used (before rebases) (before binds) index.old)) }
     ensures segments { segments.new ≡ segments_after no_ranges (before file) segments.old sections.old (before rebases) (before binds) index.old }
     ensures sections { sections.new ≡ sections_after no_ranges (before file) segments.old sections.old (before rebases) (before binds) index.old }
@@ -217,7 +216,7 @@ pub fn list_file_under(
     binds: &[u64],
     index: &mut [u32],
 ) -> FileListing
-    ensures answer { file_outcome result.answer ≡ opened_by (before file) (framed_file ranges (before file) segments.old sections.old (before rebases) (before binds) (index_used (before rebases) (before binds) index.old)) }
+    ensures answer { outcome result.answer ≡ opened_by (before file) (framed_file ranges (before file) segments.old sections.old (before rebases) (before binds) (index_used (before rebases) (before binds) index.old)) }
     ensures progress { standing_of result.progress ≡ begun (file_setting reading (before rebases)) (framed_file ranges (before file) segments.old sections.old (before rebases) (before binds) (index_used (before rebases) (before binds) index.old)) }
     ensures segments { segments.new ≡ segments_after ranges (before file) segments.old sections.old (before rebases) (before binds) index.old }
     ensures sections { sections.new ≡ sections_after ranges (before file) segments.old sections.old (before rebases) (before binds) index.old }
@@ -273,7 +272,7 @@ fn piece_over(
 // The next piece of the text: its length, 0 where nothing is still to come, and where the printing stands after it.
 pub fn next_piece(
     progress: Progress,
-    answer: FileAnswer,
+    answer: Result<OpenedFile, Missing>,
     file: &[u8],
     segments: &[u64],
     sections: &[u64],
@@ -283,13 +282,13 @@ pub fn next_piece(
     ledger: &mut [u64],
     out: &mut [u8],
 ) -> Piece
-    ensures piece { let t = tables_lent (file_outcome answer) (before file) (before segments) (before sections) (before rebases) (before binds) (before index) in
+    ensures piece { let t = tables_lent (outcome answer) (before file) (before segments) (before sections) (before rebases) (before binds) (before index) in
         handed_of result ledger.new out.new ≡ piece_of t (standing_of progress ledger.old) (length out.old) out.old }
-    ensures rest { let t = tables_lent (file_outcome answer) (before file) (before segments) (before sections) (before rebases) (before binds) (before index) in
+    ensures rest { let t = tables_lent (outcome answer) (before file) (before segments) (before sections) (before rebases) (before binds) (before index) in
         to_come t (standing_of result.progress ledger.new) ≡ drop (length out.old) (to_come t (standing_of progress ledger.old)) }
 {
     match answer {
-        FileAnswer::File(opened) => {
+        Ok(opened) => {
             let info = range_of(file, opened.info_at, opened.info_len);
             piece_over(
                 progress,
@@ -305,7 +304,7 @@ pub fn next_piece(
                 out,
             )
         }
-        FileAnswer::Missing(_) => piece_over(
+        Err(_) => piece_over(
             progress,
             0,
             &file[0..0],

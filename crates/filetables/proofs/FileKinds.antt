@@ -1,18 +1,20 @@
 -- Question 25, by the tests that the code makes.
 use Prim.Native.Nat.{ℕ, ◌+◌, ◌/◌, ◌%◌, ◌≤◌, ◌<◌}
 use mathlib.Core.Path.{◌≡◌, refl}
-use mathlib.Core.Bool.{Bool, true, false, ◌&&◌}
+use mathlib.Core.Bool.{true, false, ◌&&◌}
 use mathlib.Core.List.{List, [], ◌∷◌}
 use Rattle.std.specs.List.{list_all}
 use lib.Dec.{eqb, leb}
 use Rattle.std.proofs.Math.Bool.{and_assoc}
 use borrow.Author.Tests.{le-leb, lt-leb, ne_eqb}
-use Rattle.reads.specs.Outcome.{value, number, choose}
+use Rattle.reads.specs.Outcome.{value, refused, choose}
 use Rattle.pointers.specs.Question.{question}
 use Rattle.macho.specs.Number.{u32_at}
 use Rattle.macho.specs.Loader.{fileoff, filesize}
 use Rattle.macho.specs.Commands.{asked_commands}
 use Rattle.filetables.specs.Kind.{type_read, segment_read, info_read, command_read, all_read, kind_read, carriers, commands_read, is_read, asked_kind}
+use Rattle.reads.specs.declared.answer.Question.{Question}
+use Rattle.reads.specs.declared.answer.Question.TheVariants.{FileKind}
 
 module _ (t : ℕ) where
   pub type_first : t ≡ 2 → true ≡ type_read t
@@ -79,7 +81,7 @@ commands_by n cmds count = simp and_assoc
 
 -- 15 and 16, then 25.
 module _ (file : List ℕ) where
-  pub kind_refused : (k : ℕ) → number k ≡ asked_commands file → number k ≡ asked_kind file
+  pub kind_refused : (k : Question) → refused k ≡ asked_commands file → refused k ≡ asked_kind file
   unfolding asked_kind
   kind_refused k e = rw (← e)
 
@@ -88,6 +90,6 @@ module _ (file : List ℕ) where
     unfolding asked_kind question choose
     kind_read_lem e = rw (asked, e)
 
-    pub kind_not : is_read file ≡ false → number 25 ≡ asked_kind file
+    pub kind_not : is_read file ≡ false → refused FileKind ≡ asked_kind file
     unfolding asked_kind question choose
     kind_not e = rw (asked, e)

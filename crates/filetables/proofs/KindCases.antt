@@ -3,7 +3,7 @@ use Prim.Native.Nat.{ℕ}
 use mathlib.Core.Path.{◌≡◌, refl}
 use mathlib.Core.List.{List, [], ◌∷◌, ◌++◌}
 use lib.ListN.{set, replicate}
-use Rattle.reads.specs.Outcome.{value, number, choose}
+use Rattle.reads.specs.Outcome.{value, refused, choose}
 use Rattle.reads.specs.Place.{le, le_in}
 use Rattle.pointers.specs.Question.{question}
 use Rattle.macho.specs.Commands.{headed, sectioned, fits, all_fit, asked_commands, of_kind, first_of}
@@ -13,6 +13,7 @@ use Rattle.opcodes.specs.Streams.{walk, stream_at, joined, streams_at}
 use Rattle.opcodes.specs.Binds.{binds_from, binds_in, binds_found}
 use Rattle.filetables.specs.Kind.{type_read, segment_read, stream_read, info_read, command_read, all_read, carriers, commands_read, is_read, asked_kind}
 use Rattle.filetables.specs.FileRecords.{as_records, records_in, file_records}
+use Rattle.reads.specs.declared.answer.Question.TheVariants.{FixupData, FileKind}
 
 abbrev zeros : ℕ → List ℕ
 zeros n = replicate n 0
@@ -46,23 +47,23 @@ segment flags = 25 ∷ 0 ∷ 0 ∷ 0 ∷ 72 ∷ 0 ∷ 0 ∷ 0 ∷ (zeros 60 ++ (
 pub record Kinds : Type 0 where
   pub dylib : file_records (file 6 0 0 0 []) ≡ value []
   pub executable : file_records (file 2 0 0 0 []) ≡ value []
-  pub object : file_records (file 1 0 0 0 []) ≡ number 25
-  pub stub : file_records (file 9 0 0 0 []) ≡ number 25
-  pub symbols : file_records (file 10 0 0 0 []) ≡ number 25
-  pub cached : file_records (file 6 128 0 0 []) ≡ number 25
+  pub object : file_records (file 1 0 0 0 []) ≡ refused FileKind
+  pub stub : file_records (file 9 0 0 0 []) ≡ refused FileKind
+  pub symbols : file_records (file 10 0 0 0 []) ≡ refused FileKind
+  pub cached : file_records (file 6 128 0 0 []) ≡ refused FileKind
   pub plain : file_records (file 6 0 1 24 (encryption 0)) ≡ value []
-  pub encrypted : file_records (file 6 0 1 24 (encryption 1)) ≡ number 25
+  pub encrypted : file_records (file 6 0 1 24 (encryption 1)) ≡ refused FileKind
   pub symtab : file_records (file 6 0 1 80 (dysymtab 0)) ≡ value []
-  pub relocated : file_records (file 6 0 1 80 (dysymtab 1)) ≡ number 25
+  pub relocated : file_records (file 6 0 1 80 (dysymtab 1)) ≡ refused FileKind
   pub noreloc : file_records (file 6 0 1 72 (segment 20)) ≡ value []
-  pub protected : file_records (file 6 0 1 72 (segment 8)) ≡ number 25
+  pub protected : file_records (file 6 0 1 72 (segment 8)) ≡ refused FileKind
   pub to_the_end : file_records (set (file 6 0 1 72 (segment 0)) 80 104) ≡ value []
-  pub cut : file_records (set (file 6 0 1 72 (segment 0)) 80 105) ≡ number 25
-  pub stream_cut : file_records (set (set (file 6 0 1 48 info_only) 48 80) 52 1) ≡ number 25
+  pub cut : file_records (set (file 6 0 1 72 (segment 0)) 80 105) ≡ refused FileKind
+  pub stream_cut : file_records (set (set (file 6 0 1 48 info_only) 48 80) 52 1) ≡ refused FileKind
   pub by_opcodes : file_records (file 6 0 1 48 info_only) ≡ value []
-  pub by_chains : file_records (file 6 0 1 8 chained) ≡ number 19
-  pub both : file_records (file 6 0 2 56 (chained ++ info_only)) ≡ number 25
-  pub twice : file_records (file 6 0 2 96 (info ++ info_only)) ≡ number 25
+  pub by_chains : file_records (file 6 0 1 8 chained) ≡ refused FixupData
+  pub both : file_records (file 6 0 2 56 (chained ++ info_only)) ≡ refused FileKind
+  pub twice : file_records (file 6 0 2 96 (info ++ info_only)) ≡ refused FileKind
 
 pub kinds : Kinds
 unfolding le le_in choose question headed sectioned fits all_fit asked_commands of_kind first_of fixups_in fixups_from fixups_found earlier walk stream_at joined streams_at binds_from binds_in binds_found type_read segment_read stream_read info_read command_read all_read carriers commands_read is_read asked_kind as_records records_in file_records

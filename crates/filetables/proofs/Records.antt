@@ -7,10 +7,7 @@ use native.Mathlib.Omega.{arith}
 use lib.Dec.{leb}
 use lib.ListN.{length}
 use borrow.Author.Tests.{le-leb}
-use Rattle.reads.specs.Outcome.{Outcome, value, absent, number, and_then, choose}
-use Rattle.reads.specs.Answer.{missed}
-use Rattle.reads.specs.declared.answer.Missing.{Missing}
-use Rattle.reads.specs.declared.answer.Missing.TheVariants.{Absent, Refused}
+use Rattle.reads.specs.Outcome.{Outcome, value, absent, refused, and_then, choose}
 use Rattle.reads.proofs.Tests.{choose_true, choose_false}
 use Rattle.macho.specs.Loader.{ncmds}
 use Rattle.macho.specs.Commands.{command_bytes, first_of}
@@ -18,12 +15,13 @@ use Rattle.macho.specs.Segments.{written}
 use Rattle.macho.specs.declared.command.Found.{Found}
 use Rattle.fixups.specs.FixupChains.{chained_fixups_kind}
 use Rattle.fixups.specs.Tables.{rebase_row, bind_row, rows_of}
-use Rattle.fixups.specs.Fixups.{Result, pair, leaves, fixups_found, settled}
+use Rattle.fixups.specs.Fixups.{Settled, pair, leaves, fixups_found, settled}
 use Rattle.opcodes.specs.Tables.{bind_row as bound_row}
-use Rattle.opcodes.specs.Binds.{binds_found, Result as BindsResult, leaves as binds_leaves, settled as binds_settled}
+use Rattle.opcodes.specs.Binds.{binds_found, Settled as BindsResult, leaves as binds_leaves, settled as binds_settled}
 use Rattle.opcodes.specs.declared.binding.Bound.{Bound}
 use Rattle.filetables.specs.Kind.{asked_kind}
 use Rattle.filetables.specs.FileRecords.{as_records, bound_records, records_in, file_records}
+use Rattle.reads.specs.declared.answer.Question.{Question}
 
 no_rebases : (xs : List Bound) → rows_of rebase_row (as_records xs) ≡ []
 unfolding as_records rows_of
@@ -37,13 +35,13 @@ bind_rows (x ∷ xs) = ap (λ (ws : List ℕ). bound_row x ++ ws) (bind_rows xs)
 
 -- A bind table beside a rebase table without records.
 module _ (rs bs : List ℕ) where
-  abbrev beside : BindsResult → Result
+  abbrev beside : BindsResult → Settled
   beside r = leaves (and_then r.count (λ n. value (pair 0 n))) rs r.binds
 
   beside_settled : (o : Outcome (List Bound)) → beside (binds_settled o bs) ≡ settled (bound_records o) rs bs
   unfolding settled binds_settled written choose
   beside_settled (absent r) = refl
-  beside_settled (number k) = refl
+  beside_settled (refused k) = refl
   beside_settled (value xs) = rw (no_rebases xs, bind_rows xs, choose_true _ _ (le-leb 0 (length rs) (omega arith))) (go (leb (length (rows_of bound_row xs)) (length bs)) _ _)
     where
       go : (t : Bool) (a b : BindsResult) → beside (choose t a b) ≡ choose t (beside a) (beside b)
@@ -53,11 +51,6 @@ module _ (rs bs : List ℕ) where
   pub from_opcodes : (o : Outcome (List Bound)) (n : Outcome ℕ) (bs' : List ℕ) → binds_leaves n bs' ≡ binds_settled o bs
       → leaves (and_then n (λ n. value (pair 0 n))) rs bs' ≡ settled (bound_records o) rs bs
   from_opcodes o n bs' e = ap beside e ∙ beside_settled o
-
-  pub from_missing : (o : Outcome (List Bound)) (m : Missing) (bs' : List ℕ) → binds_leaves (missed m) bs' ≡ binds_settled o bs
-      → leaves (missed m) rs bs' ≡ settled (bound_records o) rs bs
-  from_missing o (Absent r) bs' e = from_opcodes o (absent r) bs' e
-  from_missing o (Refused k) bs' e = from_opcodes o (number k) bs' e
 
 -- Which records there are.
 module _ (file : List ℕ) where
@@ -74,6 +67,6 @@ module _ (file : List ℕ) where
   unfolding file_records
   is_asked e = rw e
 
-  pub is_refused : (k : ℕ) (rs bs : List ℕ) → number k ≡ asked_kind file → leaves (number k) rs bs ≡ settled (file_records file) rs bs
+  pub is_refused : (k : Question) (rs bs : List ℕ) → refused k ≡ asked_kind file → leaves (refused k) rs bs ≡ settled (file_records file) rs bs
   unfolding file_records settled
   is_refused k rs bs e = rw (← e)

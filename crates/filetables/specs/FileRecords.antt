@@ -1,18 +1,15 @@
 -- The rebases and binds of a file, whichever way it carries them.
 use Rattle.std.specs.Prelude.{ℕ, List, [], ◌∷◌}
 use Rattle.reads.specs.Outcome.{Outcome, value, and_then, choose}
-use Rattle.reads.specs.Answer.{missed}
 use Rattle.macho.specs.Loader.{ncmds}
 use Rattle.macho.specs.Commands.{command_bytes, first_of}
 use Rattle.fixups.specs.FixupChains.{chained_fixups_kind}
-use Rattle.fixups.specs.Fixups.{Pair, pair, fixups_found}
+use Rattle.fixups.specs.Fixups.{fixups_found}
 use Rattle.fixups.specs.declared.chain.Fixup.{Fixup}
 use Rattle.fixups.specs.declared.chain.Fixup.TheVariants.{Bind}
 use Rattle.opcodes.specs.Binds.{binds_found}
 use Rattle.opcodes.specs.declared.binding.Bound.{Bound}
 use Rattle.filetables.specs.Kind.{asked_kind}
-use Rattle.filetables.specs.declared.build.FileTables.{FileTables}
-use Rattle.filetables.specs.declared.build.FileTables.TheVariants.{Tables, Missing}
 
 -- The binds of opcodes, as records.
 unfoldable pub as_records : List Bound → List Fixup
@@ -30,8 +27,3 @@ records_in file =
 -- 15, 16 and 25, then these.
 unfoldable pub file_records : List ℕ → Outcome (List Fixup)
 file_records file = and_then (asked_kind file) (λ _. records_in file)
-
--- Document 01's outcome of each case of the code's answer.
-abbrev pub tables_outcome : FileTables → Outcome Pair
-tables_outcome (Tables r b) = value (pair r b)
-tables_outcome (Missing m) = missed m

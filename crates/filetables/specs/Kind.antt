@@ -8,6 +8,7 @@ use Rattle.macho.specs.Loader.{ncmds, segment_kind, fileoff, filesize}
 use Rattle.macho.specs.Commands.{command_bytes, asked_commands, of_kind}
 use Rattle.fixups.specs.FixupChains.{chained_fixups_kind}
 use Rattle.opcodes.specs.DyldInfo.{dyld_info_kind, dyld_info_only_kind, bind_off, weak_bind_off, lazy_bind_off, stream_off, stream_size}
+use Rattle.reads.specs.declared.answer.Question.TheVariants.{FileKind}
 
 -- mach_header_64: filetype +12, flags +24.
 abbrev pub filetype : List ℕ → ℕ
@@ -73,4 +74,4 @@ is_read file = type_read (filetype file) && (ltb (flags file) (2 ^ 31) && comman
 
 -- 15 and 16, then 25.
 unfoldable pub asked_kind : List ℕ → Outcome (Unit {0})
-asked_kind file = and_then (asked_commands file) (λ _. question 25 (is_read file))
+asked_kind file = and_then (asked_commands file) (λ _. question FileKind (is_read file))

@@ -1,39 +1,29 @@
 // The tables of a file that is read: from its chained fixups, or else from its bind opcodes; without either there are no records.
 ghost use Rattle.std.specs.Prelude.{◌≡◌};
 ghost use Rattle.reads.specs.Reference.{before};
-ghost use Rattle.fixups.specs.Fixups.{leaves, settled};
+ghost use Rattle.fixups.specs.Fixups.{built_outcome, leaves, settled};
 ghost use Rattle.opcodes.specs.Binds.{binds_found};
-ghost use Rattle.filetables.specs.FileRecords.{bound_records, records_in, file_records, tables_outcome};
+ghost use Rattle.filetables.specs.FileRecords.{bound_records, records_in, file_records};
 
 use crate::kind::ask_kind;
 use crate::loader::LC_DYLD_CHAINED_FIXUPS;
-use fixups::build::{Built, build_tables};
+use fixups::build::build_tables;
 use macho::command::find;
 use macho::header::{command_bytes, command_count};
-use opcodes::build::{BindsBuilt, bind_table};
-use pointers::question::Asked;
-use reads::answer::Missing;
+use opcodes::build::bind_table;
+use reads::answer::Question;
 
-// How many rebases and binds were written, or the number of the question that says no.
-#[derive(Clone, Copy)]
-pub enum FileTables {
-    Tables(u64, u64),
-    Missing(Missing),
-}
-
-// From the bind opcodes: such a file's words are the addresses, so that it needs no rebases.
-fn from_opcodes(file: &[u8], rebases: &mut [u64], binds: &mut [u64]) -> FileTables
-    ensures { leaves (tables_outcome result) rebases.new binds.new ≡ settled (bound_records (binds_found (before file))) rebases.old binds.old }
+// From the bind opcodes, how many rebases and binds were written: such a file's words are the addresses, so that it needs no rebases.
+fn from_opcodes(file: &[u8], rebases: &mut [u64], binds: &mut [u64]) -> Result<(u64, u64), Question>
+    ensures { leaves (built_outcome result) rebases.new binds.new ≡ settled (bound_records (binds_found (before file))) rebases.old binds.old }
 {
-    match bind_table(file, binds) {
-        BindsBuilt::Binds(n) => FileTables::Tables(0, n),
-        BindsBuilt::Missing(m) => FileTables::Missing(m),
-    }
+    let n = bind_table(file, binds)?;
+    Ok((0, n))
 }
 
 // From what the file has.
-fn from_either(file: &[u8], rebases: &mut [u64], binds: &mut [u64]) -> FileTables
-    ensures { leaves (tables_outcome result) rebases.new binds.new ≡ settled (records_in (before file)) rebases.old binds.old }
+fn from_either(file: &[u8], rebases: &mut [u64], binds: &mut [u64]) -> Result<(u64, u64), Question>
+    ensures { leaves (built_outcome result) rebases.new binds.new ≡ settled (records_in (before file)) rebases.old binds.old }
 {
     let found = find(
         command_bytes(file),
@@ -44,18 +34,17 @@ fn from_either(file: &[u8], rebases: &mut [u64], binds: &mut [u64]) -> FileTable
     if !found.here {
         return from_opcodes(file, rebases, binds);
     }
-    match build_tables(file, rebases, binds) {
-        Built::Tables(r, b) => FileTables::Tables(r, b),
-        Built::Refused(k) => FileTables::Missing(Missing::Refused(k)),
-    }
+    build_tables(file, rebases, binds)
 }
 
 // Builds the rebase and bind tables of a file: both counts, or the number of the first question that says no, with nothing written.
-pub fn file_tables(file: &[u8], rebases: &mut [u64], binds: &mut [u64]) -> FileTables
-    ensures { leaves (tables_outcome result) rebases.new binds.new ≡ settled (file_records (before file)) rebases.old binds.old }
+pub fn file_tables(
+    file: &[u8],
+    rebases: &mut [u64],
+    binds: &mut [u64],
+) -> Result<(u64, u64), Question>
+    ensures { leaves (built_outcome result) rebases.new binds.new ≡ settled (file_records (before file)) rebases.old binds.old }
 {
-    match ask_kind(file) {
-        Asked::Yes => from_either(file, rebases, binds),
-        Asked::Refused(k) => FileTables::Missing(Missing::Refused(k)),
-    }
+    ask_kind(file)?;
+    from_either(file, rebases, binds)
 }

@@ -1,9 +1,9 @@
 // Question 25: is the file of a kind that is read, and whole? Of another rows or names would be missed in silence.
 ghost use Rattle.std.specs.Prelude.{◌≡◌, ◌≤◌, ◌<◌, ◌^◌, length};
 ghost use Rattle.reads.specs.Reference.{before};
-ghost use Rattle.pointers.specs.Question.{asked_outcome};
 ghost use Rattle.macho.specs.Commands.{of_kind};
 ghost use Rattle.filetables.specs.Kind.{type_read, segment_read, stream_read, info_read, command_read, kind_read, carriers, commands_read, is_read, asked_kind};
+ghost use Rattle.reads.specs.Answer.{answered};
 
 use crate::loader::{
     BIND_OFF, CRYPTID, FILETYPE, FLAGS, LAZY_BIND_OFF, LC_DYLD_CHAINED_FIXUPS, LC_DYLD_INFO,
@@ -15,7 +15,7 @@ use macho::command::{ask_commands, commands};
 use macho::header::{command_bytes, command_count};
 use macho::loader::{FILEOFF, FILESIZE, LC_SEGMENT_64};
 use macho::number::field32;
-use pointers::question::Asked;
+use reads::answer::Question;
 use reads::place::u64_from;
 
 // The kinds of file that dyld loads by themselves.
@@ -142,16 +142,12 @@ fn is_read(file: &[u8]) -> bool
 }
 
 // 15 and 16, then 25.
-pub fn ask_kind(file: &[u8]) -> Asked
-    ensures { asked_outcome result ≡ asked_kind (before file) }
+pub fn ask_kind(file: &[u8]) -> Result<(), Question>
+    ensures { answered result ≡ asked_kind (before file) }
 {
-    match ask_commands(file) {
-        Asked::Yes => {
-            if is_read(file) {
-                return Asked::Yes;
-            }
-            Asked::Refused(25)
-        }
-        Asked::Refused(k) => Asked::Refused(k),
+    ask_commands(file)?;
+    if is_read(file) {
+        return Ok(());
     }
+    Err(Question::FileKind)
 }

@@ -1,6 +1,6 @@
 -- The text of a listing, handed to a writer piece by piece. No definition says what a writer does with it: whether a write failed is its answer.
 use Rattle.std.specs.Prelude.{ℕ, ◌≡◌, List, [], ◌++◌, take, drop}
-use Rattle.reads.specs.Outcome.{Outcome, value, absent, number}
+use Rattle.reads.specs.Outcome.{Outcome, value, absent, refused}
 use Rattle.pointers.specs.Tables.{Tables}
 use Rattle.listing.specs.Listing.{Answer}
 use Rattle.frames.specs.declared.frames.Ranges.{Ranges}
@@ -8,6 +8,7 @@ use Rattle.printing.specs.Pieces.{Standing, to_come, past, in_front}
 use Rattle.filelist.specs.FileText.{framed_file, opened_by}
 use Rattle.filelist.specs.FileLent.{index_used, segments_after, sections_after, index_after, tables_lent}
 use Rattle.filewrite.specs.declared.write.Wrote.{Wrote}
+use Rattle.reads.specs.Question.{number_of}
 
 -- The most bytes of a piece, and the next piece of what is still to come.
 abbrev pub piece_bytes : ℕ
@@ -35,7 +36,7 @@ wrote s k = record { status = s; number = k }
 abbrev pub end_of : Outcome Answer → Wrote
 end_of (value x) = wrote 0 0
 end_of (absent r) = wrote 0 0
-end_of (number k) = wrote 1 k
+end_of (refused k) = wrote 1 (number_of k)
 
 -- What is claimed of an end: nothing is still to come, or a write failed.
 pub data Ends (t : Tables) (q : Standing) : Wrote → Type 0 where

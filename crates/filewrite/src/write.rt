@@ -2,18 +2,19 @@
 ghost use Rattle.std.specs.Prelude.{◌≡◌, true, [], drop};
 ghost use Rattle.reads.specs.Reference.{before};
 ghost use Rattle.reads.specs.declared.text.Reading.TheVariants.{New};
-ghost use Rattle.macho.specs.OpenFile.{file_outcome};
 ghost use Rattle.listing.specs.ListingAnswer.{said_of};
 ghost use Rattle.printing.specs.Pieces.{standing_of, to_come, begun, handed_of, piece_of};
 ghost use Rattle.filelist.specs.FileText.{file_setting, framed_file};
 ghost use Rattle.filelist.specs.FileLent.{index_used, segments_after, sections_after, index_after, tables_lent};
 ghost use Rattle.filewrite.specs.Written.{piece_bytes, end_of, HandedOver, Written, tables_read};
+ghost use Rattle.reads.specs.Answer.{outcome};
 
 use filelist::file::{list_file_under, next_piece};
 use frames::frames::Ranges;
 use listing::listing::Said;
-use macho::open::FileAnswer;
+use macho::open::OpenedFile;
 use printing::pieces::{Piece, Progress};
+use reads::answer::Missing;
 use reads::text::Reading;
 
 // How the writing of a listing ended, for C too: status 0, the whole listing was written; 1, the file was refused, by the number; 3, a write
@@ -43,7 +44,7 @@ pub struct Pieces {
 // The next piece, into a buffer of this length.
 fn whole_piece(
     progress: Progress,
-    answer: FileAnswer,
+    answer: Result<OpenedFile, Missing>,
     file: &[u8],
     segments: &[u64],
     sections: &[u64],
@@ -53,9 +54,9 @@ fn whole_piece(
     ledger: &mut [u64],
     out: &mut [u8; 65536],
 ) -> Piece
-    ensures piece { let t = tables_lent (file_outcome answer) (before file) (before segments) (before sections) (before rebases) (before binds) (before index) in
+    ensures piece { let t = tables_lent (outcome answer) (before file) (before segments) (before sections) (before rebases) (before binds) (before index) in
         handed_of result ledger.new out.new ≡ piece_of t (standing_of progress ledger.old) piece_bytes out.old }
-    ensures rest { let t = tables_lent (file_outcome answer) (before file) (before segments) (before sections) (before rebases) (before binds) (before index) in
+    ensures rest { let t = tables_lent (outcome answer) (before file) (before segments) (before sections) (before rebases) (before binds) (before index) in
         to_come t (standing_of result.progress ledger.new) ≡ drop piece_bytes (to_come t (standing_of progress ledger.old)) }
 {
     next_piece(
@@ -68,7 +69,7 @@ fn whole_piece(
 fn write_pieces(
     fd: i32,
     start: Progress,
-    answer: FileAnswer,
+    answer: Result<OpenedFile, Missing>,
     file: &[u8],
     segments: &[u64],
     sections: &[u64],
@@ -78,9 +79,9 @@ fn write_pieces(
     ledger: &mut [u64],
     out: &mut [u8; 65536],
 ) -> Pieces
-    ensures handed { let t = tables_lent (file_outcome answer) (before file) (before segments) (before sections) (before rebases) (before binds) (before index) in
+    ensures handed { let t = tables_lent (outcome answer) (before file) (before segments) (before sections) (before rebases) (before binds) (before index) in
         HandedOver t (standing_of start ledger.old) out.old (standing_of result.progress ledger.new) out.new }
-    ensures whole { let t = tables_lent (file_outcome answer) (before file) (before segments) (before sections) (before rebases) (before binds) (before index) in
+    ensures whole { let t = tables_lent (outcome answer) (before file) (before segments) (before sections) (before rebases) (before binds) (before index) in
         (result.whole ≡ true → to_come t (standing_of result.progress ledger.new) ≡ []) }
 {
     let mut progress = start;
@@ -129,7 +130,7 @@ fn ended(said: Said) -> Wrote
         },
         Said::Refused(k) => Wrote {
             status: Wrote::REFUSED,
-            number: k as u64,
+            number: k.number() as u64,
         },
     }
 }

@@ -1,12 +1,12 @@
 -- The whole call, by the branches of the code: counting first and then writing gives the tables that the definition says.
 use Rattle.std.proofs.Common.{◌≡◌, ℕ, ◌+◌, ◌/◌, ◌^◌, ◌<◌, ◌≤◌, true, false, List, [], ◌∷◌, length, sym, refl, ◌∙◌, ap₂, arith, le-leb}
 use borrow.Author.Tests.{lt-leb}
-use Rattle.reads.specs.Outcome.{Outcome, value, absent, number, choose}
+use Rattle.reads.specs.Outcome.{Outcome, value, absent, refused, choose}
 use Rattle.reads.specs.Place.{part}
 use Rattle.reads.proofs.Tests.{choose_true, choose_false}
 use Rattle.pointers.specs.Tables.{rebase_words, bind_words}
 use Rattle.pointers.specs.Symbol.{ascii}
-use Rattle.macho.specs.Loader.{ncmds, cmdsize, segment_kind, vmaddr}
+use Rattle.macho.specs.Loader.{ncmds, cmdsize, vmaddr}
 use Rattle.macho.specs.Commands.{command_bytes, asked_commands, of_kind, segments_of}
 use Rattle.macho.specs.Segments.{written}
 use Rattle.macho.specs.Sections.{named, padded}
@@ -17,9 +17,10 @@ use Rattle.fixups.specs.Starts.{walk_of}
 use Rattle.fixups.specs.Tables.{rebase_row, bind_row, rows_of, State, state, puts, told, state_of}
 use Rattle.fixups.specs.Fixups.{base_of, fixups_from, fixups_in, fixups_found, pair, leaves, settled}
 use Rattle.fixups.specs.declared.chain.Fixup.{Fixup}
-use Rattle.fixups.specs.declared.chain.Walked.{Walked}
-use Rattle.fixups.specs.declared.chain.Walked.TheVariants.{Counts, Refused}
+use Rattle.std.specs.Prelude.{Result, Ok, Err}
 use Rattle.fixups.proofs.Rows.{rebases_filled, binds_filled, Counted, rebases_counted, binds_counted}
+use Rattle.reads.specs.declared.answer.Question.{Question}
+use Rattle.reads.specs.declared.answer.Question.TheVariants.{RebaseTable, BindTable, FixupData}
 
 pub nil_of : (l : List ℕ) → length l ≡ 0 → l ≡ []
 nil_of [] e = refl
@@ -43,7 +44,7 @@ module _ (cmds segs : List ℕ) where
     base_next e = base_more ∙ choose_false _ _ e
 
 -- A number, and no records.
-pub settled_number : (k : ℕ) (rs bs : List ℕ) → leaves (number k) rs bs ≡ settled (number k) rs bs
+pub settled_number : (k : Question) (rs bs : List ℕ) → leaves (refused k) rs bs ≡ settled (refused k) rs bs
 unfolding settled
 settled_number k rs bs = refl
 
@@ -52,7 +53,7 @@ unfolding settled rows_of written choose
 settled_none rs bs = simp (le-leb 0 (length rs) (omega arith), le-leb 0 (length bs) (omega arith))
 
 module _ (file cmds : List ℕ) (count a : ℕ) where
-  pub from_short : cmdsize cmds a < 16 → fixups_from file cmds count a ≡ number 19
+  pub from_short : cmdsize cmds a < 16 → fixups_from file cmds count a ≡ refused FixupData
   unfolding fixups_from
   from_short h = choose_false _ _ (lt-leb 16 (cmdsize cmds a) h)
 
@@ -62,7 +63,7 @@ module _ (file cmds : List ℕ) (count a : ℕ) where
   from_data h body at from size base eb ea ef es e = rw (eb, e, es, ef, ea) (sym (choose_true _ _ (le-leb 16 (cmdsize cmds a) h)))
 
 module _ (file : List ℕ) where
-  pub found_refused : (k : ℕ) → number k ≡ asked_commands file → number k ≡ fixups_found file
+  pub found_refused : (k : Question) → refused k ≡ asked_commands file → refused k ≡ fixups_found file
   unfolding fixups_found
   found_refused k e = rw (← e)
 
@@ -85,14 +86,20 @@ module _ (rs bs : List ℕ) (hr : length rs < 2 ^ 64) (hb : length bs < 2 ^ 64) 
   abbrev nothing : State
   nothing = state 0 0 [] []
 
-  pub refused : (x : Outcome (List Fixup)) (w : Walked) → state_of w [] [] ≡ told x nothing → (k : ℕ) → w ≡ Refused k → leaves (number k) rs bs ≡ settled x rs bs
+  pub refusing : (x : Outcome (List Fixup)) (w : Result (ℕ × ℕ) Question) → state_of w [] [] ≡ told x nothing → (k : Question) → w ≡ Err k → leaves (refused k) rs bs ≡ settled x rs bs
   unfolding told settled
-  refused (value xs) w e k g = let z : number k ≡ value (puts xs nothing) = rw g at e in let q : ◌≡◌ {A = ℕ} 0 1 = cc in absurd (omega arith)
-  refused (absent r) w e k g = let z : ◌≡◌ {A = Outcome State} (number k) (absent r) = rw g at e in let q : ◌≡◌ {A = ℕ} 0 1 = cc in absurd (omega arith)
-  refused (number j) w e k g = let z : ◌≡◌ {A = Outcome State} (number k) (number j) = rw g at e in let q : k ≡ j = cc in rw q
+  refusing (value xs) w e k g = let z : refused k ≡ value (puts xs nothing) = rw g at e in let q : ◌≡◌ {A = ℕ} 0 1 = cc in absurd (omega arith)
+  refusing (absent r) w e k g = let z : ◌≡◌ {A = Outcome State} (refused k) (absent r) = rw g at e in let q : ◌≡◌ {A = ℕ} 0 1 = cc in absurd (omega arith)
+  refusing (refused j) w e k g = let z : ◌≡◌ {A = Outcome State} (refused k) (refused j) = rw g at e in let q : k ≡ j = cc in rw q
 
   -- A walk that counted has found records.
-  module _ (x : Outcome (List Fixup)) (w : Walked) (e : state_of w [] [] ≡ told x nothing) (r b : ℕ) (g : w ≡ Counts r b) where
+  module _ (x : Outcome (List Fixup)) (w : Result (ℕ × ℕ) Question) (e : state_of w [] [] ≡ told x nothing) (t : ℕ × ℕ) (g : w ≡ Ok t) where
+    abbrev r : ℕ
+    r = t.0
+
+    abbrev b : ℕ
+    b = t.1
+
     walked : (xs : List Fixup) × (x ≡ value xs) × (state r b [] [] ≡ puts xs nothing)
     unfolding told
     walked = go x refl (rw g at e)
@@ -100,7 +107,7 @@ module _ (rs bs : List ℕ) (hr : length rs < 2 ^ 64) (hb : length bs < 2 ^ 64) 
         go : (y : Outcome (List Fixup)) → x ≡ y → value (state r b [] []) ≡ told y nothing → (xs : List Fixup) × (x ≡ value xs) × (state r b [] [] ≡ puts xs nothing)
         go (value xs) p q = (xs, p, cc)
         go (absent j) p q = let z : value (state r b [] []) ≡ absent j = q in let y : ◌≡◌ {A = ℕ} 0 1 = cc in absurd (omega arith)
-        go (number j) p q = let z : value (state r b [] []) ≡ number j = q in let y : ◌≡◌ {A = ℕ} 0 1 = cc in absurd (omega arith)
+        go (refused j) p q = let z : value (state r b [] []) ≡ refused j = q in let y : ◌≡◌ {A = ℕ} 0 1 = cc in absurd (omega arith)
 
     xs : List Fixup
     xs = walked.0
@@ -111,27 +118,28 @@ module _ (rs bs : List ℕ) (hr : length rs < 2 ^ 64) (hb : length bs < 2 ^ 64) 
     bound : Counted b bind_words (rows_of bind_row walked.0)
     bound = binds_counted walked.0 r b [] [] walked.2
 
-    pub is_5 : length rs / rebase_words < r → leaves (number 5) rs bs ≡ settled x rs bs
+    pub is_5 : length rs / rebase_words < r → leaves (refused RebaseTable) rs bs ≡ settled x rs bs
     unfolding settled
     is_5 h = rw walked.1 (sym (choose_false _ _ (lt-leb _ _ (rebased.short rs hr h))))
 
     module _ (p : r ≤ length rs / rebase_words) where
-      pub is_6 : length bs / bind_words < b → leaves (number 6) rs bs ≡ settled x rs bs
+      pub is_6 : length bs / bind_words < b → leaves (refused BindTable) rs bs ≡ settled x rs bs
       unfolding settled
       is_6 h = rw walked.1 (sym (choose_true _ _ (le-leb _ _ (rebased.fits rs hr p)) ∙ choose_false _ _ (lt-leb _ _ (bound.short bs hb h))))
 
-      pub is_filled : b ≤ length bs / bind_words → (v : Walked) (rs' bs' : List ℕ) → state_of v rs' bs' ≡ told x (state 0 0 rs bs)
+      pub is_filled : b ≤ length bs / bind_words → (v : Result (ℕ × ℕ) Question) (rs' bs' : List ℕ) → state_of v rs' bs' ≡ told x (state 0 0 rs bs)
           → leaves (value (pair r b)) rs' bs' ≡ settled x rs bs
       unfolding settled told
       is_filled q v rs' bs' u = rw walked.1 (go v (rw walked.1 at u))
         where
-          go : (v' : Walked) → state_of v' rs' bs' ≡ value (puts walked.0 (state 0 0 rs bs))
+          go : (v' : Result (ℕ × ℕ) Question) → state_of v' rs' bs' ≡ value (puts walked.0 (state 0 0 rs bs))
               → leaves (value (pair r b)) rs' bs' ≡ settled (value walked.0) rs bs
-          go (Counts n m) s =
+          go (Ok u) s =
+              let n = u.0 in let m = u.1 in
               let z : state n m rs' bs' ≡ puts walked.0 (state 0 0 rs bs) = cc in
               let er = rebases_filled walked.0 n m rs' bs' rs bs z (rebased.fits rs hr p) hr in
               let eb = binds_filled walked.0 n m rs' bs' rs bs z (bound.fits bs hb q) hb in
               ap₂ (λ (i j : ℕ). leaves (value (pair i j)) rs' bs') (rebased.exact rs hr p) (bound.exact bs hb q)
               ∙ rw (er, eb)
               (sym (choose_true _ _ (le-leb _ _ (rebased.fits rs hr p)) ∙ choose_true _ _ (le-leb _ _ (bound.fits bs hb q))))
-          go (Refused k) s = let z : ◌≡◌ {A = ℕ} 0 1 = cc in absurd (omega arith)
+          go (Err k) s = let z : ◌≡◌ {A = ℕ} 0 1 = cc in absurd (omega arith)

@@ -1,6 +1,6 @@
 -- A file of 212 bytes, computed: one `__TEXT` at 0x1000, a page of format 6 with a rebase, a bind of `_a` and a rebase; and changes of it.
 use Rattle.std.proofs.Common.{◌≡◌, ℕ, List, [], ◌∷◌, take, set, replicate, refl}
-use Rattle.reads.specs.Outcome.{value, number, choose}
+use Rattle.reads.specs.Outcome.{value, refused, choose}
 use Rattle.reads.specs.Place.{le, le_in}
 use Rattle.pointers.specs.Question.{question}
 use Rattle.pointers.specs.Symbol.{starts}
@@ -13,6 +13,7 @@ use Rattle.fixups.specs.Starts.{joined, page_at, pages_from, known, segment_star
 use Rattle.fixups.specs.Tables.{rows_of}
 use Rattle.fixups.specs.Fixups.{base_of, fixups_from, fixups_in, fixups_found, pair, leaves, settled}
 use Rattle.fixups.specs.declared.chain.Fixup.TheVariants.{Rebase, Bind}
+use Rattle.reads.specs.declared.answer.Question.TheVariants.{RebaseTable, BindTable, Header, LoadCommands, FixupData, FixupSlot}
 
 abbrev small : List ℕ
 small =
@@ -37,37 +38,37 @@ unfolding le_in le choose zero_from text_at import_at step_of origin_of target_o
 found = refl
 
 -- Another magic.
-pub other_magic : fixups_found (set small 0 0) ≡ number 15
+pub other_magic : fixups_found (set small 0 0) ≡ refused Header
 unfolding le_in le choose zero_from text_at import_at step_of origin_of target_of slot_of entry_of visit_of chain joined page_at pages_from known segment_starts first_starts info_of infos_from image_starts walk_of headed sectioned fits all_fit asked_commands question of_kind named starts base_of fixups_from fixups_in fixups_found
 other_magic = refl
 
 -- A third command is counted, and there is none.
-pub third_command : fixups_found (set small 16 3) ≡ number 16
+pub third_command : fixups_found (set small 16 3) ≡ refused LoadCommands
 unfolding le_in le choose zero_from text_at import_at step_of origin_of target_of slot_of entry_of visit_of chain joined page_at pages_from known segment_starts first_starts info_of infos_from image_starts walk_of headed sectioned fits all_fit asked_commands question of_kind named starts base_of fixups_from fixups_in fixups_found
 third_command = refl
 
 -- A command of 8 bytes.
-pub short_command : fixups_found (set small 108 8) ≡ number 19
+pub short_command : fixups_found (set small 108 8) ≡ refused FixupData
 unfolding le_in le choose zero_from text_at import_at step_of origin_of target_of slot_of entry_of visit_of chain joined page_at pages_from known segment_starts first_starts info_of infos_from image_starts walk_of headed sectioned fits all_fit asked_commands question of_kind named starts base_of fixups_from fixups_in fixups_found
 short_command = refl
 
 -- Import format 2.
-pub other_imports : fixups_found (set small 164 2) ≡ number 19
+pub other_imports : fixups_found (set small 164 2) ≡ refused FixupData
 unfolding le_in le choose zero_from text_at import_at step_of origin_of target_of slot_of entry_of visit_of chain joined page_at pages_from known segment_starts first_starts info_of infos_from image_starts walk_of headed sectioned fits all_fit asked_commands question of_kind named starts base_of fixups_from fixups_in fixups_found
 other_imports = refl
 
 -- Symbol format 1.
-pub packed_symbols : fixups_found (set small 168 1) ≡ number 19
+pub packed_symbols : fixups_found (set small 168 1) ≡ refused FixupData
 unfolding le_in le choose zero_from text_at import_at step_of origin_of target_of slot_of entry_of visit_of chain joined page_at pages_from known segment_starts first_starts info_of infos_from image_starts walk_of headed sectioned fits all_fit asked_commands question of_kind named starts base_of fixups_from fixups_in fixups_found
 packed_symbols = refl
 
 -- Pointer format 1.
-pub other_pointers : fixups_found (set small 186 1) ≡ number 19
+pub other_pointers : fixups_found (set small 186 1) ≡ refused FixupData
 unfolding le_in le choose zero_from text_at import_at step_of origin_of target_of slot_of entry_of visit_of chain joined page_at pages_from known segment_starts first_starts info_of infos_from image_starts walk_of headed sectioned fits all_fit asked_commands question of_kind named starts base_of fixups_from fixups_in fixups_found
 other_pointers = refl
 
 -- A page start marked multiple.
-pub several_starts : fixups_found (set small 203 128) ≡ number 19
+pub several_starts : fixups_found (set small 203 128) ≡ refused FixupData
 unfolding le_in le choose zero_from text_at import_at step_of origin_of target_of slot_of entry_of visit_of chain joined page_at pages_from known segment_starts first_starts info_of infos_from image_starts walk_of headed sectioned fits all_fit asked_commands question of_kind named starts base_of fixups_from fixups_in fixups_found
 several_starts = refl
 
@@ -82,17 +83,17 @@ unfolding le_in le choose zero_from text_at import_at step_of origin_of target_o
 no_starts = refl
 
 -- The last slot goes on by 12 steps, to the end of the page.
-pub leaves_page : fixups_found (set small 142 96) ≡ number 20
+pub leaves_page : fixups_found (set small 142 96) ≡ refused FixupSlot
 unfolding le_in le choose zero_from text_at import_at step_of origin_of target_of slot_of entry_of visit_of chain joined page_at pages_from known segment_starts first_starts info_of infos_from image_starts walk_of headed sectioned fits all_fit asked_commands question of_kind named starts base_of fixups_from fixups_in fixups_found
 leaves_page = refl
 
 -- Ordinal 1 of one import.
-pub no_import : fixups_found (set small 128 1) ≡ number 20
+pub no_import : fixups_found (set small 128 1) ≡ refused FixupSlot
 unfolding le_in le choose zero_from text_at import_at step_of origin_of target_of slot_of entry_of visit_of chain joined page_at pages_from known segment_starts first_starts info_of infos_from image_starts walk_of headed sectioned fits all_fit asked_commands question of_kind named starts base_of fixups_from fixups_in fixups_found
 no_import = refl
 
 -- The name's zero is cut off.
-pub no_zero : fixups_found (take 211 small) ≡ number 19
+pub no_zero : fixups_found (take 211 small) ≡ refused FixupData
 unfolding le_in le choose zero_from text_at import_at step_of origin_of target_of slot_of entry_of visit_of chain joined page_at pages_from known segment_starts first_starts info_of infos_from image_starts walk_of headed sectioned fits all_fit asked_commands question of_kind named starts base_of fixups_from fixups_in fixups_found
 no_zero = refl
 
@@ -107,11 +108,11 @@ pub tables_filled : settled (fixups_found small) (replicate 5 7) (replicate 5 7)
 unfolding settled rows_of written le_in le choose zero_from text_at import_at step_of origin_of target_of slot_of entry_of visit_of chain joined page_at pages_from known segment_starts first_starts info_of infos_from image_starts walk_of headed sectioned fits all_fit asked_commands question of_kind named starts base_of fixups_from fixups_in fixups_found
 tables_filled = refl
 
-pub short_binds : settled (fixups_found small) (replicate 5 7) (replicate 3 7) ≡ leaves (number 6) (replicate 5 7) (replicate 3 7)
+pub short_binds : settled (fixups_found small) (replicate 5 7) (replicate 3 7) ≡ leaves (refused BindTable) (replicate 5 7) (replicate 3 7)
 unfolding settled rows_of written le_in le choose zero_from text_at import_at step_of origin_of target_of slot_of entry_of visit_of chain joined page_at pages_from known segment_starts first_starts info_of infos_from image_starts walk_of headed sectioned fits all_fit asked_commands question of_kind named starts base_of fixups_from fixups_in fixups_found
 short_binds = refl
 
 -- 5 before 6.
-pub short_both : settled (fixups_found small) (replicate 3 7) (replicate 3 7) ≡ leaves (number 5) (replicate 3 7) (replicate 3 7)
+pub short_both : settled (fixups_found small) (replicate 3 7) (replicate 3 7) ≡ leaves (refused RebaseTable) (replicate 3 7) (replicate 3 7)
 unfolding settled rows_of written le_in le choose zero_from text_at import_at step_of origin_of target_of slot_of entry_of visit_of chain joined page_at pages_from known segment_starts first_starts info_of infos_from image_starts walk_of headed sectioned fits all_fit asked_commands question of_kind named starts base_of fixups_from fixups_in fixups_found
 short_both = refl

@@ -1,7 +1,7 @@
 -- The chain of a page from any of its slots on.
 use Rattle.std.proofs.Common.{◌≡◌, ℕ, zero, suc, ◌+◌, ◌-◌, ◌^◌, ◌<◌, ◌≤◌, Bool, true, false, eqb, ltb, List, [], ◌∷◌, sym, refl, ap, ◌∙◌, arith, le-ltb, lt-ltb, eq-eqb, ne_eqb}
 use borrow.Author.Tests.{eqb-false}
-use Rattle.reads.specs.Outcome.{Outcome, value, absent, number, and_then, choose}
+use Rattle.reads.specs.Outcome.{Outcome, value, absent, refused, and_then, choose}
 use Rattle.fixups.specs.FixupChains.{lies}
 use Rattle.fixups.specs.Chain.{visit_of, entry_of, slot_word, step_of, Met, met, chain, chain_at}
 use Rattle.fixups.specs.Tables.{state, put, puts, told, State, Stepped, stepped, stepped_of}
@@ -9,13 +9,15 @@ use Rattle.fixups.specs.declared.chain.Fixups.{Fixups}
 use Rattle.fixups.specs.declared.chain.Starts.{Starts}
 use Rattle.fixups.specs.declared.chain.Fixup.{Fixup}
 use Rattle.fixups.specs.declared.chain.Visit.{Visit}
-use Rattle.fixups.specs.declared.chain.Visit.TheVariants.{Slot, Refused}
+use Rattle.std.specs.Prelude.{Result, Ok, Err}
 use Rattle.fixups.proofs.Visits.{after}
+use Rattle.reads.specs.declared.answer.Question.{Question}
+use Rattle.reads.specs.declared.answer.Question.TheVariants.{FixupSlot}
 
 pub same_then : {A B : Type 0} (v : Outcome A) (g h : A → Outcome B) → ((a : A) → g a ≡ h a) → and_then v g ≡ and_then v h
 same_then (value a) g h e = e a
 same_then (absent r) g h e = refl
-same_then (number k) g h e = refl
+same_then (refused k) g h e = refl
 
 -- One slot, and the rest of the chain if there is a next.
 abbrev onward : Met → Outcome (List Fixup) → Outcome (List Fixup)
@@ -38,13 +40,13 @@ module _ (file body : List ℕ) (f : Fixups) (s : Starts) (page : ℕ) where
   enough zero (suc j) o p q = simp (le-ltb o s.size (omega arith))
   enough (suc k) zero o p q = simp (le-ltb o s.size (omega arith))
   enough (suc k) (suc j) o p q =
-      ap (λ (x : Outcome (List Fixup)). choose (ltb o s.size) x (number 20))
+      ap (λ (x : Outcome (List Fixup)). choose (ltb o s.size) x (refused FixupSlot))
       (same_then (visit_of file body f s (page + o)) (λ m. onward m (chain file body f s page k (o + m.step))) (λ m. onward m (chain file body f s page j (o + m.step)))
       (λ m. same_onward m (chain file body f s page k (o + m.step)) (chain file body f s page j (o + m.step))
       (λ n. enough k j (o + m.step) (omega arith) (omega arith))))
 
   -- A chain that has left its page.
-  pub chain_out : (o : ℕ) → s.size ≤ o → chain_at file body f s page o ≡ number 20
+  pub chain_out : (o : ℕ) → s.size ≤ o → chain_at file body f s page o ≡ refused FixupSlot
   unfolding chain choose
   chain_out o h = let e : s.size - o ≡ 0 = omega arith in rw e
 
@@ -63,14 +65,14 @@ told_rest : (x : Outcome (List Fixup)) (y : Fixup) (st : State) → told (and_th
 unfolding told puts
 told_rest (value xs) y st = refl
 told_rest (absent r) y st = refl
-told_rest (number k) y st = refl
+told_rest (refused k) y st = refl
 
 -- A slot's step stays below 2 ^ 14.
-short : (b : Bool) (e : Outcome Fixup) (w : ℕ) (m : Met) → choose b (and_then e (λ x. value (met x (step_of w)))) (number 20) ≡ value m → m.step < 2 ^ 14
+short : (b : Bool) (e : Outcome Fixup) (w : ℕ) (m : Met) → choose b (and_then e (λ x. value (met x (step_of w)))) (refused FixupSlot) ≡ value m → m.step < 2 ^ 14
 unfolding step_of choose
 short true (value x) w m q = let p : met x (step_of w) ≡ m = cc in omega (arith, ap (λ (t : Met). t.step) p)
 short true (absent r) w m q = let z : ◌≡◌ {A = ℕ} 0 1 = cc in absurd (omega arith)
-short true (number k) w m q = let z : ◌≡◌ {A = ℕ} 0 1 = cc in absurd (omega arith)
+short true (refused k) w m q = let z : ◌≡◌ {A = ℕ} 0 1 = cc in absurd (omega arith)
 short false e w m q = let z : ◌≡◌ {A = ℕ} 0 1 = cc in absurd (omega arith)
 
 visit_short : (file body : List ℕ) (f : Fixups) (s : Starts) (at : ℕ) (m : Met) → visit_of file body f s at ≡ value m → m.step < 2 ^ 14
@@ -78,7 +80,7 @@ unfolding visit_of
 visit_short file body f s at m q = short (lies file (s.fileoff + at) 8) (entry_of body f s at (slot_word file s at)) (slot_word file s at) m q
 
 module _ (file body : List ℕ) (f : Fixups) (s : Starts) (page o : ℕ) (st : State) where
-  pub left : s.size ≤ o → number 20 ≡ told (chain_at file body f s page o) st
+  pub left : s.size ≤ o → refused FixupSlot ≡ told (chain_at file body f s page o) st
   unfolding told
   left h = rw (chain_out file body f s page o h)
 
@@ -90,25 +92,34 @@ module _ (file body : List ℕ) (f : Fixups) (s : Starts) (page o : ℕ) (st : S
 
 -- What the code sees of a slot: v, with what it leaves in the tables.
 module _ (file body : List ℕ) (f : Fixups) (s : Starts) (page o : ℕ) (st : State) (h : o < s.size)
-    (v : Visit) (rs bs : List ℕ) (seen : stepped_of v rs bs ≡ and_then (visit_of file body f s (page + o)) (after st)) where
-  pub chain_refused : (k : ℕ) → v ≡ Refused k → number k ≡ told (chain_at file body f s page o) st
+    (v : Result Visit Question) (rs bs : List ℕ) (seen : stepped_of v rs bs ≡ and_then (visit_of file body f s (page + o)) (after st)) where
+  pub chain_refused : (k : Question) → v ≡ Err k → refused k ≡ told (chain_at file body f s page o) st
   unfolding told
   chain_refused k e = rw (chain_rule file body f s page o h) (go (visit_of file body f s (page + o)) (rw e at seen))
     where
-      go : (W : Outcome Met) → number k ≡ and_then W (after st)
-          → number k ≡ and_then (and_then W (λ m. onward m (chain_at file body f s page (o + m.step)))) (λ xs. value (puts xs st))
+      go : (W : Outcome Met) → refused k ≡ and_then W (after st)
+          → refused k ≡ and_then (and_then W (λ m. onward m (chain_at file body f s page (o + m.step)))) (λ xs. value (puts xs st))
       go (value m) q = let z : ◌≡◌ {A = ℕ} 0 1 = cc in absurd (omega arith)
       go (absent j) q = let z : ◌≡◌ {A = ℕ} 0 1 = cc in absurd (omega arith)
-      go (number j) q = cc
+      go (refused j) q = cc
 
-  module _ (x y n : ℕ) (e : v ≡ Slot x y n) where
+  module _ (w : Visit) (e : v ≡ Ok w) where
+    abbrev x : ℕ
+    x = w.rebases
+
+    abbrev y : ℕ
+    y = w.binds
+
+    abbrev n : ℕ
+    n = w.step
+
     met_one : (W : Outcome Met) → value (stepped n (state x y rs bs)) ≡ and_then W (after st)
         → (m : Met) × (W ≡ value m) × (n ≡ m.step) × (state x y rs bs ≡ put m.fixup st)
     met_one (value m) q =
         let p : stepped n (state x y rs bs) ≡ stepped m.step (put m.fixup st) = cc in
         (m, refl, ap (λ (t : Stepped). t.step) p, ap (λ (t : Stepped). t.after) p)
     met_one (absent j) q = let z : ◌≡◌ {A = ℕ} 0 1 = cc in absurd (omega arith)
-    met_one (number j) q = let z : ◌≡◌ {A = ℕ} 0 1 = cc in absurd (omega arith)
+    met_one (refused j) q = let z : ◌≡◌ {A = ℕ} 0 1 = cc in absurd (omega arith)
 
     pub last : n ≡ 0 → value (state x y rs bs) ≡ told (chain_at file body f s page o) st
     unfolding told puts choose

@@ -4,15 +4,16 @@ use Rattle.std.specs.List.{position, position_from}
 use Rattle.std.proofs.lemmas.Iterator.Adapters.{position_from-zero}
 use lib.Seq.{take_all}
 use borrow.Author.Tests.{lt-leb}
-use Rattle.reads.specs.Outcome.{Outcome, value, number, choose}
+use Rattle.reads.specs.Outcome.{Outcome, value, refused, choose}
 use Rattle.macho.specs.Number.{u32_at}
 use Rattle.fixups.specs.Imports.{zero_from, text_at, import_at, span}
 use Rattle.fixups.specs.declared.chain.Fixups.{Fixups}
+use Rattle.reads.specs.declared.answer.Question.TheVariants.{FixupData, FixupSlot}
 
 -- The first zero of bytes that stand i bytes after those whose first stands at j.
 pub zero_by : ℕ → Option ℕ → Outcome ℕ
 zero_by i (Some k) = value (i + k)
-zero_by i None = number 19
+zero_by i None = refused FixupData
 
 zero_found : (i j : ℕ) (xs : List ℕ) → zero_from (i + j) xs ≡ zero_by i (position_from (λ x. x == 0) j xs)
 unfolding zero_from zero_by choose
@@ -31,13 +32,13 @@ pub zero_at : (i k : ℕ) (xs : List ℕ) (r : Option ℕ) → r ≡ position (�
 unfolding zero_by
 zero_at i k xs r e g = first i xs ∙ rw (← e, g)
 
-pub zero_nowhere : (i : ℕ) (xs : List ℕ) (r : Option ℕ) → r ≡ position (λ x. x == 0) xs → r ≡ None → zero_from i xs ≡ number 19
+pub zero_nowhere : (i : ℕ) (xs : List ℕ) (r : Option ℕ) → r ≡ position (λ x. x == 0) xs → r ≡ None → zero_from i xs ≡ refused FixupData
 unfolding zero_by
 zero_nowhere i xs r e g = first i xs ∙ rw (← e, g)
 
 -- r is where the first zero of the bytes from `start` on was found.
 module _ (bs : List ℕ) (at start : ℕ) where
-  pub past : length bs < start → number 19 ≡ text_at bs at start
+  pub past : length bs < start → refused FixupData ≡ text_at bs at start
   unfolding text_at zero_from
   past h = rw (drop_of_length-le bs {i = start} (omega arith))
 
@@ -49,18 +50,18 @@ module _ (bs : List ℕ) (at start : ℕ) where
     unfolding text_at
     ends k g = let n : start + k - start ≡ k = omega arith in rw (zero_at start k (drop start bs) r from_start g, n)
 
-    pub runs_out : r ≡ None → number 19 ≡ text_at bs at start
+    pub runs_out : r ≡ None → refused FixupData ≡ text_at bs at start
     unfolding text_at
     runs_out g = rw (zero_nowhere start (drop start bs) r from_start g)
 
 module _ (body : List ℕ) (f : Fixups) (o : ℕ) where
-  pub import_none : f.count ≤ o → number 20 ≡ import_at body f o
+  pub import_none : f.count ≤ o → refused FixupSlot ≡ import_at body f o
   unfolding import_at choose
   import_none h = simp (le-ltb _ _ h)
 
   -- a and i are the two parts of where the import stands.
   module _ (a i : ℕ) (h : o < f.count) (ea : a ≡ f.imports) (ei : i ≡ 4 * o) where
-    pub import_out : length body < a + i + 4 → number 19 ≡ import_at body f o
+    pub import_out : length body < a + i + 4 → refused FixupData ≡ import_at body f o
     unfolding import_at choose
     import_out l = simp (lt-ltb _ _ h, lt-leb (f.imports + 4 * o + 4) (length body) (omega arith))
 

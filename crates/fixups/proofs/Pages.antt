@@ -1,7 +1,7 @@
 -- Pages and segments, by the branches of the code.
 use Rattle.std.proofs.Common.{◌≡◌, ℕ, suc, ◌+◌, ◌-◌, ◌*◌, ◌<◌, ◌≤◌, Bool, true, false, eqb, List, [], length, sym, refl, mul-le-mul, arith, le-ltb, lt-ltb, eq-eqb, ne_eqb, le-leb}
 use borrow.Author.Tests.{lt-leb}
-use Rattle.reads.specs.Outcome.{Outcome, value, number, choose}
+use Rattle.reads.specs.Outcome.{Outcome, value, refused, choose}
 use Rattle.macho.specs.Number.{u16_at, u32_at}
 use Rattle.macho.specs.Loader.{segment_kind}
 use Rattle.macho.specs.Commands.{of_kind}
@@ -14,6 +14,7 @@ use Rattle.fixups.specs.declared.chain.Fixups.{Fixups}
 use Rattle.fixups.specs.declared.chain.Starts.{Starts}
 use Rattle.fixups.specs.declared.chain.Fixup.{Fixup}
 use Rattle.fixups.proofs.Joining.{told_none, told_number}
+use Rattle.reads.specs.declared.answer.Question.TheVariants.{FixupData}
 
 pub whole : (n : ℕ) → n - 0 ≡ n
 whole n = omega arith
@@ -22,7 +23,7 @@ pub product : (a b : ℕ) → a < 65536 → b < 65536 → a * b < 4294967296
 product a b p q = omega (arith, mul-le-mul {n₁ = a} {m₁ = b} {n₂ = 65535} {m₂ = 65535} (omega arith) (omega arith))
 
 module _ (file body : List ℕ) (f : Fixups) (s : Starts) (at p from : ℕ) (st : State) (ef : from ≡ at + 22 + 2 * p) where
-  pub page_out : length body < from + 2 → number 19 ≡ told (page_at file body f s at p) st
+  pub page_out : length body < from + 2 → refused FixupData ≡ told (page_at file body f s at p) st
   unfolding page_at told choose
   page_out h = simp (lt-leb (at + 22 + 2 * p + 2) (length body) (omega arith))
 
@@ -34,9 +35,9 @@ module _ (file body : List ℕ) (f : Fixups) (s : Starts) (at p from : ℕ) (st 
     unfolding page_at choose
     page_none e = simp (le-leb (at + 22 + 2 * p + 2) (length body) (omega arith), es', eq-eqb start 0xFFFF e) (sym (told_none st))
 
-    pub page_multi : (start ≡ 0xFFFF → ⊥) → 0x8000 ≤ start → number 19 ≡ told (page_at file body f s at p) st
+    pub page_multi : (start ≡ 0xFFFF → ⊥) → 0x8000 ≤ start → refused FixupData ≡ told (page_at file body f s at p) st
     unfolding page_at choose
-    page_multi n l = simp (le-leb (at + 22 + 2 * p + 2) (length body) (omega arith), es', ne_eqb start 0xFFFF n, le-ltb start 0x8000 l) (sym (told_number 19 st))
+    page_multi n l = simp (le-leb (at + 22 + 2 * p + 2) (length body) (omega arith), es', ne_eqb start 0xFFFF n, le-ltb start 0x8000 l) (sym (told_number FixupData st))
 
     pub page_chain : (start ≡ 0xFFFF → ⊥) → start < 0x8000 → (offset o : ℕ) → offset ≡ p * s.size → o ≡ start
         → told (chain_at file body f s offset o) st ≡ told (page_at file body f s at p) st
@@ -67,14 +68,14 @@ unfolding known
 known_not n p q = simp (ne_eqb n 2 p, ne_eqb n 6 q)
 
 module _ (file body cmds : List ℕ) (f : Fixups) (at a : ℕ) (st : State) where
-  pub segment_out : length body < at + 22 → number 19 ≡ told (segment_starts file body cmds f at a) st
+  pub segment_out : length body < at + 22 → refused FixupData ≡ told (segment_starts file body cmds f at a) st
   unfolding segment_starts choose
-  segment_out h = simp (lt-leb (at + 22) (length body) h) (sym (told_number 19 st))
+  segment_out h = simp (lt-leb (at + 22) (length body) h) (sym (told_number FixupData st))
 
   module _ (format : ℕ) (h : at + 22 ≤ length body) (ef : format ≡ u16_at body (at + 6)) where
-    pub segment_other : known format ≡ false → number 19 ≡ told (segment_starts file body cmds f at a) st
+    pub segment_other : known format ≡ false → refused FixupData ≡ told (segment_starts file body cmds f at a) st
     unfolding segment_starts choose
-    segment_other k = simp (le-leb (at + 22) (length body) h, ← ef, k) (sym (told_number 19 st))
+    segment_other k = simp (le-leb (at + 22) (length body) h, ← ef, k) (sym (told_number FixupData st))
 
     pub segment_pages : known format ≡ true → (s : Starts) (count : ℕ) → s ≡ starts_of cmds a body at → count ≡ u16_at body (at + 20)
         → told (pages_from file body f s at count 0) st ≡ told (segment_starts file body cmds f at a) st
@@ -83,22 +84,22 @@ module _ (file body cmds : List ℕ) (f : Fixups) (at a : ℕ) (st : State) wher
 
 -- One entry of seg_info_offset, as the code takes it: `here` if there is a segment, whose part is y.
 module _ (offset : ℕ) (here : Bool) (y : Outcome (List Fixup)) (st : State) where
-  pub info_none : offset ≡ 0 → value st ≡ told (choose (eqb offset 0) (value []) (choose here y (number 19))) st
+  pub info_none : offset ≡ 0 → value st ≡ told (choose (eqb offset 0) (value []) (choose here y (refused FixupData))) st
   unfolding choose
   info_none e = simp (eq-eqb offset 0 e) (sym (told_none st))
 
-  pub info_absent : (offset ≡ 0 → ⊥) → here ≡ false → number 19 ≡ told (choose (eqb offset 0) (value []) (choose here y (number 19))) st
+  pub info_absent : (offset ≡ 0 → ⊥) → here ≡ false → refused FixupData ≡ told (choose (eqb offset 0) (value []) (choose here y (refused FixupData))) st
   unfolding choose
-  info_absent n e = simp (ne_eqb offset 0 n, e) (sym (told_number 19 st))
+  info_absent n e = simp (ne_eqb offset 0 n, e) (sym (told_number FixupData st))
 
-  pub info_there : (offset ≡ 0 → ⊥) → here ≡ true → told y st ≡ told (choose (eqb offset 0) (value []) (choose here y (number 19))) st
+  pub info_there : (offset ≡ 0 → ⊥) → here ≡ true → told y st ≡ told (choose (eqb offset 0) (value []) (choose here y (refused FixupData))) st
   unfolding choose
   info_there n e = simp (ne_eqb offset 0 n, e)
 
 module _ (file body cmds : List ℕ) (f : Fixups) where
-  pub starts_out : (segs : List ℕ) (st : State) → length body < f.starts + 4 → number 19 ≡ told (image_starts file body cmds f segs) st
+  pub starts_out : (segs : List ℕ) (st : State) → length body < f.starts + 4 → refused FixupData ≡ told (image_starts file body cmds f segs) st
   unfolding image_starts choose
-  starts_out segs st h = simp (lt-leb (f.starts + 4) (length body) h) (sym (told_number 19 st))
+  starts_out segs st h = simp (lt-leb (f.starts + 4) (length body) h) (sym (told_number FixupData st))
 
   pub starts_in : (segs : List ℕ) (total : ℕ) → f.starts + 4 ≤ length body → total ≡ u32_at body (f.starts + 0)
       → image_starts file body cmds f segs ≡ infos_from file body cmds f (total - 0) 0 segs
@@ -110,26 +111,26 @@ module _ (file body cmds : List ℕ) (f : Fixups) where
   infos_done total i segs st h = let e : total - i ≡ 0 = omega arith in rw e (told_none st)
 
   module _ (total i from : ℕ) (h : i < total) (ef : from ≡ f.starts + 4 + 4 * i) where
-    pub infos_out : (segs : List ℕ) (st : State) → length body < from + 4 → told (infos_from file body cmds f (total - i) i segs) st ≡ number 19
+    pub infos_out : (segs : List ℕ) (st : State) → length body < from + 4 → told (infos_from file body cmds f (total - i) i segs) st ≡ refused FixupData
     unfolding infos_from choose
     infos_out segs st l =
         let e : total - i ≡ suc (total - (i + 1)) = omega arith in
-        rw e (simp (lt-leb (f.starts + 4 + 4 * i + 4) (length body) (omega arith)) (told_number 19 st))
+        rw e (simp (lt-leb (f.starts + 4 + 4 * i + 4) (length body) (omega arith)) (told_number FixupData st))
 
     -- The entry, and then the others, over the segments as a search finds them.
     module _ (offset k a : ℕ) (r : Found) (l : from + 4 ≤ length body) (eo : offset ≡ u32_at body from) (found : Finds segment_kind cmds k a r) where
       first_of : first_starts file body cmds f (f.starts + offset) (of_kind segment_kind cmds k a)
-          ≡ choose r.here (segment_starts file body cmds f (f.starts + offset) r.at) (number 19)
+          ≡ choose r.here (segment_starts file body cmds f (f.starts + offset) r.at) (refused FixupData)
       unfolding first_starts choose
       first_of = go r.here refl
         where
           go : (t : Bool) → r.here ≡ t → first_starts file body cmds f (f.starts + offset) (of_kind segment_kind cmds k a)
-              ≡ choose t (segment_starts file body cmds f (f.starts + offset) r.at) (number 19)
+              ≡ choose t (segment_starts file body cmds f (f.starts + offset) r.at) (refused FixupData)
           go true e = rw (found.more e)
           go false e = rw (found.none e)
 
       pub infos_more : infos_from file body cmds f (total - i) i (of_kind segment_kind cmds k a)
-          ≡ joined (choose (eqb offset 0) (value []) (choose r.here (segment_starts file body cmds f (f.starts + offset) r.at) (number 19)))
+          ≡ joined (choose (eqb offset 0) (value []) (choose r.here (segment_starts file body cmds f (f.starts + offset) r.at) (refused FixupData)))
           (infos_from file body cmds f (total - (i + 1)) (i + 1) (of_kind segment_kind cmds r.left r.next))
       unfolding infos_from info_of choose
       infos_more =
@@ -138,18 +139,18 @@ module _ (file body cmds : List ℕ) (f : Fixups) where
           rw (e, ← first_of, found.rest) (simp (le-leb (f.starts + 4 + 4 * i + 4) (length body) (omega arith), eo'))
 
 module _ (file body cmds : List ℕ) (at base : ℕ) (segs : List ℕ) (st : State) where
-  pub walk_out : length body < 28 → number 19 ≡ told (walk_of file body cmds at base segs) st
+  pub walk_out : length body < 28 → refused FixupData ≡ told (walk_of file body cmds at base segs) st
   unfolding walk_of choose
-  walk_out h = simp (lt-leb (0 + 28) (length body) h) (sym (told_number 19 st))
+  walk_out h = simp (lt-leb (0 + 28) (length body) h) (sym (told_number FixupData st))
 
   module _ (h : 28 ≤ length body) where
-    pub walk_imports : (u32_at body 20 ≡ 1 → ⊥) → number 19 ≡ told (walk_of file body cmds at base segs) st
+    pub walk_imports : (u32_at body 20 ≡ 1 → ⊥) → refused FixupData ≡ told (walk_of file body cmds at base segs) st
     unfolding walk_of choose
-    walk_imports n = simp (le-leb (0 + 28) (length body) h, ne_eqb (u32_at body 20) 1 n) (sym (told_number 19 st))
+    walk_imports n = simp (le-leb (0 + 28) (length body) h, ne_eqb (u32_at body 20) 1 n) (sym (told_number FixupData st))
 
-    pub walk_symbols : u32_at body 20 ≡ 1 → (u32_at body 24 ≡ 0 → ⊥) → number 19 ≡ told (walk_of file body cmds at base segs) st
+    pub walk_symbols : u32_at body 20 ≡ 1 → (u32_at body 24 ≡ 0 → ⊥) → refused FixupData ≡ told (walk_of file body cmds at base segs) st
     unfolding walk_of choose
-    walk_symbols e n = simp (le-leb (0 + 28) (length body) h, eq-eqb (u32_at body 20) 1 e, ne_eqb (u32_at body 24) 0 n) (sym (told_number 19 st))
+    walk_symbols e n = simp (le-leb (0 + 28) (length body) h, eq-eqb (u32_at body 20) 1 e, ne_eqb (u32_at body 24) 0 n) (sym (told_number FixupData st))
 
     pub walk_in : u32_at body 20 ≡ 1 → u32_at body 24 ≡ 0 → (f : Fixups) → f ≡ fixups_of body at base
         → told (image_starts file body cmds f segs) st ≡ told (walk_of file body cmds at base segs) st

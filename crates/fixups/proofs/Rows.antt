@@ -1,6 +1,5 @@
 -- Rows put into a table one after the other: how many are counted, and what the table then holds.
 use Rattle.std.proofs.Common.{◌≡◌, ℕ, suc, ◌+◌, ◌-◌, ◌*◌, ◌/◌, ◌^◌, ◌<◌, ◌≤◌, min, Bool, true, false, ltb, List, [], ◌∷◌, ◌++◌, length, set, sym, refl, ap, ◌∙◌, arith, length-append, ltb-false, ltb-true, le-ltb, lt-ltb, le-leb}
-use native.Mathlib.Numerals.{towards_suc}
 use Rattle.std.proofs.Math.Nat.{le-div_iff_mul-le, div-lt_iff_lt-mul, add-mul, mul_comm}
 use lib.Seq.{sets, length-sets}
 use borrow.Author.Tests.{lt-leb}

@@ -1,7 +1,7 @@
 -- Every slot that a chain visits starts in its page, and no chain visits a slot twice: for every pointer format.
 use Rattle.std.proofs.Common.{◌≡◌, ℕ, zero, suc, ◌+◌, ◌-◌, ◌%◌, ◌^◌, ◌<◌, ◌≤◌, Bool, true, false, eqb, ltb, List, [], ◌∷◌, length, get_or, sym, refl, ap, ◌∙◌, ap₂, arith, ltb-true}
 use borrow.Author.Tests.{eqb-false}
-use Rattle.reads.specs.Outcome.{Outcome, value, absent, number, and_then, choose}
+use Rattle.reads.specs.Outcome.{Outcome, value, absent, refused, and_then, choose}
 use Rattle.fixups.specs.FixupChains.{lies}
 use Rattle.fixups.specs.Imports.{Span, import_at}
 use Rattle.fixups.specs.Chain.{slot_of, target_of, step_of, entry_of, visit_of, slot_word, Met, met, chain, chain_at}
@@ -12,6 +12,7 @@ use Rattle.fixups.specs.declared.chain.Fixups.{Fixups}
 use Rattle.fixups.specs.declared.chain.Starts.{Starts}
 use Rattle.fixups.specs.declared.chain.Fixup.{Fixup}
 use Rattle.fixups.specs.declared.chain.Fixup.TheVariants.{Rebase, Bind}
+use Rattle.reads.specs.declared.answer.Question.TheVariants.{FixupSlot}
 
 -- A record's slot is the one that was visited.
 entry_by : (b : Bool) (i : Outcome Span) (a t : ℕ) (x : Fixup)
@@ -20,18 +21,18 @@ unfolding choose
 entry_by true i a t x e = let q : Rebase a t ≡ x = cc in sym (ap slot_address q)
 entry_by false (value n) a t x e = let q : Bind a n.offset n.size ≡ x = cc in sym (ap slot_address q)
 entry_by false (absent r) a t x e = let z : ◌≡◌ {A = ℕ} 0 1 = cc in absurd (omega arith)
-entry_by false (number k) a t x e = let z : ◌≡◌ {A = ℕ} 0 1 = cc in absurd (omega arith)
+entry_by false (refused k) a t x e = let z : ◌≡◌ {A = ℕ} 0 1 = cc in absurd (omega arith)
 
 entry_slot : (body : List ℕ) (f : Fixups) (s : Starts) (at w : ℕ) (x : Fixup) → entry_of body f s at w ≡ value x → slot_address x ≡ slot_of s at
 unfolding entry_of
 entry_slot body f s at w x e =
     entry_by (ltb w (2 ^ 63)) (import_at body f (w % 2 ^ 24)) (slot_of s at) (target_of s.format f.base w) x e
 
-visit_by : (b : Bool) (e : Outcome Fixup) (w : ℕ) (m : Met) → choose b (and_then e (λ x. value (met x (step_of w)))) (number 20) ≡ value m → e ≡ value m.fixup
+visit_by : (b : Bool) (e : Outcome Fixup) (w : ℕ) (m : Met) → choose b (and_then e (λ x. value (met x (step_of w)))) (refused FixupSlot) ≡ value m → e ≡ value m.fixup
 unfolding choose
 visit_by true (value x) w m q = let p : met x (step_of w) ≡ m = cc in ap (λ (t : Met). value t.fixup) p
 visit_by true (absent r) w m q = let z : ◌≡◌ {A = ℕ} 0 1 = cc in absurd (omega arith)
-visit_by true (number k) w m q = let z : ◌≡◌ {A = ℕ} 0 1 = cc in absurd (omega arith)
+visit_by true (refused k) w m q = let z : ◌≡◌ {A = ℕ} 0 1 = cc in absurd (omega arith)
 visit_by false e w m q = let z : ◌≡◌ {A = ℕ} 0 1 = cc in absurd (omega arith)
 
 visit_slot : (file body : List ℕ) (f : Fixups) (s : Starts) (at : ℕ) (m : Met) → visit_of file body f s at ≡ value m → slot_address m.fixup ≡ slot_of s at
@@ -58,16 +59,16 @@ module _ (file body : List ℕ) (f : Fixups) (s : Starts) (page : ℕ) where
           let n = eqb-false m.step 0 g in
           rw (← w) (slot {o = o} o (omega arith) h a (further (suc o) (omega arith) (ih (o + m.step) ys c)))
       rest ih m a h false g (absent j) c q = let z : ◌≡◌ {A = ℕ} 0 1 = cc in absurd (omega arith)
-      rest ih m a h false g (number j) c q = let z : ◌≡◌ {A = ℕ} 0 1 = cc in absurd (omega arith)
+      rest ih m a h false g (refused j) c q = let z : ◌≡◌ {A = ℕ} 0 1 = cc in absurd (omega arith)
 
       go : ((n : ℕ) (ys : List Fixup) → chain file body f s page k n ≡ value ys → InPage s page n ys)
           → (t : Bool) → ltb o s.size ≡ t → (v : Outcome Met) → visit_of file body f s (page + o) ≡ v
-          → choose t (and_then v (λ m. choose (eqb m.step 0) (value (m.fixup ∷ [])) (and_then (chain file body f s page k (o + m.step)) (λ ys. value (m.fixup ∷ ys))))) (number 20) ≡ value xs
+          → choose t (and_then v (λ m. choose (eqb m.step 0) (value (m.fixup ∷ [])) (and_then (chain file body f s page k (o + m.step)) (λ ys. value (m.fixup ∷ ys))))) (refused FixupSlot) ≡ value xs
           → InPage s page o xs
       go ih true h (value m) v q =
           rest ih m (visit_slot file body f s (page + o) m v) (ltb-true o s.size h) (eqb m.step 0) refl (chain file body f s page k (o + m.step)) refl q
       go ih true h (absent j) v q = let z : ◌≡◌ {A = ℕ} 0 1 = cc in absurd (omega arith)
-      go ih true h (number j) v q = let z : ◌≡◌ {A = ℕ} 0 1 = cc in absurd (omega arith)
+      go ih true h (refused j) v q = let z : ◌≡◌ {A = ℕ} 0 1 = cc in absurd (omega arith)
       go ih false h v w q = let z : ◌≡◌ {A = ℕ} 0 1 = cc in absurd (omega arith)
 
 -- Where the j-th slot stands.
@@ -119,7 +120,7 @@ module _ (file body : List ℕ) (f : Fixups) (s : Starts) (page : ℕ) where
           → Climbs s.size o (choose t (o ∷ onwards v (λ m. choose (eqb m.step 0) [] (visited file body f s page k (o + m.step)))) [])
       go ih true h (value m) = up {o = o} o (omega arith) (ltb-true o s.size h) (next ih m (eqb m.step 0) refl)
       go ih true h (absent j) = up {o = o} o (omega arith) (ltb-true o s.size h) top
-      go ih true h (number j) = up {o = o} o (omega arith) (ltb-true o s.size h) top
+      go ih true h (refused j) = up {o = o} o (omega arith) (ltb-true o s.size h) top
       go ih false h v = top
 
 above : {n o : ℕ} {ps : List ℕ} → Climbs n o ps → (j : ℕ) → j < length ps → o ≤ get_or ps j 0
@@ -150,13 +151,13 @@ module _ (file body : List ℕ) (f : Fixups) (s : Starts) (page : ℕ) where
           let w : m.fixup ∷ ys ≡ xs = cc in
           sym (ap slots w) ∙ ap₂ (λ (n : ℕ) (l : List ℕ). n ∷ l) a (ih (o + m.step) ys c)
       rest ih m a false (absent j) c q = let z : ◌≡◌ {A = ℕ} 0 1 = cc in absurd (omega arith)
-      rest ih m a false (number j) c q = let z : ◌≡◌ {A = ℕ} 0 1 = cc in absurd (omega arith)
+      rest ih m a false (refused j) c q = let z : ◌≡◌ {A = ℕ} 0 1 = cc in absurd (omega arith)
 
       go : ((n : ℕ) (ys : List Fixup) → chain file body f s page k n ≡ value ys → slots ys ≡ addresses s page (visited file body f s page k n))
           → (t : Bool) (v : Outcome Met) → visit_of file body f s (page + o) ≡ v
-          → choose t (and_then v (λ m. choose (eqb m.step 0) (value (m.fixup ∷ [])) (and_then (chain file body f s page k (o + m.step)) (λ ys. value (m.fixup ∷ ys))))) (number 20) ≡ value xs
+          → choose t (and_then v (λ m. choose (eqb m.step 0) (value (m.fixup ∷ [])) (and_then (chain file body f s page k (o + m.step)) (λ ys. value (m.fixup ∷ ys))))) (refused FixupSlot) ≡ value xs
           → slots xs ≡ addresses s page (choose t (o ∷ onwards v (λ m. choose (eqb m.step 0) [] (visited file body f s page k (o + m.step)))) [])
       go ih true (value m) v q = rest ih m (visit_slot file body f s (page + o) m v) (eqb m.step 0) (chain file body f s page k (o + m.step)) refl q
       go ih true (absent j) v q = let z : ◌≡◌ {A = ℕ} 0 1 = cc in absurd (omega arith)
-      go ih true (number j) v q = let z : ◌≡◌ {A = ℕ} 0 1 = cc in absurd (omega arith)
+      go ih true (refused j) v q = let z : ◌≡◌ {A = ℕ} 0 1 = cc in absurd (omega arith)
       go ih false v w q = let z : ◌≡◌ {A = ℕ} 0 1 = cc in absurd (omega arith)

@@ -1,6 +1,6 @@
 -- The chain of a page (fixup-chains.h, dyld_chained_ptr_64_rebase and dyld_chained_ptr_64_bind), over the pointer format.
 use Rattle.std.specs.Prelude.{ℕ, zero, suc, ◌+◌, ◌-◌, ◌*◌, ◌/◌, ◌%◌, ◌^◌, List, [], ◌∷◌, ◌==◌, nat_lt}
-use Rattle.reads.specs.Outcome.{Outcome, value, number, and_then, choose}
+use Rattle.reads.specs.Outcome.{Outcome, value, refused, and_then, choose}
 use Rattle.macho.specs.Number.{u64_at}
 use Rattle.fixups.specs.FixupChains.{lies}
 use Rattle.fixups.specs.Imports.{import_at}
@@ -8,12 +8,7 @@ use Rattle.fixups.specs.declared.chain.Fixups.{Fixups}
 use Rattle.fixups.specs.declared.chain.Starts.{Starts}
 use Rattle.fixups.specs.declared.chain.Fixup.{Fixup}
 use Rattle.fixups.specs.declared.chain.Fixup.TheVariants.{Rebase, Bind}
-use Rattle.fixups.specs.declared.chain.Entry.{Entry}
-use Rattle.fixups.specs.declared.chain.Entry.TheVariants.{At, Refused}
-
-abbrev pub entry_outcome : Entry → Outcome Fixup
-entry_outcome (At x) = value x
-entry_outcome (Refused k) = number k
+use Rattle.reads.specs.declared.answer.Question.TheVariants.{FixupSlot}
 
 -- The bytes to the next slot: next, bits 51 to 62, counts steps of 4.
 unfoldable pub step_of : ℕ → ℕ
@@ -54,19 +49,19 @@ unfoldable pub visit_of : List ℕ → List ℕ → Fixups → Starts → ℕ �
 visit_of file body f s at =
     choose (lies file (s.fileoff + at) 8)
     (and_then (entry_of body f s at (slot_word file s at)) (λ x. value (met x (step_of (slot_word file s at)))))
-    (number 20)
+    (refused FixupSlot)
 
 -- The chain from o bytes into the page that stands `page` bytes into its segment. Each slot stands after the one before, so a
 -- page of n bytes has fewer than n slots to a chain: the first number counts down, and at zero no byte of the page is left.
 unfoldable pub chain : List ℕ → List ℕ → Fixups → Starts → ℕ → ℕ → ℕ → Outcome (List Fixup)
-chain file body f s page zero o = number 20
+chain file body f s page zero o = refused FixupSlot
 chain file body f s page (suc k) o =
     choose (nat_lt o s.size)
     (and_then (visit_of file body f s (page + o))
     (λ m. choose (m.step == 0)
     (value (m.fixup ∷ []))
     (and_then (chain file body f s page k (o + m.step)) (λ xs. value (m.fixup ∷ xs)))))
-    (number 20)
+    (refused FixupSlot)
 
 abbrev pub chain_at : List ℕ → List ℕ → Fixups → Starts → ℕ → ℕ → Outcome (List Fixup)
 chain_at file body f s page o = chain file body f s page (s.size - o) o

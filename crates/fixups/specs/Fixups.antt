@@ -1,6 +1,6 @@
 -- The rebases and binds of a file by its chained fixups, and the tables that a call leaves (document 02, note 7).
-use Rattle.std.specs.Prelude.{ℕ, ◌+◌, ◌/◌, List, [], ◌∷◌, length, nat_le}
-use Rattle.reads.specs.Outcome.{Outcome, value, absent, number, and_then, choose}
+use Rattle.std.specs.Prelude.{ℕ, ◌+◌, ◌/◌, List, [], ◌∷◌, length, nat_le, Result, Ok, Err}
+use Rattle.reads.specs.Outcome.{Outcome, value, absent, refused, and_then, choose}
 use Rattle.reads.specs.Place.{part}
 use Rattle.pointers.specs.Tables.{rebase_words, bind_words}
 use Rattle.pointers.specs.Symbol.{ascii}
@@ -12,8 +12,8 @@ use Rattle.fixups.specs.FixupChains.{chained_fixups_kind, dataoff, datasize}
 use Rattle.fixups.specs.Starts.{walk_of}
 use Rattle.fixups.specs.Tables.{rebase_row, bind_row, rows_of}
 use Rattle.fixups.specs.declared.chain.Fixup.{Fixup}
-use Rattle.fixups.specs.declared.build.Built.{Built}
-use Rattle.fixups.specs.declared.build.Built.TheVariants.{Tables, Refused}
+use Rattle.reads.specs.declared.answer.Question.{Question}
+use Rattle.reads.specs.declared.answer.Question.TheVariants.{RebaseTable, BindTable, FixupData}
 
 -- The image base: the vmaddr of the first segment `__TEXT` (segname +8), 0 without one.
 unfoldable pub base_of : List ℕ → List ℕ → ℕ
@@ -25,7 +25,7 @@ unfoldable pub fixups_from : List ℕ → List ℕ → ℕ → ℕ → Outcome (
 fixups_from file cmds count a =
     choose (nat_le 16 (cmdsize cmds a))
     (walk_of file (part file (dataoff cmds a) (datasize cmds a)) cmds (dataoff cmds a) (base_of cmds (segments_of cmds count)) (segments_of cmds count))
-    (number 19)
+    (refused FixupData)
 
 -- The first of them counts; without one there are no records.
 unfoldable pub fixups_in : List ℕ → List ℕ → ℕ → List ℕ → Outcome (List Fixup)
@@ -46,26 +46,26 @@ pub record Pair : Type 0 where
 abbrev pub pair : ℕ → ℕ → Pair
 pair r b = record { rebased = r; bound = b }
 
-abbrev pub built_outcome : Built → Outcome Pair
-built_outcome (Tables r b) = value (pair r b)
-built_outcome (Refused k) = number k
+abbrev pub built_outcome : Result (ℕ × ℕ) Question → Outcome Pair
+built_outcome (Ok n) = value (pair n.0 n.1)
+built_outcome (Err k) = refused k
 
 -- And the two tables as it leaves them.
-pub record Result : Type 0 where
+pub record Settled : Type 0 where
   pub counts : Outcome Pair
   pub rebases : List ℕ
   pub binds : List ℕ
 
-abbrev pub leaves : Outcome Pair → List ℕ → List ℕ → Result
+abbrev pub leaves : Outcome Pair → List ℕ → List ℕ → Settled
 leaves o rs bs = record { counts = o; rebases = rs; binds = bs }
 
 -- The records found go into the tables if both have room, 5 before 6; with a number both are as they were.
-unfoldable pub settled : Outcome (List Fixup) → List ℕ → List ℕ → Result
+unfoldable pub settled : Outcome (List Fixup) → List ℕ → List ℕ → Settled
 settled (absent r) rs bs = leaves (absent r) rs bs
-settled (number k) rs bs = leaves (number k) rs bs
+settled (refused k) rs bs = leaves (refused k) rs bs
 settled (value xs) rs bs =
     choose (nat_le (length (rows_of rebase_row xs)) (length rs))
     (choose (nat_le (length (rows_of bind_row xs)) (length bs))
     (leaves (value (pair (length (rows_of rebase_row xs) / rebase_words) (length (rows_of bind_row xs) / bind_words))) (written (rows_of rebase_row xs) rs) (written (rows_of bind_row xs) bs))
-    (leaves (number 6) rs bs))
-    (leaves (number 5) rs bs)
+    (leaves (refused BindTable) rs bs))
+    (leaves (refused RebaseTable) rs bs)

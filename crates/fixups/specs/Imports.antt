@@ -1,10 +1,10 @@
 -- The imports of chained fixups (fixup-chains.h, dyld_chained_import) and their names, in plain symbol text.
-use Rattle.std.specs.Prelude.{ℕ, ◌+◌, ◌-◌, ◌*◌, ◌/◌, ◌^◌, List, [], ◌∷◌, drop, ◌==◌, nat_lt}
-use Rattle.reads.specs.Outcome.{Outcome, value, number, and_then, choose}
+use Rattle.std.specs.Prelude.{ℕ, ◌+◌, ◌-◌, ◌*◌, ◌/◌, ◌^◌, List, [], ◌∷◌, drop, ◌==◌, nat_lt, Result, Ok, Err}
+use Rattle.reads.specs.Outcome.{Outcome, value, refused, and_then, choose}
 use Rattle.fixups.specs.FixupChains.{lies, import_word}
 use Rattle.fixups.specs.declared.chain.Fixups.{Fixups}
-use Rattle.fixups.specs.declared.name.Name.{Name}
-use Rattle.fixups.specs.declared.name.Name.TheVariants.{Text, Refused}
+use Rattle.reads.specs.declared.answer.Question.{Question}
+use Rattle.reads.specs.declared.answer.Question.TheVariants.{FixupData, FixupSlot}
 
 -- A text of the file.
 pub record Span : Type 0 where
@@ -14,13 +14,13 @@ pub record Span : Type 0 where
 abbrev pub span : ℕ → ℕ → Span
 span o n = record { offset = o; size = n }
 
-abbrev pub name_outcome : Name → Outcome Span
-name_outcome (Text o n) = value (span o n)
-name_outcome (Refused k) = number k
+abbrev pub name_outcome : Result (ℕ × ℕ) Question → Outcome Span
+name_outcome (Ok n) = value (span n.0 n.1)
+name_outcome (Err k) = refused k
 
 -- The place of the first zero byte, of bytes whose first stands at i; 19 without one.
 unfoldable pub zero_from : ℕ → List ℕ → Outcome ℕ
-zero_from i [] = number 19
+zero_from i [] = refused FixupData
 zero_from i (x ∷ xs) = choose (x == 0) (value i) (zero_from (i + 1) xs)
 
 -- The text from an offset of the fixup data to its zero; the fixup data stands at `at` in the file.
@@ -33,5 +33,5 @@ import_at body f ordinal =
     choose (nat_lt ordinal f.count)
     (choose (lies body (f.imports + 4 * ordinal) 4)
     (text_at body f.at (f.symbols + import_word body f.imports ordinal / 2 ^ 9))
-    (number 19))
-    (number 20)
+    (refused FixupData))
+    (refused FixupSlot)

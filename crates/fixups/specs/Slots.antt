@@ -1,6 +1,6 @@
 -- What is claimed of the slots that a chain visits.
 use Rattle.std.specs.Prelude.{◌≡◌, ℕ, zero, suc, ◌+◌, ◌<◌, ◌≤◌, List, [], ◌∷◌, length, ◌==◌, ◌≢◌, nat_lt, slice_index}
-use Rattle.reads.specs.Outcome.{Outcome, value, absent, number, choose}
+use Rattle.reads.specs.Outcome.{Outcome, value, absent, refused, choose}
 use Rattle.fixups.specs.Chain.{slot_of, Met, visit_of}
 use Rattle.fixups.specs.declared.chain.Fixups.{Fixups}
 use Rattle.fixups.specs.declared.chain.Starts.{Starts}
@@ -29,7 +29,7 @@ Once l = (i j : ℕ) → i < j → j < length l → slice_index l i ≢ slice_in
 abbrev pub onwards : Outcome Met → (Met → List ℕ) → List ℕ
 onwards (value m) g = g m
 onwards (absent r) g = []
-onwards (number k) g = []
+onwards (refused k) g = []
 
 unfoldable pub visited : List ℕ → List ℕ → Fixups → Starts → ℕ → ℕ → ℕ → List ℕ
 visited file body f s page zero o = []

@@ -1,12 +1,13 @@
 -- Where chains start (fixup-chains.h, dyld_chained_starts_in_image and dyld_chained_starts_in_segment), in walk order.
 use Rattle.std.specs.Prelude.{ℕ, zero, suc, ◌+◌, ◌*◌, Bool, ◌||◌, List, [], ◌∷◌, ◌++◌, drop, ◌==◌, nat_lt}
-use Rattle.reads.specs.Outcome.{Outcome, value, number, and_then, choose}
+use Rattle.reads.specs.Outcome.{Outcome, value, refused, and_then, choose}
 use Rattle.macho.specs.Loader.{vmaddr, fileoff}
 use Rattle.fixups.specs.FixupChains.{lies, starts_offset, imports_offset, symbols_offset, imports_count, imports_format, symbols_format, seg_count, seg_info_offset, page_size, pointer_format, page_count, page_start}
 use Rattle.fixups.specs.Chain.{chain_at}
 use Rattle.fixups.specs.declared.chain.Fixups.{Fixups}
 use Rattle.fixups.specs.declared.chain.Starts.{Starts}
 use Rattle.fixups.specs.declared.chain.Fixup.{Fixup}
+use Rattle.reads.specs.declared.answer.Question.TheVariants.{FixupData}
 
 -- What one part of a walk finds, and then the next.
 unfoldable pub joined : Outcome (List Fixup) → Outcome (List Fixup) → Outcome (List Fixup)
@@ -20,8 +21,8 @@ page_at file body f s at p =
     (value [])
     (choose (nat_lt (page_start body at p) 0x8000)
     (chain_at file body f s (p * s.size) (page_start body at p))
-    (number 19)))
-    (number 19)
+    (refused FixupData)))
+    (refused FixupData)
 
 -- k pages from page p on.
 unfoldable pub pages_from : List ℕ → List ℕ → Fixups → Starts → ℕ → ℕ → ℕ → Outcome (List Fixup)
@@ -42,12 +43,12 @@ segment_starts file body cmds f at a =
     choose (lies body at 22)
     (choose (known (pointer_format body at))
     (pages_from file body f (starts_of cmds a body at) at (page_count body at) 0)
-    (number 19))
-    (number 19)
+    (refused FixupData))
+    (refused FixupData)
 
 -- Of the first of the segments, if there is one: starts without a segment are 19.
 unfoldable pub first_starts : List ℕ → List ℕ → List ℕ → Fixups → ℕ → List ℕ → Outcome (List Fixup)
-first_starts file body cmds f at [] = number 19
+first_starts file body cmds f at [] = refused FixupData
 first_starts file body cmds f at (a ∷ segs) = segment_starts file body cmds f at a
 
 -- seg_info_offset 0: no starts.
@@ -60,12 +61,12 @@ infos_from file body cmds f zero i segs = value []
 infos_from file body cmds f (suc k) i segs =
     choose (lies body (f.starts + 4 + 4 * i) 4)
     (joined (info_of file body cmds f (seg_info_offset body f.starts i) segs) (infos_from file body cmds f k (i + 1) (drop 1 segs)))
-    (number 19)
+    (refused FixupData)
 
 -- The segments of the image, seg_count of them.
 unfoldable pub image_starts : List ℕ → List ℕ → List ℕ → Fixups → List ℕ → Outcome (List Fixup)
 image_starts file body cmds f segs =
-    choose (lies body f.starts 4) (infos_from file body cmds f (seg_count body f.starts) 0 segs) (number 19)
+    choose (lies body f.starts 4) (infos_from file body cmds f (seg_count body f.starts) 0 segs) (refused FixupData)
 
 -- What the header says of fixup data that stands at `at` in the file.
 abbrev pub fixups_of : List ℕ → ℕ → ℕ → Fixups
@@ -85,6 +86,6 @@ unfoldable pub walk_of : List ℕ → List ℕ → List ℕ → ℕ → ℕ → 
 walk_of file body cmds at base segs =
     choose (lies body 0 28)
     (choose (imports_format body == 1)
-    (choose (symbols_format body == 0) (image_starts file body cmds (fixups_of body at base) segs) (number 19))
-    (number 19))
-    (number 19)
+    (choose (symbols_format body == 0) (image_starts file body cmds (fixups_of body at base) segs) (refused FixupData))
+    (refused FixupData))
+    (refused FixupData)

@@ -1,13 +1,11 @@
 -- The words of the records, and what a walk leaves in the lent tables.
-use Rattle.std.specs.Prelude.{ℕ, ◌+◌, ◌-◌, ◌*◌, ◌^◌, List, [], ◌∷◌, ◌++◌, length, nat_le, nat_lt}
+use Rattle.std.specs.Prelude.{ℕ, ◌+◌, ◌-◌, ◌*◌, ◌^◌, List, [], ◌∷◌, ◌++◌, length, nat_le, nat_lt, Result, Ok, Err}
 use Rattle.std.proofs.lemmas.List.Edits.{sets}
-use Rattle.reads.specs.Outcome.{Outcome, value, number, and_then, choose}
+use Rattle.reads.specs.Outcome.{Outcome, value, refused, and_then, choose}
 use Rattle.fixups.specs.declared.chain.Fixup.{Fixup}
 use Rattle.fixups.specs.declared.chain.Fixup.TheVariants.{Rebase, Bind}
-use Rattle.fixups.specs.declared.chain.Walked.{Walked}
-use Rattle.fixups.specs.declared.chain.Walked.TheVariants.{Counts, Refused}
 use Rattle.fixups.specs.declared.chain.Visit.{Visit}
-use Rattle.fixups.specs.declared.chain.Visit.TheVariants.{Slot, Refused as Left}
+use Rattle.reads.specs.declared.answer.Question.{Question}
 
 -- The row of a record in the rebase table and in the bind table; it has none in the other's.
 abbrev pub rebase_row : Fixup → List ℕ
@@ -65,9 +63,9 @@ puts (x ∷ xs) s = puts xs (put x s)
 unfoldable pub told : Outcome (List Fixup) → State → Outcome State
 told x s = and_then x (λ xs. value (puts xs s))
 
-abbrev pub state_of : Walked → List ℕ → List ℕ → Outcome State
-state_of (Counts r b) rs bs = value (state r b rs bs)
-state_of (Refused k) rs bs = number k
+abbrev pub state_of : Result (ℕ × ℕ) Question → List ℕ → List ℕ → Outcome State
+state_of (Ok n) rs bs = value (state n.0 n.1 rs bs)
+state_of (Err k) rs bs = refused k
 
 -- The state after a slot, and the bytes to the next.
 pub record Stepped : Type 0 where
@@ -77,6 +75,9 @@ pub record Stepped : Type 0 where
 abbrev pub stepped : ℕ → State → Stepped
 stepped n s = record { step = n; after = s }
 
-abbrev pub stepped_of : Visit → List ℕ → List ℕ → Outcome Stepped
-stepped_of (Slot r b n) rs bs = value (stepped n (state r b rs bs))
-stepped_of (Left k) rs bs = number k
+abbrev pub stepped_by : Visit → List ℕ → List ℕ → Stepped
+stepped_by v rs bs = stepped v.step (state v.rebases v.binds rs bs)
+
+abbrev pub stepped_of : Result Visit Question → List ℕ → List ℕ → Outcome Stepped
+stepped_of (Ok v) rs bs = value (stepped_by v rs bs)
+stepped_of (Err k) rs bs = refused k

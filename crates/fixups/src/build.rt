@@ -7,7 +7,6 @@ ghost use Rattle.fixups.specs.Starts.{walk_of};
 ghost use Rattle.fixups.specs.Tables.{state, told, state_of};
 ghost use Rattle.fixups.specs.Fixups.{base_of, fixups_from, fixups_found, built_outcome, leaves, settled};
 
-use crate::chain::Walked;
 use crate::fixup_chains::{
     DATAOFF, DATASIZE, LC_DYLD_CHAINED_FIXUPS, SIZEOF_LINKEDIT_DATA_COMMAND,
 };
@@ -17,18 +16,11 @@ use macho::header::{command_bytes, command_count, range_of};
 use macho::loader::{CMDSIZE, LC_SEGMENT_64, SEGNAME, VMADDR};
 use macho::number::field32;
 use macho::section::has_name;
-use pointers::question::Asked;
 use pointers::table::{Bind, Rebase};
+use reads::answer::Question;
 use reads::place::{u32_from, u64_from};
 
 const TEXT: [u8; 16] = *b"__TEXT\0\0\0\0\0\0\0\0\0\0";
-
-// How many rebases and binds were written, or the number of the question that says no.
-#[derive(Clone, Copy)]
-pub enum Built {
-    Tables(u64, u64),
-    Refused(u8),
-}
 
 // The image base: the vmaddr of the first segment `__TEXT`, or 0.
 fn image_base(cmds: &[u8], count: u64) -> u64
@@ -44,7 +36,14 @@ fn image_base(cmds: &[u8], count: u64) -> u64
 }
 
 // How many records the fixup data has for each table: the walk is lent no room.
-fn count_records(file: &[u8], body: &[u8], cmds: &[u8], count: u64, at: u32, base: u64) -> Walked
+fn count_records(
+    file: &[u8],
+    body: &[u8],
+    cmds: &[u8],
+    count: u64,
+    at: u32,
+    base: u64,
+) -> Result<(u64, u64), Question>
     ensures { state_of result [] [] ≡ told (walk_of (before file) (before body) (before cmds) at base (segments_of (before cmds) count)) (state 0 0 [] []) }
 {
     let mut none = [0u64; 0];
@@ -52,7 +51,7 @@ fn count_records(file: &[u8], body: &[u8], cmds: &[u8], count: u64, at: u32, bas
     walk(file, body, cmds, count, at, base, &mut none, &mut nothing)
 }
 
-// Counts first, then writes, if both tables have room.
+// Counts first, then writes, if both tables have room: how many rebases and binds were written.
 fn fill(
     file: &[u8],
     body: &[u8],
@@ -62,23 +61,19 @@ fn fill(
     base: u64,
     rebases: &mut [u64],
     binds: &mut [u64],
-) -> Built
+) -> Result<(u64, u64), Question>
     ensures { leaves (built_outcome result) rebases.new binds.new
         ≡ settled (walk_of (before file) (before body) (before cmds) at base (segments_of (before cmds) count)) rebases.old binds.old }
 {
-    match count_records(file, body, cmds, count, at, base) {
-        Walked::Counts(r, b) => {
-            if ((rebases.len() / Rebase::WORDS) as u64) < r {
-                return Built::Refused(5);
-            }
-            if ((binds.len() / Bind::WORDS) as u64) < b {
-                return Built::Refused(6);
-            }
-            walk(file, body, cmds, count, at, base, rebases, binds);
-            Built::Tables(r, b)
-        }
-        Walked::Refused(k) => Built::Refused(k),
+    let (r, b) = count_records(file, body, cmds, count, at, base)?;
+    if ((rebases.len() / Rebase::WORDS) as u64) < r {
+        return Err(Question::RebaseTable);
     }
+    if ((binds.len() / Bind::WORDS) as u64) < b {
+        return Err(Question::BindTable);
+    }
+    let _ = walk(file, body, cmds, count, at, base, rebases, binds);
+    Ok((r, b))
 }
 
 // The tables from the LC_DYLD_CHAINED_FIXUPS that stands at an offset of the commands.
@@ -89,12 +84,12 @@ fn fixups_at(
     command: u64,
     rebases: &mut [u64],
     binds: &mut [u64],
-) -> Built
+) -> Result<(u64, u64), Question>
     ensures { leaves (built_outcome result) rebases.new binds.new
         ≡ settled (fixups_from (before file) (before cmds) count command) rebases.old binds.old }
 {
     if field32(cmds, command, CMDSIZE) < SIZEOF_LINKEDIT_DATA_COMMAND {
-        return Built::Refused(19);
+        return Err(Question::FixupData);
     }
     let at = u32_from(cmds, command, DATAOFF);
     let body = range_of(file, u64::from(at), field32(cmds, command, DATASIZE));
@@ -103,7 +98,7 @@ fn fixups_at(
 }
 
 // The tables from the first LC_DYLD_CHAINED_FIXUPS of a file, no records without one; or a number, with nothing written.
-fn build_from(file: &[u8], rebases: &mut [u64], binds: &mut [u64]) -> Built
+fn build_from(file: &[u8], rebases: &mut [u64], binds: &mut [u64]) -> Result<(u64, u64), Question>
     requires { asked_commands file.now ≡ value tt }
     ensures { leaves (built_outcome result) rebases.new binds.new ≡ settled (fixups_found (before file)) rebases.old binds.old }
 {
@@ -111,17 +106,19 @@ fn build_from(file: &[u8], rebases: &mut [u64], binds: &mut [u64]) -> Built
     let count = command_count(file);
     let found = find(cmds, LC_DYLD_CHAINED_FIXUPS, count, 0);
     if !found.here {
-        return Built::Tables(0, 0);
+        return Ok((0, 0));
     }
     fixups_at(file, cmds, count, found.at, rebases, binds)
 }
 
 // Builds the rebase and bind tables of a file: both counts, or the number of the first question that says no, with nothing written.
-pub fn build_tables(file: &[u8], rebases: &mut [u64], binds: &mut [u64]) -> Built
+pub fn build_tables(
+    file: &[u8],
+    rebases: &mut [u64],
+    binds: &mut [u64],
+) -> Result<(u64, u64), Question>
     ensures { leaves (built_outcome result) rebases.new binds.new ≡ settled (fixups_found (before file)) rebases.old binds.old }
 {
-    match ask_commands(file) {
-        Asked::Yes => build_from(file, rebases, binds),
-        Asked::Refused(k) => Built::Refused(k),
-    }
+    ask_commands(file)?;
+    build_from(file, rebases, binds)
 }

@@ -2,12 +2,14 @@
 ghost use Rattle.std.specs.Prelude.{◌≡◌, ◌<◌};
 ghost use Rattle.reads.specs.Reference.{before};
 ghost use Rattle.reads.specs.Outcome.{value, and_then};
-ghost use Rattle.fixups.specs.Chain.{entry_outcome, target_of, entry_of, visit_of, chain_at};
-ghost use Rattle.fixups.specs.Tables.{state, put, told, state_of, stepped, stepped_of};
+ghost use Rattle.fixups.specs.Chain.{target_of, entry_of, visit_of, chain_at};
+ghost use Rattle.fixups.specs.Tables.{state, put, told, state_of, stepped, stepped_by, stepped_of};
+ghost use Rattle.reads.specs.Answer.{answered};
 
 use crate::fixup_chains::DYLD_CHAINED_PTR_64_OFFSET;
-use crate::name::{Name, import_at};
+use crate::name::import_at;
 use crate::table::{put_bind, put_rebase};
+use reads::answer::Question;
 use reads::place::u64_from;
 
 // What the header of the fixup data says (starts_offset, imports_offset, symbols_offset, imports_count), where the fixup data stands
@@ -38,24 +40,12 @@ pub enum Fixup {
     Bind(u64, u64, u64),
 }
 
-#[derive(Clone, Copy)]
-pub enum Entry {
-    At(Fixup),
-    Refused(u8),
-}
-
 // The counts after a slot, and the bytes to the next.
 #[derive(Clone, Copy)]
-pub enum Visit {
-    Slot { rebases: u64, binds: u64, step: u64 },
-    Refused(u8),
-}
-
-// The counts after a part of the walk.
-#[derive(Clone, Copy)]
-pub enum Walked {
-    Counts(u64, u64),
-    Refused(u8),
+pub struct Visit {
+    pub rebases: u64,
+    pub binds: u64,
+    pub step: u64,
 }
 
 // The address that a rebase word holds: target 36 bits, then high8.
@@ -70,27 +60,25 @@ fn rebased(format: u16, base: u64, word: u64) -> u64
 }
 
 // The record of a slot that stands at bytes into its segment.
-fn entry_at(body: &[u8], f: Fixups, s: Starts, at: u64, word: u64) -> Entry
-    ensures { entry_outcome result ≡ entry_of (before body) f s at word }
+fn entry_at(body: &[u8], f: Fixups, s: Starts, at: u64, word: u64) -> Result<Fixup, Question>
+    ensures { answered result ≡ entry_of (before body) f s at word }
 {
     let slot = s.vmaddr.wrapping_add(at);
     if word < 0x8000_0000_0000_0000 {
-        return Entry::At(Fixup::Rebase(slot, rebased(s.format, f.base, word)));
+        return Ok(Fixup::Rebase(slot, rebased(s.format, f.base, word)));
     }
-    match import_at(body, f, (word % 0x100_0000) as u32) {
-        Name::Text(offset, len) => Entry::At(Fixup::Bind(slot, offset, len)),
-        Name::Refused(k) => Entry::Refused(k),
-    }
+    let (offset, len) = import_at(body, f, (word % 0x100_0000) as u32)?;
+    Ok(Fixup::Bind(slot, offset, len))
 }
 
 // Puts a record into its table, where there is room for it.
 fn put_fixup(x: Fixup, step: u64, r: u64, b: u64, rebases: &mut [u64], binds: &mut [u64]) -> Visit
-    ensures { stepped_of result rebases.new binds.new ≡ value (stepped step (put x (state r b rebases.old binds.old))) }
+    ensures { stepped_by result rebases.new binds.new ≡ stepped step (put x (state r b rebases.old binds.old)) }
 {
     match x {
         Fixup::Rebase(slot, target) => {
             let next = put_rebase(rebases, r, slot, target);
-            Visit::Slot {
+            Visit {
                 rebases: next,
                 binds: b,
                 step,
@@ -98,7 +86,7 @@ fn put_fixup(x: Fixup, step: u64, r: u64, b: u64, rebases: &mut [u64], binds: &m
         }
         Fixup::Bind(slot, name, len) => {
             let next = put_bind(binds, b, slot, name, len);
-            Visit::Slot {
+            Visit {
                 rebases: r,
                 binds: next,
                 step,
@@ -118,27 +106,25 @@ fn visit_slot(
     b: u64,
     rebases: &mut [u64],
     binds: &mut [u64],
-) -> Visit
+) -> Result<Visit, Question>
     requires { at < 17179869184 }
     ensures { stepped_of result rebases.new binds.new ≡ and_then (visit_of (before file) (before body) f s at)
         (λ m. value (stepped m.step (put m.fixup (state r b rebases.old binds.old)))) }
 {
     let n = file.len() as u64;
     if n < s.fileoff {
-        return Visit::Refused(20);
+        return Err(Question::FixupSlot);
     }
     if n - s.fileoff < at + 8 {
-        return Visit::Refused(20);
+        return Err(Question::FixupSlot);
     }
     let word = u64_from(file, s.fileoff, at);
     let step = word / 0x8_0000_0000_0000 % 0x1000 * 4;
-    match entry_at(body, f, s, at, word) {
-        Entry::At(x) => put_fixup(x, step, r, b, rebases, binds),
-        Entry::Refused(k) => Visit::Refused(k),
-    }
+    let x = entry_at(body, f, s, at, word)?;
+    Ok(put_fixup(x, step, r, b, rebases, binds))
 }
 
-// The chain that starts at bytes into a page.
+// The chain that starts at bytes into a page: the counts after it.
 pub(crate) fn chain(
     file: &[u8],
     body: &[u8],
@@ -150,7 +136,7 @@ pub(crate) fn chain(
     b: u64,
     rebases: &mut [u64],
     binds: &mut [u64],
-) -> Walked
+) -> Result<(u64, u64), Question>
     requires { page < 8589934592 }
     ensures { state_of result rebases.new binds.new
         ≡ told (chain_at (before file) (before body) f s page start) (state r b rebases.old binds.old) }
@@ -161,23 +147,13 @@ pub(crate) fn chain(
     let mut bound = b;
     // Not a `for`: the offset moves by the step that each slot holds.
     while o < size {
-        match visit_slot(file, body, f, s, page + o, rebased, bound, rebases, binds) {
-            Visit::Slot {
-                rebases: x,
-                binds: y,
-                step,
-            } => {
-                if step == 0 {
-                    return Walked::Counts(x, y);
-                }
-                rebased = x;
-                bound = y;
-                o += step;
-            }
-            Visit::Refused(k) => {
-                return Walked::Refused(k);
-            }
+        let v = visit_slot(file, body, f, s, page + o, rebased, bound, rebases, binds)?;
+        if v.step == 0 {
+            return Ok((v.rebases, v.binds));
         }
+        rebased = v.rebases;
+        bound = v.binds;
+        o += v.step;
     }
-    Walked::Refused(20)
+    Err(Question::FixupSlot)
 }

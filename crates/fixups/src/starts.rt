@@ -1,12 +1,12 @@
 // Where chains start (fixup-chains.h, dyld_chained_starts_in_image and dyld_chained_starts_in_segment).
 ghost use Rattle.std.specs.Prelude.{◌≡◌, ◌+◌, ◌<◌, [], ◌==◌};
 ghost use Rattle.reads.specs.Reference.{before};
-ghost use Rattle.reads.specs.Outcome.{value, number, choose};
+ghost use Rattle.reads.specs.Outcome.{value, refused, choose};
 ghost use Rattle.macho.specs.Commands.{segments_of};
 ghost use Rattle.fixups.specs.Starts.{page_at, pages_from, segment_starts, image_starts, walk_of};
 ghost use Rattle.fixups.specs.Tables.{state, told, state_of};
 
-use crate::chain::{Fixups, Starts, Walked, chain};
+use crate::chain::{Fixups, Starts, chain};
 use crate::fixup_chains::{
     DYLD_CHAINED_IMPORT, DYLD_CHAINED_PTR_64, DYLD_CHAINED_PTR_64_OFFSET,
     DYLD_CHAINED_PTR_START_MULTI, DYLD_CHAINED_PTR_START_NONE, IMPORTS_COUNT, IMPORTS_FORMAT,
@@ -17,6 +17,7 @@ use crate::fixup_chains::{
 use macho::command::{Found, find};
 use macho::loader::{FILEOFF, LC_SEGMENT_64, VMADDR};
 use macho::number::u16_at;
+use reads::answer::Question;
 use reads::place::{u32_from, u64_from};
 
 // Page p of a segment whose starts stand at bytes into the fixup data.
@@ -31,7 +32,7 @@ fn page(
     b: u64,
     rebases: &mut [u64],
     binds: &mut [u64],
-) -> Walked
+) -> Result<(u64, u64), Question>
     requires { at < 17179869184 }
     ensures { state_of result rebases.new binds.new
         ≡ told (page_at (before file) (before body) f s at p) (state r b rebases.old binds.old) }
@@ -39,14 +40,14 @@ fn page(
     let first = at + PAGE_START;
     let i = 2 * u64::from(p);
     if (body.len() as u64) < first + i + 2 {
-        return Walked::Refused(19);
+        return Err(Question::FixupData);
     }
     let start = u16_at(body, first, i);
     if start == DYLD_CHAINED_PTR_START_NONE {
-        return Walked::Counts(r, b);
+        return Ok((r, b));
     }
     if start >= DYLD_CHAINED_PTR_START_MULTI {
-        return Walked::Refused(19);
+        return Err(Question::FixupData);
     }
     let offset = u64::from(p) * u64::from(s.size);
     chain(
@@ -75,7 +76,7 @@ fn pages(
     b: u64,
     rebases: &mut [u64],
     binds: &mut [u64],
-) -> Walked
+) -> Result<(u64, u64), Question>
     requires { at < 17179869184 }
     ensures { state_of result rebases.new binds.new
         ≡ told (pages_from (before file) (before body) f s at count 0) (state r b rebases.old binds.old) }
@@ -83,17 +84,11 @@ fn pages(
     let mut rebased = r;
     let mut bound = b;
     for p in 0..count {
-        match page(file, body, f, s, at, p, rebased, bound, rebases, binds) {
-            Walked::Counts(x, y) => {
-                rebased = x;
-                bound = y;
-            }
-            Walked::Refused(k) => {
-                return Walked::Refused(k);
-            }
-        }
+        let (x, y) = page(file, body, f, s, at, p, rebased, bound, rebases, binds)?;
+        rebased = x;
+        bound = y;
     }
-    Walked::Counts(rebased, bound)
+    Ok((rebased, bound))
 }
 
 // The starts at bytes into the fixup data, of the segment whose command stands at `command`.
@@ -108,18 +103,18 @@ fn segment_starts(
     b: u64,
     rebases: &mut [u64],
     binds: &mut [u64],
-) -> Walked
+) -> Result<(u64, u64), Question>
     requires { at < 17179869184 }
     ensures { state_of result rebases.new binds.new
         ≡ told (segment_starts (before file) (before body) (before cmds) f at command) (state r b rebases.old binds.old) }
 {
     if (body.len() as u64) < at + PAGE_START {
-        return Walked::Refused(19);
+        return Err(Question::FixupData);
     }
     let format = u16_at(body, at, POINTER_FORMAT);
     if format != DYLD_CHAINED_PTR_64 {
         if format != DYLD_CHAINED_PTR_64_OFFSET {
-            return Walked::Refused(19);
+            return Err(Question::FixupData);
         }
     }
     let s = Starts {
@@ -154,16 +149,16 @@ fn segment_info(
     b: u64,
     rebases: &mut [u64],
     binds: &mut [u64],
-) -> Walked
+) -> Result<(u64, u64), Question>
     ensures { state_of result rebases.new binds.new
-        ≡ told (choose (offset == 0) (value []) (choose found.here (segment_starts (before file) (before body) (before cmds) f (f.starts + offset) found.at) (number 19)))
+        ≡ told (choose (offset == 0) (value []) (choose found.here (segment_starts (before file) (before body) (before cmds) f (f.starts + offset) found.at) (refused Question.FixupData)))
         (state r b rebases.old binds.old) }
 {
     if offset == 0 {
-        return Walked::Counts(r, b);
+        return Ok((r, b));
     }
     if !found.here {
-        return Walked::Refused(19);
+        return Err(Question::FixupData);
     }
     let at = u64::from(f.starts) + u64::from(offset);
     segment_starts(file, body, cmds, f, at, found.at, r, b, rebases, binds)
@@ -178,13 +173,13 @@ fn image_starts(
     f: Fixups,
     rebases: &mut [u64],
     binds: &mut [u64],
-) -> Walked
+) -> Result<(u64, u64), Question>
     ensures { state_of result rebases.new binds.new
         ≡ told (image_starts (before file) (before body) (before cmds) f (segments_of (before cmds) count)) (state 0 0 rebases.old binds.old) }
 {
     let starts = u64::from(f.starts);
     if (body.len() as u64) < starts + SEG_INFO_OFFSET {
-        return Walked::Refused(19);
+        return Err(Question::FixupData);
     }
     let total = u32_from(body, starts, SEG_COUNT);
     let first = starts + SEG_INFO_OFFSET;
@@ -195,25 +190,19 @@ fn image_starts(
     for i in 0..total {
         let next = 4 * u64::from(i);
         if (body.len() as u64) < first + next + 4 {
-            return Walked::Refused(19);
+            return Err(Question::FixupData);
         }
         let found = find(cmds, LC_SEGMENT_64, left, at);
         let offset = u32_from(body, first, next);
-        match segment_info(
+        let (x, y) = segment_info(
             file, body, cmds, found, f, offset, rebased, bound, rebases, binds,
-        ) {
-            Walked::Counts(x, y) => {
-                rebased = x;
-                bound = y;
-                left = found.left;
-                at = found.next;
-            }
-            Walked::Refused(k) => {
-                return Walked::Refused(k);
-            }
-        }
+        )?;
+        rebased = x;
+        bound = y;
+        left = found.left;
+        at = found.next;
     }
-    Walked::Counts(rebased, bound)
+    Ok((rebased, bound))
 }
 
 // One walk over the fixup data, which stands at bytes into the file: its header, then the starts.
@@ -226,18 +215,18 @@ pub(crate) fn walk(
     base: u64,
     rebases: &mut [u64],
     binds: &mut [u64],
-) -> Walked
+) -> Result<(u64, u64), Question>
     ensures { state_of result rebases.new binds.new
         ≡ told (walk_of (before file) (before body) (before cmds) at base (segments_of (before cmds) count)) (state 0 0 rebases.old binds.old) }
 {
     if (body.len() as u64) < SIZEOF_CHAINED_FIXUPS_HEADER {
-        return Walked::Refused(19);
+        return Err(Question::FixupData);
     }
     if u32_from(body, 0, IMPORTS_FORMAT) != DYLD_CHAINED_IMPORT {
-        return Walked::Refused(19);
+        return Err(Question::FixupData);
     }
     if u32_from(body, 0, SYMBOLS_FORMAT) != SYMBOLS_UNCOMPRESSED {
-        return Walked::Refused(19);
+        return Err(Question::FixupData);
     }
     let f = Fixups {
         at,

@@ -2,10 +2,11 @@
 use Prim.Native.Nat.{ℕ, ◌-◌, ◌^◌}
 use mathlib.Core.Path.{◌≡◌, refl}
 use mathlib.Core.List.{List, [], ◌∷◌, map}
-use Rattle.reads.specs.Outcome.{Outcome, value, absent, number, choose}
+use Rattle.reads.specs.Outcome.{Outcome, value, absent, refused, choose}
 use Rattle.frames.specs.Marks.{raised, addresses, in_order, frames_of, met, met_all, mark_of}
 use Rattle.frames.specs.declared.frames.Frames.{Frames}
 use Rattle.frames.specs.declared.frames.Ranges.{Ranges}
+use Rattle.reads.specs.declared.answer.Question.TheVariants.{RangeOrder}
 
 abbrev ranges : ℕ → ℕ → ℕ → ℕ → Ranges
 ranges f₀ f₁ s₀ s₁ = record { first_frame = f₀; last_frame = f₁; first_slide = s₀; last_slide = s₁ }
@@ -14,7 +15,7 @@ ranges f₀ f₁ s₀ s₁ = record { first_frame = f₀; last_frame = f₁; fir
 abbrev marks_in : Outcome Frames → List ℕ → Outcome (List ℕ)
 marks_in (value w) starts = value (map (mark_of (met_all w starts)) starts)
 marks_in (absent r) starts = absent r
-marks_in (number k) starts = number k
+marks_in (refused k) starts = refused k
 
 abbrev marks : Ranges → List ℕ → Outcome (List ℕ)
 marks x starts = marks_in (frames_of x) starts
@@ -78,10 +79,10 @@ unfolding frames_of in_order addresses met raised mark_of choose
 widest = refl
 
 -- 23, of either range.
-pub frames_refused : marks (ranges 2 1 0 0) starts ≡ number 23
+pub frames_refused : marks (ranges 2 1 0 0) starts ≡ refused RangeOrder
 unfolding frames_of in_order choose
 frames_refused = refl
 
-pub slides_refused : marks (ranges 0 9 2 1) starts ≡ number 23
+pub slides_refused : marks (ranges 0 9 2 1) starts ≡ refused RangeOrder
 unfolding frames_of in_order choose
 slides_refused = refl

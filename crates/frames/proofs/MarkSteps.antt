@@ -5,12 +5,13 @@ use mathlib.Core.Bool.{Bool, true, false}
 use native.Mathlib.Omega.{arith}
 use lib.Dec.{ltb}
 use borrow.Author.Tests.{le-leb, lt-leb, lt-ltb, le-ltb, ltb-true, ltb-false}
-use Rattle.reads.specs.Outcome.{value, number, choose}
+use Rattle.reads.specs.Outcome.{value, refused, choose}
 use Rattle.frames.specs.Marks.{raised, is_at, addresses, in_order, frames_of, mark_of}
 use Rattle.frames.specs.declared.frames.Floor.{Floor}
 use Rattle.frames.specs.declared.frames.Floor.TheVariants.{At, Nothing}
 use Rattle.frames.specs.declared.frames.Frames.{Frames}
 use Rattle.frames.specs.declared.frames.Ranges.{Ranges}
+use Rattle.reads.specs.declared.answer.Question.TheVariants.{RangeOrder}
 
 module _ (limit : ℕ) (f : Floor) (start : ℕ) where
   pub raised_past : limit < start → f ≡ raised limit f start
@@ -59,12 +60,12 @@ module _ (w : Frames) (start : ℕ) where
           mark_passed p = simp (e, le-ltb w.high start h, le-ltb w.low start l, q, p)
 
 module _ (x : Ranges) where
-  pub frames_unordered : x.last_frame < x.first_frame → number 23 ≡ frames_of x
+  pub frames_unordered : x.last_frame < x.first_frame → refused RangeOrder ≡ frames_of x
   unfolding frames_of in_order choose
   frames_unordered h = simp (lt-leb x.first_frame x.last_frame h)
 
   module _ (h : x.first_frame ≤ x.last_frame) where
-    pub slides_unordered : x.last_slide < x.first_slide → number 23 ≡ frames_of x
+    pub slides_unordered : x.last_slide < x.first_slide → refused RangeOrder ≡ frames_of x
     unfolding frames_of in_order choose
     slides_unordered g = simp (le-leb x.first_frame x.last_frame h, lt-leb x.first_slide x.last_slide g)
 

@@ -6,7 +6,7 @@ use mathlib.Core.List.{List, Memᴰ}
 use native.Mathlib.Omega.{arith}
 use lib.Dec.{leb}
 use borrow.Author.Tests.{leb-true, leb-false, ltb-true, ltb-false, eqb-true, eqb-false}
-use Rattle.reads.specs.Outcome.{value, number, choose}
+use Rattle.reads.specs.Outcome.{value, refused, choose}
 use Rattle.reads.proofs.Tests.{by_choose, both_true}
 use Rattle.frames.specs.Frames.{no_ranges, Pair, unslid, Says, none, marked, certain}
 use Rattle.frames.specs.Marks.{is_at, any_pair, lowest, highest, addresses, in_order, frames_of, no_frames, met_all, mark_of}
@@ -15,6 +15,7 @@ use Rattle.frames.specs.declared.frames.Floor.TheVariants.{At, Nothing}
 use Rattle.frames.specs.declared.frames.Frames.{Frames}
 use Rattle.frames.specs.declared.frames.Ranges.{Ranges}
 use Rattle.frames.proofs.Floors.{Greatest, IsFloor, floor_of_all, met_each}
+use Rattle.reads.specs.declared.answer.Question.TheVariants.{RangeOrder}
 
 -- A listed start at or before a limit is its floor, or another one lies after it.
 module _ (starts : List ℕ) (limit : ℕ) where
@@ -179,7 +180,7 @@ module _ (x : Ranges) (w : Frames) where
   unfolding frames_of in_order choose
   accepted e = go (in_order x) refl e
     where
-      go : (t : Bool) → in_order x ≡ t → choose t (value (addresses x)) (number 23) ≡ value w → Accepted
+      go : (t : Bool) → in_order x ≡ t → choose t (value (addresses x)) (refused RangeOrder) ≡ value w → Accepted
       go true h e =
           let both = both_true (leb x.first_frame x.last_frame) (leb x.first_slide x.last_slide) h in
           record {

@@ -2,17 +2,12 @@
 -- the greatest at or before each of these two is kept, its floor.
 use Rattle.std.specs.Prelude.{ℕ, ◌-◌, Bool, false, ◌&&◌, leb, ltb, eqb}
 use mathlib.Core.List.{List, foldl}
-use Rattle.reads.specs.Outcome.{Outcome, value, number, choose}
+use Rattle.reads.specs.Outcome.{Outcome, value, refused, choose}
 use Rattle.frames.specs.declared.frames.Ranges.{Ranges}
 use Rattle.frames.specs.declared.frames.Floor.{Floor}
 use Rattle.frames.specs.declared.frames.Floor.TheVariants.{At, Nothing}
 use Rattle.frames.specs.declared.frames.Frames.{Frames}
-use Rattle.frames.specs.declared.frames.FramesAnswer.{FramesAnswer}
-use Rattle.frames.specs.declared.frames.FramesAnswer.TheVariants as answer
-
-abbrev pub frames_outcome : FramesAnswer → Outcome Frames
-frames_outcome (answer.Frames w) = value w
-frames_outcome (answer.Refused k) = number k
+use Rattle.reads.specs.declared.answer.Question.TheVariants.{RangeOrder}
 
 -- 23: a range whose first end exceeds its second.
 unfoldable pub in_order : Ranges → Bool
@@ -42,7 +37,7 @@ addresses x =
     }
 
 unfoldable pub frames_of : Ranges → Outcome Frames
-frames_of x = choose (in_order x) (value (addresses x)) (number 23)
+frames_of x = choose (in_order x) (value (addresses x)) (refused RangeOrder)
 
 -- No possible address: what the ranges that a listing without any is given leave (proofs/MarksRight.antt, `none_of_no_ranges`).
 abbrev pub no_frames : Frames

@@ -1,7 +1,10 @@
 // Crash frames known within a range (note 11): the possible unslid addresses, the starts met, and the mark of a start.
 ghost use Rattle.std.specs.Prelude.{◌≡◌};
 ghost use Rattle.frames.specs.Frames.{no_ranges};
-ghost use Rattle.frames.specs.Marks.{frames_outcome, frames_of, no_frames, raised, is_at, met, mark_of};
+ghost use Rattle.frames.specs.Marks.{frames_of, no_frames, raised, is_at, met, mark_of};
+ghost use Rattle.reads.specs.Answer.{answered};
+
+use reads::answer::Question;
 
 // A range of frames and a range of slides, both ends included.
 #[derive(Clone, Copy)]
@@ -27,12 +30,6 @@ pub struct Frames {
     pub high: u64,
     pub low_floor: Floor,
     pub high_floor: Floor,
-}
-
-#[derive(Clone, Copy)]
-pub enum FramesAnswer {
-    Frames(Frames),
-    Refused(u8),
 }
 
 impl Ranges {
@@ -75,16 +72,16 @@ impl Floor {
 
 impl Frames {
     // The possible unslid addresses, no start met; or 23, where a range's first end exceeds its second.
-    pub fn new(ranges: Ranges) -> FramesAnswer
-        ensures { frames_outcome result ≡ frames_of ranges }
+    pub fn new(ranges: Ranges) -> Result<Frames, Question>
+        ensures { answered result ≡ frames_of ranges }
     {
         if ranges.first_frame > ranges.last_frame {
-            return FramesAnswer::Refused(23);
+            return Err(Question::RangeOrder);
         }
         if ranges.first_slide > ranges.last_slide {
-            return FramesAnswer::Refused(23);
+            return Err(Question::RangeOrder);
         }
-        FramesAnswer::Frames(Frames {
+        Ok(Frames {
             any: ranges.first_slide <= ranges.last_frame,
             low: ranges.first_frame.saturating_sub(ranges.last_slide),
             high: ranges.last_frame.saturating_sub(ranges.first_slide),

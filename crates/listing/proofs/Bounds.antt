@@ -5,7 +5,7 @@ use lib.ListN.{length-replicate}
 use Rattle.reads.specs.Files.{longest}
 use Rattle.reads.specs.Segment.{segment_words}
 use Rattle.reads.specs.Table.{records, word_of}
-use Rattle.reads.specs.Outcome.{Outcome, value, absent, number}
+use Rattle.reads.specs.Outcome.{Outcome, value, absent, refused}
 use Rattle.reads.proofs.Outcomes.{then_came}
 use Rattle.pointers.specs.Open.{Opened}
 use Rattle.pointers.specs.Question.{section_table}
@@ -48,7 +48,7 @@ row_lists (name_list va ∷ fs) = row_lists fs
 class_six : (v : Outcome ClassRo) (fs : List Field) → of_value v (λ r. value (ro_fields r)) ≡ value fs → row_lists fs ≤ 6
 class_six (value r) fs e = let same : fs ≡ ro_fields r = cc in rw same (unfold row_lists in omega arith)
 class_six (absent r) fs e = let same : fs ≡ [] = cc in rw same (unfold row_lists in omega arith)
-class_six (number k) fs e = let z : ◌≡◌ {A = ℕ} 0 1 = cc in absurd (omega arith)
+class_six (refused k) fs e = let z : ◌≡◌ {A = ℕ} 0 1 = cc in absurd (omega arith)
 
 six_lists : (t : Tables) (x : Record) (fs : List Field) → record_fields t x ≡ value fs → row_lists fs ≤ 6
 unfolding record_fields
@@ -65,7 +65,7 @@ module _ (t : Tables) (o : Opened t) where
       → of_value v (λ h. gather (entry_in t h) (readables (image_in t) h)) ≡ value js → length js ≤ list_most
   list_few k va (value h) e js d = rw (entries_length t h (readables (image_in t) h) js d) (settled_bound t o k va h e)
   list_few k va (absent r) e js d = let same : js ≡ [] = cc in rw same (omega arith)
-  list_few k va (number i) e js d = let z : ◌≡◌ {A = ℕ} 0 1 = cc in absurd (omega arith)
+  list_few k va (refused i) e js d = let z : ◌≡◌ {A = ℕ} 0 1 = cc in absurd (omega arith)
 
   pub entries_few : (k : ListKind) (va : ℕ) (js : List Entry) → entries_in t (row_list k va) ≡ value js
       → length js ≤ records segment_words t.segments * (longest t.files / 12)
@@ -113,7 +113,7 @@ gives_few (giving e g) = omega (arith, gives_few g)
 run_few : {A : Type 0} {step : Walk → List ℕ → sections.Left A} {k : ℕ} {l : List ℕ} {rs : List A} → Run step k l rs → length rs ≤ k
 run_few r = omega (arith, r.1, gives_few r.2)
 
--- A present section is no longer than the longest file (question 3), so it has at most floor(n / 8) slots.
+-- A present section is no longer than the longest file (question SectionTable), so it has at most floor(n / 8) slots.
 module _ (n : ℕ) (ws : List ℕ) (table : section_table n ws ≡ true) (i : ℕ) (below : i < 5) where
   abbrev presence : ℕ
   presence = word_of section_words ws i 0

@@ -1,10 +1,11 @@
--- Worked examples of question 13 and of a bundle's parts.
+-- Worked examples of question BundleLength and of a bundle's parts.
 use Rattle.std.proofs.Common.{◌≡◌, ℕ, ◌+◌, List, [], ◌∷◌, ◌++◌, replicate, refl}
-use Rattle.reads.specs.Outcome.{value, number, choose}
+use Rattle.reads.specs.Outcome.{value, refused, choose}
 use Rattle.reads.specs.Place.{le, le_in}
 use Rattle.pointers.specs.Tables.{tables_of}
 use Rattle.listing.specs.Bundle.{words_from, ranges_of, bundle_fits, bundle_counts, bundled}
 use Rattle.listing.specs.declared.bundle.Counts.{Counts}
+use Rattle.reads.specs.declared.answer.Question.TheVariants.{BundleLength}
 
 abbrev seven_counts : ℕ → ℕ → ℕ → ℕ → ℕ → ℕ → ℕ → Counts
 seven_counts segments rebases binds image0 image1 image2 image3 =
@@ -18,25 +19,25 @@ pub none_of_each : bundle_counts (zeros 216) ≡ value (seven_counts 0 0 0 0 0 0
 unfolding bundle_counts bundle_fits le_in le choose
 none_of_each = refl
 
-pub one_byte_less : bundle_counts (zeros 215) ≡ number 13
+pub one_byte_less : bundle_counts (zeros 215) ≡ refused BundleLength
 unfolding bundle_counts bundle_fits le_in le choose
 one_byte_less = refl
 
-pub one_byte_more : bundle_counts (zeros 217) ≡ number 13
+pub one_byte_more : bundle_counts (zeros 217) ≡ refused BundleLength
 unfolding bundle_counts bundle_fits le_in le choose
 one_byte_more = refl
 
-pub no_bytes : bundle_counts [] ≡ number 13
+pub no_bytes : bundle_counts [] ≡ refused BundleLength
 unfolding bundle_counts bundle_fits le_in le choose
 no_bytes = refl
 
 -- 2^61 segments: the 5 x 2^64 bytes of their table are 0 modulo 2^64.
-pub product_over_64_bits : bundle_counts (zeros 7 ++ (0x20 ∷ zeros 208)) ≡ number 13
+pub product_over_64_bits : bundle_counts (zeros 7 ++ (0x20 ∷ zeros 208)) ≡ refused BundleLength
 unfolding bundle_counts bundle_fits le_in le choose
 product_over_64_bits = refl
 
 -- Lengths of 2^63 in two files: their sum is 0 modulo 2^64.
-pub sum_over_64_bits : bundle_counts (zeros 31 ++ (0x80 ∷ zeros 15 ++ (0x80 ∷ zeros 168))) ≡ number 13
+pub sum_over_64_bits : bundle_counts (zeros 31 ++ (0x80 ∷ zeros 15 ++ (0x80 ∷ zeros 168))) ≡ refused BundleLength
 unfolding bundle_counts bundle_fits le_in le choose
 sum_over_64_bits = refl
 
@@ -76,6 +77,6 @@ pub longest : bundle_counts (sized 0x28 0x7F 32552) ≡ value (seven_counts 0 0 
 unfolding bundle_counts bundle_fits le_in le choose
 longest = refl
 
-pub longer : bundle_counts (sized 0x29 0x7F 32553) ≡ number 13
+pub longer : bundle_counts (sized 0x29 0x7F 32553) ≡ refused BundleLength
 unfolding bundle_counts bundle_fits le_in le choose
 longer = refl

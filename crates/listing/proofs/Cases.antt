@@ -23,9 +23,7 @@ use Rattle.records.specs.List.{method_rows, list_at, decode_list}
 use Rattle.records.specs.Row.{alignment_of, aligned_of, decode_offset, ivar_at, decode_ivar}
 use Rattle.walks.specs.Slots.{slot_count}
 use Rattle.records.specs.declared.ivar.Aligned.TheVariants.{Unknown}
-use Rattle.records.specs.declared.ivar.Alignment.TheVariants as alignment
 use Rattle.records.specs.declared.ivar.Ivar.{Ivar}
-use Rattle.records.specs.declared.ivar.IvarOffset.TheVariants as offset
 use Rattle.records.specs.declared.list.Layout.{Layout}
 use Rattle.records.specs.declared.list.ListKind.TheVariants.{Methods}
 use Rattle.records.specs.declared.list.RowKind.{RowKind}
@@ -39,6 +37,8 @@ use Rattle.listing.specs.declared.bundle.Counts.{Counts}
 use Rattle.listing.proofs.HubListing.{hub_events, five_lines, hub_listing}
 use Rattle.listing.proofs.LittleEndian.{bytes_of, eights}
 use Rattle.listing.proofs.WholeListing.{lists_with_room}
+use Rattle.std.specs.Prelude.{None}
+use Rattle.reads.specs.declared.answer.Question.TheVariants.{BundleLength}
 
 -- A case: its name, what the definitions give, and what the documents say.
 pub data Case : Type 1 where
@@ -73,7 +73,7 @@ hub_counts = record { segments = 1; rebases = 0; binds = 1; image0 = 191; image1
 -- the two entries that are settled; the texts that the lines hold.
 abbrev pub listing_cases : List Case
 listing_cases =
-    case "listing: question 13" (bundle_counts hub_bundle) (value hub_counts)
+    case "listing: question BundleLength" (bundle_counts hub_bundle) (value hub_counts)
     ∷ case "listing: hub_tables" (bundled hub_bundle hub_counts hub.index) hub
     ∷ case "listing: opening" (opening (with_index hub hub_opened.index_before)) (value (info_of 0 0))
     ∷ case "listing: lines" (plain_listing hub) (value five_lines)
@@ -127,9 +127,9 @@ unaligned =
     record {
       name = text_of 0 0x20 1;
       type_encoding = text_of 0 0 0;
-      offset = offset.Nothing;
+      offset = None;
       size = 8;
-      log2_alignment = alignment.Nothing;
+      log2_alignment = None;
       aligned = Unknown;
     }
 
@@ -142,7 +142,7 @@ edge_cases =
     ∷ case "segment 0x1000, 0x100, 0, 0x80: 0x107F gives 0x7F" (lookup (rows segments) 0x107F) (value (place_at 0 0x7F))
     ∷ case "0x1080: absent" (lookup (rows segments) 0x1080) (absent Unmapped)
     ∷ case "0x1080: the later_segment segment has it" (lookup (rows later_segment) 0x1080) (value (place_at 0 0x80))
-    ∷ case "alignment 0x100: none" (alignment_of 0x100) alignment.Nothing
+    ∷ case "alignment 0x100: none" (alignment_of 0x100) None
     ∷ case "an ivar with the alignment 0x100: none" (ivar_at (whole_image ivar) 0x1000) (value unaligned)
     ∷ []
 

@@ -1,7 +1,7 @@
 -- The listing as one definition (specs/DecodeListing.antt) is the plain listing, over all tables, numbers and reasons included.
 use Rattle.std.proofs.Common.{◌≡◌, ℕ, zero, suc, ◌+◌, ◌^◌, Bool, true, false, ◌&&◌, ltb, List, [], ◌∷◌, ◌++◌, length, refl}
 use Rattle.reads.specs.Breaks.{is_value, can_read}
-use Rattle.reads.specs.Outcome.{Outcome, value, absent, number, Unrefused, a_value, an_absence, and_then, choose}
+use Rattle.reads.specs.Outcome.{Outcome, value, absent, refused, Unrefused, a_value, an_absence, and_then, choose}
 use Rattle.reads.specs.declared.place.Place.{Place}
 use Rattle.reads.specs.declared.text.Text.{Text}
 use Rattle.reads.proofs.Unrefused.{readable_unrefused}
@@ -36,7 +36,7 @@ use Rattle.listing.specs.declared.line.Line.TheVariants as line
 then_same : {A B : Type 0} (o : Outcome A) {f g : A → Outcome B} → ((a : A) → f a ≡ g a) → and_then o f ≡ and_then o g
 then_same (value a) h = h a
 then_same (absent r) h = refl
-then_same (number k) h = refl
+then_same (refused k) h = refl
 
 module _ (t : Tables) where
   -- The words, each beside that of Gather.antt. (Of `joined` and `as_each` the run is the plain one by definition.)
@@ -53,7 +53,7 @@ module _ (t : Tables) where
       go : (o : Outcome A) → and_then (tried_of o) (λ x. run t (or_nothing f x)) ≡ gathers.of_value o g
       go (value a) = h a
       go (absent r) = refl
-      go (number k) = refl
+      go (refused k) = refl
 
   present_runs : {A : Type 0} (d : Decode A) → run t (present d) ≡ gathers.present (run t d)
   present_runs d = of_value_runs d (λ a. done (a ∷ [])) (λ a. value (a ∷ [])) (λ a. refl)
@@ -122,7 +122,7 @@ module _ (t : Tables) where
       go : (o : Outcome Text) → and_then (tried_of o) (λ name. value (named_by name)) ≡ plain.name_or_none o
       go (value name) = refl
       go (absent r) = refl
-      go (number k) = refl
+      go (refused k) = refl
 
   pub own_lines_run : (x : Record) → run t (decode_own_lines x) ≡ own_lines t x
   unfolding decode_own_lines own_lines
@@ -186,7 +186,7 @@ module _ (t : Tables) where
       go : (o : Outcome Row) → and_then (tried_of o) (λ row. value (entry_tried j row ∷ [])) ≡ plain.entry_by j o
       go (value row) = refl
       go (absent r) = refl
-      go (number k) = refl
+      go (refused k) = refl
 
   entries_run : (f : Field) → run t (decode_entries f) ≡ entries_in t f
   unfolding decode_entries entries_in
@@ -225,9 +225,9 @@ module _ (t : Tables) where
           → and_then (and_then o (λ a. and_then p (λ b. value (h a b)))) (λ lines. value (first ∷ lines)) ≡ and_then o (λ a. and_then p (λ b. value (first ∷ h a b)))
       behind (value a) (value b) h = refl
       behind (value a) (absent r) h = refl
-      behind (value a) (number k) h = refl
+      behind (value a) (refused k) h = refl
       behind (absent r) p h = refl
-      behind (number k) p h = refl
+      behind (refused k) p h = refl
 
       go : (o : Outcome (List Record))
           → and_then
@@ -244,4 +244,4 @@ module _ (t : Tables) where
           rw (gather_runs decode_lines_of (lines_of t) lines_run records, events_from_run 0 records)
           (behind (gathers.gather (lines_of t) records) (events_from t 0 records) (λ lines events. lines ++ (end_line (length records) (length events) ∷ [])))
       go (absent r) = refl
-      go (number k) = refl
+      go (refused k) = refl

@@ -3,7 +3,7 @@
 -- walk (no_number_room). So under that alone the listing is whole (whole_listing, D3e; demand_3_listing, all of it in one statement).
 use Rattle.std.proofs.Common.{◌≡◌, ℕ, ◌<◌, ◌≤◌, Bool, true, false, leb, List, [], ◌∷◌, ◌++◌, length, sym, refl, ◌∙◌, arith, leb-false, leb-true}
 use borrow.Author.Tests.{lt-leb}
-use Rattle.reads.specs.Outcome.{value, number}
+use Rattle.reads.specs.Outcome.{value, refused}
 use Rattle.reads.proofs.Outcomes.{then_came}
 use Rattle.pointers.specs.Open.{Opened}
 use Rattle.pointers.specs.Tables.{Tables, under}
@@ -27,31 +27,32 @@ use Rattle.listing.proofs.PlainThere.{listing_there}
 use Rattle.listing.proofs.RecordLines.{records_are_record_lines}
 use Rattle.listing.proofs.Rest.{Steps, over, saying, comes_to}
 use Rattle.listing.proofs.WholeListing.{to_categories, lists_with_room}
+use Rattle.reads.specs.declared.answer.Question.TheVariants.{LedgerLength}
 
 module _ (t : Tables) (o : Opened t) (l : List ℕ) where
   -- A step that is refused by 11.
   abbrev Short : State → List ℕ → Type 0
-  Short s m = listing_step t s m ≡ leaves (number 11) s m
+  Short s m = listing_step t s m ≡ leaves (refused LedgerLength) s m
 
   short_walk : {A : Type 0} (k : Kind A) (m : List ℕ) → length m < length (slots_of k.lists t.sections)
-      → step_of k t at_start m ≡ sections.leaves (number 11) at_start m
+      → step_of k t at_start m ≡ sections.leaves (refused LedgerLength) at_start m
   unfolding step_of step_by ledger_fits
   short_walk k m h =
       rw (← ask_11 t (slots_of k.lists t.sections) 0 0 (length m) (opened_asked t o) (slot_fits_lem (slots_of k.lists t.sections) 0 0 (omega arith) (omega arith))
       (lt-leb (length (slots_of k.lists t.sections)) (length m) h))
 
   -- The first step is the line of the image info, the second the first of the class walk.
-  classes_short : length l < slot_count t.sections 0 1 → (n : ℕ) × (answer_at t n (start t.setting) l ≡ number 11)
+  classes_short : length l < slot_count t.sections 0 1 → (n : ℕ) × (answer_at t n (start t.setting) l ≡ refused LedgerLength)
   unfolding step_at events_at
   classes_short h =
       let info = info_line (version_and_flags t.info) t.setting in
       let first : listing_step t (start t.setting) l ≡ leaves (value (says info)) (state t.setting place.Section (classes t.setting at_start) 0 0) l = rw (opened_asked t o) in
-      let refused : Short (state t.setting place.Section (classes t.setting at_start) 0 0) l = rw (short_walk sections.classes l (rw (classes_count t.sections) h)) in
-      let run : Steps t Short (start t.setting) l (info ∷ []) [] = saying first refl (over refused refl) in
+      let refusing : Short (state t.setting place.Section (classes t.setting at_start) 0 0) l = rw (short_walk sections.classes l (rw (classes_count t.sections) h)) in
+      let run : Steps t Short (start t.setting) l (info ∷ []) [] = saying first refl (over refusing refl) in
       comes_to t (λ s m e. e) run
 
   -- With room for the classes the steps come to the first of the category walk, with a ledger as long.
-  categories_short : slot_count t.sections 0 1 ≤ length l → length l < slot_count t.sections 2 3 → (n : ℕ) × (answer_at t n (start t.setting) l ≡ number 11)
+  categories_short : slot_count t.sections 0 1 ≤ length l → length l < slot_count t.sections 2 3 → (n : ℕ) × (answer_at t n (start t.setting) l ≡ refused LedgerLength)
   unfolding step_at events_at
   categories_short room h =
       comes_to t (λ s m e. e)
@@ -63,7 +64,7 @@ module _ (t : Tables) (o : Opened t) (l : List ℕ) where
       where
         go : (b : Bool) → leb (slot_count t.sections 0 1) (length l) ≡ b → slot_count t.sections 0 1 ≤ length l
         go true e = leb-true (slot_count t.sections 0 1) (length l) e
-        go false e = let refused = classes_short (leb-false (slot_count t.sections 0 1) (length l) e) in absurd (none refused.0 11 refused.1)
+        go false e = let refusing = classes_short (leb-false (slot_count t.sections 0 1) (length l) e) in absurd (none refusing.0 LedgerLength refusing.1)
 
     category_room : slot_count t.sections 2 3 ≤ length l
     category_room = go (leb (slot_count t.sections 2 3) (length l)) refl
@@ -71,7 +72,7 @@ module _ (t : Tables) (o : Opened t) (l : List ℕ) where
         go : (b : Bool) → leb (slot_count t.sections 2 3) (length l) ≡ b → slot_count t.sections 2 3 ≤ length l
         go true e = leb-true (slot_count t.sections 2 3) (length l) e
         go false e =
-            let refused = categories_short class_room (leb-false (slot_count t.sections 2 3) (length l) e) in absurd (none refused.0 11 refused.1)
+            let refusing = categories_short class_room (leb-false (slot_count t.sections 2 3) (length l) e) in absurd (none refusing.0 LedgerLength refusing.1)
 
     pub no_number_room : (slot_count t.sections 0 1 ≤ length l) × (slot_count t.sections 2 3 ≤ length l)
     no_number_room = (class_room, category_room)

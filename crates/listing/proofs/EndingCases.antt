@@ -39,7 +39,6 @@ use Rattle.records.specs.declared.class.ObjcClass.{ObjcClass}
 use Rattle.records.specs.declared.list.Layout.{Layout}
 use Rattle.records.specs.declared.list.ListKind.TheVariants.{Methods, Ivars, Properties}
 use Rattle.records.specs.declared.list.RowKind.TheVariants.{Legacy}
-use Rattle.records.specs.declared.method.Imp.TheVariants as imp
 use Rattle.records.specs.declared.method.MethodKind.TheVariants as kind
 use Rattle.records.specs.declared.row.Row.{Row}
 use Rattle.records.specs.declared.row.Row.TheVariants as row
@@ -58,12 +57,12 @@ use Rattle.listing.specs.declared.at.Record.{Record}
 use Rattle.listing.specs.declared.at.Record.TheVariants as a_record
 use Rattle.listing.specs.declared.line.Line.{Line}
 use Rattle.listing.specs.declared.line.Line.TheVariants as line
-use Rattle.listing.specs.declared.line.Named.TheVariants as named
 use Rattle.listing.proofs.DecodedListing.{records_run, own_lines_run, fields_run, fields_lines_run, field_events_run}
 use Rattle.listing.proofs.EmptyLists.{no_list, no_names}
 use Rattle.listing.proofs.ListedAsBefore.{listed_as_before}
 use Rattle.listing.proofs.LittleEndian.{fours, eights}
 use Rattle.listing.proofs.NodeListing.{no_rebase_lem, no_bind}
+use Rattle.std.specs.Prelude.{Some, None}
 
 -- 0x1000: class_t. isa, superclass, cache, vtable, bits. 0x1028: class_ro_t. flags, start, size, reserved; ivar layout, name, methods, and four
 -- more. 0x1070: class_list. 0x1078: the method list. Size and count; selector, types, imp. 0x1098: the strings.
@@ -124,12 +123,12 @@ abbrev one_method : Layout
 one_method = record { base = 0x1080; size = 24; count = 1; kind = Legacy }
 
 abbrev the_row : Row
-the_row = row.Method (method_of (text_of 0 0x9E 2) (text_of 0 0x9C 1) (imp.At 0x2000) kind.Legacy)
+the_row = row.Method (method_of (text_of 0 0x9E 2) (text_of 0 0x9C 1) (Some 0x2000) kind.Legacy)
 
 -- The lines: I 0 0 and the reading, C, R, the method's if it is shown, and E 1 1.
 abbrev pub file_lines : Reading → List Line → List Line
 file_lines r method =
-    plain.info_line (info_of 0 0) (reading_under r) ∷ plain.class_line file_class named.Nothing ∷ line.Ro the_ro ∷ (method ++ (plain.end_line 1 1 ∷ []))
+    plain.info_line (info_of 0 0) (reading_under r) ∷ plain.class_line file_class None ∷ line.Ro the_ro ∷ (method ++ (plain.end_line 1 1 ∷ []))
 
 abbrev pub method_line : Line
 method_line = plain.row_line 0 the_row
@@ -201,7 +200,7 @@ module _ (before : List ℕ) where
     tables = under (reading_under r) (file before f)
 
     module _ (ro : ro_of tables file_class ≡ value the_ro) where
-      record_lines_lem : plain.own_lines tables the_record ≡ value (plain.class_line file_class named.Nothing ∷ line.Ro the_ro ∷ [])
+      record_lines_lem : plain.own_lines tables the_record ≡ value (plain.class_line file_class None ∷ line.Ro the_ro ∷ [])
       unfolding plain.own_lines
       record_lines_lem = rw (superclass_absent (reading_under r) f, ro)
 

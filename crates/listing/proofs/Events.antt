@@ -2,7 +2,7 @@
 -- them.
 use Rattle.std.proofs.Common.{◌≡◌, ℕ, suc, ◌+◌, List, [], ◌∷◌, ◌++◌, map, length, sym, ap, ◌∙◌, arith, length-append}
 use lib.ListN.{length-map}
-use Rattle.reads.specs.Outcome.{Outcome, value, absent, number}
+use Rattle.reads.specs.Outcome.{Outcome, value, absent, refused}
 use Rattle.pointers.specs.Tables.{Tables}
 use Rattle.records.specs.List.{entry_address}
 use Rattle.records.specs.Row.{row_at}
@@ -45,7 +45,7 @@ field_parts t r n f fs gs e =
 entry_one : (j : ℕ) (v : Outcome Row) (es : List Entry) → entry_by j v ≡ value es → length es ≡ 1
 entry_one j (value row) es e = let same : es ≡ with_row j ∷ [] = cc in rw same
 entry_one j (absent r) es e = let same : es ≡ without_row j r ∷ [] = cc in rw same
-entry_one j (number k) es e = let z : ◌≡◌ {A = ℕ} 0 1 = cc in absurd (omega arith)
+entry_one j (refused k) es e = let z : ◌≡◌ {A = ℕ} 0 1 = cc in absurd (omega arith)
 
 pub entries_length : (t : Tables) (h : Layout) (js : List ℕ) (es : List Entry) → gather (entry_in t h) js ≡ value es → length es ≡ length js
 entries_length t h [] es e = ap length (gather_none (entry_in t h) e)

@@ -1,6 +1,6 @@
 -- Each step of the listing after which it goes on leaves less, so a listing ends.
 use Rattle.std.proofs.Common.{◌≡◌, ℕ, zero, suc, ◌+◌, ◌-◌, ◌*◌, ◌^◌, ◌<◌, ◌≤◌, true, false, eqb, List, [], ◌∷◌, length, drop, sym, refl, ap, subst, arith, length-drop, ne_eqb}
-use Rattle.reads.specs.Outcome.{Outcome, value, absent, number, choose}
+use Rattle.reads.specs.Outcome.{Outcome, value, absent, refused, choose}
 use Rattle.reads.proofs.Tests.{by_choose}
 use Rattle.pointers.specs.Question.{asked, guarded}
 use Rattle.pointers.specs.Tables.{Tables, under}
@@ -27,6 +27,7 @@ use Rattle.listing.specs.declared.at.Owner.TheVariants as an_owner
 use Rattle.listing.specs.declared.at.Record.{Record}
 use Rattle.listing.specs.declared.at.Record.TheVariants as a_record
 use Rattle.listing.proofs.Remaining.{walk_left, section_weight, list_left, cursor_in, place_left, remaining, goes_on, slot_of, InWords}
+use Rattle.reads.specs.declared.answer.Question.{Question}
 
 pub never : {A : Type 0} → false ≡ true → A
 never e = let z : ◌≡◌ {A = ℕ} 0 1 = cc in absurd (omega arith)
@@ -68,14 +69,14 @@ pub record Falls (s : State) (x : listing.Left) : Type 0 where
   pub falls : goes_on x.answer ≡ true → InWords x.state → remaining x.state < remaining s
 
 module _ (s : State) (l : List ℕ) where
-  stays : (k : ℕ) → Falls s (listing.leaves (number k) s l)
+  stays : (k : Question) → Falls s (listing.leaves (refused k) s l)
   stays k = record { falls = λ e f. never e }
 
   -- A step that goes on to another place of the same section.
   onward_falls : {A : Type 0} (o : Outcome A) (go : A → listing.Left) → ((a : A) → Falls s (go a)) → Falls s (onward s l o go)
   onward_falls (value a) go f = f a
   onward_falls (absent r) go f = record { falls = λ e f. never e }
-  onward_falls (number k) go f = stays k
+  onward_falls (refused k) go f = stays k
 
   record_falls : place_left s.at ≡ 2 ^ 71 → (t : Tables) (x : Record) → Falls s (record_step t s l x)
   record_falls h t (a_record.Class c) =
@@ -89,7 +90,7 @@ module _ (s : State) (l : List ℕ) where
   ro_falls : place_left s.at ≡ 2 ^ 70 → (o : Outcome ClassRo) → Falls s (by_ro s l o)
   ro_falls h (value r) = record { falls = λ e f. nearer _ s refl (omega (arith, h, enter_few s.setting (an_owner.Class r) 0)) }
   ro_falls h (absent r) = record { falls = λ e f. nearer _ s refl (omega (arith, h)) }
-  ro_falls h (number k) = stays k
+  ro_falls h (refused k) = stays k
 
   module _ (o : Owner) (n : ℕ) where
     abbrev lists_after : ℕ
@@ -99,14 +100,14 @@ module _ (s : State) (l : List ℕ) where
     row_falls w v h (value (row_reached r)) m = record { falls = λ e f. nearer _ s refl (omega (arith, h, m, f.cursor)) }
     row_falls w v h (value (row_skipped j r)) m = record { falls = λ e f. nearer _ s refl (omega (arith, h, m, f.cursor)) }
     row_falls w v h (value rows_finished) m = record { falls = λ e f. nearer _ s refl (omega (arith, h, enter_few s.setting o (suc n))) }
-    row_falls w v h (number k) m = stays k
+    row_falls w v h (refused k) m = stays k
     row_falls w v h (absent r) m = record { falls = λ e f. nearer _ s refl (omega (arith, h, enter_few s.setting o (suc n))) }
 
     name_falls : (w v : ProtocolNameWalk) → place_left s.at ≡ list_left w.cursor lists_after → (x : Outcome ReachedName) → NameMoves w v x → Falls s (by_name s l o n w.cursor v x)
     name_falls w v h (value (name_reached name)) m = record { falls = λ e f. nearer _ s refl (omega (arith, h, m, f.cursor)) }
     name_falls w v h (value (name_passed r)) m = record { falls = λ e f. nearer _ s refl (omega (arith, h, m, f.cursor)) }
     name_falls w v h (value names_finished) m = record { falls = λ e f. nearer _ s refl (omega (arith, h, enter_few s.setting o (suc n))) }
-    name_falls w v h (number k) m = stays k
+    name_falls w v h (refused k) m = stays k
     name_falls w v h (absent r) m = record { falls = λ e f. nearer _ s refl (omega (arith, h, enter_few s.setting o (suc n))) }
 
     list_falls : (t : Tables) (x : FieldWalk) → place_left s.at ≡ list_left (cursor_in x) lists_after → Falls s (list_step t s l o n x)
@@ -126,7 +127,7 @@ module _ {A : Type 0} (s : State) (h : place_left s.at ≡ 1) (f : A → Record)
   walk_falls (value dropped) b = record { falls = λ e g. taken_falls (further_less w v b (rw (slots v) at g.slot)) place.Section (omega arith) }
   walk_falls (value finished) b = last b
   walk_falls (absent r) b = absurd b
-  walk_falls (number k) b = record { falls = λ e g. never e }
+  walk_falls (refused k) b = record { falls = λ e g. never e }
 
 module _ (s : State) (l : List ℕ) where
   stage_falls : (t : Tables) (n : ℕ) (c p k : Begun) → place_left s.at ≡ 1 → s.section ≡ walks n c p k → Falls s (on_section s (section_step t l (walks n c p k)))

@@ -1,8 +1,7 @@
 -- A record's lists, walked one after the other: each list of rows settles its readable entries and says their rows, each list of protocol
 -- names says its names, and then the next list comes.
 use Rattle.std.proofs.Common.{◌≡◌, ℕ, zero, suc, ◌+◌, ◌-◌, ◌%◌, ◌^◌, ◌<◌, ◌≤◌, false, List, [], ◌∷◌, ◌++◌, map, length, drop, sym, refl, ap, ◌∙◌, append_assoc, mod-eq_of_lt, arith}
-use mathlib.Core.Option.{Option, none, some}
-use Rattle.reads.specs.Outcome.{Outcome, value, absent, number, Unrefused}
+use Rattle.reads.specs.Outcome.{Outcome, value, absent, refused, Unrefused}
 use Rattle.reads.specs.declared.text.Text.{Text}
 use Rattle.reads.proofs.Tests.{by_choose, choose_true, choose_false}
 use Rattle.reads.specs.declared.answer.Reason.{Reason}
@@ -35,6 +34,7 @@ use Rattle.listing.specs.declared.at.Owner.{Owner}
 use Rattle.listing.specs.declared.line.Line.{Line}
 use Rattle.listing.proofs.Events.{field_parts, names_settle_none, entries_length}
 use Rattle.listing.proofs.Rest.{Steps, silent, telling, saying}
+use Rattle.std.specs.Prelude.{Option, None, Some}
 
 pub less : (m a b : ℕ) → a ≤ b → b < m → a < m
 less m a b u v = omega arith
@@ -70,11 +70,11 @@ module _ (t : Tables) (o : Opened t) (Over : State → List ℕ → Type 0) (k :
         silent (step_by 0 c' _ next) (events_by_lem 0 c' _ next) later
 
     module _ (h : Layout) (there : list_at t k list ≡ value h) where
-      next_finished : (p : ℕ) → p ≤ h.count → first_readable (image_in t) h p ≡ none
+      next_finished : (p : ℕ) → p ≤ h.count → first_readable (image_in t) h p ≡ None
           → next_of t (walk_of t.setting list k p) ≡ hands (value rows_finished) (walk_of t.setting list k h.count)
       next_finished p u e = opened_step t o k list p (within_count t o k list h there p u) ∙ ap (shown t.setting k list) (step_finished t o k list h there p u e)
 
-      next_settles : (p j : ℕ) → p ≤ h.count → first_readable (image_in t) h p ≡ some j
+      next_settles : (p j : ℕ) → p ≤ h.count → first_readable (image_in t) h p ≡ Some j
           → next_of t (walk_of t.setting list k p) ≡ shown t.setting k list (settling j (row_at t h.kind (entry_address h j)))
       next_settles p j u e = opened_step t o k list p (within_count t o k list h there p u) ∙ ap (shown t.setting k list) (step_value t o k list h there p j u e)
 
@@ -99,20 +99,20 @@ module _ (t : Tables) (o : Opened t) (Over : State → List ℕ → Type 0) (k :
           let none : first ≡ [] = cc in
           let settled : mine ≡ without_row j why ∷ [] = cc in
           rw (none, settled) (telling (step_by p c _ e) (events_by_lem p c _ e) after)
-      entry_comes p c j mine zs first ys (number i) d a b e u more = let z : ◌≡◌ {A = ℕ} 0 1 = cc in absurd (omega arith)
+      entry_comes p c j mine zs first ys (refused i) d a b e u more = let z : ◌≡◌ {A = ℕ} 0 1 = cc in absurd (omega arith)
 
       entries_come : (js : List ℕ) (p c : ℕ) (ys : List Line) (zs : List Entry) → p ≤ h.count → (v : Option ℕ) → first_readable (image_in t) h p ≡ v
           → rest_from (image_in t) h p ≡ js → gather (entry_lines t n h) js ≡ value ys → gather (entry_in t h) js ≡ value zs → c' ≡ c + length js
           → EntriesCome p c zs ys
-      entries_come [] p c ys zs u (some j) e f a b d = let g = rest_of_some (image_in t) h p j e in let z : ◌≡◌ {A = ℕ} 0 1 = cc in absurd (omega arith)
-      entries_come [] p c ys zs u none e f a b d =
+      entries_come [] p c ys zs u (Some j) e f a b d = let g = rest_of_some (image_in t) h p j e in let z : ◌≡◌ {A = ℕ} 0 1 = cc in absurd (omega arith)
+      entries_come [] p c ys zs u None e f a b d =
           let same : c' ≡ c = omega arith in
           let next = next_finished p u e in
           let none = gather_none (entry_lines t n h) a in
           let nothing = gather_none (entry_in t h) b in
           rw (none, nothing) (silent (step_by p c _ next) (events_by_lem p c _ next) (rw same at later))
-      entries_come (j ∷ js) p c ys zs u none e f a b d = let g = rest_of_none (image_in t) h p e in let z : ◌≡◌ {A = ℕ} 0 1 = cc in absurd (omega arith)
-      entries_come (j ∷ js) p c ys zs u (some i) e f a b d =
+      entries_come (j ∷ js) p c ys zs u None e f a b d = let g = rest_of_none (image_in t) h p e in let z : ◌≡◌ {A = ℕ} 0 1 = cc in absurd (omega arith)
+      entries_come (j ∷ js) p c ys zs u (Some i) e f a b d =
           let g = rest_of_some (image_in t) h p i e in
           let first : i ≡ j = cc in
           let rest : rest_from (image_in t) h (suc i) ≡ js = cc in
@@ -143,7 +143,7 @@ module _ (t : Tables) (o : Opened t) (Over : State → List ℕ → Type 0) (k :
         let count : length zs ≡ 0 = rw nothing in
         let same : c ≡ c' = omega arith in
         rw (none, nothing, same) (rest_absent why e)
-    rest_rows (number _) u e c ys zs a b d = elim u [ ]
+    rest_rows (refused _) u e c ys zs a b d = elim u [ ]
 
 -- The steps over one list of protocol names.
 module _ (t : Tables) (o : Opened t) (Over : State → List ℕ → Type 0) (list n : ℕ) (w : Owner) (sec : SectionWalk) (r c : ℕ) (l : List ℕ) where
@@ -201,7 +201,7 @@ module _ (t : Tables) (o : Opened t) (Over : State → List ℕ → Type 0) (lis
         let next = next_absent t o (walk_at t.setting list 0) why e (omega arith) in
         let none : names ≡ [] = cc in
         rw none (silent (name_by 0 _ next) (no_event 0) later)
-    list_comes (number k) e names a = let z : ◌≡◌ {A = ℕ} 0 1 = cc in absurd (omega arith)
+    list_comes (refused k) e names a = let z : ◌≡◌ {A = ℕ} 0 1 = cc in absurd (omega arith)
 
     -- A field that names a list of protocol names.
     rest_names : (ys : List Line) → field_lines t n (name_list list) ≡ value ys → Steps t Over (at_name 0) l (ys ++ xs) es

@@ -27,8 +27,8 @@ use Rattle.listing.specs.PlainListing as plain
 use Rattle.listing.specs.declared.at.Record.TheVariants as a_record
 use Rattle.listing.specs.declared.line.Line.{Line}
 use Rattle.listing.specs.declared.line.Line.TheVariants as line
-use Rattle.listing.specs.declared.line.Named.TheVariants as named
 use Rattle.listing.proofs.EmptyLists.{no_list, no_names}
+use Rattle.std.specs.Prelude.{Some}
 
 -- class_list holds one address; the other sections are absent.
 hub_listed : listed hub Classes ≡ value (0x1000 ∷ [])
@@ -66,7 +66,7 @@ hub_class_ro =
 
 -- C 1000 0 0 1028 8:NSObject
 abbrev pub class_line_lem : Line
-class_line_lem = line.Class (record { class = hub_class_record; superclass_name = named.Text (text_of 0 182 8) })
+class_line_lem = line.Class (record { class = hub_class_record; superclass_name = Some (text_of 0 182 8) })
 
 hub_records : plain.plain_records hub ≡ value (a_record.Class hub_class_record ∷ [])
 unfolding plain.plain_records

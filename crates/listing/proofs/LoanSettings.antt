@@ -1,7 +1,7 @@
 -- A step takes its setting from the listing's state and from the walk under way, never from what it is lent (document 02, note 12): over tables
 -- under any setting the steps are the same.
 use Rattle.std.proofs.Common.{◌≡◌, ℕ, zero, suc, List, sym, refl, ap, ◌∙◌, subst}
-use Rattle.reads.specs.Outcome.{number}
+use Rattle.reads.specs.Outcome.{refused}
 use Rattle.pointers.specs.Tables.{Tables, under}
 use Rattle.pointers.specs.declared.setting.Setting.{Setting}
 use Rattle.walks.specs.Gather.{joined}
@@ -15,6 +15,8 @@ use Rattle.listing.specs.declared.at.FieldWalk.TheVariants as field_walk
 use Rattle.listing.specs.declared.at.Owner.{Owner}
 use Rattle.listing.specs.declared.at.Record.TheVariants as a_record
 use Rattle.listing.specs.declared.line.Line.{Line}
+use Rattle.reads.specs.Answer.{answered}
+use Rattle.reads.specs.declared.answer.Question.{Question}
 
 module _ (u : Setting) (t : Tables) where
   loan_section : (l : List ℕ) (n : ℕ) (c p k : Begun) → section_step (under u t) l (walks n c p k) ≡ section_step t l (walks n c p k)
@@ -93,5 +95,5 @@ module _ (u : Setting) (t : Tables) where
         settled_events = λ n e. sym (loan_settled n (start v) l) ∙ x.settled_events n (loan_answers n (start v) l ∙ e);
       }
 
-  pub loan_numberless : (v : Setting) (l : List ℕ) → ((n k : ℕ) → answer_at t n (start v) l ≡ number k → ⊥) → (n k : ℕ) → answer_at (under u t) n (start v) l ≡ number k → ⊥
+  pub loan_numberless : (v : Setting) (l : List ℕ) → ((n : ℕ) (k : Question) → answer_at t n (start v) l ≡ refused k → ⊥) → (n : ℕ) (k : Question) → answer_at (under u t) n (start v) l ≡ refused k → ⊥
   loan_numberless v l none n k e = none n k (sym (loan_answers n (start v) l) ∙ e)

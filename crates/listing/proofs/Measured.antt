@@ -2,15 +2,17 @@
 use Rattle.std.proofs.Common.{◌≡◌, ℕ, ◌+◌, ◌*◌, ◌<◌, ◌≤◌, true, false, eqb, leb, List, length, sym, ap, ◌∙◌, true≢false, arith, eq-eqb, ne_eqb, eqb-true, le-leb, leb-true}
 use mathlib.Core.Bool.{and-false}
 use borrow.Author.Tests.{lt-leb}
-use Rattle.reads.specs.Outcome.{Outcome, value, number, choose}
+use Rattle.reads.specs.Outcome.{Outcome, value, refused, choose}
 use Rattle.reads.proofs.Tests.{by_choose, both_true}
-use Rattle.listing.specs.Bundle.{counts_outcome, word_from, counts_of, count_fits, counts_fit, segment_table_words, rebase_table_words, bind_table_words, said_length, bundle_fits, bundle_counts, Accepted}
+use Rattle.listing.specs.Bundle.{word_from, counts_of, count_fits, counts_fit, segment_table_words, rebase_table_words, bind_table_words, said_length, bundle_fits, bundle_counts, Accepted}
 use Rattle.pointers.specs.Question.{every}
 use Rattle.pointers.specs.Tables.{section_table_words}
 use Rattle.pointers.proofs.Questions.{every_at}
 use Rattle.listing.specs.declared.bundle.Counts.{Counts}
-use Rattle.listing.specs.declared.bundle.CountsAnswer.{CountsAnswer}
-use Rattle.listing.specs.declared.bundle.CountsAnswer.TheVariants as counts_answer
+use Rattle.std.specs.Prelude.{Result, Ok}
+use Rattle.reads.specs.Answer.{outcome}
+use Rattle.reads.specs.declared.answer.Missing.{Missing}
+use Rattle.reads.specs.declared.answer.Question.TheVariants.{BundleLength}
 
 -- The length in document 01's order: counts, ends, image info, the words of the four tables, the four files.
 pub said_length_lem : (c : Counts)
@@ -46,19 +48,19 @@ module _ (bytes : List ℕ) where
   unfolding count_fits
   count_fits_lem e k h = leb-true (word_from bytes (8 * k)) 32768 (every_at (count_fits bytes) 7 e k h)
 
-  pub too_long : 32768 < length bytes → number 13 ≡ bundle_counts bytes
+  pub too_long : 32768 < length bytes → refused BundleLength ≡ bundle_counts bytes
   unfolding bundle_counts bundle_fits choose
   too_long h = simp (lt-leb _ _ h)
 
-  pub other_length : (length bytes ≡ said_length (counts_of bytes) → ⊥) → number 13 ≡ bundle_counts bytes
+  pub other_length : (length bytes ≡ said_length (counts_of bytes) → ⊥) → refused BundleLength ≡ bundle_counts bytes
   unfolding bundle_counts bundle_fits choose
   other_length h = simp (ne_eqb _ _ h, and-false)
 
-  pub other_counts : length bytes ≤ 32768 → counts_fit bytes ≡ false → number 13 ≡ bundle_counts bytes
+  pub other_counts : length bytes ≤ 32768 → counts_fit bytes ≡ false → refused BundleLength ≡ bundle_counts bytes
   other_counts h f = other_length (λ e. true≢false (sym (fits_below (omega arith)) ∙ f))
 
   -- The same, of what the code adds up.
-  pub other_said : (c : Counts) (said : ℕ) → said ≡ said_length c → (said ≡ length bytes → ⊥) → c ≡ counts_of bytes → number 13 ≡ bundle_counts bytes
+  pub other_said : (c : Counts) (said : ℕ) → said ≡ said_length c → (said ≡ length bytes → ⊥) → c ≡ counts_of bytes → refused BundleLength ≡ bundle_counts bytes
   other_said c said e n same = other_length (λ h. n (e ∙ ap said_length same ∙ sym h))
 
   pub exact_length : (c : Counts) → c ≡ counts_of bytes → length bytes ≤ 32768 → length bytes ≡ said_length (counts_of bytes)
@@ -82,7 +84,7 @@ accepted bytes c =
     (λ t e. let z : ◌≡◌ {A = ℕ} 0 1 = cc in absurd (omega arith))
 
 -- The same, of an answer of the code.
-pub measured : (r : CountsAnswer) (bytes : List ℕ) (c : Counts) → counts_outcome r ≡ bundle_counts bytes → r ≡ counts_answer.Counts c → Accepted bytes c
+pub measured : (r : Result Counts Missing) (bytes : List ℕ) (c : Counts) → outcome r ≡ bundle_counts bytes → r ≡ Ok c → Accepted bytes c
 measured r bytes c e g = accepted bytes c (rw (← e, g))
 
 -- The tables of an accepted bundle have at most 4,084 words together.

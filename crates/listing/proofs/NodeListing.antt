@@ -40,7 +40,6 @@ use Rattle.records.specs.declared.list.Layout.{Layout}
 use Rattle.records.specs.declared.list.ListKind.{ListKind}
 use Rattle.records.specs.declared.list.ListKind.TheVariants.{Methods, Ivars, Properties}
 use Rattle.records.specs.declared.list.RowKind.TheVariants.{Legacy}
-use Rattle.records.specs.declared.method.Imp.TheVariants as imp
 use Rattle.records.specs.declared.method.MethodKind.TheVariants as kind
 use Rattle.records.specs.declared.protocol.ObjcProtocol.{ObjcProtocol}
 use Rattle.records.specs.declared.row.Row.{Row}
@@ -58,11 +57,11 @@ use Rattle.listing.specs.declared.at.Record.TheVariants as a_record
 use Rattle.listing.specs.declared.bundle.Counts.{Counts}
 use Rattle.listing.specs.declared.line.Line.{Line}
 use Rattle.listing.specs.declared.line.Line.TheVariants as line
-use Rattle.listing.specs.declared.line.Named.TheVariants as named
 use Rattle.listing.specs.ListingRun.{Lists}
 use Rattle.listing.proofs.EmptyLists.{no_list, no_names}
 use Rattle.listing.proofs.LittleEndian.{fours, eights}
 use Rattle.listing.proofs.WholeListing.{lists_with_room}
+use Rattle.std.specs.Prelude.{Some, None}
 
 -- 440 bytes of file 0 at 0x1000. 0x1000: class_t of the class and, at 0x1028, of its metaclass: isa, superclass, cache, vtable, bits.
 abbrev class_bytes : List ℕ
@@ -179,19 +178,19 @@ abbrev two_methods : Layout
 two_methods = record { base = 0x1160; size = 24; count = 2; kind = Legacy }
 
 abbrev go_row : Row
-go_row = row.Method (method_of (text_of 1 17 2) (text_of 1 20 1) (imp.At 0x2000) kind.Legacy)
+go_row = row.Method (method_of (text_of 1 17 2) (text_of 1 20 1) (Some 0x2000) kind.Legacy)
 
 -- The twelve lines: I 0 0 1; C, R; M, R and its row m 0 2:go 1:v 2000 0; P; K, the row once for each of its two fields, q 2 5:Walks; E 4 6.
 abbrev pub twelve_lines : List Line
 twelve_lines =
     plain.info_line (info_of 0 0) reading_new
-    ∷ plain.class_line node_class named.Nothing
+    ∷ plain.class_line node_class None
     ∷ line.Ro node_ro
-    ∷ plain.class_line meta_class named.Nothing
+    ∷ plain.class_line meta_class None
     ∷ line.Ro meta_ro
     ∷ plain.row_line 0 go_row
     ∷ line.Protocol walks_protocol
-    ∷ plain.category_line extra_category (named.Text (text_of 1 0 4))
+    ∷ plain.category_line extra_category (Some (text_of 1 0 4))
     ∷ plain.row_line 0 go_row
     ∷ plain.row_line 1 go_row
     ∷ plain.name_line 2 (text_of 1 5 5)
@@ -346,12 +345,12 @@ module _ (before : List ℕ) where
   unfolding plain.field_lines protocol_names gather
   name_lines n = rw (one_name, its_slots)
 
-  node_lines : plain.lines_of (node before) (a_record.Class node_class) ≡ value (plain.class_line node_class named.Nothing ∷ line.Ro node_ro ∷ [])
+  node_lines : plain.lines_of (node before) (a_record.Class node_class) ≡ value (plain.class_line node_class None ∷ line.Ro node_ro ∷ [])
   unfolding plain.lines_of plain.own_lines plain.record_fields plain.fields_lines
   node_lines = rw (node_superclass, node_ro_there, none_lines 0 Methods, none_lines 1 Ivars, none_lines 2 Properties, no_name_lines 3)
 
   meta_lines : plain.lines_of (node before) (a_record.Class meta_class)
-      ≡ value (plain.class_line meta_class named.Nothing ∷ line.Ro meta_ro ∷ plain.row_line 0 go_row ∷ [])
+      ≡ value (plain.class_line meta_class None ∷ line.Ro meta_ro ∷ plain.row_line 0 go_row ∷ [])
   unfolding plain.lines_of plain.own_lines plain.record_fields plain.fields_lines
   meta_lines = rw (meta_superclass, meta_ro_there, list_lines 0, none_lines 1 Ivars, none_lines 2 Properties, no_name_lines 3)
 
@@ -370,7 +369,7 @@ module _ (before : List ℕ) where
 
   category_lines : plain.lines_of (node before) (a_record.Category extra_category)
       ≡ value
-      (plain.category_line extra_category (named.Text (text_of 1 0 4))
+      (plain.category_line extra_category (Some (text_of 1 0 4))
       ∷ plain.row_line 0 go_row
       ∷ plain.row_line 1 go_row
       ∷ plain.name_line 2 (text_of 1 5 5)

@@ -21,11 +21,11 @@ use Rattle.listing.specs.PlainListing.{version_and_flags, Field, row_list, name_
 use Rattle.listing.specs.declared.at.Record.{Record}
 use Rattle.listing.specs.declared.at.Record.TheVariants as a_record
 use Rattle.listing.specs.declared.line.Line.TheVariants as line
-use Rattle.listing.specs.declared.line.Named.TheVariants as named
+use Rattle.std.specs.Prelude.{Some, None}
 
 name_there : {v : Outcome Text} → Unrefused v → There (name_or_none v)
-name_there (a_value name) = is_there (named.Text name)
-name_there (an_absence r) = is_there named.Nothing
+name_there (a_value name) = is_there (Some name)
+name_there (an_absence r) = is_there None
 
 entry_there : (j : ℕ) {v : Outcome Row} → Unrefused v → There (entry_by j v)
 entry_there j (a_value row) = is_there (with_row j ∷ [])

@@ -1,6 +1,6 @@
 -- E's first number is the number of record lines of the plain listing.
 use Rattle.std.proofs.Common.{◌≡◌, ℕ, suc, ◌+◌, List, [], ◌∷◌, ◌++◌, map, length, refl, ap, ◌∙◌, arith}
-use Rattle.reads.specs.Outcome.{Outcome, value, absent, number, and_then}
+use Rattle.reads.specs.Outcome.{Outcome, value, absent, refused, and_then}
 use Rattle.reads.specs.declared.text.Text.{Text}
 use Rattle.reads.proofs.Outcomes.{then_came}
 use Rattle.pointers.specs.Tables.{Tables, image_in}
@@ -43,7 +43,7 @@ entry_none : (n : ℕ) (v : Outcome Row) (ys : List Line) → of_value v (λ r. 
 unfolding record_line_count
 entry_none n (value r) ys e = let same : ys ≡ row_line n r ∷ [] = cc in rw same
 entry_none n (absent r) ys e = let same : ys ≡ [] = cc in rw same
-entry_none n (number k) ys e = let z : ◌≡◌ {A = ℕ} 0 1 = cc in absurd (omega arith)
+entry_none n (refused k) ys e = let z : ◌≡◌ {A = ℕ} 0 1 = cc in absurd (omega arith)
 
 entries_none : (t : Tables) (n : ℕ) (h : Layout) (js : List ℕ) (ys : List Line) → gather (entry_lines t n h) js ≡ value ys → record_line_count ys ≡ 0
 unfolding gather
@@ -56,7 +56,7 @@ list_none : (t : Tables) (n : ℕ) (v : Outcome Layout) (ys : List Line) → of_
     → record_line_count ys ≡ 0
 list_none t n (value h) ys e = entries_none t n h (readables (image_in t) h) ys e
 list_none t n (absent r) ys e = let same : ys ≡ [] = cc in rw same (unfold record_line_count in refl)
-list_none t n (number k) ys e = let z : ◌≡◌ {A = ℕ} 0 1 = cc in absurd (omega arith)
+list_none t n (refused k) ys e = let z : ◌≡◌ {A = ℕ} 0 1 = cc in absurd (omega arith)
 
 names_none : (n : ℕ) (names : List Text) → record_line_count (map (name_line n) names) ≡ 0
 unfolding record_line_count
@@ -82,7 +82,7 @@ ro_none : (v : Outcome ClassRo) (ys : List Line) → of_value v (λ r. value (li
 unfolding record_line_count
 ro_none (value r) ys e = let same : ys ≡ line.Ro r ∷ [] = cc in rw same
 ro_none (absent r) ys e = let same : ys ≡ [] = cc in rw same
-ro_none (number k) ys e = let z : ◌≡◌ {A = ℕ} 0 1 = cc in absurd (omega arith)
+ro_none (refused k) ys e = let z : ◌≡◌ {A = ℕ} 0 1 = cc in absurd (omega arith)
 
 own_one : (t : Tables) (x : Record) (ys : List Line) → own_lines t x ≡ value ys → record_line_count ys ≡ 1
 unfolding own_lines

@@ -1,7 +1,7 @@
 -- What is left of a listing: a number that each step leaves less of, until the listing has ended or a question refuses it. The weights
 -- leave room for the parts below them: an address of a slot, a cursor and the lists of a record.
 use Rattle.std.proofs.Common.{ℕ, zero, suc, ◌+◌, ◌-◌, ◌*◌, ◌^◌, ◌<◌, Bool, true, false, eqb, length}
-use Rattle.reads.specs.Outcome.{Outcome, value, absent, number, choose}
+use Rattle.reads.specs.Outcome.{Outcome, value, absent, refused, choose}
 use Rattle.walks.specs.Sections.{Walk}
 use Rattle.listing.specs.Listing.{owner_fields, SectionWalk, State, Answer, says, lacks, nothing, ended}
 use Rattle.listing.specs.declared.at.At.{At}
@@ -47,7 +47,7 @@ goes_on (value (lacks x)) = true
 goes_on (value nothing) = true
 goes_on (value ended) = false
 goes_on (absent r) = false
-goes_on (number k) = false
+goes_on (refused k) = false
 
 -- The numbers that a state counts up fit their words.
 abbrev pub slot_in : SectionWalk → ℕ → ℕ

@@ -1,6 +1,6 @@
 -- The records of a section, one after the other: each says its own lines, then those of its lists; then the next section comes.
 use Rattle.std.proofs.Common.{◌≡◌, ℕ, suc, ◌+◌, ◌-◌, ◌%◌, ◌^◌, ◌<◌, ◌≤◌, List, [], ◌∷◌, ◌++◌, map, length, sym, refl, ap, ◌∙◌, subst, append_assoc, mod-eq_of_lt, arith, length-append}
-use Rattle.reads.specs.Outcome.{Outcome, value, absent, number, and_then}
+use Rattle.reads.specs.Outcome.{Outcome, value, absent, refused, and_then}
 use Rattle.reads.proofs.Outcomes.{then_came}
 use Rattle.pointers.specs.Open.{Opened}
 use Rattle.pointers.specs.Tables.{Tables}
@@ -28,16 +28,17 @@ use Rattle.listing.specs.declared.at.Record.{Record}
 use Rattle.listing.specs.declared.at.Record.TheVariants as a_record
 use Rattle.listing.specs.declared.line.Line.{Line}
 use Rattle.listing.specs.declared.line.Line.TheVariants as line
-use Rattle.listing.specs.declared.line.Named.{Named}
 use Rattle.listing.proofs.FieldRests.{less, rest_fields}
 use Rattle.listing.proofs.Rest.{Steps, silent, telling, saying}
+use Rattle.std.specs.Prelude.{Option}
+use Rattle.reads.specs.declared.text.Text.{Text}
 
 -- A record after r others, with c entries settled before it.
 module _ (t : Tables) (o : Opened t) (Over : State → List ℕ → Type 0) (sec : SectionWalk) (r c : ℕ) (l : List ℕ) (few : r + 1 < 2 ^ 64) where
   one_record : (r + 1) % 2 ^ 64 ≡ r + 1
   one_record = mod-eq_of_lt few
 
-  class_said_lem : (k : ObjcClass) (name : Named) → name_or_none (superclass_name t k) ≡ value name
+  class_said_lem : (k : ObjcClass) (name : Option Text) → name_or_none (superclass_name t k) ≡ value name
       → listing_step t (state t.setting (place.Record (a_record.Class k)) sec r c) l ≡ leaves (value (says (class_line k name))) (state t.setting (place.Ro k) sec (r + 1) c) l
   unfolding step_at
   class_said_lem k name e = rw (opened_asked t o, e, one_record)
@@ -47,7 +48,7 @@ module _ (t : Tables) (o : Opened t) (Over : State → List ℕ → Type 0) (sec
   unfolding step_at
   protocol_said_lem p = rw (opened_asked t o, one_record)
 
-  category_said_lem : (k : ObjcCategory) (name : Named) → name_or_none (category_class_name t k) ≡ value name
+  category_said_lem : (k : ObjcCategory) (name : Option Text) → name_or_none (category_class_name t k) ≡ value name
       → listing_step t (state t.setting (place.Record (a_record.Category k)) sec r c) l
       ≡ leaves (value (says (category_line k name))) (state t.setting (enter t.setting (an_owner.Category k) 0) sec (r + 1) c) l
   unfolding step_at
@@ -71,7 +72,7 @@ module _ (t : Tables) (o : Opened t) (Over : State → List ℕ → Type 0) (sec
         let own : ros ≡ [] = cc in
         let fields : fs ≡ [] = cc in
         rw own (telling said refl (none fields))
-    ro_comes k (number i) e ros a b = let z : ◌≡◌ {A = ℕ} 0 1 = cc in absurd (omega arith)
+    ro_comes k (refused i) e ros a b = let z : ◌≡◌ {A = ℕ} 0 1 = cc in absurd (omega arith)
 
     own_comes : (x : Record) (own : List Line) → own_lines t x ≡ value own → record_fields t x ≡ value fs → Steps t Over (state t.setting (place.Record x) sec r c) l (own ++ ys) es
     unfolding own_lines record_fields events_at

@@ -1,9 +1,8 @@
 -- The numbers that a listing's state counts up fit their words after each step that goes on, whatever the tables hold: a slot is below the
 -- slots of sections no longer than the longest file, and the address of an entry or of a protocol slot is one of 64 bits.
 use Rattle.std.proofs.Common.{◌≡◌, ℕ, zero, suc, ◌+◌, ◌^◌, ◌<◌, ◌≤◌, true, leb, List, [], ◌∷◌, length, drop, sym, refl, mul-le-mul_left, arith}
-use mathlib.Core.Option.{Option, none, some}
 use Rattle.reads.specs.Files.{longest}
-use Rattle.reads.specs.Outcome.{Outcome, value, absent, number}
+use Rattle.reads.specs.Outcome.{Outcome, value, absent, refused}
 use Rattle.reads.specs.declared.text.Text.{Text}
 use Rattle.reads.proofs.Outcomes.{then_came}
 use Rattle.reads.proofs.Tests.{by_choose}
@@ -50,8 +49,11 @@ use Rattle.listing.specs.declared.at.Record.TheVariants as a_record
 use Rattle.listing.proofs.Bounds.{section_slots}
 use Rattle.listing.proofs.Falls.{never}
 use Rattle.listing.proofs.Remaining.{slot_of, cursor_of, goes_on, InWords}
+use Rattle.reads.specs.declared.answer.Question.{Question}
+use Rattle.reads.specs.declared.answer.Question.TheVariants.{WalkState}
+use Rattle.std.specs.Prelude.{Option, None, Some}
 
--- Sections that question 3 lets pass have few slots.
+-- Sections that question SectionTable lets pass have few slots.
 asked_slots : (t : Tables) → asked t ≡ value tt → (i : ℕ) → i < 5 → (section_at t.sections i).slots < 2 ^ 32
 asked_slots t e i below =
     let room = tables_room t tt (asked_tables_lem t tt e) in
@@ -73,7 +75,7 @@ moved_low w v (value (passed r)) m h = further_low w m h
 moved_low w v (value dropped) m h = further_low w m h
 moved_low w v (value finished) m h = rw m (omega arith)
 moved_low w v (absent r) m h = absurd m
-moved_low w v (number k) m h = rw m (omega arith)
+moved_low w v (refused k) m h = rw m (omega arith)
 
 slot_low : (t : Tables) (lists : Lists) (slot used : ℕ) → asked_slot t (slots_of lists t.sections) slot used ≡ value tt → slot + 1 < 2 ^ 64
 unfolding asked_slot
@@ -112,7 +114,7 @@ RowLow (value (row_reached r)) cursor = cursor < 2 ^ 64
 RowLow (value (row_skipped j r)) cursor = cursor < 2 ^ 64
 RowLow (value rows_finished) cursor = Unit
 RowLow (absent r) cursor = Unit
-RowLow (number k) cursor = Unit
+RowLow (refused k) cursor = Unit
 
 record RowsLow (x : RowLeft) : Type 0 where
   low : RowLow x.answer x.walk.cursor
@@ -121,27 +123,27 @@ module _ (t : Tables) (w : ListWalk) where
   row_low : (j : ℕ) → suc j < 2 ^ 64 → (o : Outcome Row) → RowsLow (settles w j o)
   row_low j h (value r) = record { low = h }
   row_low j h (absent r) = record { low = h }
-  row_low j h (number k) = record { low = tt }
+  row_low j h (refused k) = record { low = tt }
 
   entry_low : (h : Layout) (j : ℕ) → 12 ≤ h.size → entry_address h j < 2 ^ 64 → suc j < 2 ^ 64
   entry_low h j small fits = omega (arith, small, fits, mul-le-mul_left j small)
 
   search_low : (h : Layout) → 12 ≤ h.size → (o : Option ℕ) → o ≡ first_readable (image_in t) h w.cursor → RowsLow (searched t w h o)
-  search_low h small (some j) e =
+  search_low h small (Some j) e =
       row_low j (entry_low h j small (found_fits (image_in t) h w.cursor j (sym e))) (row_at t h.kind (entry_address h j))
-  search_low h small none e = record { low = tt }
+  search_low h small None e = record { low = tt }
 
   list_low : (o : Outcome Layout) → o ≡ list_at t w.kind w.list → RowsLow (over_list w (λ h. searched t w h (first_readable (image_in t) h w.cursor)) o)
   list_low (value h) e =
       search_low h (omega (arith, list_least t w.kind w.list h (sym e), least_12 h.kind)) (first_readable (image_in t) h w.cursor) refl
   list_low (absent r) e = record { low = tt }
-  list_low (number k) e = record { low = tt }
+  list_low (refused k) e = record { low = tt }
 
   under_rows_low : RowsLow (next_under t w)
   unfolding next_under over_rows from_cursor
   under_rows_low =
       by_asked RowsLow w (λ n. record { low = tt }) (asked t)
-      (by_asked RowsLow w (λ n. record { low = tt }) (question 10 (leb w.cursor (count_by (λ (h : Layout). h.count) (list_at t w.kind w.list))))
+      (by_asked RowsLow w (λ n. record { low = tt }) (question WalkState (leb w.cursor (count_by (λ (h : Layout). h.count) (list_at t w.kind w.list))))
       (list_low (list_at t w.kind w.list) refl))
 
 rows_low : (t : Tables) (w : ListWalk) → RowsLow (next_of t w)
@@ -153,7 +155,7 @@ NameLow (value (name_reached name)) cursor = cursor < 2 ^ 64
 NameLow (value (name_passed r)) cursor = cursor < 2 ^ 64
 NameLow (value names_finished) cursor = Unit
 NameLow (absent r) cursor = Unit
-NameLow (number k) cursor = Unit
+NameLow (refused k) cursor = Unit
 
 record NamesLow (x : NameLeft) : Type 0 where
   low : NameLow x.answer x.walk.cursor
@@ -162,7 +164,7 @@ module _ (t : Tables) (w : ProtocolNameWalk) where
   named_low : w.cursor + 1 < 2 ^ 64 → (o : Outcome Text) → NamesLow (named w o)
   named_low h (value name) = record { low = h }
   named_low h (absent r) = record { low = h }
-  named_low h (number k) = record { low = tt }
+  named_low h (refused k) = record { low = tt }
 
   name_slot_low : (l : ProtocolList) → NamesLow (step_in t w l)
   unfolding step_in
@@ -192,7 +194,7 @@ record Keeps (x : steps.Left) : Type 0 where
   keeps : goes_on x.answer ≡ true → InWords x.state
 
 module _ (s : State) (l : List ℕ) (h : InWords s) where
-  refuses : (k : ℕ) → Keeps (steps.leaves (number k) s l)
+  refuses : (k : Question) → Keeps (steps.leaves (refused k) s l)
   refuses k = record { keeps = never }
 
   in_section_lem : (at : At) (r c : ℕ) → cursor_of at < 2 ^ 64 → InWords (steps.state s.setting at s.section r c)
@@ -201,7 +203,7 @@ module _ (s : State) (l : List ℕ) (h : InWords s) where
   onward_keeps : {A : Type 0} (o : Outcome A) (go : A → steps.Left) → ((a : A) → Keeps (go a)) → Keeps (onward s l o go)
   onward_keeps (value a) go f = f a
   onward_keeps (absent r) go f = record { keeps = never }
-  onward_keeps (number k) go f = refuses k
+  onward_keeps (refused k) go f = refuses k
 
   record_keeps : (t : Tables) (x : Record) → Keeps (record_step t s l x)
   record_keeps t (a_record.Class c) =
@@ -213,7 +215,7 @@ module _ (s : State) (l : List ℕ) (h : InWords s) where
   ro_keeps : (o : Outcome ClassRo) → Keeps (by_ro s l o)
   ro_keeps (value r) = record { keeps = λ e. in_section_lem _ _ _ (enter_low s.setting (an_owner.Class r) 0) }
   ro_keeps (absent r) = record { keeps = λ e. in_section_lem _ _ _ (omega arith) }
-  ro_keeps (number k) = refuses k
+  ro_keeps (refused k) = refuses k
 
   module _ (o : Owner) (n : ℕ) where
     row_keeps : (v : ListWalk) (x : Outcome ReachedRow) → RowLow x v.cursor → Keeps (by_row s l o n v x)
@@ -221,14 +223,14 @@ module _ (s : State) (l : List ℕ) (h : InWords s) where
     row_keeps v (value (row_skipped j r)) m = record { keeps = λ e. in_section_lem _ _ _ m }
     row_keeps v (value rows_finished) m = record { keeps = λ e. in_section_lem _ _ _ (enter_low s.setting o (suc n)) }
     row_keeps v (absent r) m = record { keeps = λ e. in_section_lem _ _ _ (enter_low s.setting o (suc n)) }
-    row_keeps v (number k) m = refuses k
+    row_keeps v (refused k) m = refuses k
 
     name_keeps : (i : ℕ) (v : ProtocolNameWalk) (x : Outcome ReachedName) → NameLow x v.cursor → Keeps (by_name s l o n i v x)
     name_keeps i v (value (name_reached name)) m = record { keeps = λ e. in_section_lem _ _ _ m }
     name_keeps i v (value (name_passed r)) m = record { keeps = λ e. in_section_lem _ _ _ m }
     name_keeps i v (value names_finished) m = record { keeps = λ e. in_section_lem _ _ _ (enter_low s.setting o (suc n)) }
     name_keeps i v (absent r) m = record { keeps = λ e. in_section_lem _ _ _ (enter_low s.setting o (suc n)) }
-    name_keeps i v (number k) m = refuses k
+    name_keeps i v (refused k) m = refuses k
 
     list_keeps : (t : Tables) (x : FieldWalk) → Keeps (list_step t s l o n x)
     list_keeps t (field_walk.Rows w) = let x = next_of t w in row_keeps x.walk x.answer (rows_low t w).low
@@ -250,7 +252,7 @@ module _ (s : State) (l : List ℕ) (h : InWords s) where
   section_keeps f m x low (value dropped) = record { keeps = λ e. record { slot = low; cursor = omega arith } }
   section_keeps f m x low (value finished) = after_keeps m x low
   section_keeps f m x low (absent r) = record { keeps = never }
-  section_keeps f m x low (number k) = record { keeps = never }
+  section_keeps f m x low (refused k) = record { keeps = never }
 
   walk_keeps : (t : Tables) (x : SectionWalk) → s.section ≡ x → Keeps (on_section s (section_step t l x))
   walk_keeps t x = go x.stage x.classes_at x.protocols_at x.categories_at

@@ -1,8 +1,8 @@
--- The bundle (document 01, "The program's listing"; document 02, notes 6 and 11) and question 13. Its words are little-endian: S (segments),
+-- The bundle (document 01, "The program's listing"; document 02, notes 6 and 11) and question BundleLength. Its words are little-endian: S (segments),
 -- rebases, binds, and the lengths of four files; the four ends of note 11's ranges; then 8 bytes of image info; the segment, section, rebase and
 -- bind tables; the four files.
 use Rattle.std.specs.Prelude.{◌≡◌, ℕ, zero, suc, ◌+◌, ◌*◌, ◌≤◌, Bool, ◌&&◌, List, [], ◌∷◌, length, ◌==◌, nat_le}
-use Rattle.reads.specs.Outcome.{Outcome, value, number, choose}
+use Rattle.reads.specs.Outcome.{Outcome, value, refused, choose}
 use Rattle.reads.specs.Answer.{missed}
 use Rattle.reads.specs.Segment.{segment_words}
 use Rattle.reads.specs.Place.{part, le_in}
@@ -10,14 +10,9 @@ use Rattle.pointers.specs.Question.{every}
 use Rattle.pointers.specs.Tables.{Tables, tables_of, section_table_words, rebase_words, bind_words}
 use Rattle.frames.specs.declared.frames.Ranges.{Ranges}
 use Rattle.listing.specs.declared.bundle.Counts.{Counts}
-use Rattle.listing.specs.declared.bundle.CountsAnswer.{CountsAnswer}
-use Rattle.listing.specs.declared.bundle.CountsAnswer.TheVariants as counts_answer
+use Rattle.reads.specs.declared.answer.Question.TheVariants.{BundleLength}
 
 -- Document 01's outcome of each case of the code's answer.
-abbrev pub counts_outcome : CountsAnswer → Outcome Counts
-counts_outcome (counts_answer.Counts c) = value c
-counts_outcome (counts_answer.Missing m) = missed m
-
 -- The word at an offset; 0 where its eight bytes do not lie in the bundle.
 abbrev pub word_from : List ℕ → ℕ → ℕ
 word_from bytes offset = le_in bytes 8 offset
@@ -105,7 +100,7 @@ bundle_fits n c = nat_le n 32768 && n == said_length c
 
 -- The counts of a bundle, or 13.
 unfoldable pub bundle_counts : List ℕ → Outcome Counts
-bundle_counts bytes = choose (bundle_fits (length bytes) (counts_of bytes)) (value (counts_of bytes)) (number 13)
+bundle_counts bytes = choose (bundle_fits (length bytes) (counts_of bytes)) (value (counts_of bytes)) (refused BundleLength)
 
 -- An accepted bundle: its length, and the counts that it was accepted with.
 pub record Accepted (bytes : List ℕ) (c : Counts) : Type 0 where

@@ -1,7 +1,7 @@
 -- The plain listing as one definition of questions and what is made of their answers (records/specs/Decode.antt): what it asks is what a
 -- listing reads (document 02, notes 12 and 13). Each definition stands beside the plain one that its run is: Gather.antt, PlainSections.antt
 -- and ProtocolNames.antt of walks, PlainListing.antt.
-use Rattle.std.specs.Prelude.{ℕ, zero, suc, ◌+◌, ◌^◌, true, false, List, [], ◌∷◌, ◌++◌, map, length, nat_lt}
+use Rattle.std.specs.Prelude.{ℕ, zero, suc, ◌+◌, ◌^◌, true, false, List, [], ◌∷◌, ◌++◌, map, length, nat_lt, Option, Some, None}
 use Rattle.reads.specs.declared.text.Text.{Text}
 use Rattle.records.specs.Category.{decode_category}
 use Rattle.records.specs.Class.{decode_class, decode_ro_of, decode_class_name_of}
@@ -26,8 +26,6 @@ use Rattle.listing.specs.declared.at.Record.{Record}
 use Rattle.listing.specs.declared.at.Record.TheVariants as a_record
 use Rattle.listing.specs.declared.line.Line.{Line}
 use Rattle.listing.specs.declared.line.Line.TheVariants as line
-use Rattle.listing.specs.declared.line.Named.{Named}
-use Rattle.listing.specs.declared.line.Named.TheVariants as named
 
 -- Lists that definitions give, one after the other; what each of a list gives; what a value gives, nothing where it is absent; a value alone;
 -- each of a list, by a function.
@@ -85,11 +83,11 @@ unfoldable pub decode_protocol_names : ℕ → Decode (List Text)
 decode_protocol_names va = of_value (decode_protocol_list va) (λ l. decode_slot_names l 0 l.count)
 
 -- A name, or none.
-abbrev pub named_by : Tried Text → Named
-named_by (given t) = named.Text t
-named_by (lacking r) = named.Nothing
+abbrev pub named_by : Tried Text → Option Text
+named_by (given t) = Some t
+named_by (lacking r) = None
 
-abbrev pub decode_named : Decode Text → Decode Named
+abbrev pub decode_named : Decode Text → Decode (Option Text)
 decode_named d = then (tried d) (λ name. done (named_by name))
 
 -- A record's own line, and R; its lists.

@@ -1,7 +1,7 @@
 -- The listing, step by step (document 01, "The program's listing" and Steps): its state, and what a step says, hands back and leaves in the
 -- ledger.
-use Rattle.std.specs.Prelude.{ℕ, zero, suc, ◌+◌, ◌%◌, ◌^◌, List, [], ◌∷◌, drop, ◌==◌}
-use Rattle.reads.specs.Outcome.{Outcome, value, absent, number, choose}
+use Rattle.std.specs.Prelude.{ℕ, zero, suc, ◌+◌, ◌%◌, ◌^◌, List, [], ◌∷◌, drop, ◌==◌, Option}
+use Rattle.reads.specs.Outcome.{Outcome, value, absent, refused, choose}
 use Rattle.reads.specs.declared.answer.Reason.{Reason}
 use Rattle.pointers.specs.Question.{asked, guarded}
 use Rattle.pointers.specs.Tables.{Tables, under}
@@ -31,7 +31,7 @@ use Rattle.listing.specs.declared.at.Record.{Record}
 use Rattle.listing.specs.declared.at.Record.TheVariants as a_record
 use Rattle.listing.specs.declared.line.Line.{Line}
 use Rattle.listing.specs.declared.line.Line.TheVariants as line
-use Rattle.listing.specs.declared.line.Named.{Named}
+use Rattle.reads.specs.declared.text.Text.{Text}
 
 -- The fields of a record that name lists.
 abbrev pub owner_fields : Owner → List Field
@@ -167,7 +167,7 @@ leaves answer s ledger = record { answer = answer; state = s; ledger = ledger }
 abbrev pub onward : {A : Type 0} → State → List ℕ → Outcome A → (A → Left) → Left
 onward s l (value a) go = go a
 onward s l (absent r) go = leaves (absent r) s l
-onward s l (number k) go = leaves (number k) s l
+onward s l (refused k) go = leaves (refused k) s l
 
 -- I.
 abbrev pub info_step : Tables → State → List ℕ → Left
@@ -186,7 +186,7 @@ as_record f (value (passed r)) = value (passed r)
 as_record f (value dropped) = value dropped
 as_record f (value finished) = value finished
 as_record f (absent r) = absent r
-as_record f (number k) = number k
+as_record f (refused k) = refused k
 
 abbrev pub section_leaves : {A : Type 0} → (A → Record) → (Walk → SectionWalk) → Outcome (Step A) → Walk → List ℕ → SectionLeft
 section_leaves f section answer w l = record { answer = as_record f answer; section = section w; ledger = l }
@@ -243,7 +243,7 @@ abbrev pub record_said : State → List ℕ → Line → At → Left
 record_said s l own next = leaves (value (says own)) (with_record s next) l
 
 -- C or M with the superclass's name or none, and then R.
-abbrev pub class_said : State → List ℕ → ObjcClass → Outcome Named → Left
+abbrev pub class_said : State → List ℕ → ObjcClass → Outcome (Option Text) → Left
 class_said s l c o = onward s l o (λ name. record_said s l (class_line c name) (place.Ro c))
 
 -- P, and then the protocol's lists.
@@ -251,7 +251,7 @@ abbrev pub protocol_said : State → List ℕ → ObjcProtocol → Outcome (Unit
 protocol_said s l p o = onward s l o (λ _. record_said s l (line.Protocol p) (enter s.setting (an_owner.Protocol p) 0))
 
 -- K with the class's name or none, and then the category's lists.
-abbrev pub category_said : State → List ℕ → ObjcCategory → Outcome Named → Left
+abbrev pub category_said : State → List ℕ → ObjcCategory → Outcome (Option Text) → Left
 category_said s l c o = onward s l o (λ name. record_said s l (category_line c name) (enter s.setting (an_owner.Category c) 0))
 
 abbrev pub record_step : Tables → State → List ℕ → Record → Left
@@ -263,7 +263,7 @@ record_step t s l (a_record.Category c) = category_said s l c (name_or_none (gua
 abbrev pub by_ro : State → List ℕ → Outcome ClassRo → Left
 by_ro s l (value r) = leaves (value (says (line.Ro r))) (go_to s (enter s.setting (an_owner.Class r) 0)) l
 by_ro s l (absent r) = leaves (value (lacks (absence.Record r))) (go_to s place.Section) l
-by_ro s l (number k) = leaves (number k) s l
+by_ro s l (refused k) = leaves (refused k) s l
 
 -- A step over list n: an entry is settled, with its line m, v or p or skipped for a reason; or the list is at its end or absent, and the
 -- next list comes.
@@ -273,7 +273,7 @@ by_row s l o n w (value (row_reached r)) =
 by_row s l o n w (value (row_skipped j r)) = leaves (value (lacks (skipped_entry n j r))) (with_entry s (in_list o n (field_walk.Rows w))) l
 by_row s l o n w (value rows_finished) = leaves (value nothing) (go_to s (enter s.setting o (suc n))) l
 by_row s l o n w (absent r) = leaves (value nothing) (go_to s (enter s.setting o (suc n))) l
-by_row s l o n w (number k) = leaves (number k) s l
+by_row s l o n w (refused k) = leaves (refused k) s l
 
 abbrev pub after_row : State → List ℕ → Owner → ℕ → RowLeft → Left
 after_row s l o n x = by_row s l o n x.walk x.answer
@@ -285,7 +285,7 @@ by_name s l o n i w (value (name_reached name)) =
 by_name s l o n i w (value (name_passed r)) = leaves (value (lacks (unnamed n i r))) (go_to s (in_list o n (field_walk.Names w))) l
 by_name s l o n i w (value names_finished) = leaves (value nothing) (go_to s (enter s.setting o (suc n))) l
 by_name s l o n i w (absent r) = leaves (value nothing) (go_to s (enter s.setting o (suc n))) l
-by_name s l o n i w (number k) = leaves (number k) s l
+by_name s l o n i w (refused k) = leaves (refused k) s l
 
 abbrev pub after_name : State → List ℕ → Owner → ℕ → ℕ → NameLeft → Left
 after_name s l o n i x = by_name s l o n i x.walk x.answer

@@ -1,6 +1,6 @@
 -- What the code's listing and its answers mean in the words of the definitions.
 use Rattle.std.specs.Prelude.{ℕ, ◌+◌, ◌*◌, ◌^◌, List}
-use Rattle.reads.specs.Outcome.{Outcome, value, number}
+use Rattle.reads.specs.Outcome.{Outcome, value, refused}
 use Rattle.walks.specs.Sections.{Step, found, passed, dropped, finished, class_walk, category_walk, protocol_walk}
 use Rattle.listing.specs.Listing.{Begun, begun, SectionWalk, walks, SectionLeft, State, state, Answer, says, lacks, nothing, ended, Left, leaves}
 use Rattle.walks.specs.declared.section_slots.CategorySlots.{CategorySlots}
@@ -8,11 +8,8 @@ use Rattle.walks.specs.declared.section_slots.ClassSlots.{ClassSlots}
 use Rattle.walks.specs.declared.section_slots.ProtocolSlots.{ProtocolSlots}
 use Rattle.walks.specs.declared.sections.RecordWalk.{RecordWalk}
 use Rattle.listing.specs.declared.at.Record.{Record}
-use Rattle.listing.specs.declared.line.Named.{Named}
 use Rattle.listing.specs.declared.listing.Listed.{Listed}
 use Rattle.listing.specs.declared.listing.Listing.{Listing}
-use Rattle.listing.specs.declared.listing.NameAnswer.{NameAnswer}
-use Rattle.listing.specs.declared.listing.NameAnswer.TheVariants as name
 use Rattle.listing.specs.declared.listing.Said.{Said}
 use Rattle.listing.specs.declared.listing.Said.TheVariants as said
 use Rattle.listing.specs.declared.section.Section.{Section}
@@ -38,15 +35,11 @@ taken_of (taken.Record x) = value (found x)
 taken_of (taken.Passed r) = value (passed r)
 taken_of taken.Dropped = value dropped
 taken_of taken.Finished = value finished
-taken_of (taken.Refused k) = number k
+taken_of (taken.Refused k) = refused k
 
 -- What a section step gives, with a ledger.
 abbrev pub section_left_of : SectionStepped → List ℕ → SectionLeft
 section_left_of r l = record { answer = taken_of r.taken; section = section_walk_of r.section; ledger = l }
-
-abbrev pub name_answered : NameAnswer → Outcome Named
-name_answered (name.Name x) = value x
-name_answered (name.Refused k) = number k
 
 -- The entries settled are a number of two words.
 abbrev pub state_of : Listing → State
@@ -57,7 +50,7 @@ said_of (said.Line x) = value (says x)
 said_of (said.Absent x) = value (lacks x)
 said_of said.Nothing = value nothing
 said_of said.Ended = value ended
-said_of (said.Refused k) = number k
+said_of (said.Refused k) = refused k
 
 -- The answer, with the listing that it hands back and a ledger.
 abbrev pub left_of : Listed → List ℕ → Left

@@ -4,7 +4,7 @@ use Rattle.std.specs.Prelude.{◌≡◌, ℕ, zero, suc, ◌-◌, ◌*◌, ◌/�
 use Rattle.reads.specs.Files.{longest}
 use Rattle.reads.specs.Segment.{segment_words}
 use Rattle.reads.specs.Table.{records}
-use Rattle.reads.specs.Outcome.{Outcome, value, number, and_then}
+use Rattle.reads.specs.Outcome.{Outcome, value, refused, and_then}
 use Rattle.pointers.specs.Tables.{Tables, under}
 use Rattle.pointers.specs.declared.setting.Setting.{Setting}
 use Rattle.walks.specs.Gather.{joined, of_value}
@@ -17,6 +17,8 @@ use Rattle.listing.specs.declared.at.FieldWalk.{FieldWalk}
 use Rattle.listing.specs.declared.at.FieldWalk.TheVariants as field_walk
 use Rattle.listing.specs.declared.at.Record.{Record}
 use Rattle.listing.specs.declared.line.Line.{Line}
+use Rattle.reads.specs.Answer.{answered}
+use Rattle.reads.specs.declared.answer.Question.{Question}
 
 -- What a step over list n of a record settles: the entry whose row it gives, one before the cursor that it leaves, or the one it skips
 -- and why.
@@ -77,7 +79,7 @@ events_by t (suc n) s l =
 
 -- No step of a listing that began under a setting gives a number.
 abbrev pub GivesNoNumber : Setting → Tables → List ℕ → Type 0
-GivesNoNumber u t l = (n k : ℕ) → answer_at t n (start u) l ≢ number k
+GivesNoNumber u t l = (n : ℕ) (k : Question) → answer_at t n (start u) l ≢ refused k
 
 -- A step that no question refuses.
 pub data Answered : Outcome Answer → Type 0 where

@@ -1,8 +1,7 @@
 -- The plain listing of tables (document 01, "The program's listing"): a direct definition from the section walks' records and the readable
 -- entries of their lists, with no state and no ledger. A number that a lookup gives is its outcome; over what opening accepted there is none.
-use Rattle.std.specs.Prelude.{ℕ, suc, ◌/◌, ◌%◌, ◌^◌, List, [], ◌∷◌, ◌++◌, length}
-use Rattle.std.proofs.Math.Option.{Option, none, some}
-use Rattle.reads.specs.Outcome.{Outcome, value, absent, number, and_then}
+use Rattle.std.specs.Prelude.{ℕ, suc, ◌/◌, ◌%◌, ◌^◌, List, [], ◌∷◌, ◌++◌, length, Some, None, Option}
+use Rattle.reads.specs.Outcome.{Outcome, value, absent, refused, and_then}
 use Rattle.reads.specs.Place.{le_in}
 use Rattle.reads.specs.declared.text.Text.{Text}
 use Rattle.reads.specs.declared.answer.Reason.{Reason}
@@ -30,8 +29,6 @@ use Rattle.listing.specs.declared.at.Record.{Record}
 use Rattle.listing.specs.declared.at.Record.TheVariants as a_record
 use Rattle.listing.specs.declared.line.Line.{Line}
 use Rattle.listing.specs.declared.line.Line.TheVariants as line
-use Rattle.listing.specs.declared.line.Named.{Named}
-use Rattle.listing.specs.declared.line.Named.TheVariants as named
 
 -- I: version and flags. Question 4 has found 8 bytes there.
 abbrev pub version_and_flags : List ℕ → ImageInfo
@@ -42,16 +39,16 @@ abbrev pub info_line : ImageInfo → Setting → Line
 info_line i u = line.Info (record { info = i; reading = u.reading })
 
 -- A name, or none; a number stays.
-abbrev pub name_or_none : Outcome Text → Outcome Named
-name_or_none (value t) = value (named.Text t)
-name_or_none (absent r) = value named.Nothing
-name_or_none (number k) = number k
+abbrev pub name_or_none : Outcome Text → Outcome (Option Text)
+name_or_none (value t) = value (Some t)
+name_or_none (absent r) = value None
+name_or_none (refused k) = refused k
 
 -- C or M; K.
-abbrev pub class_line : ObjcClass → Named → Line
+abbrev pub class_line : ObjcClass → Option Text → Line
 class_line c name = line.Class (record { class = c; superclass_name = name })
 
-abbrev pub category_line : ObjcCategory → Named → Line
+abbrev pub category_line : ObjcCategory → Option Text → Line
 category_line c name = line.Category (record { category = c; class_name = name })
 
 -- m, v or p, before a method gets its mark; q: under the list's number.
@@ -143,16 +140,16 @@ pub record Entry : Type 0 where
   pub skipped : Option Reason
 
 abbrev pub with_row : ℕ → Entry
-with_row j = record { index = j; skipped = none }
+with_row j = record { index = j; skipped = None }
 
 abbrev pub without_row : ℕ → Reason → Entry
-without_row j r = record { index = j; skipped = some r }
+without_row j r = record { index = j; skipped = Some r }
 
 -- Entry j by its row; a number stays.
 abbrev pub entry_by : ℕ → Outcome Row → Outcome (List Entry)
 entry_by j (value row) = value (with_row j ∷ [])
 entry_by j (absent r) = value (without_row j r ∷ [])
-entry_by j (number k) = number k
+entry_by j (refused k) = refused k
 
 abbrev pub entry_in : Tables → Layout → ℕ → Outcome (List Entry)
 entry_in t h j = entry_by j (row_at t h.kind (entry_address h j))

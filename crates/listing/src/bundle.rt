@@ -1,12 +1,13 @@
 // The bundle that the program reads: its counts, the ends of its ranges, where its parts stand, and its little-endian words.
 ghost use Rattle.std.specs.Prelude.{◌≡◌, ◌*◌, ◌<◌, true, length};
 ghost use Rattle.reads.specs.Reference.{before};
-ghost use Rattle.listing.specs.Bundle.{counts_outcome, word_from, words_from, ranges_of, segment_table_words, rebase_table_words, bind_table_words, sections_at, rebases_at, binds_at, image0_at, image1_at, image2_at, image3_at, said_length, counts_of, counts_fit, bundle_counts};
+ghost use Rattle.listing.specs.Bundle.{word_from, words_from, ranges_of, segment_table_words, rebase_table_words, bind_table_words, sections_at, rebases_at, binds_at, image0_at, image1_at, image2_at, image3_at, said_length, counts_of, counts_fit, bundle_counts};
+ghost use Rattle.reads.specs.Answer.{outcome};
 
 use frames::frames::Ranges;
 use pointers::section::ObjcSection;
 use pointers::table::{Bind, Rebase};
-use reads::answer::Missing;
+use reads::answer::{Missing, Question};
 use reads::place::u64_from;
 use reads::segment::Segment;
 
@@ -36,12 +37,6 @@ pub struct Counts {
     pub image1: u32,
     pub image2: u32,
     pub image3: u32,
-}
-
-#[derive(Clone, Copy)]
-pub enum CountsAnswer {
-    Counts(Counts),
-    Missing(Missing),
 }
 
 impl Counts {
@@ -196,20 +191,20 @@ fn counts_of(bundle: &[u8]) -> Counts
 
 // 13: is the bundle at most 32,768 bytes long, and exactly as long as its counts say? Then these are its counts. Each
 // is small enough before they are summed.
-pub fn measure(bundle: &[u8]) -> CountsAnswer
-    ensures { counts_outcome result ≡ bundle_counts (before bundle) }
+pub fn measure(bundle: &[u8]) -> Result<Counts, Missing>
+    ensures { outcome result ≡ bundle_counts (before bundle) }
 {
     let n = bundle.len() as u64;
     if n > LONGEST {
-        return CountsAnswer::Missing(Missing::Refused(13));
+        return Err(Missing::Refused(Question::BundleLength));
     }
     if !counts_fit(bundle) {
-        return CountsAnswer::Missing(Missing::Refused(13));
+        return Err(Missing::Refused(Question::BundleLength));
     }
     let counts = counts_of(bundle);
     let said = counts.said_length();
     if said != bundle.len() {
-        return CountsAnswer::Missing(Missing::Refused(13));
+        return Err(Missing::Refused(Question::BundleLength));
     }
-    CountsAnswer::Counts(counts)
+    Ok(counts)
 }

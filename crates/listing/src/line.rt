@@ -6,13 +6,6 @@ use records::class::{ClassRo, ObjcClass};
 use records::protocol::ObjcProtocol;
 use records::row::Row;
 
-// A name, or none: an empty name is there.
-#[derive(Clone, Copy)]
-pub enum Named {
-    Text(Text),
-    Nothing,
-}
-
 // I: the image info, and the reading of the listing.
 #[derive(Clone, Copy)]
 pub struct InfoLine {
@@ -24,14 +17,14 @@ pub struct InfoLine {
 #[derive(Clone, Copy)]
 pub struct ClassLine {
     pub class: ObjcClass,
-    pub superclass_name: Named,
+    pub superclass_name: Option<Text>,
 }
 
 // K: a category, and its host class's name.
 #[derive(Clone, Copy)]
 pub struct CategoryLine {
     pub category: ObjcCategory,
-    pub class_name: Named,
+    pub class_name: Option<Text>,
 }
 
 // m, v or p: a row of the record's list of that number; and the mark of a method, which crate `marking` sets: 0 before that, and of v and p.

@@ -1,31 +1,30 @@
 // The listing, one step at a time and by value (document 01, "The program's listing"): a step says at most one line and hands the new
 // state back.
 ghost use Rattle.std.specs.Prelude.{◌≡◌, ℕ, suc, List};
-ghost use Rattle.reads.specs.Answer.{text_outcome};
-ghost use Rattle.reads.specs.Outcome.{value, number};
+ghost use Rattle.reads.specs.Outcome.{value, refused};
 ghost use Rattle.reads.specs.Reference.{before, after};
 ghost use Rattle.pointers.specs.Question.{asked};
 ghost use Rattle.pointers.specs.Tables.{lent, under, reading_new, reading_under};
-ghost use Rattle.records.specs.Class.{class_ro_outcome};
 ghost use Rattle.walks.specs.ProtocolNames.{name_left};
 ghost use Rattle.walks.specs.Walk.{row_left};
 ghost use Rattle.listing.specs.PlainListing.{version_and_flags, name_or_none, end_line};
 ghost use Rattle.listing.specs.declared.at.At.TheVariants as place;
 ghost use Rattle.listing.specs.Listing.{enter, start, go_to, in_section, with_record, with_entry, carried, says, lacks, nothing, leaves, onward, after_section, on_section, record_said, class_said, category_said, record_step, by_ro, after_row, after_name, list_step, step_at, listing_step};
-ghost use Rattle.listing.specs.ListingAnswer.{section_walk_of, section_left_of, name_answered, state_of, left_of};
+ghost use Rattle.listing.specs.ListingAnswer.{section_walk_of, section_left_of, state_of, left_of};
+ghost use Rattle.reads.specs.Answer.{outcome, answered};
 
 use crate::absence::{Absence, SkippedEntry, UnnamedSlot};
 use crate::at::{At, FieldWalk, ListAt, Owner, Record};
-use crate::line::{CategoryLine, ClassLine, EndLine, InfoLine, Line, NameLine, Named, RowLine};
+use crate::line::{CategoryLine, ClassLine, EndLine, InfoLine, Line, NameLine, RowLine};
 use crate::section::{Section, SectionStepped, Taken};
 use pointers::imageinfo::ImageInfo;
-use pointers::question::{Asked, ask};
+use pointers::question::ask;
 use pointers::setting::Setting;
-use reads::answer::Missing;
+use reads::answer::{Missing, Question};
 use reads::place::u32_from;
-use reads::text::{Reading, TextAnswer};
+use reads::text::{Reading, Text};
 use records::category::ObjcCategory;
-use records::class::{ClassRoAnswer, ObjcClass};
+use records::class::{ClassRo, ObjcClass};
 use walks::list_walk::{ListStep, ListStepped, ListWalked};
 use walks::protocol_names::{NameStep, ProtocolNameStepped, ProtocolNamesWalked};
 
@@ -47,7 +46,7 @@ pub enum Said {
     Absent(Absence),
     Nothing,
     Ended,
-    Refused(u8),
+    Refused(Question),
 }
 
 // What a step says, and the listing to go on with; with a number it is as given.
@@ -57,22 +56,15 @@ pub struct Listed {
     pub listing: Listing,
 }
 
-// A name or none, or the number of the question that refuses.
-#[derive(Clone, Copy)]
-enum NameAnswer {
-    Name(Named),
-    Refused(u8),
-}
-
 // An absent name is none.
-fn name_or_none(answer: TextAnswer) -> NameAnswer
-    ensures { name_answered result ≡ name_or_none (text_outcome answer) }
+fn name_or_none(answer: Result<Text, Missing>) -> Result<Option<Text>, Question>
+    ensures { answered result ≡ name_or_none (outcome answer) }
 {
     match answer {
-        TextAnswer::Found(text) => NameAnswer::Name(Named::Text(text)),
-        TextAnswer::Missing(m) => match m {
-            Missing::Absent(_) => NameAnswer::Name(Named::Nothing),
-            Missing::Refused(k) => NameAnswer::Refused(k),
+        Ok(text) => Ok(Some(text)),
+        Err(m) => match m {
+            Missing::Absent(_) => Ok(None),
+            Missing::Refused(k) => Err(k),
         },
     }
 }
@@ -176,8 +168,8 @@ impl Listing {
     }
 
     // The listing as given, with a number.
-    fn refused(self, k: u8) -> Listed
-        ensures { (l : List ℕ) → left_of result l ≡ leaves (number k) (state_of self) l }
+    fn refused(self, k: Question) -> Listed
+        ensures { (l : List ℕ) → left_of result l ≡ leaves (refused k) (state_of self) l }
     {
         Listed {
             said: Said::Refused(k),
@@ -231,8 +223,8 @@ impl Listing {
             ((l : List ℕ) → left_of result l ≡ onward (state_of self) l (asked t) (λ _. left_of listed l)) }
     {
         match ask(files, segments, sections, info, rebases, binds, index) {
-            Asked::Yes => listed,
-            Asked::Refused(k) => self.refused(k),
+            Ok(()) => listed,
+            Err(k) => self.refused(k),
         }
     }
 
@@ -356,27 +348,27 @@ impl Listing {
     }
 
     // C or M, and then R.
-    fn class_said(self, class: ObjcClass, name: TextAnswer) -> Listed
-        ensures { (l : List ℕ) → left_of result l ≡ class_said (state_of self) l class (name_or_none (text_outcome name)) }
+    fn class_said(self, class: ObjcClass, name: Result<Text, Missing>) -> Listed
+        ensures { (l : List ℕ) → left_of result l ≡ class_said (state_of self) l class (name_or_none (outcome name)) }
     {
         match name_or_none(name) {
-            NameAnswer::Name(superclass_name) => {
+            Ok(superclass_name) => {
                 let line = Line::Class(ClassLine {
                     class,
                     superclass_name,
                 });
                 self.record_said(line, At::Ro(class))
             }
-            NameAnswer::Refused(k) => self.refused(k),
+            Err(k) => self.refused(k),
         }
     }
 
     // K, and then the category's lists.
-    fn category_said(self, category: ObjcCategory, name: TextAnswer) -> Listed
-        ensures { (l : List ℕ) → left_of result l ≡ category_said (state_of self) l category (name_or_none (text_outcome name)) }
+    fn category_said(self, category: ObjcCategory, name: Result<Text, Missing>) -> Listed
+        ensures { (l : List ℕ) → left_of result l ≡ category_said (state_of self) l category (name_or_none (outcome name)) }
     {
         match name_or_none(name) {
-            NameAnswer::Name(class_name) => {
+            Ok(class_name) => {
                 let line = Line::Category(CategoryLine {
                     category,
                     class_name,
@@ -385,7 +377,7 @@ impl Listing {
                 let lists = Owner::Category(category).enter(setting, 0);
                 self.record_said(line, lists)
             }
-            NameAnswer::Refused(k) => self.refused(k),
+            Err(k) => self.refused(k),
         }
     }
 
@@ -429,18 +421,18 @@ impl Listing {
     }
 
     // R and then the class's lists, if it has a class_ro.
-    fn ro_said(self, answer: ClassRoAnswer) -> Listed
-        ensures { (l : List ℕ) → left_of result l ≡ by_ro (state_of self) l (class_ro_outcome answer) }
+    fn ro_said(self, answer: Result<ClassRo, Missing>) -> Listed
+        ensures { (l : List ℕ) → left_of result l ≡ by_ro (state_of self) l (outcome answer) }
     {
         match answer {
-            ClassRoAnswer::Ro(ro) => {
+            Ok(ro) => {
                 let owner = Owner::Class(ro);
                 let setting = self.setting;
                 let lists = owner.enter(setting, 0);
                 let listing = self.go_to(lists);
                 listing.says(Line::Ro(ro))
             }
-            ClassRoAnswer::Missing(m) => match m {
+            Err(m) => match m {
                 Missing::Absent(why) => {
                     let listing = self.go_to(At::Section);
                     listing.lacks(Absence::Record(why))

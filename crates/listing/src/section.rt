@@ -9,7 +9,7 @@ ghost use Rattle.listing.specs.ListingAnswer.{class_begun, protocol_begun, categ
 
 use crate::at::Record;
 use pointers::setting::Setting;
-use reads::answer::Reason;
+use reads::answer::{Question, Reason};
 use records::category::ObjcCategory;
 use records::class::ObjcClass;
 use records::protocol::ObjcProtocol;
@@ -33,7 +33,7 @@ pub(crate) enum Taken {
     Passed(Reason),
     Dropped,
     Finished,
-    Refused(u8),
+    Refused(Question),
 }
 
 // The same with the section walk as it is then; with a number it is as given.
@@ -165,16 +165,7 @@ impl Section {
             ((l : List ℕ) → section_left_of result l ≡ protocols_step t l (section_walk_of self)) }
     {
         let walk = self.protocols;
-        let stepped = walk.next(
-            files,
-            segments,
-            sections,
-            info,
-            rebases,
-            binds,
-            index,
-            &mut [],
-        );
+        let stepped = walk.next_protocol(files, segments, sections, info, rebases, binds, index);
         let step = stepped.step;
         let after = stepped.walk;
         SectionStepped {

@@ -3,7 +3,7 @@ use Prim.Native.Nat.{ℕ, ◌-◌, ◌*◌, ◌/◌, ◌%◌, ◌^◌}
 use mathlib.Core.Path.{◌≡◌, refl}
 use mathlib.Core.List.{List, [], ◌∷◌, ◌++◌}
 use lib.ListN.{length, take, replicate}
-use Rattle.reads.specs.Outcome.{value, number, choose}
+use Rattle.reads.specs.Outcome.{value, refused, choose}
 use Rattle.reads.specs.Files.{longest}
 use Rattle.reads.specs.Segment.{segment_words}
 use Rattle.reads.specs.Place.{le, le_in}
@@ -16,6 +16,7 @@ use Rattle.macho.specs.Segments.{segment_rows, written}
 use Rattle.macho.specs.Sections.{headers_from, sections_of, named, first_named, section_rows}
 use Rattle.macho.specs.FileTables.{over_file, file_tables}
 use Rattle.macho.specs.OpenFile.{segment_table_words, asked_lent, asked_file, opening_file, segments_left}
+use Rattle.reads.specs.declared.answer.Question.TheVariants.{SegmentTable, SectionTable, ImageInfoLength, Header, LoadCommands}
 
 -- Numbers in little-endian order.
 unfoldable pub u32 : ℕ → List ℕ
@@ -73,55 +74,55 @@ unfolding file_tables good made header commands command sections section u32 u64
 tables_case rebases binds index = refl
 
 -- 15: 31 bytes; the magic of a 32-bit file.
-pub short_case : (segments sections rebases binds index : List ℕ) → opening_file (take 31 good) segments sections rebases binds index ≡ number 15
+pub short_case : (segments sections rebases binds index : List ℕ) → opening_file (take 31 good) segments sections rebases binds index ≡ refused Header
 unfolding good made header commands command sections section u32 u64 le_in le choose opening_file asked_file asked_commands asked_lent question headed
 short_case segments sections rebases binds index = refl
 
-pub magic_case : (segments sections rebases binds index : List ℕ) → opening_file (made 0xFEEDFACE 2 544 472 576 0) segments sections rebases binds index ≡ number 15
+pub magic_case : (segments sections rebases binds index : List ℕ) → opening_file (made 0xFEEDFACE 2 544 472 576 0) segments sections rebases binds index ≡ refused Header
 unfolding good made header commands command sections section u32 u64 le_in le choose opening_file asked_file asked_commands asked_lent question headed
 magic_case segments sections rebases binds index = refl
 
 -- 16: a command outside the stated size; outside the file; one more than there are; one of 7 bytes; one too small for its sections.
-pub outside_size_case : (segments sections rebases binds index : List ℕ) → opening_file (made 0xFEEDFACF 2 543 472 576 0) segments sections rebases binds index ≡ number 16
+pub outside_size_case : (segments sections rebases binds index : List ℕ) → opening_file (made 0xFEEDFACF 2 543 472 576 0) segments sections rebases binds index ≡ refused LoadCommands
 unfolding good made header commands command sections section u32 u64 le_in le choose opening_file asked_file asked_commands asked_lent question headed all_fit fits sectioned image_fits
 outside_size_case segments sections rebases binds index = refl
 
-pub outside_file_case : (segments sections rebases binds index : List ℕ) → opening_file (take 500 good) segments sections rebases binds index ≡ number 16
+pub outside_file_case : (segments sections rebases binds index : List ℕ) → opening_file (take 500 good) segments sections rebases binds index ≡ refused LoadCommands
 unfolding good made header commands command sections section u32 u64 le_in le choose opening_file asked_file asked_commands asked_lent question headed all_fit fits sectioned image_fits
 outside_file_case segments sections rebases binds index = refl
 
-pub too_many_case : (segments sections rebases binds index : List ℕ) → opening_file (made 0xFEEDFACF 3 544 472 576 0) segments sections rebases binds index ≡ number 16
+pub too_many_case : (segments sections rebases binds index : List ℕ) → opening_file (made 0xFEEDFACF 3 544 472 576 0) segments sections rebases binds index ≡ refused LoadCommands
 unfolding good made header commands command sections section u32 u64 le_in le choose opening_file asked_file asked_commands asked_lent question headed all_fit fits sectioned image_fits
 too_many_case segments sections rebases binds index = refl
 
-pub seven_case : (segments sections rebases binds index : List ℕ) → opening_file (made 0xFEEDFACF 2 544 7 576 0) segments sections rebases binds index ≡ number 16
+pub seven_case : (segments sections rebases binds index : List ℕ) → opening_file (made 0xFEEDFACF 2 544 7 576 0) segments sections rebases binds index ≡ refused LoadCommands
 unfolding good made header commands command sections section u32 u64 le_in le choose opening_file asked_file asked_commands asked_lent question headed all_fit fits sectioned image_fits
 seven_case segments sections rebases binds index = refl
 
-pub sections_case : (segments sections rebases binds index : List ℕ) → opening_file (made 0xFEEDFACF 2 544 471 576 0) segments sections rebases binds index ≡ number 16
+pub sections_case : (segments sections rebases binds index : List ℕ) → opening_file (made 0xFEEDFACF 2 544 471 576 0) segments sections rebases binds index ≡ refused LoadCommands
 unfolding good made header commands command sections section u32 u64 le_in le choose opening_file asked_file asked_commands asked_lent question headed all_fit fits sectioned image_fits
 sections_case segments sections rebases binds index = refl
 
 -- 2 and 3: a word too few lent for the segments, with 14 for the sections; 14 for the sections.
-pub lent_segments_case : (rebases binds index : List ℕ) → opening_file good (replicate (segment_table_words - 1) 0) (replicate 14 0) rebases binds index ≡ number 2
+pub lent_segments_case : (rebases binds index : List ℕ) → opening_file good (replicate (segment_table_words - 1) 0) (replicate 14 0) rebases binds index ≡ refused SegmentTable
 unfolding good made header commands command sections section u32 u64 le_in le choose opening_file asked_file asked_commands asked_lent question headed all_fit fits sectioned image_fits of_kind
 lent_segments_case rebases binds index = refl
 
-pub lent_sections_case : (rebases binds index : List ℕ) → opening_file good (replicate segment_table_words 0) (replicate 14 0) rebases binds index ≡ number 3
+pub lent_sections_case : (rebases binds index : List ℕ) → opening_file good (replicate segment_table_words 0) (replicate 14 0) rebases binds index ≡ refused SectionTable
 unfolding good made header commands command sections section u32 u64 le_in le choose opening_file asked_file asked_commands asked_lent question headed all_fit fits sectioned image_fits of_kind
 lent_sections_case rebases binds index = refl
 
 -- 3: a section longer than the file, 585 bytes of 584.
-pub long_section_case : (rebases binds index : List ℕ) → opening_file (made 0xFEEDFACF 2 544 472 576 585) (replicate segment_table_words 0) (replicate 15 0) rebases binds index ≡ number 3
+pub long_section_case : (rebases binds index : List ℕ) → opening_file (made 0xFEEDFACF 2 544 472 576 585) (replicate segment_table_words 0) (replicate 15 0) rebases binds index ≡ refused SectionTable
 unfolding good made header commands command sections section u32 u64 le_in le choose opening_file asked_file asked_commands asked_lent question headed all_fit fits sectioned image_fits of_kind file_tables segment_rows headers_from sections_of named starts first_named section_rows opening asked_opening asked_tables whole_rows segment_files longest section_table every section_fits
 long_section_case rebases binds index = refl
 
 -- 4: no section of image info; seven bytes of it before the file's end.
-pub no_info_case : (rebases binds index : List ℕ) → opening_file (made 0xFEEDFACF 1 544 472 576 0) (replicate segment_table_words 0) (replicate 15 0) rebases binds index ≡ number 4
+pub no_info_case : (rebases binds index : List ℕ) → opening_file (made 0xFEEDFACF 1 544 472 576 0) (replicate segment_table_words 0) (replicate 15 0) rebases binds index ≡ refused ImageInfoLength
 unfolding good made header commands command sections section u32 u64 le_in le choose opening_file asked_file asked_commands asked_lent question headed all_fit fits sectioned image_fits of_kind file_tables segment_rows headers_from sections_of named starts first_named section_rows opening asked_opening asked_tables whole_rows segment_files longest section_table every section_fits info_whole
 no_info_case rebases binds index = refl
 
-pub cut_info_case : (rebases binds index : List ℕ) → opening_file (made 0xFEEDFACF 2 544 472 577 0) (replicate segment_table_words 0) (replicate 15 0) rebases binds index ≡ number 4
+pub cut_info_case : (rebases binds index : List ℕ) → opening_file (made 0xFEEDFACF 2 544 472 577 0) (replicate segment_table_words 0) (replicate 15 0) rebases binds index ≡ refused ImageInfoLength
 unfolding good made header commands command sections section u32 u64 le_in le choose opening_file asked_file asked_commands asked_lent question headed all_fit fits sectioned image_fits of_kind file_tables segment_rows headers_from sections_of named starts first_named section_rows opening asked_opening asked_tables whole_rows segment_files longest section_table every section_fits info_whole
 cut_info_case rebases binds index = refl
 

@@ -6,7 +6,7 @@ use mathlib.Core.List.{List}
 use native.Mathlib.Omega.{arith}
 use lib.ListN.{length, drop, length-take, length-drop, length-append}
 use lib.Seq.{take_all, take-take}
-use Rattle.reads.specs.Outcome.{value, number}
+use Rattle.reads.specs.Outcome.{value, refused}
 use Rattle.reads.specs.Segment.{segment_words}
 use Rattle.reads.specs.Place.{part}
 use Rattle.reads.proofs.Outcomes.{then_came}
@@ -23,6 +23,7 @@ use Rattle.macho.specs.OpenFile.{asked_file, opened_file, opening_file, segments
 use Rattle.macho.specs.declared.open.OpenedFile.{OpenedFile}
 use Rattle.macho.proofs.Asking.{passed}
 use Rattle.macho.proofs.Tables.{length_segments, segments_back}
+use Rattle.reads.specs.declared.answer.Question.{Question}
 
 -- What opening accepted.
 opening_asked : (t : Tables) (i : ImageInfo) → opening t ≡ value i → Accepted t
@@ -121,7 +122,7 @@ module _ (file segments sections rebases binds index : List ℕ) (o : OpenedFile
       }
 
 -- With any number nothing lent is changed.
-pub number_keeps : (file segments sections rebases binds index : List ℕ) (k : ℕ) → opening_file file segments sections rebases binds index ≡ number k
+pub number_keeps : (file segments sections rebases binds index : List ℕ) (k : Question) → opening_file file segments sections rebases binds index ≡ refused k
     → (segments_left file segments sections rebases binds index ≡ segments)
     × (sections_left file segments sections rebases binds index ≡ sections)
     × (index_left file segments sections rebases binds index ≡ index)

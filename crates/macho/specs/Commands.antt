@@ -6,6 +6,7 @@ use Rattle.pointers.specs.Question.{question}
 use Rattle.macho.specs.Loader.{magic, ncmds, sizeofcmds, cmd, cmdsize, segment_kind, nsects, size_with_sections}
 use Rattle.macho.specs.declared.command.Found.{Found}
 use Rattle.macho.specs.declared.command.CommandsOfKind.{CommandsOfKind}
+use Rattle.reads.specs.declared.answer.Question.TheVariants.{Header, LoadCommands}
 
 -- 15: a header of 32 bytes, with the magic of a 64-bit little-endian file?
 unfoldable pub headed : List ℕ → Bool
@@ -32,7 +33,7 @@ all_fit cmds (suc k) a = fits cmds a && all_fit cmds k (a + cmdsize cmds a)
 
 -- 15, then 16.
 unfoldable pub asked_commands : List ℕ → Outcome (Unit {0})
-asked_commands file = and_then (question 15 (headed file)) (λ _. question 16 (all_fit (command_bytes file) (ncmds file) 0))
+asked_commands file = and_then (question Header (headed file)) (λ _. question LoadCommands (all_fit (command_bytes file) (ncmds file) 0))
 
 -- Where the commands of one kind stand, in order, among the k commands from a on; one that does not fit ends them.
 unfoldable pub of_kind : ℕ → List ℕ → ℕ → ℕ → List ℕ

@@ -2,7 +2,6 @@
 -- filled and the index is written.
 use Rattle.std.specs.Prelude.{ℕ, ◌*◌, ◌&&◌, List, leb, eqb, length, take}
 use Rattle.reads.specs.Outcome.{Outcome, value, and_then}
-use Rattle.reads.specs.Answer.{missed}
 use Rattle.reads.specs.Segment.{segment_words}
 use Rattle.reads.specs.Place.{part}
 use Rattle.pointers.specs.Tables.{Tables, section_table_words}
@@ -14,14 +13,9 @@ use Rattle.macho.specs.Commands.{asked_commands}
 use Rattle.macho.specs.Segments.{written}
 use Rattle.macho.specs.FileTables.{file_segments, segment_table, section_table, info_section, info_bytes, over_file, file_tables}
 use Rattle.macho.specs.declared.open.OpenedFile.{OpenedFile}
-use Rattle.macho.specs.declared.open.FileAnswer.{FileAnswer}
-use Rattle.macho.specs.declared.open.FileAnswer.TheVariants as answer
+use Rattle.reads.specs.declared.answer.Question.TheVariants.{FileLength, SegmentTable, SectionTable}
 
 -- Document 01's outcome of each case of the code's answer.
-abbrev pub file_outcome : FileAnswer → Outcome OpenedFile
-file_outcome (answer.File o) = value o
-file_outcome (answer.Missing m) = missed m
-
 -- The words lent for 64 segments.
 abbrev pub segment_table_words : ℕ
 segment_table_words = 64 * segment_words
@@ -29,9 +23,9 @@ segment_table_words = 64 * segment_words
 -- 1, and what 2 and 3 ask of the words lent for the tables: exactly those of 64 segments, for at most 64, and exactly 15.
 unfoldable pub asked_lent : List ℕ → ℕ → ℕ → Outcome (Unit {0})
 asked_lent file segments sections =
-    and_then (question 1 (image_fits (length file))) (λ _.
-    and_then (question 2 (eqb segments segment_table_words && leb (length (file_segments file)) 64)) (λ _.
-    question 3 (eqb sections section_table_words)))
+    and_then (question FileLength (image_fits (length file))) (λ _.
+    and_then (question SegmentTable (eqb segments segment_table_words && leb (length (file_segments file)) 64)) (λ _.
+    question SectionTable (eqb sections section_table_words)))
 
 -- 15 and 16, then these.
 unfoldable pub asked_file : List ℕ → ℕ → ℕ → Outcome (Unit {0})

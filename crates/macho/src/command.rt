@@ -1,9 +1,9 @@
 // The load commands (loader.h, load_command): their bytes are lent as `cmds`.
 ghost use Rattle.std.specs.Prelude.{◌≡◌};
 ghost use Rattle.reads.specs.Reference.{before};
-ghost use Rattle.pointers.specs.Question.{asked_outcome};
 ghost use Rattle.std.specs.Iterator.{YieldsFirst, item_count};
 ghost use Rattle.macho.specs.Commands.{fits, all_fit, asked_commands, first_of, of_kind, offsets};
+ghost use Rattle.reads.specs.Answer.{answered};
 
 use crate::header::{command_bytes, command_count, headed};
 use crate::loader::{
@@ -11,7 +11,7 @@ use crate::loader::{
     SIZEOF_SEGMENT_COMMAND_64,
 };
 use crate::number::field32;
-use pointers::question::Asked;
+use reads::answer::Question;
 
 // A command that was looked for: where it stands, and how many commands are left after it, from where on.
 #[derive(Clone, Copy)]
@@ -62,16 +62,16 @@ fn commands_fit(cmds: &[u8], count: u64) -> bool
 }
 
 // 15, then 16.
-pub fn ask_commands(file: &[u8]) -> Asked
-    ensures { asked_outcome result ≡ asked_commands (before file) }
+pub fn ask_commands(file: &[u8]) -> Result<(), Question>
+    ensures { answered result ≡ asked_commands (before file) }
 {
     if !headed(file) {
-        return Asked::Refused(15);
+        return Err(Question::Header);
     }
     if !commands_fit(command_bytes(file), command_count(file)) {
-        return Asked::Refused(16);
+        return Err(Question::LoadCommands);
     }
-    Asked::Yes
+    Ok(())
 }
 
 // The first command of a kind among `count` commands from an offset on; one that does not fit ends them.

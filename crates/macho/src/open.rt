@@ -3,24 +3,23 @@
 ghost use Rattle.std.specs.Prelude.{◌≡◌, ◌≤◌, length, take};
 ghost use Rattle.reads.specs.Reference.{before};
 ghost use Rattle.reads.specs.Outcome.{value};
-ghost use Rattle.pointers.specs.Question.{asked_outcome};
-ghost use Rattle.pointers.specs.ImageInfo.{info_outcome};
 ghost use Rattle.pointers.specs.Open.{opening, opened_index};
 ghost use Rattle.macho.specs.Commands.{segments_of};
 ghost use Rattle.macho.specs.Segments.{segment_table_of};
 ghost use Rattle.macho.specs.Sections.{section_table_of};
 ghost use Rattle.macho.specs.FileTables.{over_file};
-ghost use Rattle.macho.specs.OpenFile.{file_outcome, asked_lent, asked_file, opening_file, segments_left, sections_left, index_left};
+ghost use Rattle.macho.specs.OpenFile.{asked_lent, asked_file, opening_file, segments_left, sections_left, index_left};
+ghost use Rattle.reads.specs.Answer.{outcome, answered};
 
 use crate::command::ask_commands;
 use crate::header::{command_bytes, command_count, range_of};
 use crate::section::{IMAGE_INFO, section_named, write_sections};
 use crate::segment::{segment_count, write_segments};
-use pointers::imageinfo::{ImageInfo, ImageInfoAnswer};
+use pointers::imageinfo::ImageInfo;
 use pointers::open::open;
-use pointers::question::{Asked, image_fits};
+use pointers::question::image_fits;
 use pointers::section::ObjcSection;
-use reads::answer::Missing;
+use reads::answer::{Missing, Question};
 use reads::segment::Segment;
 
 // The most segments that question 2 takes, and the words that are lent for them.
@@ -38,39 +37,31 @@ pub struct OpenedFile {
     pub info_len: u64,
 }
 
-#[derive(Clone, Copy)]
-pub enum FileAnswer {
-    File(OpenedFile),
-    Missing(Missing),
-}
-
 // 1, and what 2 and 3 ask of the buffers lent for the tables.
-fn ask_lent(file: &[u8], segments: usize, sections: usize) -> Asked
-    ensures { asked_outcome result ≡ asked_lent (before file) segments sections }
+fn ask_lent(file: &[u8], segments: usize, sections: usize) -> Result<(), Question>
+    ensures { answered result ≡ asked_lent (before file) segments sections }
 {
     if !image_fits(file.len() as u64) {
-        return Asked::Refused(1);
+        return Err(Question::FileLength);
     }
     if segments != SEGMENT_TABLE_WORDS {
-        return Asked::Refused(2);
+        return Err(Question::SegmentTable);
     }
     if segment_count(command_bytes(file), command_count(file)) > MOST_SEGMENTS {
-        return Asked::Refused(2);
+        return Err(Question::SegmentTable);
     }
     if sections != ObjcSection::TABLE_WORDS {
-        return Asked::Refused(3);
+        return Err(Question::SectionTable);
     }
-    Asked::Yes
+    Ok(())
 }
 
 // 15 and 16, then these.
-fn ask_file(file: &[u8], segments: usize, sections: usize) -> Asked
-    ensures { asked_outcome result ≡ asked_file (before file) segments sections }
+fn ask_file(file: &[u8], segments: usize, sections: usize) -> Result<(), Question>
+    ensures { answered result ≡ asked_file (before file) segments sections }
 {
-    match ask_commands(file) {
-        Asked::Yes => ask_lent(file, segments, sections),
-        Asked::Refused(k) => Asked::Refused(k),
-    }
+    ask_commands(file)?;
+    ask_lent(file, segments, sections)
 }
 
 // Opens over the first words of a segment table.
@@ -83,10 +74,10 @@ fn open_part(
     rebases: &[u64],
     binds: &[u64],
     index: &mut [u32],
-) -> ImageInfoAnswer
+) -> Result<ImageInfo, Missing>
     requires { words ≤ length segments.now }
     ensures outcome { let t = over_file (before file) (take words (before segments)) (before sections) (before info) (before rebases) (before binds) index.old in
-        info_outcome result ≡ opening t }
+        outcome result ≡ opening t }
     ensures contents { let t = over_file (before file) (take words (before segments)) (before sections) (before info) (before rebases) (before binds) index.old in
         index.new ≡ opened_index t }
 {
@@ -111,10 +102,10 @@ fn open_tables(
     rebases: &[u64],
     binds: &[u64],
     index: &mut [u32],
-) -> ImageInfoAnswer
+) -> Result<ImageInfo, Missing>
     requires { length (segments_of cmds.now count) ≤ 64 }
     ensures outcome { let t = over_file (before file) (segment_table_of (before cmds) count) (section_table_of (before cmds) count) (before info) (before rebases) (before binds) index.old in
-        info_outcome result ≡ opening t }
+        outcome result ≡ opening t }
     ensures contents { let t = over_file (before file) (segment_table_of (before cmds) count) (section_table_of (before cmds) count) (before info) (before rebases) (before binds) index.old in
         index.new ≡ opened_index t }
 {
@@ -136,9 +127,9 @@ fn fill_file(
     rebases: &[u64],
     binds: &[u64],
     index: &mut [u32],
-) -> FileAnswer
+) -> Result<OpenedFile, Missing>
     requires { asked_file file.now (length segments.old) (length sections.old) ≡ value tt }
-    ensures outcome { file_outcome result ≡ opening_file (before file) segments.old sections.old (before rebases) (before binds) index.old }
+    ensures outcome { outcome result ≡ opening_file (before file) segments.old sections.old (before rebases) (before binds) index.old }
     ensures segments { segments.new ≡ segments_left (before file) segments.old sections.old (before rebases) (before binds) index.old }
     ensures sections { sections.new ≡ sections_left (before file) segments.old sections.old (before rebases) (before binds) index.old }
     ensures index { index.new ≡ index_left (before file) segments.old sections.old (before rebases) (before binds) index.old }
@@ -149,17 +140,17 @@ fn fill_file(
     let section = section_named(cmds, count, &name);
     let info = range_of(file, section.offset, section.size);
     match open_tables(file, cmds, count, info, rebases, binds, index) {
-        ImageInfoAnswer::Info(i) => {
+        Ok(i) => {
             write_segments(cmds, count, segments);
             write_sections(cmds, count, sections);
-            FileAnswer::File(OpenedFile {
+            Ok(OpenedFile {
                 segments: segment_count(cmds, count),
                 info: i,
                 info_at: section.offset,
                 info_len: info.len() as u64,
             })
         }
-        ImageInfoAnswer::Missing(m) => FileAnswer::Missing(m),
+        Err(m) => Err(m),
     }
 }
 
@@ -171,14 +162,14 @@ pub fn open_file(
     rebases: &[u64],
     binds: &[u64],
     index: &mut [u32],
-) -> FileAnswer
-    ensures outcome { file_outcome result ≡ opening_file (before file) segments.old sections.old (before rebases) (before binds) index.old }
+) -> Result<OpenedFile, Missing>
+    ensures outcome { outcome result ≡ opening_file (before file) segments.old sections.old (before rebases) (before binds) index.old }
     ensures segments { segments.new ≡ segments_left (before file) segments.old sections.old (before rebases) (before binds) index.old }
     ensures sections { sections.new ≡ sections_left (before file) segments.old sections.old (before rebases) (before binds) index.old }
     ensures index { index.new ≡ index_left (before file) segments.old sections.old (before rebases) (before binds) index.old }
 {
     match ask_file(file, segments.len(), sections.len()) {
-        Asked::Yes => fill_file(file, segments, sections, rebases, binds, index),
-        Asked::Refused(k) => FileAnswer::Missing(Missing::Refused(k)),
+        Ok(()) => fill_file(file, segments, sections, rebases, binds, index),
+        Err(k) => Err(Missing::Refused(k)),
     }
 }

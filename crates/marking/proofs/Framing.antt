@@ -7,32 +7,34 @@ use native.Mathlib.Omega.{arith}
 use lib.Dec.{eqb}
 use lib.ListN.{length}
 use borrow.Author.Tests.{lt-leb, ne_eqb}
-use Rattle.reads.specs.Answer.{missed}
-use Rattle.reads.specs.Outcome.{Outcome, value, absent, number, and_then, choose}
+use Rattle.reads.specs.Answer.{missed, outcome}
+use Rattle.reads.specs.Outcome.{Outcome, value, absent, refused, and_then, choose}
 use Rattle.reads.specs.Table.{records}
 use Rattle.reads.specs.declared.answer.Reason.{Reason}
 use Rattle.reads.specs.declared.answer.Missing.{Missing}
 use Rattle.reads.specs.declared.answer.Missing.TheVariants.{Absent, Refused}
 use Rattle.reads.proofs.Outcomes.{then_then, then_came}
-use Rattle.pointers.specs.ImageInfo.{image_info, info_outcome}
+use Rattle.pointers.specs.ImageInfo.{image_info}
 use Rattle.pointers.specs.Open.{asked_opening, opening, opened_index}
 use Rattle.pointers.specs.Question.{question, index_fits, asked_tables, asked_index, bind_files, names_inside, names_utf8}
 use Rattle.pointers.specs.Tables.{Tables, with_index, rebase_words, bind_words, chains}
 use Rattle.pointers.specs.declared.imageinfo.ImageInfo.{ImageInfo}
-use Rattle.pointers.specs.declared.imageinfo.ImageInfoAnswer.{ImageInfoAnswer}
-use Rattle.pointers.specs.declared.imageinfo.ImageInfoAnswer.TheVariants as info
 use Rattle.frames.specs.Marks.{frames_of}
 use Rattle.frames.specs.declared.frames.Frames.{Frames}
 use Rattle.frames.specs.declared.frames.Ranges.{Ranges}
 use Rattle.marking.specs.Framed.{with_frames, last_refusal, framed_opening, framed_index}
 use Rattle.marking.specs.declared.framed.Framed.{Framed}
+use Rattle.std.specs.Prelude.{Result, Ok, Err}
+use Rattle.reads.specs.declared.answer.Question.{Question}
+use Rattle.reads.specs.declared.answer.Question.TheVariants.{NameInside, IndexLength, NameUtf8, FileLent, FileLength, SegmentTable, SectionTable, ImageInfoLength, RebaseTable, BindTable}
+use Rattle.reads.specs.Question.{number_of}
 
 -- Opening's answer, with frames.
-module _ (w : Frames) (a : ImageInfoAnswer) where
-  pub with_info : (i : ImageInfo) → a ≡ info.Info i → value (record { info = i; frames = w }) ≡ with_frames w (info_outcome a)
+module _ (w : Frames) (a : Result ImageInfo Missing) where
+  pub with_info : (i : ImageInfo) → a ≡ Ok i → value (record { info = i; frames = w }) ≡ with_frames w (outcome a)
   with_info i e = rw e
 
-  pub with_missing : (m : Missing) → a ≡ info.Missing m → missed m ≡ with_frames w (info_outcome a)
+  pub with_missing : (m : Missing) → a ≡ Err m → missed m ≡ with_frames w (outcome a)
   with_missing m e = rw e (go m)
     where
       go : (m : Missing) → ◌≡◌ {A = Outcome Framed} (missed m) (with_frames w (missed m))
@@ -40,20 +42,20 @@ module _ (w : Frames) (a : ImageInfoAnswer) where
       go (Refused k) = refl
 
 -- What refuses at last, by the tests that the code makes.
-module _ (m : Missing) (fits : Bool) (k : ℕ) where
+module _ (m : Missing) (fits : Bool) (k : Question) where
   pub last_absent : (r : Reason) → m ≡ Absent r → Absent r ≡ last_refusal fits k m
   last_absent r e = rw e
 
-  module _ (j : ℕ) (e : m ≡ Refused j) where
-    pub last_other : (j ≡ 8 → ⊥) → Refused j ≡ last_refusal fits k m
+  module _ (j : Question) (e : m ≡ Refused j) where
+    pub last_other : (number_of j ≡ 8 → ⊥) → Refused j ≡ last_refusal fits k m
     unfolding choose
-    last_other h = rw (e, ne_eqb j 8 h)
+    last_other h = rw (e, ne_eqb (number_of j) 8 h)
 
-    pub last_ranges : j ≡ 8 → fits ≡ true → Refused k ≡ last_refusal fits k m
+    pub last_ranges : number_of j ≡ 8 → fits ≡ true → Refused k ≡ last_refusal fits k m
     unfolding choose
     last_ranges h f = rw (e, h, f)
 
-    pub last_index : j ≡ 8 → fits ≡ false → Refused 8 ≡ last_refusal fits k m
+    pub last_index : number_of j ≡ 8 → fits ≡ false → Refused IndexLength ≡ last_refusal fits k m
     unfolding choose
     last_index h f = rw (e, h, f)
 
@@ -63,7 +65,7 @@ module _ (x : Ranges) (t : Tables) where
   unfolding opening framed_opening
   framed_accepted w e = rw e (then_then (asked_opening t) (λ _. image_info t.info) (λ info. value (record { info = info; frames = w })))
 
-  pub framed_refused : (k : ℕ) → frames_of x ≡ number k → and_then (asked_opening t) (λ _. number k) ≡ framed_opening x t
+  pub framed_refused : (k : Question) → frames_of x ≡ refused k → and_then (asked_opening t) (λ _. refused k) ≡ framed_opening x t
   unfolding framed_opening
   framed_refused k e = rw e
 
@@ -71,7 +73,7 @@ module _ (x : Ranges) (t : Tables) where
   unfolding framed_index
   index_accepted w e = rw e
 
-  pub index_refused : (k : ℕ) → frames_of x ≡ number k → t.index ≡ framed_index x t
+  pub index_refused : (k : Question) → frames_of x ≡ refused k → t.index ≡ framed_index x t
   unfolding framed_index
   index_refused k e = rw e
 
@@ -80,8 +82,8 @@ module _ (x : Ranges) (t : Tables) where
       → ((o ≡ opening t) × (i ≡ opened_index t)) → ((r ≡ framed_opening x t) × (i ≡ framed_index x t))
   opens_framed w g o r i e h = (e ∙ ap (with_frames w) h.0 ∙ framed_accepted w g, h.1 ∙ index_accepted w g)
 
-  pub opens_refused : (k : ℕ) → frames_of x ≡ number k → (r : Outcome Framed) (i : List ℕ)
-      → ((r ≡ and_then (asked_opening t) (λ _. number k)) × (i ≡ t.index)) → ((r ≡ framed_opening x t) × (i ≡ framed_index x t))
+  pub opens_refused : (k : Question) → frames_of x ≡ refused k → (r : Outcome Framed) (i : List ℕ)
+      → ((r ≡ and_then (asked_opening t) (λ _. refused k)) × (i ≡ t.index)) → ((r ≡ framed_opening x t) × (i ≡ framed_index x t))
   opens_refused k g r i h = (h.0 ∙ framed_refused k g, h.1 ∙ index_refused k g)
 
 -- What opening and 23 gave.
@@ -104,9 +106,9 @@ framed_given x t f e =
 -- Questions that are not 8.
 pub data Not8 : Outcome (Unit {0}) → Type 0 where
   passes : Not8 (value tt)
-  refuses : (k : ℕ) → (k ≡ 8 → ⊥) → Not8 (number k)
+  refuses : (k : Question) → (number_of k ≡ 8 → ⊥) → Not8 (refused k)
 
-pub question_not8 : (n : ℕ) → (n ≡ 8 → ⊥) → (b : Bool) → Not8 (question n b)
+pub question_not8 : (n : Question) → (number_of n ≡ 8 → ⊥) → (b : Bool) → Not8 (question n b)
 unfolding question choose
 question_not8 n h true = passes
 question_not8 n h false = refuses n h
@@ -119,41 +121,41 @@ then_not8 (refuses k h) q = refuses k h
 abbrev before8 : Tables → Outcome (Unit {0})
 before8 t =
     and_then (asked_tables t) (λ _.
-    and_then (question 18 (bind_files t.files t.binds)) (λ _.
-    and_then (question 7 (names_inside t.files t.binds)) (λ _.
-    question 14 (names_utf8 t.files t.binds))))
+    and_then (question FileLent (bind_files t.files t.binds)) (λ _.
+    and_then (question NameInside (names_inside t.files t.binds)) (λ _.
+    question NameUtf8 (names_utf8 t.files t.binds))))
 
 before_not8 : (t : Tables) → Not8 (before8 t)
 unfolding asked_tables
 before_not8 t =
     then_not8
-    (then_not8 (question_not8 1 (λ e. omega arith) _)
-    (then_not8 (question_not8 2 (λ e. omega arith) _)
-    (then_not8 (question_not8 18 (λ e. omega arith) _)
-    (then_not8 (question_not8 3 (λ e. omega arith) _)
-    (then_not8 (question_not8 4 (λ e. omega arith) _)
-    (then_not8 (question_not8 5 (λ e. omega arith) _) (question_not8 6 (λ e. omega arith) _)))))))
-    (then_not8 (question_not8 18 (λ e. omega arith) _)
-    (then_not8 (question_not8 7 (λ e. omega arith) _) (question_not8 14 (λ e. omega arith) _)))
+    (then_not8 (question_not8 FileLength (λ e. omega arith) _)
+    (then_not8 (question_not8 SegmentTable (λ e. omega arith) _)
+    (then_not8 (question_not8 FileLent (λ e. omega arith) _)
+    (then_not8 (question_not8 SectionTable (λ e. omega arith) _)
+    (then_not8 (question_not8 ImageInfoLength (λ e. omega arith) _)
+    (then_not8 (question_not8 RebaseTable (λ e. omega arith) _) (question_not8 BindTable (λ e. omega arith) _)))))))
+    (then_not8 (question_not8 FileLent (λ e. omega arith) _)
+    (then_not8 (question_not8 NameInside (λ e. omega arith) _) (question_not8 NameUtf8 (λ e. omega arith) _)))
 
 regrouped : (a b c d e : Outcome (Unit {0}))
     → and_then a (λ _. and_then b (λ _. and_then c (λ _. and_then d (λ _. e)))) ≡ and_then (and_then a (λ _. and_then b (λ _. and_then c (λ _. d)))) (λ _. e)
 regrouped (absent r) b c d e = refl
-regrouped (number k) b c d e = refl
+regrouped (refused k) b c d e = refl
 regrouped (value u) (absent r) c d e = refl
-regrouped (value u) (number k) c d e = refl
+regrouped (value u) (refused k) c d e = refl
 regrouped (value u) (value v) (absent r) d e = refl
-regrouped (value u) (value v) (number k) d e = refl
+regrouped (value u) (value v) (refused k) d e = refl
 regrouped (value u) (value v) (value w) d e = refl
 
 asked_last : (t : Tables) → asked_opening t ≡ and_then (before8 t) (λ _. asked_index t)
 unfolding asked_opening
 asked_last t =
-    regrouped (asked_tables t) (question 18 (bind_files t.files t.binds)) (question 7 (names_inside t.files t.binds))
-    (question 14 (names_utf8 t.files t.binds)) (asked_index t)
+    regrouped (asked_tables t) (question FileLent (bind_files t.files t.binds)) (question NameInside (names_inside t.files t.binds))
+    (question NameUtf8 (names_utf8 t.files t.binds)) (asked_index t)
 
 -- 8 refuses an index without a word.
-no_index : (t : Tables) → asked_index (with_index t []) ≡ number 8
+no_index : (t : Tables) → asked_index (with_index t []) ≡ refused IndexLength
 unfolding asked_index index_fits question choose
 no_index t = rw (lt-leb (2 * chains + records rebase_words t.rebases + records bind_words t.binds) 0 (omega arith))
 
@@ -162,9 +164,9 @@ fits8 t = index_fits (records rebase_words t.rebases) (records bind_words t.bind
 
 -- What opening over no index says, and what it says over the index that is lent.
 pub record Unindexed (t : Tables) : Type 0 where
-  pub refusal : ℕ
-  pub unopened : asked_opening (with_index t []) ≡ number refusal
-  pub asked : asked_opening t ≡ choose (eqb refusal 8) (question 8 (fits8 t)) (number refusal)
+  pub refusal : Question
+  pub unopened : asked_opening (with_index t []) ≡ refused refusal
+  pub asked : asked_opening t ≡ choose (eqb (number_of refusal) 8) (question IndexLength (fits8 t)) (refused refusal)
 
 pub unindexed : (t : Tables) → Unindexed t
 unfolding asked_tables choose
@@ -173,7 +175,7 @@ unindexed t = go (before_not8 t) refl
     go : {o : Outcome (Unit {0})} → Not8 o → before8 t ≡ o → Unindexed t
     go passes e =
         record {
-          refusal = 8;
+          refusal = IndexLength;
           unopened = asked_last (with_index t []) ∙ rw (e, no_index t);
           asked = asked_last t ∙ rw e (unfold asked_index in refl);
         }
@@ -181,25 +183,25 @@ unindexed t = go (before_not8 t) refl
         record {
           refusal = n;
           unopened = asked_last (with_index t []) ∙ rw e;
-          asked = asked_last t ∙ rw (e, ne_eqb n 8 h);
+          asked = asked_last t ∙ rw (e, ne_eqb (number_of n) 8 h);
         }
 
 -- What refuses where k refuses the ranges.
-settled : {A : Type 0} (b fits : Bool) (k j : ℕ)
-    → ◌≡◌ {A = Outcome A} (number (choose b (choose fits k 8) j)) (and_then (choose b (question 8 fits) (number j)) (λ _. number k))
+settled : {A : Type 0} (b fits : Bool) (k j : Question)
+    → ◌≡◌ {A = Outcome A} (refused (choose b (choose fits k IndexLength) j)) (and_then (choose b (question IndexLength fits) (refused j)) (λ _. refused k))
 unfolding question choose
 settled true true k j = refl
 settled true false k j = refl
 settled false fits k j = refl
 
 -- An answer that is a number.
-pub missed_is : {A : Type 0} (m : Missing) {n : ℕ} → ◌≡◌ {A = Outcome A} (missed m) (number n) → m ≡ Refused n
+pub missed_is : {A : Type 0} (m : Missing) {n : Question} → ◌≡◌ {A = Outcome A} (missed m) (refused n) → m ≡ Refused n
 missed_is (Absent r) e = let z : ◌≡◌ {A = ℕ} 0 1 = cc in absurd (omega arith)
 missed_is (Refused j) {n} e = let same : j ≡ n = cc in ap Refused same
 
 -- The answer of opening over no index.
 module _ (t : Tables) where
-  pub opening_short : opening (with_index t []) ≡ number (unindexed t).refusal
+  pub opening_short : opening (with_index t []) ≡ refused (unindexed t).refusal
   unfolding opening
   opening_short = rw (unindexed t).unopened
 
@@ -210,10 +212,10 @@ module _ (t : Tables) where
   pub never_opened : {A : Type 0} (i : ImageInfo) → value i ≡ opening (with_index t []) → A
   never_opened i e = let g = opening_short in let z : ◌≡◌ {A = ℕ} 0 1 = cc in absurd (omega arith)
 
-  pub refused_then : {A : Type 0} (fits : Bool) (k : ℕ) → fits ≡ fits8 t
-      → ◌≡◌ {A = Outcome A} (number (choose (eqb (unindexed t).refusal 8) (choose fits k 8) (unindexed t).refusal)) (and_then (asked_opening t) (λ _. number k))
-  refused_then fits k g = rw (g, (unindexed t).asked) (settled (eqb (unindexed t).refusal 8) (fits8 t) k (unindexed t).refusal)
+  pub refused_then : {A : Type 0} (fits : Bool) (k : Question) → fits ≡ fits8 t
+      → ◌≡◌ {A = Outcome A} (refused (choose (eqb (number_of (unindexed t).refusal) 8) (choose fits k IndexLength) (unindexed t).refusal)) (and_then (asked_opening t) (λ _. refused k))
+  refused_then fits k g = rw (g, (unindexed t).asked) (settled (eqb (number_of (unindexed t).refusal) 8) (fits8 t) k (unindexed t).refusal)
 
-  pub refused_by : {A : Type 0} (m : Missing) (fits : Bool) (k : ℕ) → missed m ≡ opening (with_index t []) → fits ≡ fits8 t
-      → ◌≡◌ {A = Outcome A} (missed (last_refusal fits k m)) (and_then (asked_opening t) (λ _. number k))
+  pub refused_by : {A : Type 0} (m : Missing) (fits : Bool) (k : Question) → missed m ≡ opening (with_index t []) → fits ≡ fits8 t
+      → ◌≡◌ {A = Outcome A} (missed (last_refusal fits k m)) (and_then (asked_opening t) (λ _. refused k))
   refused_by m fits k e g = rw (missed_is m (e ∙ opening_short)) (refused_then fits k g)

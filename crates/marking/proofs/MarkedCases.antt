@@ -5,8 +5,6 @@ use mathlib.Core.Bool.{false}
 use mathlib.Core.List.{List, [], ◌∷◌, flat_map}
 use Rattle.reads.specs.Outcome.{choose, text_of}
 use Rattle.records.specs.Row.{method_of}
-use Rattle.records.specs.declared.method.Imp.{Imp}
-use Rattle.records.specs.declared.method.Imp.TheVariants as imp
 use Rattle.records.specs.declared.method.MethodKind.TheVariants as kind
 use Rattle.records.specs.declared.row.Row.TheVariants as row
 use Rattle.frames.specs.Marks.{raised, addresses, met, mark_of}
@@ -14,22 +12,22 @@ use Rattle.frames.specs.declared.frames.Ranges.{Ranges}
 use Rattle.listing.specs.PlainListing.{class_line, row_line}
 use Rattle.listing.specs.declared.line.Line.{Line}
 use Rattle.listing.specs.declared.line.Line.TheVariants as line
-use Rattle.listing.specs.declared.line.Named.TheVariants as named
 use Rattle.listing.proofs.HubListing.{five_lines}
 use Rattle.marking.specs.Marked.{marked, marked_lines}
+use Rattle.std.specs.Prelude.{Option, Some, None}
 
 abbrev ranges : ℕ → ℕ → ℕ → ℕ → Ranges
 ranges f₀ f₁ s₀ s₁ = record { first_frame = f₀; last_frame = f₁; first_slide = s₀; last_slide = s₁ }
 
 abbrev class : ℕ → Line
-class a = class_line (record { address = a; isa = 0; superclass_address = 0; bits = 0; is_meta = false }) named.Nothing
+class a = class_line (record { address = a; isa = 0; superclass_address = 0; bits = 0; is_meta = false }) None
 
-abbrev method : Imp → Line
+abbrev method : Option ℕ → Line
 method i = row_line 0 (row.Method (method_of (text_of 0 0 0) (text_of 0 0 0) i kind.Legacy))
 
 -- Two classes; the second has a method without imp.
 abbrev two_classes : List Line
-two_classes = class 1 ∷ method (imp.At 0x10) ∷ class 2 ∷ method imp.Nothing ∷ method (imp.At 0x20) ∷ []
+two_classes = class 1 ∷ method (Some 0x10) ∷ class 2 ∷ method None ∷ method (Some 0x20) ∷ []
 
 abbrev mark_in : Line → List ℕ
 mark_in (line.Info i) = []

@@ -4,8 +4,6 @@ use mathlib.Core.Path.{◌≡◌, refl}
 use mathlib.Core.List.{List, Memᴰ}
 use native.Mathlib.Omega.{arith}
 use Rattle.reads.specs.Outcome.{value}
-use Rattle.records.specs.declared.method.Imp.{Imp}
-use Rattle.records.specs.declared.method.Imp.TheVariants as imp
 use Rattle.frames.specs.Marks.{frames_of, met_all}
 use Rattle.frames.specs.declared.frames.Frames.{Frames}
 use Rattle.frames.specs.declared.frames.Ranges.{Ranges}
@@ -15,14 +13,15 @@ use Rattle.listing.specs.declared.line.Line.TheVariants as line
 use Rattle.listing.specs.declared.line.RowLine.{RowLine}
 use Rattle.marking.specs.Marked.{row_imp, line_starts, starts_in, imp_mark, marked, marked_lines, ImpSays}
 use Rattle.marking.proofs.Folds.{in_flat}
+use Rattle.std.specs.Prelude.{Option, Some, None}
 
 module _ (x : Ranges) (w : Frames) (given : frames_of x ≡ value w) (lines : List Line) where
   abbrev found : Frames
   found = met_all w (starts_in lines)
 
-  imp_says : (i : Imp) → ((a : ℕ) → i ≡ imp.At a → Memᴰ a (starts_in lines)) → ImpSays x (starts_in lines) i (imp_mark found i)
-  imp_says (imp.At a) m = marks_right x w given (starts_in lines) a (m a refl)
-  imp_says imp.Nothing m = refl
+  imp_says : (i : Option ℕ) → ((a : ℕ) → i ≡ Some a → Memᴰ a (starts_in lines)) → ImpSays x (starts_in lines) i (imp_mark found i)
+  imp_says (Some a) m = marks_right x w given (starts_in lines) a (m a refl)
+  imp_says None m = refl
 
   row_says : (q r : RowLine) → Memᴰ (line.Row q) lines → marked found (line.Row q) ≡ line.Row r
       → ImpSays x (starts_in lines) (row_imp r.row) r.mark

@@ -3,7 +3,7 @@ use Prim.Native.Nat.{ℕ, zero, suc}
 use mathlib.Core.Path.{◌≡◌, refl}
 use mathlib.Core.List.{List, []}
 use lib.ListN.{length}
-use Rattle.reads.specs.Outcome.{Outcome, value, absent, number}
+use Rattle.reads.specs.Outcome.{Outcome, value, absent, refused}
 use Rattle.pointers.specs.Question.{asked, guarded}
 use Rattle.pointers.specs.Tables.{Tables, under}
 use Rattle.records.specs.Category.{category_class_name}
@@ -34,7 +34,7 @@ module _ (s : State) (l : List ℕ) where
   onward_keeps : {A : Type 0} (m : List ℕ) → length m ≡ length l → (o : Outcome A) (go : A → Left) → ((a : A) → Keeps s l (go a)) → Keeps s l (onward s m o go)
   onward_keeps m e (value a) go f = f a
   onward_keeps m e (absent r) go f = record { setting = refl; room = e }
-  onward_keeps m e (number k) go f = record { setting = refl; room = e }
+  onward_keeps m e (refused k) go f = record { setting = refl; room = e }
 
   record_keeps : (t : Tables) (x : Record) → Keeps s l (record_step t s l x)
   record_keeps t (a_record.Class c) = onward_keeps l refl (name_or_none (guarded t (superclass_name t c))) _ (λ name. record { setting = refl; room = refl })
@@ -44,7 +44,7 @@ module _ (s : State) (l : List ℕ) where
   ro_keeps : (o : Outcome ClassRo) → Keeps s l (by_ro s l o)
   ro_keeps (value r) = record { setting = refl; room = refl }
   ro_keeps (absent r) = record { setting = refl; room = refl }
-  ro_keeps (number k) = record { setting = refl; room = refl }
+  ro_keeps (refused k) = record { setting = refl; room = refl }
 
   module _ (o : Owner) (n : ℕ) where
     row_keeps : (w : ListWalk) (x : Outcome ReachedRow) → Keeps s l (by_row s l o n w x)
@@ -52,14 +52,14 @@ module _ (s : State) (l : List ℕ) where
     row_keeps w (value (row_skipped j r)) = record { setting = refl; room = refl }
     row_keeps w (value rows_finished) = record { setting = refl; room = refl }
     row_keeps w (absent r) = record { setting = refl; room = refl }
-    row_keeps w (number k) = record { setting = refl; room = refl }
+    row_keeps w (refused k) = record { setting = refl; room = refl }
 
     name_keeps : (i : ℕ) (w : ProtocolNameWalk) (x : Outcome ReachedName) → Keeps s l (by_name s l o n i w x)
     name_keeps i w (value (name_reached name)) = record { setting = refl; room = refl }
     name_keeps i w (value (name_passed r)) = record { setting = refl; room = refl }
     name_keeps i w (value names_finished) = record { setting = refl; room = refl }
     name_keeps i w (absent r) = record { setting = refl; room = refl }
-    name_keeps i w (number k) = record { setting = refl; room = refl }
+    name_keeps i w (refused k) = record { setting = refl; room = refl }
 
     list_keeps : (t : Tables) (x : FieldWalk) → Keeps s l (list_step t s l o n x)
     list_keeps t (field_walk.Rows w) = let x = next_of t w in row_keeps x.walk x.answer
@@ -80,7 +80,7 @@ module _ (s : State) (l : List ℕ) where
     section_keeps f x (value dropped) = record { setting = refl; room = e }
     section_keeps f x (value finished) = after_keeps x
     section_keeps f x (absent r) = record { setting = refl; room = e }
-    section_keeps f x (number k) = record { setting = refl; room = e }
+    section_keeps f x (refused k) = record { setting = refl; room = e }
 
   walk_keeps : (t : Tables) (x : SectionWalk) → Keeps s l (on_section s (section_step t l x))
   walk_keeps t x = go x.stage x.classes_at x.protocols_at x.categories_at

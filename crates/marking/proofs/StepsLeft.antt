@@ -5,7 +5,7 @@ use mathlib.Core.Path.{◌≡◌, refl, sym, ap, ◌∙◌}
 use mathlib.Core.Bool.{Bool, true, false}
 use mathlib.Core.List.{List}
 use native.Mathlib.Omega.{arith}
-use Rattle.reads.specs.Outcome.{Outcome, value, absent, number}
+use Rattle.reads.specs.Outcome.{Outcome, value, absent, refused}
 use Rattle.pointers.specs.Tables.{Tables, under, reading_new}
 use Rattle.pointers.specs.declared.setting.Setting.{Setting}
 use Rattle.frames.specs.declared.frames.Frames.{Frames}
@@ -42,7 +42,7 @@ told_on w (value (lacks x)) = refl
 told_on w (value nothing) = refl
 told_on w (value ended) = refl
 told_on w (absent r) = refl
-told_on w (number k) = refl
+told_on w (refused k) = refl
 
 module _ (w : Frames) (v : State) (l : List ℕ) where
   finds_words : (o : Outcome Answer) → (goes_on o ≡ true → InWords v) → goes_on (finds_by w v l o).answer ≡ true → InWords (finds_by w v l o).state.state
@@ -51,7 +51,7 @@ module _ (w : Frames) (v : State) (l : List ℕ) where
   finds_words (value nothing) h e = h refl
   finds_words (value ended) h e = start_words v.setting
   finds_words (absent r) h e = let z : ◌≡◌ {A = ℕ} 0 1 = cc in absurd (omega arith)
-  finds_words (number k) h e = let z : ◌≡◌ {A = ℕ} 0 1 = cc in absurd (omega arith)
+  finds_words (refused k) h e = let z : ◌≡◌ {A = ℕ} 0 1 = cc in absurd (omega arith)
 
   finds_less : (n : ℕ) (o : Outcome Answer) → (goes_on o ≡ true → remaining v < n) → goes_on (finds_by w v l o).answer ≡ true
       → steps_left (finds_by w v l o).state < suc (n + whole_left)
@@ -60,7 +60,7 @@ module _ (w : Frames) (v : State) (l : List ℕ) where
   finds_less n (value nothing) h e = omega (arith, h refl)
   finds_less n (value ended) h e = omega (arith, start_left v.setting)
   finds_less n (absent r) h e = let z : ◌≡◌ {A = ℕ} 0 1 = cc in absurd (omega arith)
-  finds_less n (number k) h e = let z : ◌≡◌ {A = ℕ} 0 1 = cc in absurd (omega arith)
+  finds_less n (refused k) h e = let z : ◌≡◌ {A = ℕ} 0 1 = cc in absurd (omega arith)
 
 module _ (t : Tables) (m : Marking) (l : List ℕ) (h : InWords m.state) where
   abbrev left_by : Bool → Marking

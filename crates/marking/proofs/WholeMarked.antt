@@ -9,8 +9,6 @@ use Rattle.reads.specs.Outcome.{value}
 use Rattle.pointers.specs.Open.{Opened}
 use Rattle.pointers.specs.Tables.{Tables}
 use Rattle.pointers.specs.declared.setting.Setting.{Setting}
-use Rattle.records.specs.declared.method.Imp.{Imp}
-use Rattle.records.specs.declared.method.Imp.TheVariants as imp
 use Rattle.frames.specs.Marks.{met, met_all}
 use Rattle.frames.specs.declared.frames.Frames.{Frames}
 use Rattle.frames.proofs.MarkSteps.{mark_no_pair}
@@ -29,6 +27,7 @@ use Rattle.marking.specs.MarkedRun as run
 use Rattle.marking.specs.MarkedRun.{Silent, Tells, Finds}
 use Rattle.marking.proofs.Folds.{map_same}
 use Rattle.marking.proofs.StepKeeps.{step_keeps}
+use Rattle.std.specs.Prelude.{Option, Some, None}
 
 -- Steps that say nothing, before others.
 pub then_tells : {t : Tables} {m n : Marking} {l k : List ℕ} {xs : List Line} → Silent t m l n k → Tells t n k xs → Tells t m l xs
@@ -84,9 +83,9 @@ any_kept w [] = refl
 any_kept w (a ∷ rest) = any_kept (met w a) rest
 
 module _ (w v : Frames) (e : w.any ≡ false) (f : v.any ≡ false) where
-  imp_unmarked : (i : Imp) → imp_mark v i ≡ imp_mark w i
-  imp_unmarked (imp.At a) = sym (mark_no_pair v a f) ∙ mark_no_pair w a e
-  imp_unmarked imp.Nothing = refl
+  imp_unmarked : (i : Option ℕ) → imp_mark v i ≡ imp_mark w i
+  imp_unmarked (Some a) = sym (mark_no_pair v a f) ∙ mark_no_pair w a e
+  imp_unmarked None = refl
 
   unmarked_same : (x : Line) → marked v x ≡ marked w x
   unfolding marked

@@ -12,14 +12,11 @@ use Rattle.frames.specs.Marks.{frames_of}
 use Rattle.frames.specs.declared.frames.Frames.{Frames}
 use Rattle.frames.specs.declared.frames.Ranges.{Ranges}
 use Rattle.marking.specs.declared.framed.Framed.{Framed}
-use Rattle.marking.specs.declared.framed.FramedAnswer.{FramedAnswer}
-use Rattle.marking.specs.declared.framed.FramedAnswer.TheVariants as answer
+use Rattle.reads.specs.Question.{number_of}
+use Rattle.reads.specs.declared.answer.Question.{Question}
+use Rattle.reads.specs.declared.answer.Question.TheVariants.{IndexLength}
 
 -- Document 01's outcome of each case of the code's answer.
-abbrev pub framed_outcome : FramedAnswer → Outcome Framed
-framed_outcome (answer.Framed f) = value f
-framed_outcome (answer.Missing m) = missed m
-
 -- The image info of what opening gave, with frames.
 abbrev pub with_frames : Frames → Outcome ImageInfo → Outcome Framed
 with_frames w o = and_then o (λ info. value (record { info = info; frames = w }))
@@ -32,7 +29,7 @@ framed_opening x t = and_then (asked_opening t) (λ _. and_then (frames_of x) (�
 unfoldable pub framed_index : Ranges → Tables → List ℕ
 framed_index x t = left_by (frames_of x) (opened_index t) t.index
 
--- What refuses where k refuses the ranges, by what opening over no index missed; `fits` says whether question 8 takes the index that is lent.
-abbrev pub last_refusal : Bool → ℕ → Missing → Missing
+-- What refuses where k refuses the ranges, by what opening over no index missed; `fits` says whether question IndexLength takes the index that is lent.
+abbrev pub last_refusal : Bool → Question → Missing → Missing
 last_refusal fits k (Absent r) = Absent r
-last_refusal fits k (Refused j) = Refused (choose (eqb j 8) (choose fits k 8) j)
+last_refusal fits k (Refused j) = Refused (choose (eqb (number_of j) 8) (choose fits k IndexLength) j)

@@ -1,10 +1,8 @@
 -- The plain listing with its marks (document 02, note 11): the starts are the imps of all its m rows, and each m row has its mark.
-use Rattle.std.specs.Prelude.{ℕ, ◌≡◌}
+use Rattle.std.specs.Prelude.{ℕ, ◌≡◌, Option, Some, None}
 use mathlib.Core.List.{List, [], ◌∷◌, map, flat_map}
 use Rattle.reads.specs.Outcome.{Outcome, value, and_then}
 use Rattle.pointers.specs.Tables.{Tables}
-use Rattle.records.specs.declared.method.Imp.{Imp}
-use Rattle.records.specs.declared.method.Imp.TheVariants as imp
 use Rattle.records.specs.declared.row.Row.{Row}
 use Rattle.records.specs.declared.row.Row.TheVariants as row
 use Rattle.frames.specs.Frames.{Says}
@@ -16,25 +14,25 @@ use Rattle.listing.specs.declared.line.Line.{Line}
 use Rattle.listing.specs.declared.line.Line.TheVariants as line
 
 -- The imp of a method row, or none; no other line has one.
-abbrev pub row_imp : Row → Imp
+abbrev pub row_imp : Row → Option ℕ
 row_imp (row.Method m) = m.implementation
-row_imp (row.Ivar v) = imp.Nothing
-row_imp (row.Property p) = imp.Nothing
+row_imp (row.Ivar v) = None
+row_imp (row.Property p) = None
 
-abbrev pub line_imp : Line → Imp
-line_imp (line.Info i) = imp.Nothing
-line_imp (line.Class c) = imp.Nothing
-line_imp (line.Ro r) = imp.Nothing
-line_imp (line.Protocol p) = imp.Nothing
-line_imp (line.Category k) = imp.Nothing
+abbrev pub line_imp : Line → Option ℕ
+line_imp (line.Info i) = None
+line_imp (line.Class c) = None
+line_imp (line.Ro r) = None
+line_imp (line.Protocol p) = None
+line_imp (line.Category k) = None
 line_imp (line.Row r) = row_imp r.row
-line_imp (line.Name n) = imp.Nothing
-line_imp (line.End e) = imp.Nothing
+line_imp (line.Name n) = None
+line_imp (line.End e) = None
 
 -- The starts of lines: an imp that is there counts, 0 too; a method without imp is no start.
-abbrev pub imp_starts : Imp → List ℕ
-imp_starts (imp.At a) = a ∷ []
-imp_starts imp.Nothing = []
+abbrev pub imp_starts : Option ℕ → List ℕ
+imp_starts (Some a) = a ∷ []
+imp_starts None = []
 
 abbrev pub line_starts : Line → List ℕ
 line_starts x = imp_starts (line_imp x)
@@ -47,9 +45,9 @@ abbrev pub met_line : Frames → Line → Frames
 met_line w x = met_all w (line_starts x)
 
 -- Methods without imp never are marked.
-abbrev pub imp_mark : Frames → Imp → ℕ
-imp_mark w (imp.At a) = mark_of w a
-imp_mark w imp.Nothing = 0
+abbrev pub imp_mark : Frames → Option ℕ → ℕ
+imp_mark w (Some a) = mark_of w a
+imp_mark w None = 0
 
 -- A line with its mark.
 unfoldable pub marked : Frames → Line → Line
@@ -70,6 +68,6 @@ abbrev pub marked_listing : Frames → Tables → Outcome (List Line)
 marked_listing w t = and_then (plain_listing t) (λ lines. value (marked_lines w lines))
 
 -- What the mark of a row says of its imp, over the starts of a listing: what the note says, and 0 without an imp.
-abbrev pub ImpSays : Ranges → List ℕ → Imp → ℕ → Type 0
-ImpSays x starts (imp.At a) mark = Says x starts a mark
-ImpSays x starts imp.Nothing mark = mark ≡ 0
+abbrev pub ImpSays : Ranges → List ℕ → Option ℕ → ℕ → Type 0
+ImpSays x starts (Some a) mark = Says x starts a mark
+ImpSays x starts None mark = mark ≡ 0

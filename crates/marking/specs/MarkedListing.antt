@@ -1,7 +1,7 @@
 -- A listing with marks, step by step (document 02, note 11): first the steps of one listing find the starts and say nothing, then those of
 -- another, from its start under the same setting, say its lines with their marks. Without a possible pair the second is all.
 use Rattle.std.specs.Prelude.{ℕ, Bool, true, false, List}
-use Rattle.reads.specs.Outcome.{Outcome, value, absent, number}
+use Rattle.reads.specs.Outcome.{Outcome, value, absent, refused}
 use Rattle.pointers.specs.Tables.{Tables}
 use Rattle.pointers.specs.declared.setting.Setting.{Setting}
 use Rattle.frames.specs.declared.frames.Frames.{Frames}
@@ -40,7 +40,7 @@ finds_by w s l (value (lacks x)) = marked_leaves (value nothing) (marking true w
 finds_by w s l (value nothing) = marked_leaves (value nothing) (marking true w s) l
 finds_by w s l (value ended) = marked_leaves (value nothing) (marking false w (start s.setting)) l
 finds_by w s l (absent r) = marked_leaves (absent r) (marking true w s) l
-finds_by w s l (number k) = marked_leaves (number k) (marking true w s) l
+finds_by w s l (refused k) = marked_leaves (refused k) (marking true w s) l
 
 abbrev pub finds : Frames → Left → MarkedLeft
 finds w x = finds_by w x.state x.ledger x.answer
@@ -52,7 +52,7 @@ marked_answer w (value (lacks x)) = value (lacks x)
 marked_answer w (value nothing) = value nothing
 marked_answer w (value ended) = value ended
 marked_answer w (absent r) = absent r
-marked_answer w (number k) = number k
+marked_answer w (refused k) = refused k
 
 abbrev pub tells : Frames → Left → MarkedLeft
 tells w x = marked_leaves (marked_answer w x.answer) (marking false w x.state) x.ledger

@@ -1,19 +1,19 @@
 // Opening an image whose methods are to be marked (note 11): opening's questions, then 23 of the ranges; then the index is written.
 ghost use Rattle.std.specs.Prelude.{◌≡◌};
-ghost use Rattle.reads.specs.Outcome.{and_then, number};
+ghost use Rattle.reads.specs.Outcome.{and_then, refused};
 ghost use Rattle.reads.specs.Files.{files_of};
 ghost use Rattle.reads.specs.Reference.{before};
-ghost use Rattle.pointers.specs.ImageInfo.{info_outcome};
 ghost use Rattle.pointers.specs.Open.{asked_opening};
 ghost use Rattle.pointers.specs.Tables.{tables_of};
-ghost use Rattle.marking.specs.Framed.{framed_outcome, with_frames, last_refusal, framed_opening, framed_index};
+ghost use Rattle.marking.specs.Framed.{with_frames, last_refusal, framed_opening, framed_index};
+ghost use Rattle.reads.specs.Answer.{outcome};
 
-use frames::frames::{Frames, FramesAnswer, Ranges};
-use pointers::imageinfo::{ImageInfo, ImageInfoAnswer};
+use frames::frames::{Frames, Ranges};
+use pointers::imageinfo::ImageInfo;
 use pointers::open::open;
 use pointers::question::index_fits;
 use pointers::table::{Bind, Rebase};
-use reads::answer::Missing;
+use reads::answer::{Missing, Question};
 
 // An opened image: its image info, and the frames, which have met no start.
 #[derive(Clone, Copy)]
@@ -22,37 +22,31 @@ pub struct Framed {
     pub frames: Frames,
 }
 
-#[derive(Clone, Copy)]
-pub enum FramedAnswer {
-    Framed(Framed),
-    Missing(Missing),
-}
-
 // What opening answered, with the frames.
-pub fn with_frames(answer: ImageInfoAnswer, frames: Frames) -> FramedAnswer
-    ensures { framed_outcome result ≡ with_frames frames (info_outcome answer) }
+pub fn with_frames(answer: Result<ImageInfo, Missing>, frames: Frames) -> Result<Framed, Missing>
+    ensures { outcome result ≡ with_frames frames (outcome answer) }
 {
     match answer {
-        ImageInfoAnswer::Info(info) => FramedAnswer::Framed(Framed { info, frames }),
-        ImageInfoAnswer::Missing(m) => FramedAnswer::Missing(m),
+        Ok(info) => Ok(Framed { info, frames }),
+        Err(m) => Err(m),
     }
 }
 
 // What refuses where number k refuses the ranges, by what opening over no index said: that is refused at the latest by 8, and nothing is written.
 // Where 8 takes the index that is lent, k refuses.
-pub fn refused_last(m: Missing, fits: bool, k: u8) -> Missing
+pub fn refused_last(m: Missing, fits: bool, k: Question) -> Missing
     ensures { result ≡ last_refusal fits k m }
 {
     match m {
         Missing::Absent(why) => Missing::Absent(why),
         Missing::Refused(j) => {
-            if j != 8 {
+            if j.number() != Question::IndexLength.number() {
                 return Missing::Refused(j);
             }
             if fits {
                 return Missing::Refused(k);
             }
-            Missing::Refused(8)
+            Missing::Refused(Question::IndexLength)
         }
     }
 }
@@ -66,10 +60,10 @@ fn ranges_refused(
     rebases: &[u64],
     binds: &[u64],
     index: &mut [u32],
-    k: u8,
-) -> FramedAnswer
+    k: Question,
+) -> Result<Framed, Missing>
     ensures outcome { let t = tables_of (files_of files) (before segments) (before sections) (before info) (before rebases) (before binds) index.old in
-        framed_outcome result ≡ and_then (asked_opening t) (λ _. number k) }
+        outcome result ≡ and_then (asked_opening t) (λ _. refused k) }
     ensures contents { index.new ≡ index.old }
 {
     let fits = index_fits(
@@ -86,8 +80,8 @@ fn ranges_refused(
         binds,
         &mut index[0..0],
     ) {
-        ImageInfoAnswer::Info(_) => FramedAnswer::Missing(Missing::Refused(k)),
-        ImageInfoAnswer::Missing(m) => FramedAnswer::Missing(refused_last(m, fits, k)),
+        Ok(_) => Err(Missing::Refused(k)),
+        Err(m) => Err(refused_last(m, fits, k)),
     }
 }
 
@@ -101,19 +95,17 @@ pub fn open_framed(
     rebases: &[u64],
     binds: &[u64],
     index: &mut [u32],
-) -> FramedAnswer
+) -> Result<Framed, Missing>
     ensures outcome { let t = tables_of (files_of files) (before segments) (before sections) (before info) (before rebases) (before binds) index.old in
-        framed_outcome result ≡ framed_opening ranges t }
+        outcome result ≡ framed_opening ranges t }
     ensures contents { let t = tables_of (files_of files) (before segments) (before sections) (before info) (before rebases) (before binds) index.old in
         index.new ≡ framed_index ranges t }
 {
     match Frames::new(ranges) {
-        FramesAnswer::Frames(frames) => with_frames(
+        Ok(frames) => with_frames(
             open(files, segments, sections, info, rebases, binds, index),
             frames,
         ),
-        FramesAnswer::Refused(k) => ranges_refused(
-            files, segments, sections, info, rebases, binds, index, k,
-        ),
+        Err(k) => ranges_refused(files, segments, sections, info, rebases, binds, index, k),
     }
 }

@@ -4,36 +4,35 @@ ghost use Rattle.marking.specs.Marked.{row_imp, line_imp, met_line, imp_mark, ma
 
 use frames::frames::Frames;
 use listing::line::{Line, RowLine};
-use records::method::Imp;
 use records::row::Row;
 
 // The imp of a method row.
-fn row_imp(row: Row) -> Imp
+fn row_imp(row: Row) -> Option<u64>
     ensures { result ≡ row_imp row }
 {
     match row {
         Row::Method(method) => method.implementation,
-        Row::Ivar(_) => Imp::Nothing,
-        Row::Property(_) => Imp::Nothing,
+        Row::Ivar(_) => None,
+        Row::Property(_) => None,
     }
 }
 
 // The imp of an m row.
-fn line_imp(line: Line) -> Imp
+fn line_imp(line: Line) -> Option<u64>
     ensures { result ≡ line_imp line }
 {
     match line {
-        Line::Info(_) => Imp::Nothing,
-        Line::Class(_) => Imp::Nothing,
-        Line::Ro(_) => Imp::Nothing,
-        Line::Protocol(_) => Imp::Nothing,
-        Line::Category(_) => Imp::Nothing,
+        Line::Info(_) => None,
+        Line::Class(_) => None,
+        Line::Ro(_) => None,
+        Line::Protocol(_) => None,
+        Line::Category(_) => None,
         Line::Row(r) => {
             let row = r.row;
             row_imp(row)
         }
-        Line::Name(_) => Imp::Nothing,
-        Line::End(_) => Imp::Nothing,
+        Line::Name(_) => None,
+        Line::End(_) => None,
     }
 }
 
@@ -42,18 +41,18 @@ pub fn meet_line(frames: Frames, line: Line) -> Frames
     ensures { result ≡ met_line frames line }
 {
     match line_imp(line) {
-        Imp::At(start) => frames.meet(start),
-        Imp::Nothing => frames,
+        Some(start) => frames.meet(start),
+        None => frames,
     }
 }
 
 // The mark of an imp: a method without one is never marked.
-fn imp_mark(frames: Frames, imp: Imp) -> u8
+fn imp_mark(frames: Frames, imp: Option<u64>) -> u8
     ensures { result ≡ imp_mark frames imp }
 {
     match imp {
-        Imp::At(start) => frames.mark(start),
-        Imp::Nothing => 0,
+        Some(start) => frames.mark(start),
+        None => 0,
     }
 }
 

@@ -1,7 +1,7 @@
 -- The whole call, by the branches of the code: counting first and then writing gives the table that the definition says.
 use Rattle.std.proofs.Common.{◌≡◌, ℕ, ◌/◌, ◌^◌, ◌<◌, ◌≤◌, true, false, List, [], ◌∷◌, length, sym, refl, ap, ◌∙◌, arith, le-ltb, lt-ltb, le-leb}
 use borrow.Author.Tests.{lt-leb}
-use Rattle.reads.specs.Outcome.{Outcome, value, absent, number, choose}
+use Rattle.reads.specs.Outcome.{Outcome, value, absent, refused, choose}
 use Rattle.reads.proofs.Tests.{choose_true, choose_false}
 use Rattle.pointers.specs.Tables.{bind_words}
 use Rattle.macho.specs.Loader.{ncmds, cmdsize}
@@ -15,8 +15,9 @@ use Rattle.opcodes.specs.Streams.{streams_at}
 use Rattle.opcodes.specs.Tables.{bind_row, told, part_of}
 use Rattle.opcodes.specs.Binds.{binds_from, binds_in, binds_found, leaves, settled}
 use Rattle.opcodes.specs.declared.binding.Bound.{Bound}
-use Rattle.opcodes.specs.declared.stream.Walked.{Walked}
-use Rattle.opcodes.specs.declared.stream.Walked.TheVariants.{Count, Refused}
+use Rattle.std.specs.Prelude.{Result, Ok, Err}
+use Rattle.reads.specs.declared.answer.Question.{Question}
+use Rattle.reads.specs.declared.answer.Question.TheVariants.{BindTable, FixupData}
 
 -- The command that stands first.
 module _ (x y : Found) where
@@ -39,7 +40,7 @@ module _ (x y : Found) where
       earlier_above l = sym (choose_true _ _ h ∙ choose_true _ _ g ∙ choose_false _ _ (le-ltb x.at y.at l))
 
 -- A number, and no binds.
-pub settled_number : (k : ℕ) (t : List ℕ) → leaves (number k) t ≡ settled (number k) t
+pub settled_number : (k : Question) (t : List ℕ) → leaves (refused k) t ≡ settled (refused k) t
 unfolding settled
 settled_number k t = refl
 
@@ -48,7 +49,7 @@ unfolding settled rows_of written choose
 settled_none t = simp (le-leb 0 (length t) (omega arith))
 
 module _ (file : List ℕ) where
-  pub found_refused : (k : ℕ) → number k ≡ asked_commands file → number k ≡ binds_found file
+  pub found_refused : (k : Question) → refused k ≡ asked_commands file → refused k ≡ binds_found file
   unfolding binds_found
   found_refused k e = rw (← e)
 
@@ -65,7 +66,7 @@ module _ (file : List ℕ) where
       found_first : binds_from file cmds count r.at ≡ binds_found file
       found_first = sym (found_in ∙ choose_true _ _ h)
 
-      pub found_short : cmdsize cmds r.at < 48 → number 19 ≡ binds_found file
+      pub found_short : cmdsize cmds r.at < 48 → refused FixupData ≡ binds_found file
       unfolding binds_from
       found_short l = sym (choose_false _ _ (lt-leb 48 (cmdsize cmds r.at) l)) ∙ found_first
 
@@ -77,18 +78,18 @@ module _ (file : List ℕ) where
 sized : (x : Bound) → Sized bind_words (bind_row x)
 sized x = whole x.slot (x.name ∷ x.len ∷ 0 ∷ []) refl
 
-module _ (t : List ℕ) (ht : length t < 2 ^ 64) (x : Outcome (List Bound)) (w : Walked) (e : part_of w [] ≡ told x (part 0 [])) where
-  pub refused : (k : ℕ) → w ≡ Refused k → leaves (number k) t ≡ settled x t
+module _ (t : List ℕ) (ht : length t < 2 ^ 64) (x : Outcome (List Bound)) (w : Result ℕ Question) (e : part_of w [] ≡ told x (part 0 [])) where
+  pub refusing : (k : Question) → w ≡ Err k → leaves (refused k) t ≡ settled x t
   unfolding told settled
-  refused k g = go x (rw g at e)
+  refusing k g = go x (rw g at e)
     where
-      go : (y : Outcome (List Bound)) → number k ≡ told y (part 0 []) → leaves (number k) t ≡ settled y t
-      go (value xs) q = let z : number k ≡ value (put_rows bind_row xs (part 0 [])) = q in let y : ◌≡◌ {A = ℕ} 0 1 = cc in absurd (omega arith)
-      go (absent r) q = let z : ◌≡◌ {A = Outcome Part} (number k) (absent r) = q in let y : ◌≡◌ {A = ℕ} 0 1 = cc in absurd (omega arith)
-      go (number j) q = let z : ◌≡◌ {A = Outcome Part} (number k) (number j) = q in let y : k ≡ j = cc in rw y
+      go : (y : Outcome (List Bound)) → refused k ≡ told y (part 0 []) → leaves (refused k) t ≡ settled y t
+      go (value xs) q = let z : refused k ≡ value (put_rows bind_row xs (part 0 [])) = q in let y : ◌≡◌ {A = ℕ} 0 1 = cc in absurd (omega arith)
+      go (absent r) q = let z : ◌≡◌ {A = Outcome Part} (refused k) (absent r) = q in let y : ◌≡◌ {A = ℕ} 0 1 = cc in absurd (omega arith)
+      go (refused j) q = let z : ◌≡◌ {A = Outcome Part} (refused k) (refused j) = q in let y : k ≡ j = cc in rw y
 
   -- A walk that counted has made binds.
-  module _ (n : ℕ) (g : w ≡ Count n) where
+  module _ (n : ℕ) (g : w ≡ Ok n) where
     walked : (xs : List Bound) × (x ≡ value xs) × (part n [] ≡ put_rows bind_row xs (part 0 []))
     unfolding told
     walked = go x refl (rw g at e)
@@ -96,23 +97,23 @@ module _ (t : List ℕ) (ht : length t < 2 ^ 64) (x : Outcome (List Bound)) (w :
         go : (y : Outcome (List Bound)) → x ≡ y → value (part n []) ≡ told y (part 0 []) → (xs : List Bound) × (x ≡ value xs) × (part n [] ≡ put_rows bind_row xs (part 0 []))
         go (value xs) p q = (xs, p, cc)
         go (absent j) p q = let z : value (part n []) ≡ absent j = q in let y : ◌≡◌ {A = ℕ} 0 1 = cc in absurd (omega arith)
-        go (number j) p q = let z : value (part n []) ≡ number j = q in let y : ◌≡◌ {A = ℕ} 0 1 = cc in absurd (omega arith)
+        go (refused j) p q = let z : value (part n []) ≡ refused j = q in let y : ◌≡◌ {A = ℕ} 0 1 = cc in absurd (omega arith)
 
     counted : Counted n bind_words (rows_of bind_row walked.0)
     counted = table_counted bind_row sized walked.0 n [] walked.2
 
-    pub is_6 : length t / bind_words < n → leaves (number 6) t ≡ settled x t
+    pub is_6 : length t / bind_words < n → leaves (refused BindTable) t ≡ settled x t
     unfolding settled
     is_6 h = rw walked.1 (sym (choose_false _ _ (lt-leb _ _ (counted.short t ht h))))
 
-    pub is_filled : n ≤ length t / bind_words → (v : Walked) (t' : List ℕ) → part_of v t' ≡ told x (part 0 t) → leaves (value n) t' ≡ settled x t
+    pub is_filled : n ≤ length t / bind_words → (v : Result ℕ Question) (t' : List ℕ) → part_of v t' ≡ told x (part 0 t) → leaves (value n) t' ≡ settled x t
     unfolding settled told
     is_filled h v t' u = rw walked.1 (go v (rw walked.1 at u))
       where
-        go : (v' : Walked) → part_of v' t' ≡ value (put_rows bind_row walked.0 (part 0 t)) → leaves (value n) t' ≡ settled (value walked.0) t
-        go (Count m) q =
+        go : (v' : Result ℕ Question) → part_of v' t' ≡ value (put_rows bind_row walked.0 (part 0 t)) → leaves (value n) t' ≡ settled (value walked.0) t
+        go (Ok m) q =
             let z : part m t' ≡ put_rows bind_row walked.0 (part 0 t) = cc in
             let f = table_filled bind_row sized walked.0 m t' t z (counted.fits t ht h) ht in
             ap (λ (i : ℕ). leaves (value i) t') (counted.exact t ht h)
             ∙ rw f (sym (choose_true _ _ (le-leb _ _ (counted.fits t ht h))))
-        go (Refused k) q = let z : ◌≡◌ {A = ℕ} 0 1 = cc in absurd (omega arith)
+        go (Err k) q = let z : ◌≡◌ {A = ℕ} 0 1 = cc in absurd (omega arith)

@@ -1,6 +1,6 @@
 -- A file of 176 bytes and its streams, computed: one segment at 0x1000 with 24 bytes of the file, from 152 on, and an LC_DYLD_INFO_ONLY.
 use Rattle.std.proofs.Common.{◌≡◌, ℕ, ◌+◌, List, [], ◌∷◌, ◌++◌, length, take, set, replicate, refl}
-use Rattle.reads.specs.Outcome.{Outcome, value, number, choose}
+use Rattle.reads.specs.Outcome.{Outcome, value, refused, choose}
 use Rattle.reads.specs.Place.{le, le_in}
 use Rattle.reads.specs.Signed.{twos}
 use Rattle.reads.specs.Leb128.{digit_count, unsigned_digits, negative, signed_digits, within64, within_signed64, uleb_of, sleb_of, uleb128, sleb128}
@@ -15,6 +15,7 @@ use Rattle.opcodes.specs.Binding.{bound, bound_by, run, in_segment, perform}
 use Rattle.opcodes.specs.Streams.{walk, stream_at, joined, streams_at}
 use Rattle.opcodes.specs.Binds.{binds_from, binds_in, binds_found, leaves, settled}
 use Rattle.opcodes.specs.declared.binding.Bound.{Bound}
+use Rattle.reads.specs.declared.answer.Question.TheVariants.{BindTable, Header, LoadCommands, FixupData, FixupSlot}
 
 abbrev zeros : ℕ → List ℕ
 zeros n = replicate n 0
@@ -74,32 +75,32 @@ pub record Streams : Type 0 where
 
 -- Numbers.
 pub record Refused : Type 0 where
-  pub other_magic : binds_found (set (file [] [] []) 0 0) ≡ number 15
-  pub third_command : binds_found (set (file [] [] []) 16 3) ≡ number 16
-  pub short_command : binds_found (set (file [] [] []) 108 40) ≡ number 19
-  pub unknown_opcode : binds (0xE0 ∷ []) ≡ number 19
-  pub threaded : binds (0xD0 ∷ 1 ∷ []) ≡ number 19
-  pub other_type : binds (0x52 ∷ []) ≡ number 19
-  pub number_open : binds (0x80 ∷ 0x80 ∷ []) ≡ number 19
-  pub number_of_65_bits : binds (0x80 ∷ 0x80 ∷ 0x80 ∷ 0x80 ∷ 0x80 ∷ 0x80 ∷ 0x80 ∷ 0x80 ∷ 0x80 ∷ 0x80 ∷ 2 ∷ []) ≡ number 19
-  pub addend_open : binds (0x60 ∷ []) ≡ number 19
-  pub name_open : binds (0x40 ∷ 95 ∷ []) ≡ number 19
-  pub no_segment : binds (0x71 ∷ 0 ∷ []) ≡ number 19
-  pub bind_without_name : binds (0x70 ∷ 0 ∷ 0x90 ∷ []) ≡ number 19
-  pub bind_without_segment : binds (0x40 ∷ 95 ∷ 0 ∷ 0x90 ∷ []) ≡ number 19
-  pub past_segment : binds (from 17 (0x90 ∷ [])) ≡ number 20
-  pub past_file : binds_found (set (file (from 30 (0x90 ∷ [])) [] []) 80 255) ≡ number 20
-  pub run_past_segment : binds (from 0 (0xC0 ∷ (minus8 ++ (0 ∷ [])))) ≡ number 20
-  pub run_in_place : binds (from 0 (0xC0 ∷ 2 ∷ minus8)) ≡ number 20
-  pub read_before_bound : binds (from 17 (0xA0 ∷ 0x80 ∷ [])) ≡ number 19
-  pub later_stream : binds_found (file (from 0 (0x90 ∷ [])) [] (0xE0 ∷ [])) ≡ number 19
+  pub other_magic : binds_found (set (file [] [] []) 0 0) ≡ refused Header
+  pub third_command : binds_found (set (file [] [] []) 16 3) ≡ refused LoadCommands
+  pub short_command : binds_found (set (file [] [] []) 108 40) ≡ refused FixupData
+  pub unknown_opcode : binds (0xE0 ∷ []) ≡ refused FixupData
+  pub threaded : binds (0xD0 ∷ 1 ∷ []) ≡ refused FixupData
+  pub other_type : binds (0x52 ∷ []) ≡ refused FixupData
+  pub number_open : binds (0x80 ∷ 0x80 ∷ []) ≡ refused FixupData
+  pub number_of_65_bits : binds (0x80 ∷ 0x80 ∷ 0x80 ∷ 0x80 ∷ 0x80 ∷ 0x80 ∷ 0x80 ∷ 0x80 ∷ 0x80 ∷ 0x80 ∷ 2 ∷ []) ≡ refused FixupData
+  pub addend_open : binds (0x60 ∷ []) ≡ refused FixupData
+  pub name_open : binds (0x40 ∷ 95 ∷ []) ≡ refused FixupData
+  pub no_segment : binds (0x71 ∷ 0 ∷ []) ≡ refused FixupData
+  pub bind_without_name : binds (0x70 ∷ 0 ∷ 0x90 ∷ []) ≡ refused FixupData
+  pub bind_without_segment : binds (0x40 ∷ 95 ∷ 0 ∷ 0x90 ∷ []) ≡ refused FixupData
+  pub past_segment : binds (from 17 (0x90 ∷ [])) ≡ refused FixupSlot
+  pub past_file : binds_found (set (file (from 30 (0x90 ∷ [])) [] []) 80 255) ≡ refused FixupSlot
+  pub run_past_segment : binds (from 0 (0xC0 ∷ (minus8 ++ (0 ∷ [])))) ≡ refused FixupSlot
+  pub run_in_place : binds (from 0 (0xC0 ∷ 2 ∷ minus8)) ≡ refused FixupSlot
+  pub read_before_bound : binds (from 17 (0xA0 ∷ 0x80 ∷ [])) ≡ refused FixupData
+  pub later_stream : binds_found (file (from 0 (0x90 ∷ [])) [] (0xE0 ∷ [])) ≡ refused FixupData
 
 -- The table: two binds need eight words.
 pub record Table : Type 0 where
   pub filled : settled (binds (from 0 (0x90 ∷ 0x90 ∷ []))) (replicate 9 7)
       ≡ leaves (value 2) (0x1000 ∷ 177 ∷ 2 ∷ 0 ∷ 0x1008 ∷ 177 ∷ 2 ∷ 0 ∷ 7 ∷ [])
-  pub too_short : settled (binds (from 0 (0x90 ∷ 0x90 ∷ []))) (replicate 7 7) ≡ leaves (number 6) (replicate 7 7)
-  pub refused : settled (binds (from 0 (0x90 ∷ 0xE0 ∷ []))) (replicate 9 7) ≡ leaves (number 19) (replicate 9 7)
+  pub too_short : settled (binds (from 0 (0x90 ∷ 0x90 ∷ []))) (replicate 7 7) ≡ leaves (refused BindTable) (replicate 7 7)
+  pub refusing : settled (binds (from 0 (0x90 ∷ 0xE0 ∷ []))) (replicate 9 7) ≡ leaves (refused FixupData) (replicate 9 7)
 
 pub opcodes_read : Opcodes
 unfolding le le_in choose twos digit_count unsigned_digits negative signed_digits within64 within_signed64 uleb_of sleb_of uleb128 sleb128 question headed sectioned fits all_fit asked_commands of_kind first_of zero_from earlier plain takes_number numbered with_number symbol_at addend skipping times_skipping by_opcode decode bound_by run in_segment perform walk stream_at joined streams_at binds_from binds_in binds_found
@@ -115,4 +116,4 @@ refusals = record { other_magic = refl; third_command = refl; short_command = re
 
 pub tables : Table
 unfolding le le_in choose twos digit_count unsigned_digits negative signed_digits within64 within_signed64 uleb_of sleb_of uleb128 sleb128 question headed sectioned fits all_fit asked_commands of_kind first_of zero_from earlier plain takes_number numbered with_number symbol_at addend skipping times_skipping by_opcode decode bound_by run in_segment perform walk stream_at joined streams_at binds_from binds_in binds_found rows_of written settled
-tables = record { filled = refl; too_short = refl; refused = refl }
+tables = record { filled = refl; too_short = refl; refusing = refl }

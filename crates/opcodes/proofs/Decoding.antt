@@ -1,21 +1,19 @@
 -- Opcodes, by the branches of the code.
 use Rattle.std.proofs.Common.{◌≡◌, ℕ, ◌+◌, ◌-◌, ◌*◌, ◌%◌, ◌^◌, ◌<◌, ◌≤◌, Bool, true, false, eqb, ◌==◌, Option, Some, None, List, length, drop, sym, refl, ap, ◌∙◌, arith, le-ltb, lt-ltb, ne_eqb}
-use Rattle.reads.specs.Outcome.{value, number, choose}
-use Rattle.reads.specs.Leb128.{uleb_outcome, sleb_outcome, uleb128, sleb128}
-use Rattle.reads.specs.Answer.{missed}
+use Rattle.reads.specs.Outcome.{value, refused, choose}
+use Rattle.reads.specs.Leb128.{uleb128, sleb128}
+use Rattle.reads.specs.Answer.{missed, outcome}
 use Rattle.reads.specs.declared.answer.Missing.{Missing}
 use Rattle.reads.specs.declared.answer.Missing.TheVariants as missing
 use Rattle.reads.specs.declared.leb128.Uleb.{Uleb}
-use Rattle.reads.specs.declared.leb128.UlebAnswer.{UlebAnswer}
-use Rattle.reads.specs.declared.leb128.UlebAnswer.TheVariants as uleb
 use Rattle.reads.specs.declared.leb128.Sleb.{Sleb}
-use Rattle.reads.specs.declared.leb128.SlebAnswer.{SlebAnswer}
-use Rattle.reads.specs.declared.leb128.SlebAnswer.TheVariants as sleb
 use Rattle.std.specs.List.{position}
 use Rattle.fixups.proofs.Names.{zero_at, zero_nowhere}
 use Rattle.opcodes.specs.Opcodes.{opcode, operand, plain, takes_number, numbered, with_number, symbol_at, addend, skipping, times_skipping, by_opcode, decode}
 use Rattle.opcodes.specs.declared.opcode.Instruction.{Instruction}
 use Rattle.opcodes.specs.declared.opcode.Instruction.TheVariants.{Pass, Symbol, Segment, Add, Bind}
+use Rattle.std.specs.Prelude.{Result, Ok, Err}
+use Rattle.reads.specs.declared.answer.Question.TheVariants.{FixupData, FixupSlot}
 
 -- Without operands.
 module _ (parts : Bool) (rest : List ℕ) (op imm : ℕ) where
@@ -39,7 +37,7 @@ module _ (parts : Bool) (rest : List ℕ) (op imm : ℕ) where
   unfolding plain choose
   plain_pointer e t = rw (e, t)
 
-  pub plain_other_type : op ≡ 0x50 → (imm ≡ 1 → ⊥) → number 19 ≡ plain parts rest op imm
+  pub plain_other_type : op ≡ 0x50 → (imm ≡ 1 → ⊥) → refused FixupData ≡ plain parts rest op imm
   unfolding plain choose
   plain_other_type e t = rw e (simp (ne_eqb imm 1 t))
 
@@ -52,7 +50,7 @@ module _ (parts : Bool) (rest : List ℕ) (op imm : ℕ) where
   plain_scaled e n t = rw (e, t)
 
   pub plain_unknown : (op ≡ 0x00 → ⊥) → (op ≡ 0x10 → ⊥) → (op ≡ 0x30 → ⊥) → (op ≡ 0x50 → ⊥) → (op ≡ 0x90 → ⊥) → (op ≡ 0xB0 → ⊥)
-      → number 19 ≡ plain parts rest op imm
+      → refused FixupData ≡ plain parts rest op imm
   unfolding plain choose
   plain_unknown a b c d e f =
       simp (ne_eqb op 0x00 a, ne_eqb op 0x10 b, ne_eqb op 0x30 c, ne_eqb op 0x50 d, ne_eqb op 0x90 e, ne_eqb op 0xB0 f)
@@ -93,20 +91,20 @@ module _ (op : ℕ) where
     numbered_bind a b c w e = rw e (simp (ne_eqb op 0x20 a, ne_eqb op 0x70 b, ne_eqb op 0x80 c))
 
 -- What the code sees of a number: r.
-missed_none : {A : Type 0} (m : Missing) → operand {A = A} (missed m) ≡ number 19
+missed_none : {A : Type 0} (m : Missing) → operand {A = A} (missed m) ≡ refused FixupData
 missed_none (missing.Absent r) = refl
 missed_none (missing.Refused k) = refl
 
-pub uleb_there : (bytes : List ℕ) (r : UlebAnswer) → uleb_outcome r ≡ uleb128 bytes → (u : Uleb) → r ≡ uleb.Read u → operand (uleb128 bytes) ≡ value u
+pub uleb_there : (bytes : List ℕ) (r : Result Uleb Missing) → outcome r ≡ uleb128 bytes → (u : Uleb) → r ≡ Ok u → operand (uleb128 bytes) ≡ value u
 uleb_there bytes r e u g = rw (← e, g)
 
-pub uleb_not : (bytes : List ℕ) (r : UlebAnswer) → uleb_outcome r ≡ uleb128 bytes → (m : Missing) → r ≡ uleb.Missing m → operand (uleb128 bytes) ≡ number 19
+pub uleb_not : (bytes : List ℕ) (r : Result Uleb Missing) → outcome r ≡ uleb128 bytes → (m : Missing) → r ≡ Err m → operand (uleb128 bytes) ≡ refused FixupData
 uleb_not bytes r e m g = rw (← e, g) (missed_none m)
 
-pub sleb_there : (bytes : List ℕ) (r : SlebAnswer) → sleb_outcome r ≡ sleb128 bytes → (s : Sleb) → r ≡ sleb.Read s → operand (sleb128 bytes) ≡ value s
+pub sleb_there : (bytes : List ℕ) (r : Result Sleb Missing) → outcome r ≡ sleb128 bytes → (s : Sleb) → r ≡ Ok s → operand (sleb128 bytes) ≡ value s
 sleb_there bytes r e s g = rw (← e, g)
 
-pub sleb_not : (bytes : List ℕ) (r : SlebAnswer) → sleb_outcome r ≡ sleb128 bytes → (m : Missing) → r ≡ sleb.Missing m → operand (sleb128 bytes) ≡ number 19
+pub sleb_not : (bytes : List ℕ) (r : Result Sleb Missing) → outcome r ≡ sleb128 bytes → (m : Missing) → r ≡ Err m → operand (sleb128 bytes) ≡ refused FixupData
 sleb_not bytes r e m g = rw (← e, g) (missed_none m)
 
 module _ (rest : List ℕ) (op imm : ℕ) where
@@ -115,7 +113,7 @@ module _ (rest : List ℕ) (op imm : ℕ) where
   unfolding with_number
   number_there u e x g = rw (e, g)
 
-  pub number_not : operand (uleb128 rest) ≡ number 19 → number 19 ≡ with_number rest op imm
+  pub number_not : operand (uleb128 rest) ≡ refused FixupData → refused FixupData ≡ with_number rest op imm
   unfolding with_number
   number_not e = rw e
 
@@ -124,12 +122,12 @@ module _ (rest : List ℕ) where
   unfolding addend
   addend_there s e = rw e
 
-  pub addend_not : operand (sleb128 rest) ≡ number 19 → number 19 ≡ addend rest
+  pub addend_not : operand (sleb128 rest) ≡ refused FixupData → refused FixupData ≡ addend rest
   unfolding addend
   addend_not e = rw e
 
   module _ (count n : ℕ) where
-    pub skip_over : (u : Uleb) → operand (uleb128 (drop n rest)) ≡ value u → 2 ^ 64 ≤ u.value + 8 → number 20 ≡ skipping rest count n
+    pub skip_over : (u : Uleb) → operand (uleb128 (drop n rest)) ≡ value u → 2 ^ 64 ≤ u.value + 8 → refused FixupSlot ≡ skipping rest count n
     unfolding skipping choose
     skip_over u e h = rw e (simp (le-ltb (u.value + 8) (2 ^ 64) h))
 
@@ -138,7 +136,7 @@ module _ (rest : List ℕ) where
     unfolding skipping choose
     skip_there u e h = rw e (simp (lt-ltb (u.value + 8) (2 ^ 64) h))
 
-    pub skip_not : operand (uleb128 (drop n rest)) ≡ number 19 → number 19 ≡ skipping rest count n
+    pub skip_not : operand (uleb128 (drop n rest)) ≡ refused FixupData → refused FixupData ≡ skipping rest count n
     unfolding skipping
     skip_not e = rw e
 
@@ -146,7 +144,7 @@ module _ (rest : List ℕ) where
   unfolding times_skipping
   times_there u e = rw e
 
-  pub times_not : operand (uleb128 rest) ≡ number 19 → number 19 ≡ times_skipping rest
+  pub times_not : operand (uleb128 rest) ≡ refused FixupData → refused FixupData ≡ times_skipping rest
   unfolding times_skipping
   times_not e = rw e
 
@@ -156,7 +154,7 @@ module _ (place : ℕ) (rest : List ℕ) (r : Option ℕ) (e : r ≡ position (�
   unfolding symbol_at
   symbol_ends n g = let z : 0 + n ≡ n = omega arith in rw (zero_at 0 n rest r e g, z)
 
-  pub symbol_runs_out : r ≡ None → number 19 ≡ symbol_at place rest
+  pub symbol_runs_out : r ≡ None → refused FixupData ≡ symbol_at place rest
   unfolding symbol_at
   symbol_runs_out g = rw (zero_nowhere 0 rest r e g)
 

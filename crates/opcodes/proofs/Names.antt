@@ -1,6 +1,6 @@
 -- Every bind's name lies in the file, with its zero byte: 7 is never met of a table that was built.
 use Rattle.std.proofs.Common.{◌≡◌, ℕ, zero, suc, ◌+◌, ◌-◌, ◌*◌, ◌%◌, ◌^◌, ◌<◌, ◌≤◌, Bool, true, false, List, [], ◌∷◌, ◌++◌, length, drop, refl, ap, subst, arith, length-drop, length-take}
-use Rattle.reads.specs.Outcome.{Outcome, value, number, and_then}
+use Rattle.reads.specs.Outcome.{Outcome, value, refused, and_then}
 use Rattle.reads.specs.Place.{part}
 use Rattle.reads.specs.Leb128.{uleb128, sleb128}
 use Rattle.reads.proofs.Tests.{by_choose, both_true}
@@ -19,6 +19,8 @@ use Rattle.opcodes.specs.declared.opcode.Instruction.TheVariants.{Pass, Symbol, 
 use Rattle.opcodes.specs.declared.binding.State.{State}
 use Rattle.opcodes.specs.declared.binding.Bound.{Bound}
 use Rattle.opcodes.proofs.Sizes.{then_value, Below, zero_in, Each, each_value, each_number, each_then}
+use Rattle.reads.specs.declared.answer.Question.{Question}
+use Rattle.reads.specs.declared.answer.Question.TheVariants.{FixupData, FixupSlot}
 
 names_append : (n : ℕ) (xs ys : List Bound) → NamesIn n xs → NamesIn n ys → NamesIn n (xs ++ ys)
 names_append n [] ys none q = q
@@ -105,7 +107,7 @@ module _ (n : ℕ) where
   one_named : (x : Instruction) (k : ℕ) → NameIn n x → Named (value (opcode x k))
   one_named x k h = each_value (λ d. NameIn n d.says) x k h
 
-  no : (k : ℕ) → Named (number k)
+  no : (k : Question) → Named (refused k)
   no k = each_number (λ d. NameIn n d.says) k
 
   onto : {A : Type 0} (o : Outcome A) (f : A → Outcome Opcode) → ((a : A) → o ≡ value a → Named (f a)) → Named (and_then o f)
@@ -124,16 +126,16 @@ module _ (n : ℕ) where
       by_choose Named (λ _. one_named Pass _ unnamed_pass) (λ _.
       by_choose Named (λ _. one_named Pass 0 unnamed_pass) (λ _.
       by_choose Named (λ _. one_named Pass 0 unnamed_pass) (λ _.
-      by_choose Named (λ _. by_choose Named (λ _. one_named Pass 0 unnamed_pass) (λ _. no 19)) (λ _.
+      by_choose Named (λ _. by_choose Named (λ _. one_named Pass 0 unnamed_pass) (λ _. no FixupData)) (λ _.
       by_choose Named (λ _. one_named (Bind 1 8) 0 (unnamed_bind 1 8)) (λ _.
-      by_choose Named (λ _. one_named (Bind 1 (8 + 8 * imm)) 0 (unnamed_bind 1 (8 + 8 * imm))) (λ _. no 19))))))
+      by_choose Named (λ _. one_named (Bind 1 (8 + 8 * imm)) 0 (unnamed_bind 1 (8 + 8 * imm))) (λ _. no FixupData))))))
 
   times_named : (rest : List ℕ) → Named (times_skipping rest)
   unfolding times_skipping skipping
   times_named rest =
       onto (operand (uleb128 rest)) _ (λ u e.
       onto (operand (uleb128 (drop u.consumed rest))) _ (λ v g.
-      by_choose Named (λ t. one_named (Bind u.value (v.value + 8)) _ (unnamed_bind u.value (v.value + 8))) (λ _. no 20)))
+      by_choose Named (λ t. one_named (Bind u.value (v.value + 8)) _ (unnamed_bind u.value (v.value + 8))) (λ _. no FixupSlot)))
 
   decode_named : (parts : Bool) (place b : ℕ) (rest : List ℕ) → place + length rest ≤ n → Named (decode parts place b rest)
   unfolding decode by_opcode symbol_at addend with_number Below

@@ -1,7 +1,7 @@
 -- A run of binds that is not refused has at most as many as the file has bytes, whatever its count: each slot lies in the file, and by a stride
 -- of 8 or more below 2^64 the slots rise or, where the sum passes 2^64, fall.
 use Rattle.std.proofs.Common.{◌≡◌, ℕ, zero, suc, ◌+◌, ◌-◌, ◌*◌, ◌%◌, ◌^◌, ◌<◌, ◌≤◌, Bool, true, false, leb, ◌⊎◌, List, [], ◌∷◌, length, drop, refl, ap, inl, inr, arith, ltb-true, leb-false, leb-true}
-use Rattle.reads.specs.Outcome.{Outcome, value, number}
+use Rattle.reads.specs.Outcome.{Outcome, value, refused}
 use Rattle.reads.proofs.Tests.{by_choose, both_true}
 use Rattle.reads.specs.Leb128.{uleb128, sleb128}
 use Rattle.fixups.specs.Imports.{zero_from}
@@ -12,6 +12,8 @@ use Rattle.opcodes.specs.declared.opcode.Instruction.TheVariants.{Pass, Symbol, 
 use Rattle.opcodes.specs.declared.binding.State.{State}
 use Rattle.opcodes.specs.declared.binding.Bound.{Bound}
 use Rattle.opcodes.proofs.Sizes.{then_value, Each, each_value, each_number, each_then}
+use Rattle.reads.specs.declared.answer.Question.{Question}
+use Rattle.reads.specs.declared.answer.Question.TheVariants.{FixupData, FixupSlot}
 
 -- A bind's 8 bytes end in the file.
 module _ (end : ℕ) (s : State) where
@@ -98,7 +100,7 @@ Strides o = Each (λ d. Paced d.says) o
 one_paced : (x : Instruction) (n : ℕ) → Paced x → Strides (value (opcode x n))
 one_paced x n h = each_value (λ d. Paced d.says) x n h
 
-none : (k : ℕ) → Strides (number k)
+none : (k : Question) → Strides (refused k)
 none k = each_number (λ d. Paced d.says) k
 
 numbered_paced : (op imm n : ℕ) → Paced (numbered op imm n)
@@ -114,9 +116,9 @@ plain_paced parts rest op imm =
     by_choose Strides (λ _. one_paced Pass _ paced_pass) (λ _.
     by_choose Strides (λ _. one_paced Pass 0 paced_pass) (λ _.
     by_choose Strides (λ _. one_paced Pass 0 paced_pass) (λ _.
-    by_choose Strides (λ _. by_choose Strides (λ _. one_paced Pass 0 paced_pass) (λ _. none 19)) (λ _.
+    by_choose Strides (λ _. by_choose Strides (λ _. one_paced Pass 0 paced_pass) (λ _. none FixupData)) (λ _.
     by_choose Strides (λ _. one_paced (Bind 1 8) 0 (paced_one 8)) (λ _.
-    by_choose Strides (λ _. one_paced (Bind 1 (8 + 8 * imm)) 0 (paced_one (8 + 8 * imm))) (λ _. none 19))))))
+    by_choose Strides (λ _. one_paced (Bind 1 (8 + 8 * imm)) 0 (paced_one (8 + 8 * imm))) (λ _. none FixupData))))))
 
 times_paced : (rest : List ℕ) → Strides (times_skipping rest)
 unfolding times_skipping skipping
@@ -125,7 +127,7 @@ times_paced rest =
     each_then (λ d. Paced d.says) (operand (uleb128 (drop u.consumed rest))) _ (λ v g.
     by_choose Strides
     (λ t. one_paced (Bind u.value (v.value + 8)) _ (paced_run u.value (v.value + 8) (omega arith) (ltb-true (v.value + 8) (2 ^ 64) t)))
-    (λ _. none 20)))
+    (λ _. none FixupSlot)))
 
 decode_paced : (parts : Bool) (place b : ℕ) (rest : List ℕ) → Strides (decode parts place b rest)
 unfolding decode by_opcode symbol_at addend with_number

@@ -1,6 +1,6 @@
 -- The operands of an opcode lie in the bytes after it.
 use Rattle.std.proofs.Common.{◌≡◌, ℕ, ◌+◌, ◌-◌, ◌%◌, ◌<◌, ◌≤◌, Bool, List, [], ◌∷◌, length, take, drop, refl, ap, subst, arith, length-drop, length-take}
-use Rattle.reads.specs.Outcome.{Outcome, value, absent, number, and_then, choose}
+use Rattle.reads.specs.Outcome.{Outcome, value, absent, refused, and_then, choose}
 use Rattle.reads.specs.Leb128.{uleb128, sleb128, digit_count, uleb_of, sleb_of, within64, within_signed64, unsigned_digits, signed_digits, unsigned_read, signed_read}
 use Rattle.reads.specs.declared.leb128.Uleb.{Uleb}
 use Rattle.reads.specs.declared.leb128.Sleb.{Sleb}
@@ -8,16 +8,18 @@ use Rattle.reads.proofs.Tests.{by_choose}
 use Rattle.fixups.specs.Imports.{zero_from}
 use Rattle.opcodes.specs.Opcodes.{Opcode, opcode, operand, plain, with_number, symbol_at, addend, skipping, times_skipping, by_opcode, decode}
 use Rattle.opcodes.specs.declared.opcode.Instruction.{Instruction}
+use Rattle.reads.specs.declared.answer.Question.{Question}
+use Rattle.reads.specs.declared.answer.Question.TheVariants.{FixupData, FixupSlot}
 
 pub then_value : {A B : Type 0} (o : Outcome A) (f : A → Outcome B) (b : B) → and_then o f ≡ value b → (a : A) × (o ≡ value a) × (f a ≡ value b)
 then_value (value a) f b e = (a, refl, e)
 then_value (absent r) f b e = let z : ◌≡◌ {A = ℕ} 0 1 = cc in absurd (omega arith)
-then_value (number k) f b e = let z : ◌≡◌ {A = ℕ} 0 1 = cc in absurd (omega arith)
+then_value (refused k) f b e = let z : ◌≡◌ {A = ℕ} 0 1 = cc in absurd (omega arith)
 
 operand_value : {A : Type 0} (o : Outcome A) (a : A) → operand o ≡ value a → o ≡ value a
 operand_value (value a) b e = e
 operand_value (absent r) b e = let z : ◌≡◌ {A = ℕ} 0 1 = cc in absurd (omega arith)
-operand_value (number k) b e = let z : ◌≡◌ {A = ℕ} 0 1 = cc in absurd (omega arith)
+operand_value (refused k) b e = let z : ◌≡◌ {A = ℕ} 0 1 = cc in absurd (omega arith)
 
 pub uleb_in : (bytes : List ℕ) (u : Uleb) → operand (uleb128 bytes) ≡ value u → u.consumed ≤ length bytes
 unfolding uleb128 uleb_of
@@ -55,7 +57,7 @@ module _ (Q : Opcode → Type 0) where
   unfolding Each
   each_value x n h = λ d e. let p : opcode x n ≡ d = cc in subst Q p h
 
-  pub each_number : (k : ℕ) → Each Q (number k)
+  pub each_number : (k : Question) → Each Q (refused k)
   unfolding Each
   each_number k = λ d e. let z : ◌≡◌ {A = ℕ} 0 1 = cc in absurd (omega arith)
 
@@ -71,7 +73,7 @@ module _ (rest : List ℕ) where
   within_value : (x : Instruction) (n : ℕ) → n ≤ length rest → Within (value (opcode x n))
   within_value x n h = each_value (λ d. d.size ≤ length rest) x n h
 
-  within_number : (k : ℕ) → Within (number k)
+  within_number : (k : Question) → Within (refused k)
   within_number k = each_number (λ d. d.size ≤ length rest) k
 
   within_then : {A : Type 0} (o : Outcome A) (f : A → Outcome Opcode) → ((a : A) → o ≡ value a → Within (f a)) → Within (and_then o f)
@@ -86,9 +88,9 @@ module _ (rest : List ℕ) where
       by_choose Within (λ _. within_value _ _ (none_left parts)) (λ _.
       by_choose Within (λ _. within_value _ 0 (omega arith)) (λ _.
       by_choose Within (λ _. within_value _ 0 (omega arith)) (λ _.
-      by_choose Within (λ _. by_choose Within (λ _. within_value _ 0 (omega arith)) (λ _. within_number 19)) (λ _.
+      by_choose Within (λ _. by_choose Within (λ _. within_value _ 0 (omega arith)) (λ _. within_number FixupData)) (λ _.
       by_choose Within (λ _. within_value _ 0 (omega arith)) (λ _.
-      by_choose Within (λ _. within_value _ 0 (omega arith)) (λ _. within_number 19))))))
+      by_choose Within (λ _. within_value _ 0 (omega arith)) (λ _. within_number FixupData))))))
 
   number_within : (op imm : ℕ) → Within (with_number rest op imm)
   unfolding with_number
@@ -110,7 +112,7 @@ module _ (rest : List ℕ) where
       by_choose Within
       (λ _. within_value _ (u.consumed + v.consumed)
       (omega (arith, uleb_in rest u e, uleb_in (drop u.consumed rest) v g, length-drop u.consumed rest)))
-      (λ _. within_number 20)))
+      (λ _. within_number FixupSlot)))
 
   pub decode_within : (parts : Bool) (place b : ℕ) (d : Opcode) → decode parts place b rest ≡ value d → d.size ≤ length rest
   unfolding decode by_opcode Each

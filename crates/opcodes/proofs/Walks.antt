@@ -1,6 +1,6 @@
 -- A stream from any of its opcodes on, and one stream after the other.
 use Rattle.std.proofs.Common.{◌≡◌, ℕ, zero, suc, ◌+◌, ◌-◌, ◌<◌, ◌≤◌, Bool, List, [], ◌∷◌, ◌++◌, length, get_or, take, drop, sym, refl, ap, ◌∙◌, ap₂, add-one, arith, length-drop, drop_of_length-le, length-take, take_all, drop-cons, drop-drop}
-use Rattle.reads.specs.Outcome.{Outcome, value, absent, number, and_then}
+use Rattle.reads.specs.Outcome.{Outcome, value, absent, refused, and_then}
 use Rattle.reads.specs.Place.{part as slice}
 use Rattle.fixups.specs.Tables.{Part, part, put_row, put_rows}
 use Rattle.opcodes.specs.Opcodes.{Opcode, decode, decoded_outcome}
@@ -10,16 +10,10 @@ use Rattle.opcodes.specs.Streams.{walk, stream_at, joined}
 use Rattle.opcodes.specs.Tables.{bind_row, told, part_of, told_at, told_by, ran_of, Next, next, next_of}
 use Rattle.opcodes.specs.declared.binding.State.{State}
 use Rattle.opcodes.specs.declared.binding.Bound.{Bound}
-use Rattle.opcodes.specs.declared.binding.Ran.{Ran}
-use Rattle.opcodes.specs.declared.binding.Ran.TheVariants as ran
 use Rattle.opcodes.specs.declared.opcode.Instruction.{Instruction}
-use Rattle.opcodes.specs.declared.opcode.Decoded.{Decoded}
-use Rattle.opcodes.specs.declared.opcode.Decoded.TheVariants as decoded
-use Rattle.opcodes.specs.declared.stream.Stepped.{Stepped}
-use Rattle.opcodes.specs.declared.stream.Stepped.TheVariants.{On, Refused}
-use Rattle.opcodes.specs.declared.stream.Walked.{Walked}
-use Rattle.opcodes.specs.declared.stream.Walked.TheVariants as walked
 use Rattle.opcodes.proofs.Sizes.{decode_within}
+use Rattle.std.specs.Prelude.{Result, Ok, Err}
+use Rattle.reads.specs.declared.answer.Question.{Question}
 
 puts_append : (xs ys : List Bound) (p : Part) → put_rows bind_row (xs ++ ys) p ≡ put_rows bind_row ys (put_rows bind_row xs p)
 unfolding put_rows
@@ -31,7 +25,7 @@ told_after : (ys : List Bound) (w : Outcome (List Bound)) (p : Part)
 unfolding told
 told_after ys (value xs) p = rw (puts_append ys xs p)
 told_after ys (absent r) p = refl
-told_after ys (number k) p = refl
+told_after ys (refused k) p = refl
 
 -- What follows an opcode, by what it leaves.
 abbrev after : (Opcode → Outcome Moved) → Part → Opcode → Outcome Next
@@ -39,15 +33,15 @@ after does p d = and_then (told_by (does d) p) (λ t. value (next t d.size))
 
 -- One opcode, as the code sees it.
 module _ (d : Outcome Opcode) (p : Part) where
-  pub step_refused : (does : Opcode → Outcome Moved) (r : Decoded) (k : ℕ) → decoded_outcome r ≡ d → r ≡ decoded.Refused k → number k ≡ and_then d (after does p)
+  pub step_refused : (does : Opcode → Outcome Moved) (r : Result (Instruction × ℕ) Question) (k : Question) → decoded_outcome r ≡ d → r ≡ Err k → refused k ≡ and_then d (after does p)
   step_refused does r k e g = rw (← e, g)
 
-  module _ (does : Opcode → Outcome Moved) (r : Decoded) (x : Instruction) (n : ℕ) (e : decoded_outcome r ≡ d) (g : r ≡ decoded.Read x n)
-      (v : Ran) (t : List ℕ) (seen : ran_of v t ≡ told_by (does (record { says = x; size = n })) p) where
-    pub step_on : (s : State) (m : ℕ) → v ≡ ran.On s m → value (next (told_at s (part m t)) n) ≡ and_then d (after does p)
-    step_on s m f = rw (← e, g) (rw (← seen, f))
+  module _ (does : Opcode → Outcome Moved) (r : Result (Instruction × ℕ) Question) (x : Instruction × ℕ) (e : decoded_outcome r ≡ d) (g : r ≡ Ok x)
+      (v : Result (State × ℕ) Question) (t : List ℕ) (seen : ran_of v t ≡ told_by (does (record { says = x.0; size = x.1 })) p) where
+    pub step_on : (m : State × ℕ) → v ≡ Ok m → value (next (told_at m.0 (part m.1 t)) x.1) ≡ and_then d (after does p)
+    step_on m f = rw (← e, g) (rw (← seen, f))
 
-    pub step_not : (k : ℕ) → v ≡ ran.Refused k → number k ≡ and_then d (after does p)
+    pub step_not : (k : Question) → v ≡ Err k → refused k ≡ and_then d (after does p)
     step_not k f = rw (← e, g) (rw (← seen, f))
 
 -- A stream goes on with what is left.
@@ -55,30 +49,30 @@ abbrev onwards : Outcome Opcode → (Opcode → Outcome Moved) → (ℕ → Stat
 onwards d does rest = and_then d (λ o. and_then (does o) (λ m. and_then (rest o.size m.state) (λ xs. value (m.binds ++ xs))))
 
 module _ (does : Opcode → Outcome Moved) (rest : ℕ → State → Outcome (List Bound)) (p : Part) where
-  goes_refused : (d : Outcome Opcode) (k : ℕ) → number k ≡ and_then d (after does p) → number k ≡ told (onwards d does rest) p
+  goes_refused : (d : Outcome Opcode) (k : Question) → refused k ≡ and_then d (after does p) → refused k ≡ told (onwards d does rest) p
   unfolding told told_by
   goes_refused (absent r) k e = let z : ◌≡◌ {A = ℕ} 0 1 = cc in absurd (omega arith)
-  goes_refused (number j) k e = cc
+  goes_refused (refused j) k e = cc
   goes_refused (value o) k e = go (does o) e
     where
-      go : (m : Outcome Moved) → number k ≡ and_then (and_then m (λ m. value (told_at m.state (put_rows bind_row m.binds p)))) (λ t. value (next t o.size))
-          → number k ≡ and_then (and_then m (λ m. and_then (rest o.size m.state) (λ xs. value (m.binds ++ xs)))) (λ xs. value (put_rows bind_row xs p))
+      go : (m : Outcome Moved) → refused k ≡ and_then (and_then m (λ m. value (told_at m.state (put_rows bind_row m.binds p)))) (λ t. value (next t o.size))
+          → refused k ≡ and_then (and_then m (λ m. and_then (rest o.size m.state) (λ xs. value (m.binds ++ xs)))) (λ xs. value (put_rows bind_row xs p))
       go (value m) q = let z : ◌≡◌ {A = ℕ} 0 1 = cc in absurd (omega arith)
       go (absent j) q = let z : ◌≡◌ {A = ℕ} 0 1 = cc in absurd (omega arith)
-      go (number j) q = cc
+      go (refused j) q = cc
 
   goes_on : (d : Outcome Opcode) (s : State) (m n : ℕ) (t : List ℕ) → value (next (told_at s (part m t)) n) ≡ and_then d (after does p)
       → told (onwards d does rest) p ≡ told (rest n s) (part m t)
   unfolding told_by
   goes_on (absent r) s m n t e = let z : ◌≡◌ {A = ℕ} 0 1 = cc in absurd (omega arith)
-  goes_on (number j) s m n t e = let z : ◌≡◌ {A = ℕ} 0 1 = cc in absurd (omega arith)
+  goes_on (refused j) s m n t e = let z : ◌≡◌ {A = ℕ} 0 1 = cc in absurd (omega arith)
   goes_on (value o) s m n t e = go (does o) e
     where
       go : (y : Outcome Moved)
           → value (next (told_at s (part m t)) n) ≡ and_then (and_then y (λ y. value (told_at y.state (put_rows bind_row y.binds p)))) (λ t. value (next t o.size))
           → told (and_then y (λ y. and_then (rest o.size y.state) (λ xs. value (y.binds ++ xs)))) p ≡ told (rest n s) (part m t)
       go (absent j) q = let z : ◌≡◌ {A = ℕ} 0 1 = cc in absurd (omega arith)
-      go (number j) q = let z : ◌≡◌ {A = ℕ} 0 1 = cc in absurd (omega arith)
+      go (refused j) q = let z : ◌≡◌ {A = ℕ} 0 1 = cc in absurd (omega arith)
       go (value y) q =
           let z : next (told_at s (part m t)) n ≡ next (told_at y.state (put_rows bind_row y.binds p)) o.size = cc in
           told_after y.binds (rest o.size y.state) p
@@ -88,14 +82,14 @@ module _ (does : Opcode → Outcome Moved) (rest : ℕ → State → Outcome (Li
       → (o : Opcode) × (d ≡ value o) × (n ≡ o.size)
   unfolding told_by
   size_of (absent r) s m n t e = let z : ◌≡◌ {A = ℕ} 0 1 = cc in absurd (omega arith)
-  size_of (number j) s m n t e = let z : ◌≡◌ {A = ℕ} 0 1 = cc in absurd (omega arith)
+  size_of (refused j) s m n t e = let z : ◌≡◌ {A = ℕ} 0 1 = cc in absurd (omega arith)
   size_of (value o) s m n t e = go (does o) e
     where
       go : (y : Outcome Moved)
           → value (next (told_at s (part m t)) n) ≡ and_then (and_then y (λ y. value (told_at y.state (put_rows bind_row y.binds p)))) (λ t. value (next t o.size))
           → (o' : Opcode) × (value o ≡ value o') × (n ≡ o'.size)
       go (absent j) q = let z : ◌≡◌ {A = ℕ} 0 1 = cc in absurd (omega arith)
-      go (number j) q = let z : ◌≡◌ {A = ℕ} 0 1 = cc in absurd (omega arith)
+      go (refused j) q = let z : ◌≡◌ {A = ℕ} 0 1 = cc in absurd (omega arith)
       go (value y) q =
           let z : next (told_at s (part m t)) n ≡ next (told_at y.state (put_rows bind_row y.binds p)) o.size = cc in
           (o, refl, ap (λ (w : Next). w.size) z)
@@ -133,11 +127,20 @@ module _ (end : ℕ) (cmds segs : List ℕ) (parts : Bool) where
     unfolding walk
     walk_at = rw all_rest (simp (drop-cons body i 0 h, add-one))
 
-    module _ (v : Stepped) (t : List ℕ) (seen : next_of v t ≡ and_then here (after does p)) where
-      pub walk_refused : (k : ℕ) → v ≡ Refused k → number k ≡ told (walk end cmds segs parts (at + i) (drop i body) 0 s) p
+    module _ (v : Result (State × ℕ × ℕ) Question) (t : List ℕ) (seen : next_of v t ≡ and_then here (after does p)) where
+      pub walk_refused : (k : Question) → v ≡ Err k → refused k ≡ told (walk end cmds segs parts (at + i) (drop i body) 0 s) p
       walk_refused k e = goes_refused does later p here k (rw e at seen) ∙ sym (ap (λ (w : Outcome (List Bound)). told w p) walk_at)
 
-      module _ (s' : State) (m n : ℕ) (e : v ≡ On s' m n) where
+      module _ (r : State × ℕ × ℕ) (e : v ≡ Ok r) where
+        abbrev s' : State
+        s' = r.0
+
+        abbrev m : ℕ
+        m = r.1
+
+        abbrev n : ℕ
+        n = r.2
+
         pub walk_size : i + 1 + n ≤ length body
         walk_size =
             let q = size_of does later p here s' m n t (rw e at seen) in
@@ -179,14 +182,14 @@ told_joined : (x y : Outcome (List Bound)) (p : Part) → told (joined x y) p �
 unfolding told joined
 told_joined (value xs) (value ys) p = rw (puts_append xs ys p)
 told_joined (value xs) (absent r) p = refl
-told_joined (value xs) (number k) p = refl
+told_joined (value xs) (refused k) p = refl
 told_joined (absent r) y p = refl
-told_joined (number k) y p = refl
+told_joined (refused k) y p = refl
 
 -- What the code sees of the first: w, with what it leaves in the table.
-module _ (x y : Outcome (List Bound)) (p : Part) (w : Walked) (t : List ℕ) (seen : part_of w t ≡ told x p) where
-  pub then : (n : ℕ) → w ≡ walked.Count n → told y (part n t) ≡ told (joined x y) p
+module _ (x y : Outcome (List Bound)) (p : Part) (w : Result ℕ Question) (t : List ℕ) (seen : part_of w t ≡ told x p) where
+  pub then : (n : ℕ) → w ≡ Ok n → told y (part n t) ≡ told (joined x y) p
   then n e = sym (told_joined x y p ∙ rw (← seen, e))
 
-  pub stops : (k : ℕ) → w ≡ walked.Refused k → number k ≡ told (joined x y) p
+  pub stops : (k : Question) → w ≡ Err k → refused k ≡ told (joined x y) p
   stops k e = sym (told_joined x y p ∙ rw (← seen, e))

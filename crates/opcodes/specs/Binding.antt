@@ -1,26 +1,15 @@
 -- What an opcode does: the state that it sets, and the binds that it makes.
 use Rattle.std.specs.Prelude.{ℕ, zero, suc, ◌+◌, ◌%◌, ◌^◌, Bool, true, false, ◌&&◌, List, [], ◌∷◌, nat_le}
-use Rattle.reads.specs.Outcome.{Outcome, value, number, and_then, choose}
+use Rattle.reads.specs.Outcome.{Outcome, value, refused, and_then, choose}
 use Rattle.macho.specs.Loader.{vmaddr, fileoff, filesize}
 use Rattle.opcodes.specs.declared.opcode.Instruction.{Instruction}
 use Rattle.opcodes.specs.declared.opcode.Instruction.TheVariants.{Pass, Symbol, Segment, Add, Bind}
 use Rattle.opcodes.specs.declared.binding.State.{State}
 use Rattle.opcodes.specs.declared.binding.Bound.{Bound}
-use Rattle.opcodes.specs.declared.binding.Entry.{Entry}
-use Rattle.opcodes.specs.declared.binding.Entry.TheVariants.{At, Refused}
-use Rattle.opcodes.specs.declared.segment.Placed.{Placed}
-use Rattle.opcodes.specs.declared.segment.Placed.TheVariants as placed
+use Rattle.reads.specs.declared.answer.Question.TheVariants.{FixupData, FixupSlot}
 
 abbrev pub bound : ℕ → ℕ → ℕ → Bound
 bound slot name len = record { slot = slot; name = name; len = len }
-
-abbrev pub entry_outcome : Entry → Outcome Bound
-entry_outcome (At x) = value x
-entry_outcome (Refused k) = number k
-
-abbrev pub placed_outcome : Placed → Outcome State
-placed_outcome (placed.In s) = value s
-placed_outcome (placed.Refused k) = number k
 
 -- Neither a segment nor a symbol is set.
 abbrev pub unset : State
@@ -48,8 +37,8 @@ inside end s = nat_le (s.offset + 8) s.filesize && nat_le (s.fileoff + s.offset 
 unfoldable pub bound_by : ℕ → State → Outcome Bound
 bound_by end s =
     choose (s.named && s.placed)
-    (choose (inside end s) (value (bound ((s.vmaddr + s.offset) % 2 ^ 64) s.name s.len)) (number 20))
-    (number 19)
+    (choose (inside end s) (value (bound ((s.vmaddr + s.offset) % 2 ^ 64) s.name s.len)) (refused FixupSlot))
+    (refused FixupData)
 
 -- The binds that an opcode makes, and the state after it.
 pub record Moved : Type 0 where
@@ -68,7 +57,7 @@ run end (suc count) stride s =
 
 -- Segment `index` of those whose commands stand at segs; 19 where there is none.
 unfoldable pub in_segment : List ℕ → List ℕ → ℕ → ℕ → State → Outcome State
-in_segment cmds [] index offset s = number 19
+in_segment cmds [] index offset s = refused FixupData
 in_segment cmds (a ∷ segs) zero offset s = value (with_segment cmds a offset s)
 in_segment cmds (a ∷ segs) (suc index) offset s = in_segment cmds segs index offset s
 

@@ -1,7 +1,6 @@
 -- The binds of a file by its bind opcodes, and the table that a call leaves.
 use Rattle.std.specs.Prelude.{ℕ, ◌/◌, List, [], length, nat_le}
-use Rattle.reads.specs.Outcome.{Outcome, value, absent, number, and_then, choose}
-use Rattle.reads.specs.Answer.{missed}
+use Rattle.reads.specs.Outcome.{Outcome, value, absent, refused, and_then, choose}
 use Rattle.pointers.specs.Tables.{bind_words}
 use Rattle.macho.specs.Loader.{ncmds, cmdsize}
 use Rattle.macho.specs.Commands.{command_bytes, asked_commands, segments_of}
@@ -12,13 +11,12 @@ use Rattle.opcodes.specs.DyldInfo.{first_info}
 use Rattle.opcodes.specs.Streams.{streams_at}
 use Rattle.opcodes.specs.Tables.{bind_row}
 use Rattle.opcodes.specs.declared.binding.Bound.{Bound}
-use Rattle.opcodes.specs.declared.build.BindsBuilt.{BindsBuilt}
-use Rattle.opcodes.specs.declared.build.BindsBuilt.TheVariants.{Binds, Missing}
+use Rattle.reads.specs.declared.answer.Question.TheVariants.{BindTable, FixupData}
 
 -- The dyld_info_command at a: one under 48 bytes is 19.
 unfoldable pub binds_from : List ℕ → List ℕ → ℕ → ℕ → Outcome (List Bound)
 binds_from file cmds count a =
-    choose (nat_le 48 (cmdsize cmds a)) (streams_at file cmds (segments_of cmds count) a) (number 19)
+    choose (nat_le 48 (cmdsize cmds a)) (streams_at file cmds (segments_of cmds count) a) (refused FixupData)
 
 -- Without one there are no binds.
 unfoldable pub binds_in : List ℕ → List ℕ → ℕ → Found → Outcome (List Bound)
@@ -31,23 +29,19 @@ binds_found file =
     binds_in file (command_bytes file) (ncmds file) (first_info (command_bytes file) (ncmds file)))
 
 -- What the call hands back: how many binds there are, or a number.
-abbrev pub built_outcome : BindsBuilt → Outcome ℕ
-built_outcome (Binds n) = value n
-built_outcome (Missing m) = missed m
-
 -- And the table as it leaves it.
-pub record Result : Type 0 where
+pub record Settled : Type 0 where
   pub count : Outcome ℕ
   pub binds : List ℕ
 
-abbrev pub leaves : Outcome ℕ → List ℕ → Result
+abbrev pub leaves : Outcome ℕ → List ℕ → Settled
 leaves o t = record { count = o; binds = t }
 
 -- The binds found go into the table if it has room; with a number it is as it was.
-unfoldable pub settled : Outcome (List Bound) → List ℕ → Result
+unfoldable pub settled : Outcome (List Bound) → List ℕ → Settled
 settled (absent r) t = leaves (absent r) t
-settled (number k) t = leaves (number k) t
+settled (refused k) t = leaves (refused k) t
 settled (value xs) t =
     choose (nat_le (length (rows_of bind_row xs)) (length t))
     (leaves (value (length (rows_of bind_row xs) / bind_words)) (written (rows_of bind_row xs) t))
-    (leaves (number 6) t)
+    (leaves (refused BindTable) t)

@@ -1,12 +1,12 @@
 -- The bind opcodes (loader.h, BIND_OPCODE_*): the upper four bits of a byte are the opcode, the lower four its immediate; its operands follow.
-use Rattle.std.specs.Prelude.{ℕ, ◌+◌, ◌-◌, ◌*◌, ◌%◌, ◌^◌, Bool, ◌||◌, List, length, drop, ◌==◌, nat_lt}
-use Rattle.reads.specs.Outcome.{Outcome, value, absent, number, and_then, choose}
+use Rattle.std.specs.Prelude.{ℕ, ◌+◌, ◌-◌, ◌*◌, ◌%◌, ◌^◌, Bool, ◌||◌, List, length, drop, ◌==◌, nat_lt, Result, Ok, Err}
+use Rattle.reads.specs.Outcome.{Outcome, value, absent, refused, and_then, choose}
 use Rattle.reads.specs.Leb128.{uleb128, sleb128}
 use Rattle.fixups.specs.Imports.{zero_from}
 use Rattle.opcodes.specs.declared.opcode.Instruction.{Instruction}
 use Rattle.opcodes.specs.declared.opcode.Instruction.TheVariants.{Pass, Symbol, Segment, Add, Bind}
-use Rattle.opcodes.specs.declared.opcode.Decoded.{Decoded}
-use Rattle.opcodes.specs.declared.opcode.Decoded.TheVariants.{Read, Refused}
+use Rattle.reads.specs.declared.answer.Question.{Question}
+use Rattle.reads.specs.declared.answer.Question.TheVariants.{FixupData, FixupSlot}
 
 -- What an opcode says, and how many bytes its operands are.
 pub record Opcode : Type 0 where
@@ -16,15 +16,15 @@ pub record Opcode : Type 0 where
 abbrev pub opcode : Instruction → ℕ → Opcode
 opcode x n = record { says = x; size = n }
 
-abbrev pub decoded_outcome : Decoded → Outcome Opcode
-decoded_outcome (Read x n) = value (opcode x n)
-decoded_outcome (Refused k) = number k
+abbrev pub decoded_outcome : Result (Instruction × ℕ) Question → Outcome Opcode
+decoded_outcome (Ok d) = value (opcode d.0 d.1)
+decoded_outcome (Err k) = refused k
 
 -- An operand that is none is 19.
 abbrev pub operand : {A : Type 0} → Outcome A → Outcome A
 operand (value a) = value a
-operand (absent r) = number 19
-operand (number k) = number 19
+operand (absent r) = refused FixupData
+operand (refused k) = refused FixupData
 
 -- Opcodes without operands; one that is none of all, BIND_OPCODE_THREADED (0xD0) among them, is 19. DONE parts the entries of the lazy stream;
 -- any other stream it ends: no byte after it is an opcode.
@@ -33,10 +33,10 @@ plain parts rest op imm =
     choose (op == 0x00) (value (opcode Pass (choose parts 0 (length rest))))  -- BIND_OPCODE_DONE
     (choose (op == 0x10) (value (opcode Pass 0))  -- BIND_OPCODE_SET_DYLIB_ORDINAL_IMM
     (choose (op == 0x30) (value (opcode Pass 0))  -- BIND_OPCODE_SET_DYLIB_SPECIAL_IMM
-    (choose (op == 0x50) (choose (imm == 1) (value (opcode Pass 0)) (number 19))  -- BIND_OPCODE_SET_TYPE_IMM, BIND_TYPE_POINTER
+    (choose (op == 0x50) (choose (imm == 1) (value (opcode Pass 0)) (refused FixupData))  -- BIND_OPCODE_SET_TYPE_IMM, BIND_TYPE_POINTER
     (choose (op == 0x90) (value (opcode (Bind 1 8) 0))  -- BIND_OPCODE_DO_BIND
     (choose (op == 0xB0) (value (opcode (Bind 1 (8 + 8 * imm)) 0))  -- BIND_OPCODE_DO_BIND_ADD_ADDR_IMM_SCALED
-    (number 19))))))
+    (refused FixupData))))))
 
 -- Opcodes with one number: 0x20, 0x70, 0x80 and 0xA0.
 unfoldable pub takes_number : ℕ → Bool
@@ -64,7 +64,7 @@ addend rest = and_then (operand (sleb128 rest)) (λ s. value (opcode Pass s.cons
 unfoldable pub skipping : List ℕ → ℕ → ℕ → Outcome Opcode
 skipping rest count n =
     and_then (operand (uleb128 (drop n rest))) (λ u.
-    choose (nat_lt (u.value + 8) (2 ^ 64)) (value (opcode (Bind count (u.value + 8)) (n + u.consumed))) (number 20))
+    choose (nat_lt (u.value + 8) (2 ^ 64)) (value (opcode (Bind count (u.value + 8)) (n + u.consumed))) (refused FixupSlot))
 
 unfoldable pub times_skipping : List ℕ → Outcome Opcode
 times_skipping rest = and_then (operand (uleb128 rest)) (λ u. skipping rest u.value u.consumed)

@@ -1,16 +1,11 @@
 -- The words of the binds, and what a walk leaves in the lent table.
-use Rattle.std.specs.Prelude.{ℕ, List, [], ◌∷◌}
-use Rattle.reads.specs.Outcome.{Outcome, value, number, and_then}
+use Rattle.std.specs.Prelude.{ℕ, List, [], ◌∷◌, Result, Ok, Err}
+use Rattle.reads.specs.Outcome.{Outcome, value, refused, and_then}
 use Rattle.fixups.specs.Tables.{Part, part, put_rows}
 use Rattle.opcodes.specs.Binding.{Moved}
 use Rattle.opcodes.specs.declared.binding.State.{State}
 use Rattle.opcodes.specs.declared.binding.Bound.{Bound}
-use Rattle.opcodes.specs.declared.binding.Ran.{Ran}
-use Rattle.opcodes.specs.declared.binding.Ran.TheVariants.{On, Refused}
-use Rattle.opcodes.specs.declared.stream.Stepped.{Stepped}
-use Rattle.opcodes.specs.declared.stream.Stepped.TheVariants as step
-use Rattle.opcodes.specs.declared.stream.Walked.{Walked}
-use Rattle.opcodes.specs.declared.stream.Walked.TheVariants as walked
+use Rattle.reads.specs.declared.answer.Question.{Question}
 
 -- The row of a bind: its name lies in file 0.
 abbrev pub bind_row : Bound → List ℕ
@@ -20,9 +15,9 @@ bind_row x = x.slot ∷ x.name ∷ x.len ∷ 0 ∷ []
 unfoldable pub told : Outcome (List Bound) → Part → Outcome Part
 told x p = and_then x (λ xs. value (put_rows bind_row xs p))
 
-abbrev pub part_of : Walked → List ℕ → Outcome Part
-part_of (walked.Count n) t = value (part n t)
-part_of (walked.Refused k) t = number k
+abbrev pub part_of : Result ℕ Question → List ℕ → Outcome Part
+part_of (Ok n) t = value (part n t)
+part_of (Err k) t = refused k
 
 -- The same with the state after it.
 pub record Told : Type 0 where
@@ -35,9 +30,9 @@ told_at s p = record { state = s; table = p }
 unfoldable pub told_by : Outcome Moved → Part → Outcome Told
 told_by x p = and_then x (λ m. value (told_at m.state (put_rows bind_row m.binds p)))
 
-abbrev pub ran_of : Ran → List ℕ → Outcome Told
-ran_of (On s n) t = value (told_at s (part n t))
-ran_of (Refused k) t = number k
+abbrev pub ran_of : Result (State × ℕ) Question → List ℕ → Outcome Told
+ran_of (Ok r) t = value (told_at r.0 (part r.1 t))
+ran_of (Err k) t = refused k
 
 -- And with the bytes of the opcode's operands.
 pub record Next : Type 0 where
@@ -47,6 +42,6 @@ pub record Next : Type 0 where
 abbrev pub next : Told → ℕ → Next
 next t n = record { told = t; size = n }
 
-abbrev pub next_of : Stepped → List ℕ → Outcome Next
-next_of (step.On s n size) t = value (next (told_at s (part n t)) size)
-next_of (step.Refused k) t = number k
+abbrev pub next_of : Result (State × ℕ × ℕ) Question → List ℕ → Outcome Next
+next_of (Ok r) t = value (next (told_at r.0 (part r.1 t)) r.2)
+next_of (Err k) t = refused k

@@ -1,10 +1,12 @@
 // The binds that an opcode makes.
 ghost use Rattle.std.specs.Prelude.{◌≡◌};
 ghost use Rattle.fixups.specs.Tables.{part};
-ghost use Rattle.opcodes.specs.Binding.{entry_outcome, further, bound_by, run};
+ghost use Rattle.opcodes.specs.Binding.{further, bound_by, run};
 ghost use Rattle.opcodes.specs.Tables.{told_by, ran_of};
+ghost use Rattle.reads.specs.Answer.{answered};
 
 use fixups::table::put_bind;
+use reads::answer::Question;
 
 // What the opcodes have set: a segment, by its command's vmaddr, fileoff and filesize, with the slot's offset in it; and a symbol, by its
 // name's offset in the file and length.
@@ -28,19 +30,6 @@ pub struct Bound {
     pub len: u64,
 }
 
-#[derive(Clone, Copy)]
-pub enum Entry {
-    At(Bound),
-    Refused(u8),
-}
-
-// The state after an opcode, and how many records there are.
-#[derive(Clone, Copy)]
-pub enum Ran {
-    On(State, u64),
-    Refused(u8),
-}
-
 // The slot n bytes further.
 pub(crate) fn further(n: u64, s: State) -> State
     ensures { result ≡ further n s }
@@ -52,50 +41,52 @@ pub(crate) fn further(n: u64, s: State) -> State
 }
 
 // The bind of the slot, in a file of `end` bytes.
-fn bound_by(end: u64, s: State) -> Entry
-    ensures { entry_outcome result ≡ bound_by end s }
+fn bound_by(end: u64, s: State) -> Result<Bound, Question>
+    ensures { answered result ≡ bound_by end s }
 {
     if !s.named {
-        return Entry::Refused(19);
+        return Err(Question::FixupData);
     }
     if !s.placed {
-        return Entry::Refused(19);
+        return Err(Question::FixupData);
     }
     if s.filesize < 8 {
-        return Entry::Refused(20);
+        return Err(Question::FixupSlot);
     }
     if s.filesize - 8 < s.offset {
-        return Entry::Refused(20);
+        return Err(Question::FixupSlot);
     }
     if end < s.fileoff {
-        return Entry::Refused(20);
+        return Err(Question::FixupSlot);
     }
     if end - s.fileoff < s.offset + 8 {
-        return Entry::Refused(20);
+        return Err(Question::FixupSlot);
     }
-    Entry::At(Bound {
+    Ok(Bound {
         slot: s.vmaddr.wrapping_add(s.offset),
         name: s.name,
         len: s.len,
     })
 }
 
-// Puts `count` binds, each `stride` bytes after the one before, after the n that are in the table.
-pub(crate) fn run(end: u64, count: u64, stride: u64, s: State, n: u64, binds: &mut [u64]) -> Ran
+// Puts `count` binds, each `stride` bytes after the one before, after the n that are in the table: the state after them, and how
+// many records there are.
+pub(crate) fn run(
+    end: u64,
+    count: u64,
+    stride: u64,
+    s: State,
+    n: u64,
+    binds: &mut [u64],
+) -> Result<(State, u64), Question>
     ensures { ran_of result binds.new ≡ told_by (run end count stride s) (part n binds.old) }
 {
     let mut here = s;
     let mut records = n;
     for _ in 0..count {
-        match bound_by(end, here) {
-            Entry::At(x) => {
-                records = put_bind(binds, records, x.slot, x.name, x.len);
-                here = further(stride, here);
-            }
-            Entry::Refused(k) => {
-                return Ran::Refused(k);
-            }
-        }
+        let x = bound_by(end, here)?;
+        records = put_bind(binds, records, x.slot, x.name, x.len);
+        here = further(stride, here);
     }
-    Ran::On(here, records)
+    Ok((here, records))
 }

@@ -4,7 +4,8 @@ ghost use Rattle.reads.specs.Reference.{before};
 ghost use Rattle.opcodes.specs.Opcodes.{decoded_outcome, plain, takes_number, numbered, with_number, symbol_at, addend, skipping, times_skipping, decode};
 
 use fixups::name::first_zero;
-use reads::leb128::{SlebAnswer, UlebAnswer, read_sleb128, read_uleb128};
+use reads::answer::Question;
+use reads::leb128::{read_sleb128, read_uleb128};
 
 const BIND_OPCODE_DONE: u8 = 0x00;
 
@@ -51,43 +52,37 @@ pub enum Instruction {
     Bind(u64, u64),
 }
 
-// What an opcode says, and how many bytes its operands are; or the number that refuses it.
-#[derive(Clone, Copy)]
-pub enum Decoded {
-    Read(Instruction, usize),
-    Refused(u8),
-}
-
-// Opcodes without operands, of the bytes `rest` none is read; `parts`: DONE parts the entries of the stream.
-fn plain(parts: bool, rest: &[u8], op: u8, imm: u8) -> Decoded
+// An opcode without operands: what it says, and how many bytes it takes after it. Of the bytes `rest` none is read; `parts`: DONE
+// parts the entries of the stream.
+fn plain(parts: bool, rest: &[u8], op: u8, imm: u8) -> Result<(Instruction, usize), Question>
     ensures { decoded_outcome result ≡ plain parts (before rest) op imm }
 {
     if op == BIND_OPCODE_DONE {
         if parts {
-            return Decoded::Read(Instruction::Pass, 0);
+            return Ok((Instruction::Pass, 0));
         }
-        return Decoded::Read(Instruction::Pass, rest.len());
+        return Ok((Instruction::Pass, rest.len()));
     }
     if op == BIND_OPCODE_SET_DYLIB_ORDINAL_IMM {
-        return Decoded::Read(Instruction::Pass, 0);
+        return Ok((Instruction::Pass, 0));
     }
     if op == BIND_OPCODE_SET_DYLIB_SPECIAL_IMM {
-        return Decoded::Read(Instruction::Pass, 0);
+        return Ok((Instruction::Pass, 0));
     }
     if op == BIND_OPCODE_SET_TYPE_IMM {
         if imm == BIND_TYPE_POINTER {
-            return Decoded::Read(Instruction::Pass, 0);
+            return Ok((Instruction::Pass, 0));
         }
-        return Decoded::Refused(19);
+        return Err(Question::FixupData);
     }
     if op == BIND_OPCODE_DO_BIND {
-        return Decoded::Read(Instruction::Bind(1, SIZEOF_POINTER), 0);
+        return Ok((Instruction::Bind(1, SIZEOF_POINTER), 0));
     }
     if op == BIND_OPCODE_DO_BIND_ADD_ADDR_IMM_SCALED {
         let stride = SIZEOF_POINTER + SIZEOF_POINTER * u64::from(imm);
-        return Decoded::Read(Instruction::Bind(1, stride), 0);
+        return Ok((Instruction::Bind(1, stride), 0));
     }
-    Decoded::Refused(19)
+    Err(Question::FixupData)
 }
 
 // Opcodes with one number.
@@ -122,64 +117,69 @@ fn numbered(op: u8, imm: u8, n: u64) -> Instruction
     Instruction::Bind(1, SIZEOF_POINTER.wrapping_add(n))
 }
 
-fn with_number(rest: &[u8], op: u8, imm: u8) -> Decoded
+fn with_number(rest: &[u8], op: u8, imm: u8) -> Result<(Instruction, usize), Question>
     ensures { decoded_outcome result ≡ with_number (before rest) op imm }
 {
     match read_uleb128(rest) {
-        UlebAnswer::Read(u) => Decoded::Read(numbered(op, imm, u.value), u.consumed),
-        UlebAnswer::Missing(_) => Decoded::Refused(19),
+        Ok(u) => Ok((numbered(op, imm, u.value), u.consumed)),
+        Err(_) => Err(Question::FixupData),
     }
 }
 
 // The name from the first byte on, which stands at `place` in the file, to its zero.
-fn symbol_at(place: u64, rest: &[u8]) -> Decoded
+fn symbol_at(place: u64, rest: &[u8]) -> Result<(Instruction, usize), Question>
     ensures { decoded_outcome result ≡ symbol_at place (before rest) }
 {
     match first_zero(rest) {
-        Some(n) => Decoded::Read(Instruction::Symbol(place, n as u64), n + 1),
-        None => Decoded::Refused(19),
+        Some(n) => Ok((Instruction::Symbol(place, n as u64), n + 1)),
+        None => Err(Question::FixupData),
     }
 }
 
-fn addend(rest: &[u8]) -> Decoded
+fn addend(rest: &[u8]) -> Result<(Instruction, usize), Question>
     ensures { decoded_outcome result ≡ addend (before rest) }
 {
     match read_sleb128(rest) {
-        SlebAnswer::Read(s) => Decoded::Read(Instruction::Pass, s.consumed),
-        SlebAnswer::Missing(_) => Decoded::Refused(19),
+        Ok(s) => Ok((Instruction::Pass, s.consumed)),
+        Err(_) => Err(Question::FixupData),
     }
 }
 
 // The second number, after the n bytes of the first.
-fn skipping(rest: &[u8], count: u64, n: usize) -> Decoded
+fn skipping(rest: &[u8], count: u64, n: usize) -> Result<(Instruction, usize), Question>
     requires { n ≤ length rest.now }
     ensures { decoded_outcome result ≡ skipping (before rest) count n }
 {
     match read_uleb128(&rest[n..]) {
-        UlebAnswer::Read(u) => {
+        Ok(u) => {
             if 0xFFFF_FFFF_FFFF_FFF8 <= u.value {
-                return Decoded::Refused(20);
+                return Err(Question::FixupSlot);
             }
-            Decoded::Read(
+            Ok((
                 Instruction::Bind(count, u.value + SIZEOF_POINTER),
                 n + u.consumed,
-            )
+            ))
         }
-        UlebAnswer::Missing(_) => Decoded::Refused(19),
+        Err(_) => Err(Question::FixupData),
     }
 }
 
-fn times_skipping(rest: &[u8]) -> Decoded
+fn times_skipping(rest: &[u8]) -> Result<(Instruction, usize), Question>
     ensures { decoded_outcome result ≡ times_skipping (before rest) }
 {
     match read_uleb128(rest) {
-        UlebAnswer::Read(u) => skipping(rest, u.value, u.consumed),
-        UlebAnswer::Missing(_) => Decoded::Refused(19),
+        Ok(u) => skipping(rest, u.value, u.consumed),
+        Err(_) => Err(Question::FixupData),
     }
 }
 
 // The opcode in a byte before the bytes `rest`, which stand at `place` in the file.
-pub(crate) fn decode(parts: bool, place: u64, b: u8, rest: &[u8]) -> Decoded
+pub(crate) fn decode(
+    parts: bool,
+    place: u64,
+    b: u8,
+    rest: &[u8],
+) -> Result<(Instruction, usize), Question>
     ensures { decoded_outcome result ≡ decode parts place b (before rest) }
 {
     let imm = b % 16;

@@ -2,18 +2,14 @@
 ghost use Rattle.std.specs.Prelude.{◌≡◌};
 ghost use Rattle.reads.specs.Reference.{before};
 ghost use Rattle.macho.specs.Commands.{segments_of};
-ghost use Rattle.opcodes.specs.Binding.{with_segment, placed_outcome, in_segment};
+ghost use Rattle.opcodes.specs.Binding.{with_segment, in_segment};
+ghost use Rattle.reads.specs.Answer.{answered};
 
 use crate::binding::State;
 use macho::command::commands;
 use macho::loader::{FILEOFF, FILESIZE, LC_SEGMENT_64, VMADDR};
+use reads::answer::Question;
 use reads::place::u64_from;
-
-#[derive(Clone, Copy)]
-pub enum Placed {
-    In(State),
-    Refused(u8),
-}
 
 // The segment whose command stands at an offset, and the slot `offset` bytes into it.
 fn with_segment(cmds: &[u8], at: u64, offset: u64, s: State) -> State
@@ -30,11 +26,17 @@ fn with_segment(cmds: &[u8], at: u64, offset: u64, s: State) -> State
 }
 
 // The segment of an index, in command order.
-pub(crate) fn in_segment(cmds: &[u8], count: u64, index: u64, offset: u64, s: State) -> Placed
-    ensures { placed_outcome result ≡ in_segment (before cmds) (segments_of (before cmds) count) index offset s }
+pub(crate) fn in_segment(
+    cmds: &[u8],
+    count: u64,
+    index: u64,
+    offset: u64,
+    s: State,
+) -> Result<State, Question>
+    ensures { answered result ≡ in_segment (before cmds) (segments_of (before cmds) count) index offset s }
 {
     match commands(cmds, LC_SEGMENT_64, count).nth(index as usize) {
-        Some(at) => Placed::In(with_segment(cmds, at, offset, s)),
-        None => Placed::Refused(19),
+        Some(at) => Ok(with_segment(cmds, at, offset, s)),
+        None => Err(Question::FixupData),
     }
 }

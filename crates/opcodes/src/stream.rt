@@ -10,26 +10,13 @@ ghost use Rattle.opcodes.specs.Streams.{walk, joined, stream_at, streams_at};
 ghost use Rattle.opcodes.specs.DyldInfo.{weak_bind_off, lazy_bind_off};
 ghost use Rattle.opcodes.specs.Tables.{told, part_of, told_by, ran_of, next, next_of};
 
-use crate::binding::{Ran, State, further, run};
+use crate::binding::{State, further, run};
 use crate::dyld_info::{BIND_OFF, LAZY_BIND_OFF, WEAK_BIND_OFF};
-use crate::opcode::{Decoded, Instruction, decode};
-use crate::segment::{Placed, in_segment};
+use crate::opcode::{Instruction, decode};
+use crate::segment::in_segment;
 use macho::header::range_of;
 use macho::number::field32;
-
-// The state after an opcode, how many records there are, and how many bytes its operands are.
-#[derive(Clone, Copy)]
-pub enum Stepped {
-    On(State, u64, usize),
-    Refused(u8),
-}
-
-// How many records there are after a stream.
-#[derive(Clone, Copy)]
-pub enum Walked {
-    Count(u64),
-    Refused(u8),
-}
+use reads::answer::Question;
 
 fn unset() -> State
     ensures { result ≡ unset }
@@ -57,7 +44,7 @@ fn with_symbol(name: u64, len: u64, s: State) -> State
     }
 }
 
-// Does what an opcode says, in a file of `end` bytes.
+// Does what an opcode says, in a file of `end` bytes: the state after it, and how many records there are.
 fn perform(
     end: u64,
     cmds: &[u8],
@@ -66,22 +53,23 @@ fn perform(
     s: State,
     n: u64,
     binds: &mut [u64],
-) -> Ran
+) -> Result<(State, u64), Question>
     ensures { ran_of result binds.new ≡ told_by (perform end (before cmds) (segments_of (before cmds) count) x s) (part n binds.old) }
 {
     match x {
-        Instruction::Pass => Ran::On(s, n),
-        Instruction::Symbol(name, len) => Ran::On(with_symbol(name, len, s), n),
-        Instruction::Segment(index, offset) => match in_segment(cmds, count, index, offset, s) {
-            Placed::In(t) => Ran::On(t, n),
-            Placed::Refused(k) => Ran::Refused(k),
-        },
-        Instruction::Add(bytes) => Ran::On(further(bytes, s), n),
+        Instruction::Pass => Ok((s, n)),
+        Instruction::Symbol(name, len) => Ok((with_symbol(name, len, s), n)),
+        Instruction::Segment(index, offset) => {
+            let t = in_segment(cmds, count, index, offset, s)?;
+            Ok((t, n))
+        }
+        Instruction::Add(bytes) => Ok((further(bytes, s), n)),
         Instruction::Bind(times, stride) => run(end, times, stride, s, n, binds),
     }
 }
 
-// The opcode in a byte before the bytes `rest`, which stand at `place` in the file.
+// The opcode in a byte before the bytes `rest`, which stand at `place` in the file: the state after it, how many records there are, and
+// how many bytes its operands are.
 fn step(
     end: u64,
     cmds: &[u8],
@@ -93,17 +81,13 @@ fn step(
     s: State,
     n: u64,
     binds: &mut [u64],
-) -> Stepped
+) -> Result<(State, u64, usize), Question>
     ensures { next_of result binds.new ≡ and_then (decode parts place b (before rest))
         (λ d. and_then (told_by (perform end (before cmds) (segments_of (before cmds) count) d.says s) (part n binds.old)) (λ t. value (next t d.size))) }
 {
-    match decode(parts, place, b, rest) {
-        Decoded::Read(x, size) => match perform(end, cmds, count, x, s, n, binds) {
-            Ran::On(t, m) => Stepped::On(t, m, size),
-            Ran::Refused(k) => Stepped::Refused(k),
-        },
-        Decoded::Refused(k) => Stepped::Refused(k),
-    }
+    let (x, size) = decode(parts, place, b, rest)?;
+    let (t, m) = perform(end, cmds, count, x, s, n, binds)?;
+    Ok((t, m, size))
 }
 
 // The stream of opcodes `body`, which stands at `at` in a file of `end` bytes.
@@ -116,7 +100,7 @@ fn walk(
     body: &[u8],
     n: u64,
     binds: &mut [u64],
-) -> Walked
+) -> Result<u64, Question>
     requires { at + length body.now < 2 ^ 64 }
     ensures { part_of result binds.new ≡ told (walk end (before cmds) (segments_of (before cmds) count) parts at (before body) 0 unset) (part n binds.old) }
 {
@@ -127,7 +111,7 @@ fn walk(
     while i < body.len() {
         let b = body[i];
         let place = at + (i as u64) + 1;
-        match step(
+        let (t, m, size) = step(
             end,
             cmds,
             count,
@@ -138,18 +122,12 @@ fn walk(
             s,
             records,
             binds,
-        ) {
-            Stepped::On(t, m, size) => {
-                s = t;
-                records = m;
-                i += 1 + size;
-            }
-            Stepped::Refused(k) => {
-                return Walked::Refused(k);
-            }
-        }
+        )?;
+        s = t;
+        records = m;
+        i += 1 + size;
     }
-    Walked::Count(records)
+    Ok(records)
 }
 
 // The stream of a field of the command that stands at an offset.
@@ -162,7 +140,7 @@ fn stream_at(
     parts: bool,
     n: u64,
     binds: &mut [u64],
-) -> Walked
+) -> Result<u64, Question>
     requires { field < 2 ^ 32 }
     ensures { part_of result binds.new
         ≡ told (stream_at (before file) (before cmds) (segments_of (before cmds) count) command field parts) (part n binds.old) }
@@ -180,14 +158,12 @@ fn weak_and_lazy(
     command: u64,
     n: u64,
     binds: &mut [u64],
-) -> Walked
+) -> Result<u64, Question>
     ensures { part_of result binds.new
         ≡ told (joined (stream_at (before file) (before cmds) (segments_of (before cmds) count) command weak_bind_off false) (stream_at (before file) (before cmds) (segments_of (before cmds) count) command lazy_bind_off true)) (part n binds.old) }
 {
-    match stream_at(file, cmds, count, command, WEAK_BIND_OFF, false, n, binds) {
-        Walked::Count(m) => stream_at(file, cmds, count, command, LAZY_BIND_OFF, true, m, binds),
-        Walked::Refused(k) => Walked::Refused(k),
-    }
+    let m = stream_at(file, cmds, count, command, WEAK_BIND_OFF, false, n, binds)?;
+    stream_at(file, cmds, count, command, LAZY_BIND_OFF, true, m, binds)
 }
 
 // The streams of the command that stands at an offset.
@@ -197,12 +173,10 @@ pub(crate) fn streams_at(
     count: u64,
     command: u64,
     binds: &mut [u64],
-) -> Walked
+) -> Result<u64, Question>
     ensures { part_of result binds.new
         ≡ told (streams_at (before file) (before cmds) (segments_of (before cmds) count) command) (part 0 binds.old) }
 {
-    match stream_at(file, cmds, count, command, BIND_OFF, false, 0, binds) {
-        Walked::Count(n) => weak_and_lazy(file, cmds, count, command, n, binds),
-        Walked::Refused(k) => Walked::Refused(k),
-    }
+    let n = stream_at(file, cmds, count, command, BIND_OFF, false, 0, binds)?;
+    weak_and_lazy(file, cmds, count, command, n, binds)
 }

@@ -1,4 +1,4 @@
--- A lookup by a chain is question 9 asked of the chain's record numbers, then the slot's record among them.
+-- A lookup by a chain is question ChainOrder asked of the chain's record numbers, then the slot's record among them.
 use Prim.Native.Nat.{ℕ, zero, suc, ◌+◌, ◌-◌, ◌≤◌, ◌<◌}
 use mathlib.Core.Path.{◌≡◌, refl, sym, ap, ◌∙◌}
 use mathlib.Core.Bool.{Bool, true, false, ◌&&◌}
@@ -8,7 +8,7 @@ use native.Mathlib.Decide.{ℕ_discrete}
 use lib.Dec.{leb}
 use lib.ListN.{get_or}
 use borrow.Author.Tests.{eq-eqb, ne_eqb, leb-true, leb-false, le-leb, lt-leb}
-use Rattle.reads.specs.Outcome.{Outcome, value, absent, number, and_then}
+use Rattle.reads.specs.Outcome.{Outcome, value, absent, refused, and_then}
 use Rattle.reads.specs.declared.answer.Reason.TheVariants.{NoRecord}
 use Rattle.reads.specs.Table.{records}
 use Rattle.reads.proofs.Tests.{choose_true, choose_false}
@@ -18,10 +18,11 @@ use Rattle.pointers.specs.Index.{chain_of}
 use Rattle.pointers.specs.Chain.{chain_from, descends, slots_record, slots_chain, follow_from, follow}
 use Rattle.pointers.proofs.Questions.{question_yes, after_no}
 use Rattle.pointers.proofs.Chains.{follow_end, follow_above, follow_found, follow_on}
+use Rattle.reads.specs.declared.answer.Question.TheVariants.{ChainOrder}
 
 module _ (width : ℕ) (table : List ℕ) (nexts slot : ℕ) (index : List ℕ) where
   abbrev asks : ℕ → List ℕ → Outcome ℕ
-  asks limit ns = and_then (question 9 (descends limit ns)) (λ _. slots_record width table slot ns)
+  asks limit ns = and_then (question ChainOrder (descends limit ns)) (λ _. slots_record width table slot ns)
 
   abbrev chain : ℕ → ℕ → List ℕ
   chain most n = chain_from width table nexts slot index most n
@@ -29,11 +30,11 @@ module _ (width : ℕ) (table : List ℕ) (nexts slot : ℕ) (index : List ℕ) 
   -- The end; a number above the limit; the slot's record; another record, after which the chain goes on below it.
   asked_end : (limit : ℕ) → asks limit [] ≡ absent NoRecord
   unfolding descends slots_record
-  asked_end limit = rw (question_yes 9 true refl) refl
+  asked_end limit = rw (question_yes ChainOrder true refl) refl
 
-  asked_above : (limit n : ℕ) (ns : List ℕ) → limit < n → asks limit (n ∷ ns) ≡ number 9
+  asked_above : (limit n : ℕ) (ns : List ℕ) → limit < n → asks limit (n ∷ ns) ≡ refused ChainOrder
   unfolding descends
-  asked_above limit n ns h = sym (after_no 9 _ _ (ap (λ (b : Bool). b && descends (n - 1) ns) (lt-leb n limit h)))
+  asked_above limit n ns h = sym (after_no ChainOrder _ _ (ap (λ (b : Bool). b && descends (n - 1) ns) (lt-leb n limit h)))
 
   asks_further : (limit n : ℕ) (ns : List ℕ) → n ≤ limit → (slot_of width table (n - 1) ≡ slot → ⊥) → asks limit (n ∷ ns) ≡ asks (n - 1) ns
   unfolding descends slots_record
@@ -45,7 +46,7 @@ module _ (width : ℕ) (table : List ℕ) (nexts slot : ℕ) (index : List ℕ) 
   unfolding descends slots_record
   asked_found limit n h e =
       let below : (leb n limit && true) ≡ true = ap (λ (b : Bool). b && true) (le-leb n limit h) in
-      rw (below, question_yes 9 true refl) (choose_true _ _ (eq-eqb _ _ e))
+      rw (below, question_yes ChainOrder true refl) (choose_true _ _ (eq-eqb _ _ e))
 
   chain_end : (most : ℕ) → chain (suc most) 0 ≡ []
   unfolding chain_from
@@ -91,10 +92,10 @@ module _ (width : ℕ) (table : List ℕ) (nexts slot : ℕ) (index : List ℕ) 
         ]
       ]
 
--- A lookup asks question 9 of the slot's chain, and then gives the slot's record, or absent where the chain ends without it.
+-- A lookup asks question ChainOrder of the slot's chain, and then gives the slot's record, or absent where the chain ends without it.
 pub follow_asked : (width : ℕ) (table : List ℕ) (heads nexts slot : ℕ) (index : List ℕ)
     → follow width table heads nexts slot index
-    ≡ and_then (question 9 (descends (records width table) (slots_chain width table heads nexts slot index)))
+    ≡ and_then (question ChainOrder (descends (records width table) (slots_chain width table heads nexts slot index)))
     (λ _. slots_record width table slot (slots_chain width table heads nexts slot index))
 unfolding follow slots_chain
 follow_asked width table heads nexts slot index =

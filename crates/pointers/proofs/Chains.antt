@@ -9,19 +9,21 @@ use native.Mathlib.Nat.{eq-or-lt_of_le, le_of_suc-le-suc}
 use lib.Dec.{eqb}
 use lib.ListN.{get_or}
 use borrow.Author.Tests.{eq-eqb, ne_eqb, eqb-true}
-use Rattle.reads.specs.Outcome.{Outcome, value, absent, number, choose}
+use Rattle.reads.specs.Outcome.{Outcome, value, absent, refused, choose}
 use Rattle.reads.specs.declared.answer.Reason.TheVariants.{NoRecord}
-use Rattle.reads.specs.Answer.{word_outcome}
 use Rattle.reads.specs.Table.{records}
-use Rattle.reads.specs.declared.answer.Word.{Word}
-use Rattle.reads.specs.declared.answer.Word.TheVariants as word
 use Rattle.reads.proofs.Tests.{by_choose, choose_true, choose_false}
 use Rattle.pointers.specs.Tables.{slot_of, rebase_words, bind_words, chains}
 use Rattle.pointers.specs.Index.{chain_of, latest, indexed, Words, bind_nexts}
 use Rattle.pointers.specs.Chain.{follow_from, follow, last_among, last_record, Last}
 use Rattle.pointers.proofs.IndexWords.{latest_in, latest_not_in, latest_bound, indexed_rebases, indexed_binds}
+use Rattle.std.specs.Prelude.{Result, Ok}
+use Rattle.reads.specs.Answer.{outcome}
+use Rattle.reads.specs.declared.answer.Missing.{Missing}
+use Rattle.reads.specs.declared.answer.Question.TheVariants.{ChainOrder}
+use Rattle.reads.specs.declared.answer.Question.{Question}
 
--- The rule of question 9, for any contents of the index.
+-- The rule of question ChainOrder, for any contents of the index.
 module _ (width : ℕ) (table : List ℕ) (nexts slot : ℕ) (index : List ℕ) where
   -- Zero is the end.
   pub follow_end : (limit : ℕ) → follow_from width table nexts slot index limit 0 ≡ absent NoRecord
@@ -30,7 +32,7 @@ module _ (width : ℕ) (table : List ℕ) (nexts slot : ℕ) (index : List ℕ) 
   follow_end (suc limit) = choose_false _ _ (ne_eqb 0 (suc limit) (omega arith)) ∙ follow_end limit
 
   -- A record number above the limit is refused.
-  pub follow_above : (limit n : ℕ) → limit < n → follow_from width table nexts slot index limit n ≡ number 9
+  pub follow_above : (limit n : ℕ) → limit < n → follow_from width table nexts slot index limit n ≡ refused ChainOrder
   unfolding follow_from
   follow_above zero n h = choose_false _ _ (ne_eqb n 0 (omega arith))
   follow_above (suc limit) n h = choose_false _ _ (ne_eqb n (suc limit) (omega arith)) ∙ follow_above limit n (omega arith)
@@ -87,10 +89,10 @@ follow_value width table heads nexts slot index n e =
     from_value width table nexts slot index (records width table) (get_or index (heads + chain_of slot) 0) n e
 
 -- The same, of the code's answer.
-pub found_record : (width : ℕ) (table : List ℕ) (heads nexts slot : ℕ) (index : List ℕ) {w : Word} {n : ℕ}
-    → word_outcome w ≡ follow width table heads nexts slot index → w ≡ word.Value n → (1 ≤ n) × (n ≤ records width table)
+pub found_record : (width : ℕ) (table : List ℕ) (heads nexts slot : ℕ) (index : List ℕ) {w : (Result ℕ Missing)} {n : ℕ}
+    → outcome w ≡ follow width table heads nexts slot index → w ≡ Ok n → (1 ≤ n) × (n ≤ records width table)
 found_record width table heads nexts slot index {n = n} e g =
-    follow_value width table heads nexts slot index n (sym e ∙ ap word_outcome g)
+    follow_value width table heads nexts slot index n (sym e ∙ ap outcome g)
 
 -- Over the words of an index, a lookup finds the slot's last record, so never 9.
 module _ (width : ℕ) (table : List ℕ) (heads nexts : ℕ) (index : List ℕ) (words : Words width table heads nexts index) (slot : ℕ) where
@@ -162,11 +164,11 @@ module _ (width : ℕ) (table : List ℕ) (slot : ℕ) where
             )
       ]
 
-  pub last_no_number : (n k : ℕ) → last_among width table n slot ≡ number k → ⊥
+  pub last_no_number : (n : ℕ) (k : Question) → last_among width table n slot ≡ refused k → ⊥
   unfolding last_among
   last_no_number zero k e = let z : ◌≡◌ {A = ℕ} 0 1 = cc in omega arith
   last_no_number (suc n) k e =
-      by_choose (λ (o : Outcome ℕ). o ≡ number k → ⊥)
+      by_choose (λ (o : Outcome ℕ). o ≡ refused k → ⊥)
       (λ t q. let z : ◌≡◌ {A = ℕ} 0 1 = cc in omega arith)
       (λ t. last_no_number n k)
       e

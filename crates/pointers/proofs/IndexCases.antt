@@ -4,7 +4,7 @@ use mathlib.Core.Path.{◌≡◌, refl}
 use mathlib.Core.List.{List, [], ◌∷◌}
 use native.Mathlib.Omega.{arith}
 use lib.ListN.{get_or}
-use Rattle.reads.specs.Outcome.{value, absent, number, choose}
+use Rattle.reads.specs.Outcome.{value, absent, refused, choose}
 use Rattle.reads.specs.declared.answer.Reason.TheVariants.{NoRecord}
 use Rattle.reads.specs.Table.{tabulate}
 use Rattle.pointers.specs.Tables.{rebase_words, chains}
@@ -12,6 +12,7 @@ use Rattle.pointers.specs.Index.{latest, nexts_of, indexed}
 use Rattle.pointers.specs.Chain.{follow_from, follow, last_among}
 use Rattle.pointers.proofs.IndexWords.{indexed_rebases}
 use Rattle.pointers.proofs.Chains.{rebase_last_wins}
+use Rattle.reads.specs.declared.answer.Question.TheVariants.{ChainOrder}
 
 -- Slots 8, 32776 and 8 again, all of chain 1.
 abbrev pub three_rebases : List ℕ
@@ -45,11 +46,11 @@ unfolding follow follow_from choose
 small_case = refl
 
 -- Broken: a first number above the record count, and a next word that is not below.
-pub above_case : follow rebase_words three_rebases 0 2 8 (0 ∷ 4 ∷ 0 ∷ 1 ∷ 2 ∷ []) ≡ number 9
+pub above_case : follow rebase_words three_rebases 0 2 8 (0 ∷ 4 ∷ 0 ∷ 1 ∷ 2 ∷ []) ≡ refused ChainOrder
 unfolding follow follow_from choose
 above_case = refl
 
-pub circle_case : follow rebase_words three_rebases 0 2 32776 (0 ∷ 3 ∷ 0 ∷ 1 ∷ 3 ∷ []) ≡ number 9
+pub circle_case : follow rebase_words three_rebases 0 2 32776 (0 ∷ 3 ∷ 0 ∷ 1 ∷ 3 ∷ []) ≡ refused ChainOrder
 unfolding follow follow_from choose
 circle_case = refl
 

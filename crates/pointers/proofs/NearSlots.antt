@@ -9,10 +9,7 @@ use lib.ListN.{get_or}
 use borrow.Author.Tests.{ltb-true, eqb-true}
 use Rattle.reads.specs.Outcome.{Outcome, absent, because}
 use Rattle.reads.specs.declared.answer.Reason.TheVariants.{Unresolved, NoRecord}
-use Rattle.reads.specs.Answer.{word_outcome}
 use Rattle.reads.specs.Table.{records}
-use Rattle.reads.specs.declared.answer.Word.{Word}
-use Rattle.reads.specs.declared.answer.Word.TheVariants as word
 use Rattle.reads.specs.Place.{Image}
 use Rattle.reads.specs.Spot.{readable_spot}
 use Rattle.reads.specs.declared.spot.Spot.{Spot}
@@ -27,12 +24,15 @@ use Rattle.pointers.specs.declared.setting.Lookup.TheVariants.{Chained, Sorted}
 use Rattle.pointers.specs.declared.setting.Setting.{Setting}
 use Rattle.pointers.proofs.Chains.{follow_end, found_record}
 use Rattle.pointers.proofs.SortedLookups.{sorted_value}
+use Rattle.std.specs.Prelude.{Result, Ok}
+use Rattle.reads.specs.Answer.{outcome}
+use Rattle.reads.specs.declared.answer.Missing.{Missing}
 
 -- A rebase record that is found is one of the table.
-pub number_record : (rebases index : List ℕ) (slot : ℕ) (l : Lookup) {w : Word} {n : ℕ}
-    → word_outcome w ≡ rebase_number l rebases index slot → w ≡ word.Value n → (1 ≤ n) × (n ≤ records rebase_words rebases)
+pub number_record : (rebases index : List ℕ) (slot : ℕ) (l : Lookup) {w : (Result ℕ Missing)} {n : ℕ}
+    → outcome w ≡ rebase_number l rebases index slot → w ≡ Ok n → (1 ≤ n) × (n ≤ records rebase_words rebases)
 number_record rebases index slot Chained e g = found_record rebase_words rebases 0 (2 * chains) slot index e g
-number_record rebases index slot Sorted {n = n} e g = sorted_value rebases slot _ n (sym e ∙ ap word_outcome g)
+number_record rebases index slot Sorted {n = n} e g = sorted_value rebases slot _ n (sym e ∙ ap outcome g)
 
 -- Without a rebase in its chain a slot holds the word there.
 no_record : (rebases index : List ℕ) (slot : ℕ) (l : Lookup) → unrebased l index slot ≡ true → rebase_number l rebases index slot ≡ absent NoRecord

@@ -8,7 +8,7 @@ use native.Mathlib.Omega.{arith}
 use borrow.Author.Tests.{lt-ltb}
 use lib.Dec.{leb}
 use lib.ListN.{length, get_or}
-use Rattle.reads.specs.Outcome.{Outcome, value, absent, number, and_then, or_zero, choose, sum64}
+use Rattle.reads.specs.Outcome.{Outcome, value, absent, refused, and_then, or_zero, choose, sum64}
 use Rattle.reads.specs.Table.{records, tabulate}
 use Rattle.reads.specs.Files.{file_of}
 use Rattle.reads.specs.Place.{image_of, part}
@@ -26,6 +26,7 @@ use Rattle.pointers.specs.Slot.{bind_name, bind_at, symbol_of, stored, resolve, 
 use Rattle.pointers.proofs.Chains.{follow_value}
 use Rattle.pointers.proofs.OneImage as one
 use Rattle.pointers.proofs.Questions.{question_yes}
+use Rattle.reads.specs.declared.answer.Question.TheVariants.{NameInside, NameUtf8, FileLent}
 
 -- Pointer slots.
 module _ {old new : List ℕ} (w : Widened 4 old new) (file : List ℕ) (others : List (List ℕ)) (rebases index : List ℕ) (setting : Setting) where
@@ -47,7 +48,7 @@ module _ {old new : List ℕ} (w : Widened 4 old new) (file : List ℕ) (others 
       go : (o : Outcome ℕ) → and_then o (resolve (image_of (file ∷ others) new) rebases index setting) ≡ and_then o (one.resolve then_image rebases index setting)
       go (value a) = resolve_one a
       go (absent r) = refl
-      go (number n) = refl
+      go (refused n) = refl
 
   pub pointer_or_0_one : (va k : ℕ) → pointer_or0_at (image_of (file ∷ others) new) rebases index setting va k ≡ one.pointer_or0_at then_image rebases index setting va k
   unfolding pointer_or0_at one.pointer_or0_at
@@ -57,7 +58,7 @@ module _ {old new : List ℕ} (w : Widened 4 old new) (file : List ℕ) (others 
           → and_then o (λ slot. or_zero (resolve (image_of (file ∷ others) new) rebases index setting slot)) ≡ and_then o (λ slot. or_zero (one.resolve then_image rebases index setting slot))
       go (value a) = ap or_zero (resolve_one a)
       go (absent r) = refl
-      go (number n) = refl
+      go (refused n) = refl
 
 -- Binds.
 module _ {old new : List ℕ} (w : Widened 3 old new) where
@@ -114,19 +115,19 @@ module _ {old new : List ℕ} (w : Widened 3 old new) where
     bind_name_one i h =
         let name = text_in_file (one.bind_text old i) in
         ap asked (name_widened i h)
-        ∙ rw (question_yes 18 (name_lent (file ∷ others) name) (lt-ltb 0 (suc (length others)) (omega arith)))
+        ∙ rw (question_yes FileLent (name_lent (file ∷ others) name) (lt-ltb 0 (suc (length others)) (omega arith)))
         (go (leb (name.offset + name.len) (length file)) (utf8 (part file name.offset name.len)))
       where
         asked : Text → Outcome Text
         asked name =
-            and_then (question 18 (name_lent (file ∷ others) name)) (λ _.
-            and_then (question 7 (name_inside (file ∷ others) name)) (λ _.
-            and_then (question 14 (name_utf8 (file ∷ others) name)) (λ _.
+            and_then (question FileLent (name_lent (file ∷ others) name)) (λ _.
+            and_then (question NameInside (name_inside (file ∷ others) name)) (λ _.
+            and_then (question NameUtf8 (name_utf8 (file ∷ others) name)) (λ _.
             value name)))
 
         go : (seven fourteen : Bool)
-            → and_then (question 7 seven) (λ _. and_then (question 14 fourteen) (λ _. value (text_in_file (one.bind_text old i))))
-            ≡ texts_in_file (and_then (question 7 seven) (λ _. and_then (question 14 fourteen) (λ _. value (one.bind_text old i))))
+            → and_then (question NameInside seven) (λ _. and_then (question NameUtf8 fourteen) (λ _. value (text_in_file (one.bind_text old i))))
+            ≡ texts_in_file (and_then (question NameInside seven) (λ _. and_then (question NameUtf8 fourteen) (λ _. value (one.bind_text old i))))
         go true true = unfold question choose in refl
         go true false = unfold question choose in refl
         go false fourteen = unfold question choose in refl
@@ -142,7 +143,7 @@ module _ {old new : List ℕ} (w : Widened 3 old new) where
             let b = follow_value 3 old chains (bind_nexts rebases) a index n e in
             bind_name_one (n - 1) (omega (arith, b.0, b.1))
         go (absent r) e = refl
-        go (number k) e = refl
+        go (refused k) e = refl
 
     pub symbol_one : (rebases index : List ℕ) (a : ℕ) → symbol_of (file ∷ others) rebases new index a ≡ texts_in_file (one.symbol_of file rebases old index a)
     unfolding symbol_of one.symbol_of
@@ -152,4 +153,4 @@ module _ {old new : List ℕ} (w : Widened 3 old new) where
             → and_then (texts_in_file o) (λ name. value (stripped_name (file ∷ others) name)) ≡ texts_in_file (and_then o (λ name. value (one.stripped_name file name)))
         go (value name) = unfold stripped_in one.stripped_name file_of in refl
         go (absent r) = refl
-        go (number k) = refl
+        go (refused k) = refl

@@ -18,6 +18,7 @@ use Rattle.pointers.specs.Chain.{follow}
 use Rattle.pointers.specs.Symbol.{fitting, prefixes}
 use Rattle.pointers.specs.Slot.{rebase_at}
 use Rattle.pointers.specs.declared.setting.Setting.{Setting}
+use Rattle.reads.specs.declared.answer.Question.TheVariants.{NameInside, NameUtf8}
 
 unfoldable pub stored : Image → ℕ → Outcome ℕ
 stored m slot = and_then (word m 8 slot) (λ w. value (stripped w))
@@ -37,8 +38,8 @@ bind_text binds i = record { offset = word_of 3 binds i 1; len = word_of 3 binds
 unfoldable pub bind_name : List ℕ → List ℕ → ℕ → Outcome Text
 bind_name image binds i =
     let name = bind_text binds i in
-    and_then (question 7 (leb (name.offset + name.len) (length image))) (λ _.
-    and_then (question 14 (utf8 (part image name.offset name.len))) (λ _.
+    and_then (question NameInside (leb (name.offset + name.len) (length image))) (λ _.
+    and_then (question NameUtf8 (utf8 (part image name.offset name.len))) (λ _.
     value name))
 
 unfoldable pub bind_at : List ℕ → List ℕ → List ℕ → List ℕ → ℕ → Outcome Text

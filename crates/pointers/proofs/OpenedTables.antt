@@ -7,7 +7,7 @@ use mathlib.Core.List.{List}
 use native.Mathlib.Omega.{arith}
 use lib.ListN.{length}
 use borrow.Author.Tests.{le-leb}
-use Rattle.reads.specs.Outcome.{Outcome, value, absent, number, Unrefused, a_value, an_absence, or_zero}
+use Rattle.reads.specs.Outcome.{Outcome, value, absent, refused, Unrefused, a_value, an_absence, or_zero}
 use Rattle.reads.specs.Table.{records}
 use Rattle.reads.specs.Place.{Image}
 use Rattle.reads.specs.Address.{stripped}
@@ -31,6 +31,8 @@ use Rattle.pointers.proofs.Rooms.{Room, tables_room, asked_index_lem, Accepted, 
 use Rattle.pointers.proofs.IndexWords.{length_indexed}
 use Rattle.pointers.proofs.SortedLookups.{sorted_unrefused, sorted_last}
 use Rattle.pointers.proofs.Chains.{rebase_last_wins, bind_last_wins, last_value, last_no_number}
+use Rattle.reads.specs.declared.answer.Question.{Question}
+use Rattle.reads.specs.declared.answer.Question.TheVariants.{NameInside, IndexLength, NameUtf8, FileLent}
 
 -- Every bind name is in a file that is lent, inside it, and UTF-8.
 name_unrefused : (files : List (List ℕ)) (binds : List ℕ) → bind_files files binds ≡ true → names_inside files binds ≡ true → names_utf8 files binds ≡ true
@@ -38,19 +40,19 @@ name_unrefused : (files : List (List ℕ)) (binds : List ℕ) → bind_files fil
 unfolding bind_files names_inside names_utf8 bind_name
 name_unrefused files binds d e g i h =
     rw (
-      question_yes 18 _ (every_at (bind_lent files binds) (records bind_words binds) d i h),
-      question_yes 7 _ (every_at (bind_inside files binds) (records bind_words binds) e i h),
-      question_yes 14 _ (every_at (bind_utf8 files binds) (records bind_words binds) g i h),
+      question_yes FileLent _ (every_at (bind_lent files binds) (records bind_words binds) d i h),
+      question_yes NameInside _ (every_at (bind_inside files binds) (records bind_words binds) e i h),
+      question_yes NameUtf8 _ (every_at (bind_utf8 files binds) (records bind_words binds) g i h),
     )
     (a_value (bind_record binds i).name)
 
 last_unrefused : (width : ℕ) (table : List ℕ) (a n : ℕ) → Unrefused (last_among width table n a)
 last_unrefused width table a n = go (last_among width table n a) (λ k e. last_no_number width table a n k e)
   where
-    go : (o : Outcome ℕ) → ((k : ℕ) → o ≡ number k → ⊥) → Unrefused o
+    go : (o : Outcome ℕ) → ((k : Question) → o ≡ refused k → ⊥) → Unrefused o
     go (value k) f = a_value k
     go (absent r) f = an_absence r
-    go (number k) f = absurd (f k refl)
+    go (refused k) f = absurd (f k refl)
 
 pub stored_unrefused : (m : Image) (a : ℕ) → Unrefused (stored m a)
 unfolding stored
@@ -100,7 +102,7 @@ module _ (t : Tables) (o : Opened t) where
   unfolding asked_lent asked_tables asked_index index_fits
   opened_asked =
       let e : asked_tables t ≡ value tt = asked_any_index t.files t.segments t.sections t.info t.rebases t.binds t.index o.index_before ∙ opened_accepted.tables_pass in
-      rw e (question_yes 8 _ (le-leb (index_length t.rebases t.binds) (length t.index) (rw opened_length room_before)))
+      rw e (question_yes IndexLength _ (le-leb (index_length t.rebases t.binds) (length t.index) (rw opened_length room_before)))
 
   -- A slot's last record wins, in each table.
   pub opened_follow_rebase : (a : ℕ) → follow rebase_words t.rebases 0 (2 * chains) a t.index ≡ last_record rebase_words t.rebases a

@@ -4,49 +4,49 @@ use mathlib.Core.Path.{◌≡◌, refl, sym, ap, ◌∙◌}
 use mathlib.Core.List.{List}
 use lib.ListN.{length}
 use borrow.Author.Tests.{le-leb}
-use Rattle.reads.specs.Outcome.{Outcome, value, absent, number, and_then}
+use Rattle.reads.specs.Outcome.{Outcome, value, absent, refused, and_then}
 use Rattle.reads.specs.Table.{records}
 use Rattle.reads.proofs.Tests.{choose_true}
 use Rattle.pointers.specs.Tables.{Tables, rebase_words, bind_words}
-use Rattle.pointers.specs.Question.{asked_outcome}
 use Rattle.pointers.specs.ImageInfo.{info_of, image_info}
 use Rattle.pointers.specs.Index.{indexed, index_length}
 use Rattle.pointers.specs.Open.{asked_opening, opening, left_by, opened_index}
 use Rattle.pointers.specs.declared.imageinfo.ImageInfo.{ImageInfo}
-use Rattle.pointers.specs.declared.question.Asked.{Asked}
-use Rattle.pointers.specs.declared.question.Asked.TheVariants as asks
 use Rattle.pointers.proofs.Questions.{asked_on, asked_ends}
 use Rattle.pointers.proofs.Rooms.{tables_room, asked_index_lem, accepted_parts}
+use Rattle.std.specs.Prelude.{Result, Ok, Err}
+use Rattle.reads.specs.Answer.{answered}
+use Rattle.reads.specs.declared.answer.Question.{Question}
 
 -- w is what the code was answered.
-module _ (t : Tables) (w : Asked) (e : asked_outcome w ≡ asked_opening t) where
-  yes : w ≡ asks.Yes → asked_opening t ≡ value tt
-  yes g = sym e ∙ ap asked_outcome g
+module _ (t : Tables) (w : Result (Unit {0}) Question) (e : answered w ≡ asked_opening t) where
+  yes : w ≡ (Ok tt) → asked_opening t ≡ value tt
+  yes g = sym e ∙ ap answered g
 
-  pub open_room : w ≡ asks.Yes → (records rebase_words t.rebases ≤ 16777215) × (records bind_words t.binds ≤ 16777215)
+  pub open_room : w ≡ (Ok tt) → (records rebase_words t.rebases ≤ 16777215) × (records bind_words t.binds ≤ 16777215)
       × (index_length t.rebases t.binds ≤ length t.index)
   open_room g =
       let a = accepted_parts t tt (yes g) in
       let r = tables_room t tt a.tables_pass in
       (r.rebase_count, r.bind_count, asked_index_lem t tt a.index_pass)
 
-  pub open_info : w ≡ asks.Yes → (o : Outcome ImageInfo) → o ≡ image_info t.info → o ≡ opening t
+  pub open_info : w ≡ (Ok tt) → (o : Outcome ImageInfo) → o ≡ image_info t.info → o ≡ opening t
   unfolding opening
   open_info g o h = asked_on w (asked_opening t) _ o e g h
 
-  pub open_index : w ≡ asks.Yes → (l : List ℕ) → l ≡ indexed t.rebases t.binds t.index → l ≡ opened_index t
+  pub open_index : w ≡ (Ok tt) → (l : List ℕ) → l ≡ indexed t.rebases t.binds t.index → l ≡ opened_index t
   unfolding opened_index
   open_index g l h = rw (yes g) h
 
-  pub open_refused : (k : ℕ) → w ≡ asks.Refused k → number k ≡ opening t
+  pub open_refused : (k : Question) → w ≡ Err k → refused k ≡ opening t
   unfolding opening
   open_refused k g = asked_ends w (asked_opening t) _ k e g
 
-  pub open_kept : (k : ℕ) → w ≡ asks.Refused k → t.index ≡ opened_index t
+  pub open_kept : (k : Question) → w ≡ Err k → t.index ≡ opened_index t
   unfolding opened_index
   open_kept k g = rw (← e, g)
 
--- Image info that question 4 passes is there.
+-- Image info that question ImageInfoLength passes is there.
 info_there : (body : List ℕ) → 8 ≤ length body → (i : ImageInfo) × (image_info body ≡ value i)
 unfolding image_info
 info_there body h = (info_of _ _, choose_true _ _ (le-leb 8 (length body) h))
@@ -63,4 +63,4 @@ opened_index_by t = go (asked_opening t) refl
         let i = info_there t.info (tables_room t tt (accepted_parts t u e).tables_pass).info_bytes in
         rw i.1
     go (absent r) e = refl
-    go (number k) e = refl
+    go (refused k) e = refl

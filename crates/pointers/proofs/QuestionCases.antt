@@ -4,13 +4,14 @@ use mathlib.Core.Path.{◌≡◌, refl}
 use mathlib.Core.Bool.{true, false}
 use mathlib.Core.List.{List, [], ◌∷◌, ◌++◌}
 use lib.ListN.{replicate}
-use Rattle.reads.specs.Outcome.{number, choose}
+use Rattle.reads.specs.Outcome.{refused, choose}
 use Rattle.reads.specs.Files.{file_of, longest}
 use Rattle.reads.specs.Utf8.{judge, utf8}
 use Rattle.pointers.specs.Tables.{tables_of}
 use Rattle.pointers.specs.Question.{question, image_fits, whole_rows, every, section_fits, section_table, info_whole, segment_files, name_inside, name_utf8, asked_tables, bind_files, names_inside, names_utf8}
 use Rattle.pointers.specs.Slot.{bind_name}
 use Rattle.pointers.specs.Open.{asked_opening}
+use Rattle.reads.specs.declared.answer.Question.TheVariants.{NameInside, NameUtf8, FileLent}
 
 -- Question 3, of an image of 64 bytes: class_list and proto_list as given, the others absent.
 abbrev asked_sections : ℕ → ℕ → List ℕ
@@ -79,21 +80,21 @@ two_bad_names = 0x1000 ∷ 3 ∷ 1 ∷ 0 ∷ 0x1008 ∷ 4 ∷ 1 ∷ 0 ∷ []
 abbrev no_sections : List ℕ
 no_sections = replicate 15 0
 
-seven_of_all_first : asked_opening (tables_of asked_files [] no_sections (replicate 8 0) [] two_bad_names []) ≡ number 7
+seven_of_all_first : asked_opening (tables_of asked_files [] no_sections (replicate 8 0) [] two_bad_names []) ≡ refused NameInside
 unfolding asked_opening asked_tables question image_fits longest whole_rows segment_files section_table every section_fits info_whole bind_files names_inside name_inside file_of choose
 seven_of_all_first = refl
 
 -- 14 of every record before 8: the index here has no word.
-fourteen_before_eight : asked_opening (tables_of asked_files [] no_sections (replicate 8 0) [] (0x1000 ∷ 3 ∷ 1 ∷ 0 ∷ []) []) ≡ number 14
+fourteen_before_eight : asked_opening (tables_of asked_files [] no_sections (replicate 8 0) [] (0x1000 ∷ 3 ∷ 1 ∷ 0 ∷ []) []) ≡ refused NameUtf8
 unfolding asked_opening asked_tables question image_fits longest whole_rows segment_files section_table every section_fits info_whole bind_files names_inside name_inside names_utf8 name_utf8 file_of utf8 judge choose
 fourteen_before_eight = refl
 
 -- Later, of the record used: 7 for one outside, 14 for one that is inside and not UTF-8.
-used_not_utf8 : bind_name asked_files two_bad_names 0 ≡ number 14
+used_not_utf8 : bind_name asked_files two_bad_names 0 ≡ refused NameUtf8
 unfolding bind_name question name_inside name_utf8 file_of utf8 judge choose
 used_not_utf8 = refl
 
-used_outside : bind_name asked_files two_bad_names 1 ≡ number 7
+used_outside : bind_name asked_files two_bad_names 1 ≡ refused NameInside
 unfolding bind_name question name_inside file_of choose
 used_outside = refl
 
@@ -107,7 +108,7 @@ unfolding segment_files every
 segment_not_lent = refl
 
 -- It is asked before 3: here the section table is empty.
-eighteen_before_three : asked_tables (tables_of asked_files (0x1000 ∷ 4 ∷ 0 ∷ 4 ∷ 2 ∷ []) [] [] [] [] []) ≡ number 18
+eighteen_before_three : asked_tables (tables_of asked_files (0x1000 ∷ 4 ∷ 0 ∷ 4 ∷ 2 ∷ []) [] [] [] [] []) ≡ refused FileLent
 unfolding asked_tables question image_fits longest whole_rows segment_files every choose
 eighteen_before_three = refl
 
@@ -115,10 +116,10 @@ eighteen_before_three = refl
 abbrev unlent_name : List ℕ
 unlent_name = 0x1000 ∷ 4 ∷ 1 ∷ 0 ∷ 0x1008 ∷ 0 ∷ 1 ∷ 2 ∷ []
 
-eighteen_of_all_first : asked_opening (tables_of asked_files [] no_sections (replicate 8 0) [] unlent_name []) ≡ number 18
+eighteen_of_all_first : asked_opening (tables_of asked_files [] no_sections (replicate 8 0) [] unlent_name []) ≡ refused FileLent
 unfolding asked_opening asked_tables question image_fits longest whole_rows segment_files section_table every section_fits info_whole bind_files choose
 eighteen_of_all_first = refl
 
-used_not_lent : bind_name asked_files unlent_name 1 ≡ number 18
+used_not_lent : bind_name asked_files unlent_name 1 ≡ refused FileLent
 unfolding bind_name question choose
 used_not_lent = refl

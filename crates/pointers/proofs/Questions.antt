@@ -10,42 +10,43 @@ use native.Mathlib.Numerals.{add-one}
 use lib.Dec.{leb, eqb}
 use lib.ListN.{length}
 use borrow.Author.Tests.{lt-leb, leb-true, eq-eqb, ne_eqb, eqb-true}
-use Rattle.reads.specs.Outcome.{Outcome, value, number, and_then, choose}
+use Rattle.reads.specs.Outcome.{Outcome, value, refused, and_then, choose}
 use Rattle.reads.specs.Table.{records}
 use Rattle.reads.proofs.Tests.{both_true}
 use Rattle.reads.proofs.Outcomes.{on_value, on_number}
 use Rattle.pointers.specs.Tables.{tables_of, section_words, chains, section_table_words}
-use Rattle.pointers.specs.Question.{question, asked_outcome, whole_rows, section_fits, every, section_row_fits, section_table, index_fits, asked_tables}
-use Rattle.pointers.specs.declared.question.Asked.{Asked}
-use Rattle.pointers.specs.declared.question.Asked.TheVariants as asks
+use Rattle.pointers.specs.Question.{question, whole_rows, section_fits, every, section_row_fits, section_table, index_fits, asked_tables}
+use Rattle.std.specs.Prelude.{Result, Ok, Err}
+use Rattle.reads.specs.Answer.{answered}
+use Rattle.reads.specs.declared.answer.Question.{Question}
 
 -- A question that says yes goes on, and one that says no ends.
-pub question_yes : (k : ℕ) (b : Bool) → b ≡ true → question k b ≡ value tt
+pub question_yes : (k : Question) (b : Bool) → b ≡ true → question k b ≡ value tt
 unfolding question choose
 question_yes k b e = rw e
 
-pub question_no : (k : ℕ) (b : Bool) → b ≡ false → question k b ≡ number k
+pub question_no : (k : Question) (b : Bool) → b ≡ false → question k b ≡ refused k
 unfolding question choose
 question_no k b e = rw e
 
-pub after_yes : {A : Type 0} (k : ℕ) (b : Bool) (f : Unit {0} → Outcome A) {y : Outcome A} → b ≡ true → y ≡ f tt → y ≡ and_then (question k b) f
+pub after_yes : {A : Type 0} (k : Question) (b : Bool) (f : Unit {0} → Outcome A) {y : Outcome A} → b ≡ true → y ≡ f tt → y ≡ and_then (question k b) f
 after_yes k b f e g = rw (question_yes k b e) g
 
-pub after_no : {A : Type 0} (k : ℕ) (b : Bool) (f : Unit {0} → Outcome A) → b ≡ false → number k ≡ and_then (question k b) f
+pub after_no : {A : Type 0} (k : Question) (b : Bool) (f : Unit {0} → Outcome A) → b ≡ false → refused k ≡ and_then (question k b) f
 after_no k b f e = rw (question_no k b e)
 
-pub question_came : (k : ℕ) (b : Bool) (u : Unit {0}) → question k b ≡ value u → b ≡ true
+pub question_came : (k : Question) (b : Bool) (u : Unit {0}) → question k b ≡ value u → b ≡ true
 unfolding question choose
 question_came k true u e = refl
 question_came k false u e = let z : ◌≡◌ {A = ℕ} 0 1 = cc in absurd (omega arith)
 
 -- The answer of the code, matched: a yes goes on, a number ends.
 module _ {B : Type 0} where
-  pub asked_on : (w : Asked) (x : Outcome (Unit {0})) (f : Unit {0} → Outcome B) (y : Outcome B) → asked_outcome w ≡ x → w ≡ asks.Yes → y ≡ f tt → y ≡ and_then x f
-  asked_on w x f y e g h = on_value asked_outcome f e g refl h
+  pub asked_on : (w : Result (Unit {0}) Question) (x : Outcome (Unit {0})) (f : Unit {0} → Outcome B) (y : Outcome B) → answered w ≡ x → w ≡ (Ok tt) → y ≡ f tt → y ≡ and_then x f
+  asked_on w x f y e g h = on_value answered f e g refl h
 
-  pub asked_ends : (w : Asked) (x : Outcome (Unit {0})) (f : Unit {0} → Outcome B) (k : ℕ) → asked_outcome w ≡ x → w ≡ asks.Refused k → number k ≡ and_then x f
-  asked_ends w x f k e g = on_number asked_outcome f e g refl
+  pub asked_ends : (w : Result (Unit {0}) Question) (x : Outcome (Unit {0})) (f : Unit {0} → Outcome B) (k : Question) → answered w ≡ x → w ≡ Err k → refused k ≡ and_then x f
+  asked_ends w x f k e g = on_number answered f e g refl
 
 -- The questions 1 to 6 ask nothing of the index.
 pub asked_any_index : (files : List (List ℕ)) (segments sections info rebases binds one other : List ℕ)
@@ -97,7 +98,7 @@ module _ (test : ℕ → Bool) where
       (λ less. every_at n both.0 i less)
       (eq-or-lt_of_le (le_of_suc-le-suc h))
 
--- Each row of a section table that passes question 3 fits.
+-- Each row of a section table that passes question SectionTable fits.
 pub section_row : (n : ℕ) (ws : List ℕ) → section_table n ws ≡ true → (i : ℕ) → i < 5 → section_row_fits n ws i ≡ true
 unfolding section_table
 section_row n ws e i h =

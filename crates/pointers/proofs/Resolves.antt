@@ -1,4 +1,4 @@
--- A slot at the first of bytes that can be read resolves, unless question 9 refuses it: no name at +0 of a record is Unresolved.
+-- A slot at the first of bytes that can be read resolves, unless question ChainOrder refuses it: no name at +0 of a record is Unresolved.
 use Prim.Native.Nat.{ℕ, ◌+◌, ◌≤◌}
 use mathlib.Core.Path.{◌≡◌, refl}
 use mathlib.Core.Bool.{Bool, true, false}
@@ -7,7 +7,7 @@ use native.Mathlib.Omega.{arith}
 use lib.Dec.{leb}
 use lib.ListN.{length}
 use borrow.Author.Tests.{leb-true}
-use Rattle.reads.specs.Outcome.{Outcome, value, absent, number, because, or_else, choose}
+use Rattle.reads.specs.Outcome.{Outcome, value, absent, refused, because, or_else, choose}
 use Rattle.reads.specs.Files.{file_of}
 use Rattle.reads.specs.Segment.{rows, lookup}
 use Rattle.reads.specs.Place.{Image, le, part, readable_at, readable, word}
@@ -53,5 +53,5 @@ slot_read_resolves m rebases index setting va k p l e r = go (rebase_at rebases 
     go (value a) s w q = let z : ◌≡◌ {A = ℕ} 0 1 = cc in omega arith
     go (absent why) (value a) w q = let z : ◌≡◌ {A = ℕ} 0 1 = cc in omega arith
     go (absent why) (absent a) w q = let t = w.1 in let z : ◌≡◌ {A = ℕ} 0 1 = cc in omega arith
-    go (absent why) (number a) w q = let z : ◌≡◌ {A = ℕ} 0 1 = cc in omega arith
-    go (number n) s w q = let z : ◌≡◌ {A = ℕ} 0 1 = cc in omega arith
+    go (absent why) (refused a) w q = let z : ◌≡◌ {A = ℕ} 0 1 = cc in omega arith
+    go (refused n) s w q = let z : ◌≡◌ {A = ℕ} 0 1 = cc in omega arith

@@ -15,6 +15,7 @@ use Rattle.pointers.specs.Question.{question, image_fits, whole_rows, segment_fi
 use Rattle.pointers.specs.Index.{index_length}
 use Rattle.pointers.specs.Open.{asked_opening}
 use Rattle.pointers.proofs.Questions.{question_came, rows_most, index_room}
+use Rattle.reads.specs.declared.answer.Question.TheVariants.{FileLength, SegmentTable, SectionTable, ImageInfoLength, RebaseTable, NameInside, NameUtf8, FileLent, BindTable, IndexLength}
 
 pub record Room (t : Tables) : Type 0 where
   pub image_length : longest t.files < 2 ^ 32
@@ -27,19 +28,19 @@ pub record Room (t : Tables) : Type 0 where
 pub tables_room : (t : Tables) (u : Unit {0}) → asked_tables t ≡ value u → Room t
 unfolding asked_tables image_fits info_whole
 tables_room t u e =
-    let a = then_came (question 1 (image_fits (longest t.files))) _ u e in
-    let b = then_came (question 2 (whole_rows segment_words 64 (length t.segments))) _ u a.2 in
-    let g = then_came (question 18 (segment_files t.files t.segments)) _ u b.2 in
-    let c = then_came (question 3 (section_table (longest t.files) t.sections)) _ u g.2 in
-    let d = then_came (question 4 (info_whole (length t.info))) _ u c.2 in
-    let f = then_came (question 5 (whole_rows rebase_words 16777215 (length t.rebases))) _ u d.2 in
+    let a = then_came (question FileLength (image_fits (longest t.files))) _ u e in
+    let b = then_came (question SegmentTable (whole_rows segment_words 64 (length t.segments))) _ u a.2 in
+    let g = then_came (question FileLent (segment_files t.files t.segments)) _ u b.2 in
+    let c = then_came (question SectionTable (section_table (longest t.files) t.sections)) _ u g.2 in
+    let d = then_came (question ImageInfoLength (info_whole (length t.info))) _ u c.2 in
+    let f = then_came (question RebaseTable (whole_rows rebase_words 16777215 (length t.rebases))) _ u d.2 in
     record {
-      image_length = omega (arith, leb-true (longest t.files) 4294967295 (question_came 1 _ _ a.1));
-      segment_count = rows_most segment_words 64 (length t.segments) (question_came 2 _ _ b.1);
-      sections_fit = question_came 3 _ _ c.1;
-      info_bytes = leb-true 8 (length t.info) (question_came 4 _ _ d.1);
-      rebase_count = rows_most rebase_words 16777215 (length t.rebases) (question_came 5 _ _ f.1);
-      bind_count = rows_most bind_words 16777215 (length t.binds) (question_came 6 _ _ f.2);
+      image_length = omega (arith, leb-true (longest t.files) 4294967295 (question_came FileLength _ _ a.1));
+      segment_count = rows_most segment_words 64 (length t.segments) (question_came SegmentTable _ _ b.1);
+      sections_fit = question_came SectionTable _ _ c.1;
+      info_bytes = leb-true 8 (length t.info) (question_came ImageInfoLength _ _ d.1);
+      rebase_count = rows_most rebase_words 16777215 (length t.rebases) (question_came RebaseTable _ _ f.1);
+      bind_count = rows_most bind_words 16777215 (length t.binds) (question_came BindTable _ _ f.2);
     }
 
 pub asked_tables_lem : (t : Tables) (u : Unit {0}) → asked t ≡ value u → asked_tables t ≡ value tt
@@ -48,7 +49,7 @@ asked_tables_lem t u e = (then_came (asked_tables t) (λ _. asked_index t) u e).
 
 pub asked_index_lem : (t : Tables) (u : Unit {0}) → asked_index t ≡ value u → index_length t.rebases t.binds ≤ length t.index
 unfolding asked_index
-asked_index_lem t u e = index_room _ _ _ (question_came 8 _ _ e)
+asked_index_lem t u e = index_room _ _ _ (question_came IndexLength _ _ e)
 
 -- What opening asks, taken apart.
 pub record Accepted (t : Tables) : Type 0 where
@@ -62,13 +63,13 @@ pub accepted_parts : (t : Tables) (u : Unit {0}) → asked_opening t ≡ value u
 unfolding asked_opening
 accepted_parts t u e =
     let a = then_came (asked_tables t) _ u e in
-    let d = then_came (question 18 (bind_files t.files t.binds)) _ u a.2 in
-    let b = then_came (question 7 (names_inside t.files t.binds)) _ u d.2 in
-    let c = then_came (question 14 (names_utf8 t.files t.binds)) _ u b.2 in
+    let d = then_came (question FileLent (bind_files t.files t.binds)) _ u a.2 in
+    let b = then_came (question NameInside (names_inside t.files t.binds)) _ u d.2 in
+    let c = then_came (question NameUtf8 (names_utf8 t.files t.binds)) _ u b.2 in
     record {
       tables_pass = a.1;
-      names_lent = question_came 18 _ _ d.1;
-      names_in = question_came 7 _ _ b.1;
-      names_good = question_came 14 _ _ c.1;
+      names_lent = question_came FileLent _ _ d.1;
+      names_in = question_came NameInside _ _ b.1;
+      names_good = question_came NameUtf8 _ _ c.1;
       index_pass = c.2;
     }

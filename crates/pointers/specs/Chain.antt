@@ -1,10 +1,11 @@
--- The lookup of a slot by its chain, for any contents of the index (document 01, question 9).
+-- The lookup of a slot by its chain, for any contents of the index (document 01, question ChainOrder).
 use Rattle.std.specs.Prelude.{ℕ, zero, suc, ◌+◌, ◌-◌, ◌≤◌, ◌<◌, ◌≡◌, Bool, true, ◌&&◌, List, [], ◌∷◌, eqb, leb, get_or}
-use Rattle.reads.specs.Outcome.{Outcome, value, absent, number, choose}
+use Rattle.reads.specs.Outcome.{Outcome, value, absent, refused, choose}
 use Rattle.reads.specs.Table.{records}
 use Rattle.reads.specs.declared.answer.Reason.TheVariants.{NoRecord}
 use Rattle.pointers.specs.Tables.{slot_of}
 use Rattle.pointers.specs.Index.{chain_of}
+use Rattle.reads.specs.declared.answer.Question.TheVariants.{ChainOrder}
 
 -- The record numbers of a chain from n on, at most so many: it is followed up to the slot's record, and zero is the end.
 unfoldable pub chain_from : ℕ → List ℕ → ℕ → ℕ → List ℕ → ℕ → ℕ → List ℕ
@@ -23,7 +24,7 @@ unfoldable pub slots_record : ℕ → List ℕ → ℕ → List ℕ → Outcome 
 slots_record width table slot [] = absent NoRecord
 slots_record width table slot (n ∷ ns) = choose (eqb (slot_of width table (n - 1)) slot) (value n) (slots_record width table slot ns)
 
--- A lookup asks question 9 of the slot's chain; one that goes down from the record count has no more numbers than that. As the code goes
+-- A lookup asks question ChainOrder of the slot's chain; one that goes down from the record count has no more numbers than that. As the code goes
 -- on, this is `follow` below (proofs/ChainAsked.antt).
 unfoldable pub slots_chain : ℕ → List ℕ → ℕ → ℕ → ℕ → List ℕ → List ℕ
 slots_chain width table heads nexts slot index =
@@ -33,7 +34,7 @@ slots_chain width table heads nexts slot index =
 -- record, or the chain goes on at its next word. Zero is the end; an n that is never met is above the limit, that is, not below the one
 -- before it: 9.
 unfoldable pub follow_from : ℕ → List ℕ → ℕ → ℕ → List ℕ → ℕ → ℕ → Outcome ℕ
-follow_from width table nexts slot index zero n = choose (eqb n 0) (absent NoRecord) (number 9)
+follow_from width table nexts slot index zero n = choose (eqb n 0) (absent NoRecord) (refused ChainOrder)
 follow_from width table nexts slot index (suc limit) n =
     choose (eqb n (suc limit))
     (choose (eqb (slot_of width table limit) slot)

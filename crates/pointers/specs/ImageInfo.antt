@@ -1,16 +1,9 @@
 -- The image info (objc-abi.h, objc_image_info; imageinfo.rs): version and flags, four bytes each.
 use Rattle.std.specs.Prelude.{ℕ, ◌/◌, ◌%◌, ◌^◌, Bool, List, leb, eqb, length}
 use Rattle.reads.specs.Outcome.{Outcome, value, absent, choose}
-use Rattle.reads.specs.Answer.{missed}
 use Rattle.reads.specs.declared.answer.Reason.TheVariants.{Unreadable}
 use Rattle.reads.specs.Place.{le, part}
 use Rattle.pointers.specs.declared.imageinfo.ImageInfo.{ImageInfo}
-use Rattle.pointers.specs.declared.imageinfo.ImageInfoAnswer.{ImageInfoAnswer}
-use Rattle.pointers.specs.declared.imageinfo.ImageInfoAnswer.TheVariants as answer
-
-abbrev pub info_outcome : ImageInfoAnswer → Outcome ImageInfo
-info_outcome (answer.Info i) = value i
-info_outcome (answer.Missing m) = missed m
 
 abbrev pub info_of : ℕ → ℕ → ImageInfo
 info_of version flags = record { version = version; flags = flags }

@@ -1,19 +1,20 @@
 -- Opening (document 01, "The questions, in order"): 1 to 7, 18, 14 and 8 are asked before the first write; then the index is written.
 use Rattle.std.specs.Prelude.{ℕ, ◌≡◌, List}
-use Rattle.reads.specs.Outcome.{Outcome, value, absent, number, and_then}
+use Rattle.reads.specs.Outcome.{Outcome, value, absent, refused, and_then}
 use Rattle.pointers.specs.Tables.{Tables, with_index}
 use Rattle.pointers.specs.Question.{question, asked_tables, asked_index, bind_files, names_inside, names_utf8}
 use Rattle.pointers.specs.ImageInfo.{image_info}
 use Rattle.pointers.specs.Index.{indexed}
 use Rattle.pointers.specs.declared.imageinfo.ImageInfo.{ImageInfo}
+use Rattle.reads.specs.declared.answer.Question.TheVariants.{NameInside, NameUtf8, FileLent}
 
 -- The questions 1 to 6, 18 of every segment among them, then 18 of every bind record, 7 of every one, 14 of every one, and 8.
 unfoldable pub asked_opening : Tables → Outcome (Unit {0})
 asked_opening t =
     and_then (asked_tables t) (λ _.
-    and_then (question 18 (bind_files t.files t.binds)) (λ _.
-    and_then (question 7 (names_inside t.files t.binds)) (λ _.
-    and_then (question 14 (names_utf8 t.files t.binds)) (λ _.
+    and_then (question FileLent (bind_files t.files t.binds)) (λ _.
+    and_then (question NameInside (names_inside t.files t.binds)) (λ _.
+    and_then (question NameUtf8 (names_utf8 t.files t.binds)) (λ _.
     asked_index t))))
 
 -- What opening gives: the image info, or the number of the first question that says no.
@@ -24,7 +25,7 @@ opening t = and_then (asked_opening t) (λ _. image_info t.info)
 abbrev pub left_by : {A : Type 0} → Outcome A → List ℕ → List ℕ → List ℕ
 left_by (value _) new old = new
 left_by (absent r) new old = old
-left_by (number k) new old = old
+left_by (refused k) new old = old
 
 unfoldable pub opened_index : Tables → List ℕ
 opened_index t = left_by (asked_opening t) (indexed t.rebases t.binds t.index) t.index

@@ -1,6 +1,6 @@
 -- The questions of document 01 that are asked of tables, in its order. Each is a test that says yes (true) or no.
 use Rattle.std.specs.Prelude.{ℕ, zero, suc, ◌+◌, ◌*◌, ◌/◌, ◌%◌, Bool, true, ◌&&◌, ◌||◌, List, leb, eqb, length}
-use Rattle.reads.specs.Outcome.{Outcome, value, number, and_then, choose}
+use Rattle.reads.specs.Outcome.{Outcome, value, refused, and_then, choose}
 use Rattle.reads.specs.Table.{records, word_of}
 use Rattle.reads.specs.Files.{is_lent, file_of, longest}
 use Rattle.reads.specs.Segment.{segment_words, segment_at}
@@ -8,18 +8,14 @@ use Rattle.reads.specs.Place.{part}
 use Rattle.reads.specs.Utf8.{utf8}
 use Rattle.reads.specs.declared.text.Text.{Text}
 use Rattle.pointers.specs.Tables.{Tables, under, reading_new, section_words, bind_words, section_table_words, rebase_words, chains, bind_record}
-use Rattle.pointers.specs.declared.question.Asked.{Asked}
-use Rattle.pointers.specs.declared.question.Asked.TheVariants as answer
+use Rattle.reads.specs.declared.answer.Question.TheVariants.{FileLength, SegmentTable, SectionTable, ImageInfoLength, RebaseTable, BindTable, IndexLength, FileLent}
+use Rattle.reads.specs.declared.answer.Question.{Question}
 
 -- A question with its number: a yes goes on, a no gives the number.
-unfoldable pub question : ℕ → Bool → Outcome (Unit {0})
-question k says = choose says (value tt) (number k)
+unfoldable pub question : Question → Bool → Outcome (Unit {0})
+question k says = choose says (value tt) (refused k)
 
 -- Document 01's outcome of each case of the code's answer.
-abbrev pub asked_outcome : Asked → Outcome (Unit {0})
-asked_outcome answer.Yes = value tt
-asked_outcome (answer.Refused k) = number k
-
 -- 1: image at most 4,294,967,295 bytes? Asked of the longest file, it is asked of each.
 unfoldable pub image_fits : ℕ → Bool
 image_fits n = leb n 4294967295
@@ -86,17 +82,17 @@ index_fits rebases binds words = leb (2 * chains + rebases + binds) words
 -- The questions 1 to 6, 18 of every segment after 2; a section's length is measured against the longest file.
 unfoldable pub asked_tables : Tables → Outcome (Unit {0})
 asked_tables t =
-    and_then (question 1 (image_fits (longest t.files))) (λ _.
-    and_then (question 2 (whole_rows segment_words 64 (length t.segments))) (λ _.
-    and_then (question 18 (segment_files t.files t.segments)) (λ _.
-    and_then (question 3 (section_table (longest t.files) t.sections)) (λ _.
-    and_then (question 4 (info_whole (length t.info))) (λ _.
-    and_then (question 5 (whole_rows rebase_words 16777215 (length t.rebases))) (λ _.
-    question 6 (whole_rows bind_words 16777215 (length t.binds))))))))
+    and_then (question FileLength (image_fits (longest t.files))) (λ _.
+    and_then (question SegmentTable (whole_rows segment_words 64 (length t.segments))) (λ _.
+    and_then (question FileLent (segment_files t.files t.segments)) (λ _.
+    and_then (question SectionTable (section_table (longest t.files) t.sections)) (λ _.
+    and_then (question ImageInfoLength (info_whole (length t.info))) (λ _.
+    and_then (question RebaseTable (whole_rows rebase_words 16777215 (length t.rebases))) (λ _.
+    question BindTable (whole_rows bind_words 16777215 (length t.binds))))))))
 
 -- Question 8.
 unfoldable pub asked_index : Tables → Outcome (Unit {0})
-asked_index t = question 8 (index_fits (records rebase_words t.rebases) (records bind_words t.binds) (length t.index))
+asked_index t = question IndexLength (index_fits (records rebase_words t.rebases) (records bind_words t.binds) (length t.index))
 
 -- The first of the questions 1 to 6, 18 of segments among them, and 8 that says no: what every call after opening asks, whatever the setting.
 unfoldable pub asked_lent : Tables → Outcome (Unit {0})

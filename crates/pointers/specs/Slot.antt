@@ -1,6 +1,6 @@
 -- What the tables say of a slot, and pointer slots (document 01, Reading rules; mod.rs).
 use Rattle.std.specs.Prelude.{ℕ, ◌-◌, ◌*◌, Bool, false, ◌&&◌, List, ltb}
-use Rattle.reads.specs.Outcome.{Outcome, value, number, Unrefused, and_then, because, or_else, or_zero, choose, sum64}
+use Rattle.reads.specs.Outcome.{Outcome, value, refused, Unrefused, and_then, because, or_else, or_zero, choose, sum64}
 use Rattle.reads.specs.Place.{Image, word, word_in}
 use Rattle.reads.specs.Segment.{place_at}
 use Rattle.reads.specs.declared.spot.Spot.{Spot}
@@ -16,6 +16,7 @@ use Rattle.pointers.specs.declared.setting.Lookup.{Lookup}
 use Rattle.pointers.specs.declared.setting.Lookup.TheVariants.{Chained, Sorted}
 use Rattle.pointers.specs.declared.setting.Setting.{Setting}
 use Rattle.pointers.specs.Symbol.{stripped_name}
+use Rattle.reads.specs.declared.answer.Question.TheVariants.{NameInside, ChainOrder, NameUtf8, FileLent}
 
 -- The number of a slot's rebase record, counted from 1: by its chain, as document 01 has it, or by halves.
 abbrev pub rebase_number : Lookup → List ℕ → List ℕ → ℕ → Outcome ℕ
@@ -30,9 +31,9 @@ rebase_at rebases index setting slot =
 -- The name of bind record i, counted from 0; the questions 18, 7 and 14 are asked of it.
 unfoldable pub bind_name : List (List ℕ) → List ℕ → ℕ → Outcome Text
 bind_name files binds i =
-    and_then (question 18 (bind_lent files binds i)) (λ _.
-    and_then (question 7 (bind_inside files binds i)) (λ _.
-    and_then (question 14 (bind_utf8 files binds i)) (λ _.
+    and_then (question FileLent (bind_lent files binds i)) (λ _.
+    and_then (question NameInside (bind_inside files binds i)) (λ _.
+    and_then (question NameUtf8 (bind_utf8 files binds i)) (λ _.
     value (bind_record binds i).name)))
 
 -- The name of a slot's bind.
@@ -101,7 +102,7 @@ pointer_or0 t va k = pointer_or0_at (image_in t) t.rebases t.index t.setting va 
 -- What is made of lookups: a value, absent, or the number of one of the four questions that lookups ask.
 pub data LookupOutcome {A : Type 0} : Outcome A → Type 0 where
   unrefused : {o : Outcome A} → Unrefused o → LookupOutcome o
-  is_9 : LookupOutcome (number 9)
-  is_18 : LookupOutcome (number 18)
-  is_7 : LookupOutcome (number 7)
-  is_14 : LookupOutcome (number 14)
+  is_9 : LookupOutcome (refused ChainOrder)
+  is_18 : LookupOutcome (refused FileLent)
+  is_7 : LookupOutcome (refused NameInside)
+  is_14 : LookupOutcome (refused NameUtf8)

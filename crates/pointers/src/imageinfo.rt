@@ -3,7 +3,8 @@
 
 ghost use Rattle.std.specs.Prelude.{not, ◌≡◌, eqb};
 ghost use Rattle.reads.specs.Reference.{before};
-ghost use Rattle.pointers.specs.ImageInfo.{info_outcome, image_info, bit, swift_unstable, swift_stable};
+ghost use Rattle.pointers.specs.ImageInfo.{image_info, bit, swift_unstable, swift_stable};
+ghost use Rattle.reads.specs.Answer.{outcome};
 
 use reads::answer::{Missing, Reason};
 use reads::place::u32_from;
@@ -13,12 +14,6 @@ use reads::place::u32_from;
 pub struct ImageInfo {
     pub version: u32,
     pub flags: u32,
-}
-
-#[derive(Clone, Copy)]
-pub enum ImageInfoAnswer {
-    Info(ImageInfo),
-    Missing(Missing),
 }
 
 // Categories have been attached by dyld in the shared cache.
@@ -44,15 +39,15 @@ pub const OBJC_IMAGE_SWIFT_STABLE_VERSION_MASK: u32 = 0xFFFF_0000;
 
 impl ImageInfo {
     // The image info of a section's bytes; absent where there are fewer than 8.
-    pub fn parse(body: &[u8]) -> ImageInfoAnswer
-        ensures { info_outcome result ≡ image_info (before body) }
+    pub fn parse(body: &[u8]) -> Result<ImageInfo, Missing>
+        ensures { outcome result ≡ image_info (before body) }
     {
         if body.len() < 8 {
-            return ImageInfoAnswer::Missing(Missing::Absent(Reason::Unreadable));
+            return Err(Missing::Absent(Reason::Unreadable));
         }
         let version = u32_from(body, 0, 0);
         let flags = u32_from(body, 0, 4);
-        ImageInfoAnswer::Info(ImageInfo { version, flags })
+        Ok(ImageInfo { version, flags })
     }
 
     // Each flag has a method, as in the Rust; a helper that takes the mask would be no shorter than the `&`.

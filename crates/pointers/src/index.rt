@@ -1,16 +1,16 @@
 // The index over the rebase and bind tables, in u32 words that the caller lends: the Rust's two HashMaps.
 ghost use Rattle.std.specs.Prelude.{◌≡◌, ◌+◌, ◌*◌, ◌^◌, ◌≤◌, ◌<◌, length, get_or};
 ghost use Rattle.reads.specs.Reference.{before};
-ghost use Rattle.reads.specs.Answer.{word_outcome};
 ghost use Rattle.reads.specs.Table.{records};
 ghost use Rattle.pointers.specs.Tables.{rebase_words, bind_words, chains};
 ghost use Rattle.pointers.specs.Index.{chain_of, indexed, index_length};
 ghost use Rattle.pointers.specs.IndexFold.{cleared, linked, chained};
 ghost use Rattle.pointers.specs.Chain.{no_rebase, follow};
+ghost use Rattle.reads.specs.Answer.{outcome};
 
 use crate::table::{Bind, Rebase};
 use reads::address::Address;
-use reads::answer::{Missing, Reason, Word};
+use reads::answer::{Missing, Question, Reason};
 
 // The heads of the chains of both tables, before the next words.
 pub const HEADS: usize = 2 * Address::CHAINS;
@@ -94,21 +94,21 @@ pub(crate) fn find(
     heads: usize,
     nexts: usize,
     slot: u64,
-) -> Word
+) -> Result<u64, Missing>
     requires { (0 < width) × (heads ≤ chains) × (nexts + records width table.now < 2 ^ 64) }
-    ensures { word_outcome result ≡ follow width (before table) heads nexts slot (before index) }
+    ensures { outcome result ≡ follow width (before table) heads nexts slot (before index) }
 {
     let mut limit = table.len() / width;
     let mut number = index_word(index, heads + chain(slot));
     while number != 0 {
         if limit < number {
-            return Word::Missing(Missing::Refused(9));
+            return Err(Missing::Refused(Question::ChainOrder));
         }
         limit = number - 1;
         if table[limit * width] == slot {
-            return Word::Value(number as u64);
+            return Ok(number as u64);
         }
         number = index_word(index, nexts + limit);
     }
-    Word::Missing(Missing::Absent(Reason::NoRecord))
+    Err(Missing::Absent(Reason::NoRecord))
 }

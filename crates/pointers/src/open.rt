@@ -3,14 +3,13 @@ ghost use Rattle.std.specs.Prelude.{◌≡◌};
 ghost use Rattle.reads.specs.Files.{files_of};
 ghost use Rattle.reads.specs.Reference.{before};
 ghost use Rattle.pointers.specs.Tables.{lent, tables_of};
-ghost use Rattle.pointers.specs.Question.{asked_outcome};
-ghost use Rattle.pointers.specs.ImageInfo.{info_outcome};
 ghost use Rattle.pointers.specs.Open.{asked_opening, opening, opened_index};
+ghost use Rattle.reads.specs.Answer.{outcome, answered};
 
-use crate::imageinfo::{ImageInfo, ImageInfoAnswer};
+use crate::imageinfo::ImageInfo;
 use crate::index::fill_index;
-use crate::question::{Asked, ask_index, ask_tables, bind_files, names_inside, names_utf8};
-use reads::answer::Missing;
+use crate::question::{ask_index, ask_tables, bind_files, names_inside, names_utf8};
+use reads::answer::{Missing, Question};
 
 // The questions 1 to 6, 18 of every segment among them, then 18 of every bind, 7 of every bind, 14 of every bind, and 8.
 #[tactic(auto, unfolding(crate::specs::Open::asked_opening, crate::specs::Question::asked_index), using(crate::proofs::Questions::in_order))]
@@ -22,24 +21,24 @@ fn ask_opening(
     rebases: &[u64],
     binds: &[u64],
     index: &[u32],
-) -> Asked
+) -> Result<(), Question>
     ensures { let t = lent files segments sections info rebases binds index in
-        asked_outcome result ≡ asked_opening t }
+        answered result ≡ asked_opening t }
 {
     match ask_tables(files, segments, sections, info, rebases, binds) {
-        Asked::Yes => {
+        Ok(()) => {
             if !bind_files(files, binds) {
-                return Asked::Refused(18);
+                return Err(Question::FileLent);
             }
             if !names_inside(files, binds) {
-                return Asked::Refused(7);
+                return Err(Question::NameInside);
             }
             if !names_utf8(files, binds) {
-                return Asked::Refused(14);
+                return Err(Question::NameUtf8);
             }
             ask_index(rebases, binds, index)
         }
-        Asked::Refused(k) => Asked::Refused(k),
+        Err(k) => Err(k),
     }
 }
 
@@ -52,17 +51,17 @@ pub fn open(
     rebases: &[u64],
     binds: &[u64],
     index: &mut [u32],
-) -> ImageInfoAnswer
+) -> Result<ImageInfo, Missing>
     ensures outcome { let t = tables_of (files_of files) (before segments) (before sections) (before info) (before rebases) (before binds) index.old in
-        info_outcome result ≡ opening t }
+        outcome result ≡ opening t }
     ensures contents { let t = tables_of (files_of files) (before segments) (before sections) (before info) (before rebases) (before binds) index.old in
         index.new ≡ opened_index t }
 {
     match ask_opening(files, segments, sections, info, rebases, binds, index) {
-        Asked::Yes => {
+        Ok(()) => {
             fill_index(rebases, binds, index);
             ImageInfo::parse(info)
         }
-        Asked::Refused(k) => ImageInfoAnswer::Missing(Missing::Refused(k)),
+        Err(k) => Err(Missing::Refused(k)),
     }
 }

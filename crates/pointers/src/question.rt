@@ -5,22 +5,17 @@ ghost use Rattle.reads.specs.Table.{records};
 ghost use Rattle.reads.specs.Files.{files_of};
 ghost use Rattle.reads.specs.Segment.{segment_words};
 ghost use Rattle.pointers.specs.Tables.{lent, tables_of, rebase_words, bind_words};
-ghost use Rattle.pointers.specs.Question.{question, asked_outcome, image_fits, whole_rows, section_fits, section_table, info_whole, segment_files, name_inside, name_utf8, index_fits, asked_tables, asked, bind_files, names_inside, names_utf8};
+ghost use Rattle.pointers.specs.Question.{question, image_fits, whole_rows, section_fits, section_table, info_whole, segment_files, name_inside, name_utf8, index_fits, asked_tables, asked, bind_files, names_inside, names_utf8};
+ghost use Rattle.reads.specs.Answer.{answered};
 
 use crate::index::HEADS;
 use crate::name::name_bytes;
 use crate::section::ObjcSection;
 use crate::table::{Bind, Rebase, every};
+use reads::answer::Question;
 use reads::files::{file_len, is_lent, longest};
 use reads::segment::Segment;
 use reads::text::{Text, utf8};
-
-// Yes to every question, or the number of the first that says no.
-#[derive(Clone, Copy)]
-pub enum Asked {
-    Yes,
-    Refused(u8),
-}
 
 // 1: is a file of the image at most 4,294,967,295 bytes long?
 #[tactic(auto, unfolding(crate::specs::Question::image_fits))]
@@ -163,45 +158,45 @@ pub fn ask_tables(
     info: &[u8],
     rebases: &[u64],
     binds: &[u64],
-) -> Asked
-    ensures { asked_outcome result ≡ asked_tables (tables_of (files_of files) (before segments) (before sections) (before info) (before rebases) (before binds) []) }
+) -> Result<(), Question>
+    ensures { answered result ≡ asked_tables (tables_of (files_of files) (before segments) (before sections) (before info) (before rebases) (before binds) []) }
 {
     let n = longest(files);
     if !image_fits(n) {
-        return Asked::Refused(1);
+        return Err(Question::FileLength);
     }
     if !segments_whole(segments.len()) {
-        return Asked::Refused(2);
+        return Err(Question::SegmentTable);
     }
     if !segment_files(files, segments) {
-        return Asked::Refused(18);
+        return Err(Question::FileLent);
     }
     if !section_table(sections, n) {
-        return Asked::Refused(3);
+        return Err(Question::SectionTable);
     }
     if !info_whole(info.len()) {
-        return Asked::Refused(4);
+        return Err(Question::ImageInfoLength);
     }
     if !rebases_whole(rebases.len()) {
-        return Asked::Refused(5);
+        return Err(Question::RebaseTable);
     }
     if !binds_whole(binds.len()) {
-        return Asked::Refused(6);
+        return Err(Question::BindTable);
     }
-    Asked::Yes
+    Ok(())
 }
 
 // 8, of the tables.
 #[tactic(auto, unfolding(crate::specs::Question::question, reads::specs::Outcome::choose))]
-pub(crate) fn ask_index(rebases: &[u64], binds: &[u64], index: &[u32]) -> Asked
-    ensures { asked_outcome result ≡ question 8 (index_fits (records rebase_words (before rebases)) (records bind_words (before binds)) (length (before index))) }
+pub(crate) fn ask_index(rebases: &[u64], binds: &[u64], index: &[u32]) -> Result<(), Question>
+    ensures { answered result ≡ question Question.IndexLength (index_fits (records rebase_words (before rebases)) (records bind_words (before binds)) (length (before index))) }
 {
     let rebase_count = rebases.len() / Rebase::WORDS;
     let bind_count = binds.len() / Bind::WORDS;
     if index_fits(rebase_count, bind_count, index.len()) {
-        return Asked::Yes;
+        return Ok(());
     }
-    Asked::Refused(8)
+    Err(Question::IndexLength)
 }
 
 // 1 to 6, 18 of every segment among them, and 8, in order: what every call after opening asks.
@@ -214,12 +209,12 @@ pub fn ask(
     rebases: &[u64],
     binds: &[u64],
     index: &[u32],
-) -> Asked
+) -> Result<(), Question>
     ensures { let t = lent files segments sections info rebases binds index in
-        asked_outcome result ≡ asked t }
+        answered result ≡ asked t }
 {
     match ask_tables(files, segments, sections, info, rebases, binds) {
-        Asked::Yes => ask_index(rebases, binds, index),
-        Asked::Refused(k) => Asked::Refused(k),
+        Ok(()) => ask_index(rebases, binds, index),
+        Err(k) => Err(k),
     }
 }

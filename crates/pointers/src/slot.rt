@@ -3,12 +3,12 @@
 ghost use Rattle.std.specs.Prelude.{◌≡◌, List, ℕ, ◌<◌};
 ghost use Rattle.reads.specs.Reference.{before};
 ghost use Rattle.reads.specs.Outcome.{or_zero};
-ghost use Rattle.reads.specs.Answer.{word_outcome, text_outcome};
 ghost use Rattle.reads.specs.Table.{records};
 ghost use Rattle.reads.specs.Files.{files_of};
 ghost use Rattle.reads.specs.Place.{image_of, lent_image};
 ghost use Rattle.pointers.specs.Tables.{bind_words};
 ghost use Rattle.pointers.specs.Slot.{rebase_number, rebase_at, bind_name, bind_at, stored, rebased_or, resolve, symbol_of, pointer_at, pointer_or0_at, unrebased, is_near, word_there, resolve_near};
+ghost use Rattle.reads.specs.Answer.{outcome};
 
 use crate::index::{HEADS, find, no_rebase};
 use crate::question::{name_inside, name_utf8};
@@ -17,15 +17,20 @@ use crate::sorted::find_sorted;
 use crate::symbol::strip_objc_symbol_prefix;
 use crate::table::{Bind, Rebase};
 use reads::address::Address;
-use reads::answer::{Missing, Reason, Word, because, checked_add, is_absent, or_zero};
+use reads::answer::{Missing, Question, Reason, because, checked_add, is_absent, or_zero};
 use reads::files::is_lent;
 use reads::place::{Place, read_u64, u64_in};
 use reads::spot::Spot;
-use reads::text::TextAnswer;
+use reads::text::Text;
 
 // The number of a slot's rebase record, counted from 1.
-fn rebase_number(rebases: &[u64], index: &[u32], setting: Setting, slot: u64) -> Word
-    ensures { word_outcome result ≡ rebase_number setting.lookup (before rebases) (before index) slot }
+fn rebase_number(
+    rebases: &[u64],
+    index: &[u32],
+    setting: Setting,
+    slot: u64,
+) -> Result<u64, Missing>
+    ensures { outcome result ≡ rebase_number setting.lookup (before rebases) (before index) slot }
 {
     let lookup = setting.lookup;
     match lookup {
@@ -36,36 +41,41 @@ fn rebase_number(rebases: &[u64], index: &[u32], setting: Setting, slot: u64) ->
 
 // The target of a slot's rebase.
 #[tactic(auto, unfolding(crate::specs::Slot::rebase_at))]
-pub fn rebase_at(rebases: &[u64], index: &[u32], setting: Setting, slot: u64) -> Word
-    ensures { word_outcome result ≡ rebase_at (before rebases) (before index) setting slot }
+pub fn rebase_at(
+    rebases: &[u64],
+    index: &[u32],
+    setting: Setting,
+    slot: u64,
+) -> Result<u64, Missing>
+    ensures { outcome result ≡ rebase_at (before rebases) (before index) setting slot }
 {
     match rebase_number(rebases, index, setting, slot) {
-        Word::Value(number) => {
+        Ok(number) => {
             let rebase = Rebase::at(rebases, number as usize - 1);
-            Word::Value(rebase.target)
+            Ok(rebase.target)
         }
-        Word::Missing(m) => Word::Missing(m),
+        Err(m) => Err(m),
     }
 }
 
 // The name of bind record i, counted from 0; the questions 18, 7 and 14 are asked of it.
 #[tactic(auto, unfolding(crate::specs::Slot::bind_name), using(crate::proofs::Questions::in_order))]
-fn bind_name(files: &[&[u8]], binds: &[u64], i: usize) -> TextAnswer
+fn bind_name(files: &[&[u8]], binds: &[u64], i: usize) -> Result<Text, Missing>
     requires { i < records bind_words binds.now }
-    ensures { text_outcome result ≡ bind_name (files_of files) (before binds) i }
+    ensures { outcome result ≡ bind_name (files_of files) (before binds) i }
 {
     let bind = Bind::at(binds, i);
     let name = bind.name;
     if !is_lent(files, name.file) {
-        return TextAnswer::Missing(Missing::Refused(18));
+        return Err(Missing::Refused(Question::FileLent));
     }
     if !name_inside(files, name) {
-        return TextAnswer::Missing(Missing::Refused(7));
+        return Err(Missing::Refused(Question::NameInside));
     }
     if !name_utf8(files, name) {
-        return TextAnswer::Missing(Missing::Refused(14));
+        return Err(Missing::Refused(Question::NameUtf8));
     }
-    TextAnswer::Found(name)
+    Ok(name)
 }
 
 // The name of a slot's bind.
@@ -76,24 +86,24 @@ pub fn bind_at(
     binds: &[u64],
     index: &[u32],
     slot: u64,
-) -> TextAnswer
-    ensures { text_outcome result ≡ bind_at (files_of files) (before rebases) (before binds) (before index) slot }
+) -> Result<Text, Missing>
+    ensures { outcome result ≡ bind_at (files_of files) (before rebases) (before binds) (before index) slot }
 {
     let nexts = HEADS + rebases.len() / Rebase::WORDS;
     match find(binds, Bind::WORDS, index, Address::CHAINS, nexts, slot) {
-        Word::Value(number) => bind_name(files, binds, number as usize - 1),
-        Word::Missing(m) => TextAnswer::Missing(m),
+        Ok(number) => bind_name(files, binds, number as usize - 1),
+        Err(m) => Err(m),
     }
 }
 
 // The word in a slot, its low 48 bits.
 #[tactic(auto, unfolding(crate::specs::Slot::stored))]
-fn stored(files: &[&[u8]], segments: &[u64], slot: u64) -> Word
-    ensures { word_outcome result ≡ stored (lent_image files segments) slot }
+fn stored(files: &[&[u8]], segments: &[u64], slot: u64) -> Result<u64, Missing>
+    ensures { outcome result ≡ stored (lent_image files segments) slot }
 {
     match read_u64(files, segments, slot) {
-        Word::Value(raw) => Word::Value(Address::strip(raw)),
-        Word::Missing(m) => Word::Missing(m),
+        Ok(raw) => Ok(Address::strip(raw)),
+        Err(m) => Err(m),
     }
 }
 
@@ -105,8 +115,8 @@ fn rebased_or_stored(
     index: &[u32],
     setting: Setting,
     slot: u64,
-) -> Word
-    ensures { word_outcome result ≡ rebased_or (lent_image files segments) (before rebases) (before index) setting slot }
+) -> Result<u64, Missing>
+    ensures { outcome result ≡ rebased_or (lent_image files segments) (before rebases) (before index) setting slot }
 {
     let target = rebase_at(rebases, index, setting, slot);
     if is_absent(target) {
@@ -124,8 +134,8 @@ pub fn resolve_pointer(
     index: &[u32],
     setting: Setting,
     slot: u64,
-) -> Word
-    ensures { word_outcome result ≡ resolve (lent_image files segments) (before rebases) (before index) setting slot }
+) -> Result<u64, Missing>
+    ensures { outcome result ≡ resolve (lent_image files segments) (before rebases) (before index) setting slot }
 {
     because(
         rebased_or_stored(files, segments, rebases, index, setting, slot),
@@ -141,8 +151,8 @@ pub fn slot_or_0(
     index: &[u32],
     setting: Setting,
     slot: u64,
-) -> Word
-    ensures { word_outcome result ≡ or_zero (resolve (lent_image files segments) (before rebases) (before index) setting slot) }
+) -> Result<u64, Missing>
+    ensures { outcome result ≡ or_zero (resolve (lent_image files segments) (before rebases) (before index) setting slot) }
 {
     or_zero(resolve_pointer(files, segments, rebases, index, setting, slot))
 }
@@ -157,12 +167,12 @@ pub fn pointer(
     setting: Setting,
     va: u64,
     k: u64,
-) -> Word
-    ensures { word_outcome result ≡ pointer_at (lent_image files segments) (before rebases) (before index) setting va k }
+) -> Result<u64, Missing>
+    ensures { outcome result ≡ pointer_at (lent_image files segments) (before rebases) (before index) setting va k }
 {
     match checked_add(va, k) {
-        Word::Value(slot) => resolve_pointer(files, segments, rebases, index, setting, slot),
-        Word::Missing(m) => Word::Missing(m),
+        Ok(slot) => resolve_pointer(files, segments, rebases, index, setting, slot),
+        Err(m) => Err(m),
     }
 }
 
@@ -176,12 +186,12 @@ pub fn pointer_or_0(
     setting: Setting,
     va: u64,
     k: u64,
-) -> Word
-    ensures { word_outcome result ≡ pointer_or0_at (lent_image files segments) (before rebases) (before index) setting va k }
+) -> Result<u64, Missing>
+    ensures { outcome result ≡ pointer_or0_at (lent_image files segments) (before rebases) (before index) setting va k }
 {
     match checked_add(va, k) {
-        Word::Value(slot) => slot_or_0(files, segments, rebases, index, setting, slot),
-        Word::Missing(m) => Word::Missing(m),
+        Ok(slot) => slot_or_0(files, segments, rebases, index, setting, slot),
+        Err(m) => Err(m),
     }
 }
 
@@ -227,11 +237,11 @@ pub fn resolve_near(
     s: Spot,
     i: u64,
     slot: u64,
-) -> Word
-    ensures { word_outcome result ≡ resolve_near (lent_image files segments) (before rebases) (before index) setting s i slot }
+) -> Result<u64, Missing>
+    ensures { outcome result ≡ resolve_near (lent_image files segments) (before rebases) (before index) setting s i slot }
 {
     if is_near(index, setting, s, i, slot) {
-        return Word::Value(word_there(files, s, i));
+        return Ok(word_there(files, s, i));
     }
     resolve_pointer(files, segments, rebases, index, setting, slot)
 }
@@ -244,11 +254,11 @@ pub fn symbol_at(
     binds: &[u64],
     index: &[u32],
     slot: u64,
-) -> TextAnswer
-    ensures { text_outcome result ≡ symbol_of (files_of files) (before rebases) (before binds) (before index) slot }
+) -> Result<Text, Missing>
+    ensures { outcome result ≡ symbol_of (files_of files) (before rebases) (before binds) (before index) slot }
 {
     match bind_at(files, rebases, binds, index, slot) {
-        TextAnswer::Found(name) => TextAnswer::Found(strip_objc_symbol_prefix(files, name)),
-        TextAnswer::Missing(m) => TextAnswer::Missing(m),
+        Ok(name) => Ok(strip_objc_symbol_prefix(files, name)),
+        Err(m) => Err(m),
     }
 }

@@ -2,11 +2,11 @@
 // chain is broken.
 ghost use Rattle.std.specs.Prelude.{◌≡◌};
 ghost use Rattle.reads.specs.Reference.{before};
-ghost use Rattle.reads.specs.Answer.{word_outcome};
 ghost use Rattle.pointers.specs.Sorted.{ascending, at_most, climb, halvings, sorted_at, sorted_record};
+ghost use Rattle.reads.specs.Answer.{outcome};
 
 use crate::table::{Rebase, every};
-use reads::answer::{Missing, Reason, Word};
+use reads::answer::{Missing, Reason};
 
 // Is each slot below the next?
 #[tactic(auto, unfolding(crate::specs::Sorted::ascending, crate::specs::Sorted::rises))]
@@ -48,18 +48,18 @@ fn climb(rebases: &[u64], slot: u64) -> usize
 
 // The number of the slot's record, where record b has the slot.
 #[tactic(auto, unfolding(crate::specs::Sorted::sorted_at, reads::specs::Outcome::choose))]
-fn sorted_at(rebases: &[u64], slot: u64, b: usize) -> Word
-    ensures { word_outcome result ≡ sorted_at (before rebases) slot b }
+fn sorted_at(rebases: &[u64], slot: u64, b: usize) -> Result<u64, Missing>
+    ensures { outcome result ≡ sorted_at (before rebases) slot b }
 {
     if b < rebases.len() / Rebase::WORDS && rebases[b * Rebase::WORDS] == slot {
-        return Word::Value(b as u64 + 1);
+        return Ok(b as u64 + 1);
     }
-    Word::Missing(Missing::Absent(Reason::NoRecord))
+    Err(Missing::Absent(Reason::NoRecord))
 }
 
 // The number of the slot's record, counted from 1.
-pub(crate) fn find_sorted(rebases: &[u64], slot: u64) -> Word
-    ensures { word_outcome result ≡ sorted_record (before rebases) slot }
+pub(crate) fn find_sorted(rebases: &[u64], slot: u64) -> Result<u64, Missing>
+    ensures { outcome result ≡ sorted_record (before rebases) slot }
 {
     sorted_at(rebases, slot, climb(rebases, slot))
 }

@@ -1,4 +1,4 @@
--- What the calls over a bundle answer and leave, by what question 13 answered.
+-- What the calls over a bundle answer and leave, by what question BundleLength answered.
 use Prim.Native.Nat.{ℕ, ◌-◌, min}
 use mathlib.Core.Path.{◌≡◌, refl, sym, ap, ◌∙◌}
 use mathlib.Core.Bool.{Bool, true, false}
@@ -9,18 +9,17 @@ use lib.Dec.{leb}
 use lib.ListN.{length, take, drop}
 use lib.Seq.{take_all, take-length}
 use borrow.Author.Tests.{leb-true, leb-false}
-use Rattle.reads.specs.Answer.{missed}
+use Rattle.reads.specs.Answer.{missed, outcome}
 use Rattle.reads.specs.Outcome.{Outcome, value}
 use Rattle.reads.specs.declared.answer.Missing.{Missing}
 use Rattle.reads.specs.declared.answer.Missing.TheVariants.{Absent, Refused}
 use Rattle.pointers.specs.Tables.{Tables, tables_of}
-use Rattle.listing.specs.Bundle.{counts_outcome, bundle_counts}
+use Rattle.listing.specs.Bundle.{bundle_counts}
 use Rattle.listing.specs.declared.bundle.Counts.{Counts}
-use Rattle.listing.specs.declared.bundle.CountsAnswer.{CountsAnswer}
-use Rattle.listing.specs.declared.bundle.CountsAnswer.TheVariants as counts
 use Rattle.marking.specs.declared.framed.Framed.{Framed}
 use Rattle.printing.specs.BundleLent.{words_by, opening_by, index_by, tables_by}
 use Rattle.printing.specs.Pieces.{Standing, to_come, Handed, piece_of}
+use Rattle.std.specs.Prelude.{Result, Ok, Err}
 
 -- As many bytes as there are, at most n.
 pub first_bytes : (input : List ℕ) (n m : ℕ) → m ≡ min n (length input) → take (m - 0) (drop 0 input) ≡ take n input
@@ -35,12 +34,12 @@ first_bytes input n m e =
         rw (h, take-length input) (sym (take_all n input (le_of_lt less)))
 
 -- An answer of the code, matched.
-module _ (bytes : List ℕ) (r : CountsAnswer) (e : counts_outcome r ≡ bundle_counts bytes) where
-  pub counted_is : (c : Counts) → r ≡ counts.Counts c → bundle_counts bytes ≡ value c
-  counted_is c g = sym e ∙ ap counts_outcome g
+module _ (bytes : List ℕ) (r : Result Counts Missing) (e : outcome r ≡ bundle_counts bytes) where
+  pub counted_is : (c : Counts) → r ≡ Ok c → bundle_counts bytes ≡ value c
+  counted_is c g = sym e ∙ ap outcome g
 
-  pub uncounted_is : (m : Missing) → r ≡ counts.Missing m → bundle_counts bytes ≡ missed m
-  uncounted_is m g = sym e ∙ ap counts_outcome g
+  pub uncounted_is : (m : Missing) → r ≡ Err m → bundle_counts bytes ≡ missed m
+  uncounted_is m g = sym e ∙ ap outcome g
 
 -- What a missing answer leaves.
 module _ (bytes : List ℕ) (m : Missing) (o : Outcome Counts) (e : o ≡ missed m) where

@@ -7,7 +7,7 @@ use native.Mathlib.Omega.{arith}
 use lib.ListN.{length, drop, replicate, length-take, length-drop, length-replicate, drop_of_length-le}
 use lib.Seq.{drop-nil}
 use borrow.Author.Tests.{le-leb}
-use Rattle.reads.specs.Outcome.{Outcome, value, number, and_then, choose}
+use Rattle.reads.specs.Outcome.{Outcome, value, refused, and_then, choose}
 use Rattle.reads.specs.Files.{longest}
 use Rattle.reads.specs.Place.{part}
 use Rattle.reads.proofs.Outcomes.{then_came}
@@ -31,6 +31,7 @@ use Rattle.listing.proofs.Measured.{accepted}
 use Rattle.marking.specs.Framed.{with_frames, framed_opening}
 use Rattle.marking.specs.declared.framed.Framed.{Framed}
 use Rattle.printing.specs.BundleText.{index_words, bundle_tables, bundle_opening, Met, opens, refused_13, refused_2, refused_18, refused_3, refused_7, refused_14, refused_23}
+use Rattle.reads.specs.declared.answer.Question.TheVariants.{SegmentTable, SectionTable, NameInside, BundleLength, NameUtf8, FileLent, FileLength, ImageInfoLength, RebaseTable, BindTable, IndexLength}
 
 -- Of the index opening asks the length alone, and it leaves nothing of what an index of just enough words held.
 module _ (t : Tables) (i j : List ℕ) (same : length i ≡ length j) where
@@ -64,8 +65,8 @@ module _ (t : Tables) (i : List ℕ) (long : length i ≡ 8192 + records 2 t.reb
 
 -- The questions 2, 18 of segments, 3, 18 of binds, 7 and 14, and then what comes after them.
 met_by : (two segments three binds seven fourteen : Bool) (o : Outcome Framed) → Met o
-    → Met (and_then (and_then (and_then (question 2 two) (λ x. and_then (question 18 segments) (λ y. and_then (question 3 three) (λ z. value (tt {0})))))
-    (λ x. and_then (question 18 binds) (λ y. and_then (question 7 seven) (λ z. and_then (question 14 fourteen) (λ u. value (tt {0})))))) (λ x. o))
+    → Met (and_then (and_then (and_then (question SegmentTable two) (λ x. and_then (question FileLent segments) (λ y. and_then (question SectionTable three) (λ z. value (tt {0})))))
+    (λ x. and_then (question FileLent binds) (λ y. and_then (question NameInside seven) (λ z. and_then (question NameUtf8 fourteen) (λ u. value (tt {0})))))) (λ x. o))
 unfolding question choose
 met_by false segments three binds seven fourteen o m = refused_2
 met_by true false three binds seven fourteen o m = refused_18
@@ -140,13 +141,13 @@ module _ (bytes : List ℕ) (c : Counts) (a : Accepted bytes c) where
     pub opening_met : (x : Ranges) → Met (framed_opening x (bundled bytes c i))
     unfolding framed_opening asked_opening asked_tables asked_index
     opening_met x =
-        simp (question_yes 1 _ fits_1, question_yes 4 _ fits_4, question_yes 5 _ fits_5, question_yes 6 _ fits_6, question_yes 8 _ fits_8)
+        simp (question_yes FileLength _ fits_1, question_yes ImageInfoLength _ fits_4, question_yes RebaseTable _ fits_5, question_yes BindTable _ fits_6, question_yes IndexLength _ fits_8)
         (met_by (whole_rows 5 64 (length t.segments)) (segment_files t.files t.segments) (section_table (longest t.files) t.sections)
         (bind_files t.files t.binds) (names_inside t.files t.binds) (names_utf8 t.files t.binds)
         (and_then (frames_of x) (λ w. with_frames w (image_info t.info))) (ranges_met x))
 
 -- Question 13 gives the bundle's first seven words or 13.
-pub counted_by : (bytes : List ℕ) (P : Outcome Counts → Type 0) → (Accepted bytes (counts_of bytes) → P (value (counts_of bytes))) → P (number 13)
+pub counted_by : (bytes : List ℕ) (P : Outcome Counts → Type 0) → (Accepted bytes (counts_of bytes) → P (value (counts_of bytes))) → P (refused BundleLength)
     → P (bundle_counts bytes)
 unfolding bundle_counts
 counted_by bytes P counts thirteen =

@@ -10,7 +10,7 @@ use lib.Dec.{leb}
 use lib.ListN.{length, take, drop, drop_of_length-le}
 use lib.Seq.{drop-append-le, drop-drop, drop-length, take-add}
 use borrow.Author.Tests.{leb-true, leb-false}
-use Rattle.reads.specs.Outcome.{Outcome, value, absent, number, choose}
+use Rattle.reads.specs.Outcome.{Outcome, value, absent, refused, choose}
 use Rattle.reads.proofs.Tests.{by_choose}
 use Rattle.pointers.specs.Tables.{Tables, under}
 use Rattle.pointers.specs.declared.setting.Setting.{Setting}
@@ -28,7 +28,7 @@ on_yes (value (lacks l)) x y e = refl
 on_yes (value nothing) x y e = refl
 on_yes (value ended) x y e = let z : ◌≡◌ {A = ℕ} 0 1 = cc in absurd (omega arith)
 on_yes (absent r) x y e = let z : ◌≡◌ {A = ℕ} 0 1 = cc in absurd (omega arith)
-on_yes (number k) x y e = let z : ◌≡◌ {A = ℕ} 0 1 = cc in absurd (omega arith)
+on_yes (refused k) x y e = let z : ◌≡◌ {A = ℕ} 0 1 = cc in absurd (omega arith)
 
 pub on_no : {A : Type 0} (o : Outcome Answer) (x y : A) → goes_on o ≡ false → if_on o x y ≡ y
 on_no (value (says l)) x y e = let z : ◌≡◌ {A = ℕ} 0 1 = cc in absurd (omega arith)
@@ -36,7 +36,7 @@ on_no (value (lacks l)) x y e = let z : ◌≡◌ {A = ℕ} 0 1 = cc in absurd (
 on_no (value nothing) x y e = let z : ◌≡◌ {A = ℕ} 0 1 = cc in absurd (omega arith)
 on_no (value ended) x y e = refl
 on_no (absent r) x y e = refl
-on_no (number k) x y e = refl
+on_no (refused k) x y e = refl
 
 -- Two ways on that agree where the listing goes on.
 on_same : {A : Type 0} (o : Outcome Answer) {x y : A} (z : A) → (goes_on o ≡ true → x ≡ y) → if_on o x z ≡ if_on o y z

@@ -9,11 +9,6 @@ use Rattle.pointers.specs.Symbol.{ascii}
 use Rattle.records.specs.Row.{method_of}
 use Rattle.records.specs.declared.ivar.Aligned.{Aligned}
 use Rattle.records.specs.declared.ivar.Aligned.TheVariants as aligned
-use Rattle.records.specs.declared.ivar.Alignment.{Alignment}
-use Rattle.records.specs.declared.ivar.Alignment.TheVariants as alignment
-use Rattle.records.specs.declared.ivar.IvarOffset.{IvarOffset}
-use Rattle.records.specs.declared.ivar.IvarOffset.TheVariants as offset
-use Rattle.records.specs.declared.method.Imp.TheVariants as imp
 use Rattle.records.specs.declared.method.Method.{Method}
 use Rattle.records.specs.declared.method.MethodKind.TheVariants as kind
 use Rattle.records.specs.declared.row.Row.TheVariants as row
@@ -21,10 +16,11 @@ use Rattle.records.proofs.HubImage.{bytes, four_files, counted}
 use Rattle.reads.specs.declared.text.Reading.TheVariants.{New}
 use Rattle.listing.specs.declared.line.Line.{Line}
 use Rattle.listing.specs.declared.line.Line.TheVariants as line
-use Rattle.listing.specs.declared.line.Named.{Named}
-use Rattle.listing.specs.declared.line.Named.TheVariants as named
 use Rattle.printing.specs.Buffer.{places, hex_text, decimal_text}
 use Rattle.printing.specs.LineText.{none_field, number_field, string_field, part_field, text_field, text_fields, info_text, class_text, ro_text, method_text, ivar_text, name_text, end_text, line_text, refused_text}
+use Rattle.std.specs.Prelude.{Option, Some, None}
+use Rattle.reads.specs.declared.text.Text.{Text}
+use Rattle.reads.specs.declared.answer.Question.TheVariants.{BundleLength}
 
 -- A line with its newline.
 abbrev ended : List ℕ → List ℕ
@@ -34,7 +30,7 @@ ended text = text ++ (10 ∷ [])
 abbrev files : List (List ℕ)
 files = ascii "1" ∷ ascii "fifteen letters" ∷ []
 
-abbrev class_line : Named → Line
+abbrev class_line : Option Text → Line
 class_line name =
     line.Class
     (record {
@@ -45,7 +41,7 @@ class_line name =
 abbrev method_line : Method → ℕ → Line
 method_line m mark = line.Row (record { list = 6; row = row.Method m; mark = mark })
 
-abbrev ivar_line : IvarOffset → Alignment → Aligned → Line
+abbrev ivar_line : Option ℕ → Option ℕ → Aligned → Line
 ivar_line o k a =
     line.Row
     (record {
@@ -58,15 +54,15 @@ abbrev end_line : ℕ → ℕ → Line
 end_line high low = line.End (record { records = 10; settled_high = high; settled_low = low })
 
 -- A name: its length is a number like the others. A name that is none, one that is empty, and one that its file ends before.
-pub with_name : line_text files (class_line (named.Text (text_of 1 0 15))) ≡ ended (ascii "M 1000 0 ffffffffffffffff a f:fifteen letters")
+pub with_name : line_text files (class_line (Some (text_of 1 0 15))) ≡ ended (ascii "M 1000 0 ffffffffffffffff a f:fifteen letters")
 unfolding line_text class_text text_field part_field file_of string_field number_field hex_text places choose
 with_name = refl
 
-pub with_no_name : line_text files (class_line named.Nothing) ≡ ended (ascii "M 1000 0 ffffffffffffffff a -")
+pub with_no_name : line_text files (class_line None) ≡ ended (ascii "M 1000 0 ffffffffffffffff a -")
 unfolding line_text class_text none_field number_field hex_text places choose
 with_no_name = refl
 
-pub with_empty_name : line_text files (class_line (named.Text (text_of 1 15 0))) ≡ ended (ascii "M 1000 0 ffffffffffffffff a 0:")
+pub with_empty_name : line_text files (class_line (Some (text_of 1 15 0))) ≡ ended (ascii "M 1000 0 ffffffffffffffff a 0:")
 unfolding line_text class_text text_field part_field file_of string_field number_field hex_text places choose
 with_empty_name = refl
 
@@ -76,33 +72,33 @@ past_the_file = refl
 
 -- An imp that is there can be 0; 2 is a direct selector. The mark comes last.
 pub imp_zero :
-    line_text files (method_line (method_of (text_of 1 0 3) (text_of 1 0 0) (imp.At 0) kind.SmallDirect) 1) ≡ ended (ascii "m 6 3:fif 0: 0 2 1")
+    line_text files (method_line (method_of (text_of 1 0 3) (text_of 1 0 0) (Some 0) kind.SmallDirect) 1) ≡ ended (ascii "m 6 3:fif 0: 0 2 1")
 unfolding line_text method_text text_fields text_field part_field file_of string_field number_field hex_text places choose
 imp_zero = refl
 
 pub imp_none :
-    line_text files (method_line (method_of (text_of 1 0 3) (text_of 1 0 0) imp.Nothing kind.SmallIndirect) 0) ≡ ended (ascii "m 6 3:fif 0: - 1 0")
+    line_text files (method_line (method_of (text_of 1 0 3) (text_of 1 0 0) None kind.SmallIndirect) 0) ≡ ended (ascii "m 6 3:fif 0: - 1 0")
 unfolding line_text method_text text_fields text_field part_field file_of string_field none_field number_field hex_text places choose
 imp_none = refl
 
 -- An ivar's offset 0 is there; an offset without its alignment; no offset; an alignment that is none.
 pub offset_zero :
-    line_text files (ivar_line (offset.At 0) (alignment.Log2 40) aligned.Yes) ≡ ended (ascii "v 1 7:fifteen 0: 0 10 28 1")
+    line_text files (ivar_line (Some 0) (Some 40) aligned.Yes) ≡ ended (ascii "v 1 7:fifteen 0: 0 10 28 1")
 unfolding line_text ivar_text text_fields text_field part_field file_of string_field number_field hex_text places choose
 offset_zero = refl
 
 pub offset_unaligned :
-    line_text files (ivar_line (offset.At 12) (alignment.Log2 3) aligned.No) ≡ ended (ascii "v 1 7:fifteen 0: c 10 3 0")
+    line_text files (ivar_line (Some 12) (Some 3) aligned.No) ≡ ended (ascii "v 1 7:fifteen 0: c 10 3 0")
 unfolding line_text ivar_text text_fields text_field part_field file_of string_field number_field hex_text places choose
 offset_unaligned = refl
 
 pub offset_none :
-    line_text files (ivar_line offset.Nothing (alignment.Log2 3) aligned.Unknown) ≡ ended (ascii "v 1 7:fifteen 0: - 10 3 -")
+    line_text files (ivar_line None (Some 3) aligned.Unknown) ≡ ended (ascii "v 1 7:fifteen 0: - 10 3 -")
 unfolding line_text ivar_text text_fields text_field part_field file_of string_field none_field number_field hex_text places choose
 offset_none = refl
 
 pub alignment_none :
-    line_text files (ivar_line (offset.At 8) alignment.Nothing aligned.Unknown) ≡ ended (ascii "v 1 7:fifteen 0: 8 10 - -")
+    line_text files (ivar_line (Some 8) None aligned.Unknown) ≡ ended (ascii "v 1 7:fifteen 0: 8 10 - -")
 unfolding line_text ivar_text text_fields text_field part_field file_of string_field none_field number_field hex_text places choose
 alignment_none = refl
 
@@ -116,7 +112,7 @@ unfolding line_text end_text number_field hex_text places choose
 end_line_two_words = refl
 
 -- Only the number after `refused` is decimal.
-pub refused_13_text : refused_text 13 ≡ ended (ascii "refused 13")
+pub refused_13_text : refused_text BundleLength ≡ ended (ascii "refused 13")
 unfolding refused_text decimal_text places choose
 refused_13_text = refl
 
@@ -127,7 +123,7 @@ hub_lines =
     ∷ line.Class
     (record {
       class = record { address = 0x1000; isa = 0; superclass_address = 0; bits = 0x1028; is_meta = false };
-      superclass_name = named.Text (text_of 0 182 8);
+      superclass_name = Some (text_of 0 182 8);
     })
     ∷ line.Ro
     (record {
@@ -143,7 +139,7 @@ hub_lines =
       weak_ivar_layout_address = 0;
       properties = 0;
     })
-    ∷ line.Row (record { list = 0; row = row.Method (method_of (text_of 0 148 2) (text_of 0 151 1) (imp.At 0x2000) kind.Legacy); mark = 0 })
+    ∷ line.Row (record { list = 0; row = row.Method (method_of (text_of 0 148 2) (text_of 0 151 1) (Some 0x2000) kind.Legacy); mark = 0 })
     ∷ line.End (record { records = 1; settled_high = 0; settled_low = 2 })
     ∷ []
 

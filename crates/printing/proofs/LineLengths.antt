@@ -5,29 +5,24 @@ use mathlib.Core.List.{List, [], ◌∷◌}
 use native.Mathlib.Omega.{arith}
 use lib.ListN.{length, length-append, length-take, length-drop}
 use Rattle.io.specs.Digits.{last_digits, hex_digit_ascii}
-use Rattle.reads.specs.Outcome.{Outcome, value, absent, number}
+use Rattle.reads.specs.Outcome.{Outcome, value, absent, refused}
 use Rattle.reads.specs.Files.{file_of, longest}
 use Rattle.reads.proofs.LentFiles.{longest_most}
 use Rattle.reads.specs.declared.text.Text.{Text}
 use Rattle.reads.proofs.Tests.{by_choose}
 use Rattle.records.specs.declared.ivar.Aligned.{Aligned}
 use Rattle.records.specs.declared.ivar.Aligned.TheVariants as aligned
-use Rattle.records.specs.declared.ivar.Alignment.{Alignment}
-use Rattle.records.specs.declared.ivar.Alignment.TheVariants as alignment
-use Rattle.records.specs.declared.ivar.IvarOffset.{IvarOffset}
-use Rattle.records.specs.declared.ivar.IvarOffset.TheVariants as offset
-use Rattle.records.specs.declared.method.Imp.{Imp}
-use Rattle.records.specs.declared.method.Imp.TheVariants as imp
 use Rattle.records.specs.declared.row.Row.{Row}
 use Rattle.records.specs.declared.row.Row.TheVariants as row
 use Rattle.listing.specs.Listing.{Answer, says, lacks, nothing, ended}
 use Rattle.listing.specs.declared.line.Line.{Line}
 use Rattle.listing.specs.declared.line.Line.TheVariants as line
-use Rattle.listing.specs.declared.line.Named.{Named}
-use Rattle.listing.specs.declared.line.Named.TheVariants as named
 use Rattle.printing.specs.Buffer.{places, hex_text, decimal_text}
 use Rattle.printing.specs.LineText.{none_field, number_field, string_field, part_field, text_field, text_fields, named_field, imp_field, offset_field, alignment_field, aligned_field, kind_number, reading_number, info_text, class_text, ro_text, protocol_text, category_text, method_text, ivar_text, property_text, row_text, name_text, end_text, fields_text, line_text, refused_text}
 use Rattle.printing.specs.Pieces.{said_text}
+use Rattle.std.specs.Prelude.{Option, Some, None}
+use Rattle.reads.specs.declared.answer.Question.{Question}
+use Rattle.reads.specs.Question.{number_of}
 
 places_few : (b k n : ℕ) → places b k n ≤ suc k
 unfolding places
@@ -46,9 +41,9 @@ none_short : length none_field ≤ 33
 unfolding none_field
 none_short = omega arith
 
-refused_short : (k : ℕ) → length (refused_text k) ≤ 32
+refused_short : (k : Question) → length (refused_text k) ≤ 32
 unfolding refused_text decimal_text
-refused_short k = simp (length-append, length_digits) (omega (arith, places_few 10 19 k))
+refused_short k = simp (length-append, length_digits) (omega (arith, places_few 10 19 (number_of k)))
 
 part_short : (bytes : List ℕ) (t : Text) → length (part_field bytes t) ≤ 34 + length bytes
 unfolding part_field string_field
@@ -66,21 +61,21 @@ module _ (files : List (List ℕ)) where
   unfolding text_fields
   texts_short a b = simp length-append (omega (arith, text_short a, text_short b))
 
-  named_short : (n : Named) → length (named_field files n) ≤ 34 + longest files
-  named_short (named.Text t) = text_short t
-  named_short named.Nothing = omega (arith, none_short)
+  named_short : (n : Option Text) → length (named_field files n) ≤ 34 + longest files
+  named_short (Some t) = text_short t
+  named_short None = omega (arith, none_short)
 
-  imp_short : (i : Imp) → length (imp_field i) ≤ 33
-  imp_short (imp.At va) = number_short va
-  imp_short imp.Nothing = none_short
+  imp_short : (i : Option ℕ) → length (imp_field i) ≤ 33
+  imp_short (Some va) = number_short va
+  imp_short None = none_short
 
-  offset_short : (o : IvarOffset) → length (offset_field o) ≤ 33
-  offset_short (offset.At n) = number_short n
-  offset_short offset.Nothing = none_short
+  offset_short : (o : Option ℕ) → length (offset_field o) ≤ 33
+  offset_short (Some n) = number_short n
+  offset_short None = none_short
 
-  alignment_short : (k : Alignment) → length (alignment_field k) ≤ 33
-  alignment_short (alignment.Log2 k) = number_short k
-  alignment_short alignment.Nothing = none_short
+  alignment_short : (k : Option ℕ) → length (alignment_field k) ≤ 33
+  alignment_short (Some k) = number_short k
+  alignment_short None = none_short
 
   aligned_short : (a : Aligned) → length (aligned_field a) ≤ 33
   aligned_short aligned.Yes = number_short 1
@@ -156,4 +151,4 @@ module _ (files : List (List ℕ)) where
   said_length_lem (value nothing) = omega arith
   said_length_lem (value ended) = omega arith
   said_length_lem (absent r) = omega arith
-  said_length_lem (number k) = omega (arith, refused_short k)
+  said_length_lem (refused k) = omega (arith, refused_short k)

@@ -6,8 +6,8 @@ use mathlib.Core.List.{List, [], ◌∷◌}
 use native.Mathlib.Omega.{arith}
 use borrow.Author.Tests.{le-leb, leb-true}
 use Rattle.reads.specs.Files.{longest}
-use Rattle.reads.specs.Answer.{missed}
-use Rattle.reads.specs.Outcome.{value, number}
+use Rattle.reads.specs.Answer.{missed, outcome}
+use Rattle.reads.specs.Outcome.{value, refused}
 use Rattle.reads.specs.declared.answer.Reason.{Reason}
 use Rattle.reads.specs.declared.answer.Missing.{Missing}
 use Rattle.reads.specs.declared.answer.Missing.TheVariants.{Absent, Refused}
@@ -23,11 +23,8 @@ use Rattle.listing.specs.declared.absence.Absence.{Absence}
 use Rattle.listing.specs.declared.listing.Said.{Said}
 use Rattle.listing.specs.declared.listing.Said.TheVariants as said
 use Rattle.pointers.specs.declared.setting.Setting.{Setting}
-use Rattle.marking.specs.Framed.{framed_outcome}
 use Rattle.marking.specs.MarkedListing.{marked_start, MarkedLeft, marked_step, marking_of, marked_left_of}
 use Rattle.marking.specs.declared.framed.Framed.{Framed}
-use Rattle.marking.specs.declared.framed.FramedAnswer.{FramedAnswer}
-use Rattle.marking.specs.declared.framed.FramedAnswer.TheVariants as framed
 use Rattle.marking.specs.declared.marked_listing.MarkedListed.{MarkedListed}
 use Rattle.marking.specs.declared.marked_listing.MarkedListing.{MarkedListing}
 use Rattle.printing.specs.Buffer.{Puts}
@@ -37,21 +34,23 @@ use Rattle.printing.specs.Pieces.{said_text, Standing, standing, stepped, begun,
 use Rattle.printing.specs.declared.pieces.Piece.{Piece}
 use Rattle.printing.specs.declared.pieces.Progress.{Progress}
 use Rattle.printing.proofs.Puts.{puts_nothing}
+use Rattle.std.specs.Prelude.{Result, Ok, Err}
+use Rattle.reads.specs.declared.answer.Question.{Question}
 
 -- The start, by opening's answer.
-pub begun_framed : {u : Setting} (a : FramedAnswer) (f : Framed) → a ≡ framed.Framed f → (s : MarkedListing) → marking_of s ≡ marked_start u f.frames
-    → (λ (l : List ℕ). standing (value nothing) 0 (marking_of s) l) ≡ begun u (framed_outcome a)
+pub begun_framed : {u : Setting} (a : Result Framed Missing) (f : Framed) → a ≡ Ok f → (s : MarkedListing) → marking_of s ≡ marked_start u f.frames
+    → (λ (l : List ℕ). standing (value nothing) 0 (marking_of s) l) ≡ begun u (outcome a)
 begun_framed a f g s e = rw (g, e)
 
-pub begun_missing : {u : Setting} (a : FramedAnswer) (m : Missing) → a ≡ framed.Missing m → (q : List ℕ → Standing) → q ≡ begun u (missed m)
-    → q ≡ begun u (framed_outcome a)
+pub begun_missing : {u : Setting} (a : Result Framed Missing) (m : Missing) → a ≡ Err m → (q : List ℕ → Standing) → q ≡ begun u (missed m)
+    → q ≡ begun u (outcome a)
 begun_missing a m g q e = rw g e
 
 module _ {u : Setting} (s : MarkedListing) (w : Frames) (e : marking_of s ≡ marked_start u w) (none : w ≡ no_frames) (m : Missing) where
   pub begun_absent : (r : Reason) → m ≡ Absent r → (λ (l : List ℕ). standing (value ended) 0 (marking_of s) l) ≡ begun u (missed m)
   begun_absent r h = rw (h, e, none)
 
-  pub begun_refused : (k : ℕ) → m ≡ Refused k → (λ (l : List ℕ). standing (number k) 0 (marking_of s) l) ≡ begun u (missed m)
+  pub begun_refused : (k : Question) → m ≡ Refused k → (λ (l : List ℕ). standing (refused k) 0 (marking_of s) l) ≡ begun u (missed m)
   begun_refused k h = rw (h, e, none)
 
 -- A step of the code's listing.
@@ -64,7 +63,7 @@ module _ (files : List (List ℕ)) (x : Said) (o p : Out) where
   pub said_line : (y : Line) → x ≡ said.Line y → Puts o (line_text files y) p → Puts o (said_text files (said_of x)) p
   said_line y g e = rw g e
 
-  pub said_refused : (k : ℕ) → x ≡ said.Refused k → Puts o (refused_text k) p → Puts o (said_text files (said_of x)) p
+  pub said_refused : (k : Question) → x ≡ said.Refused k → Puts o (refused_text k) p → Puts o (said_text files (said_of x)) p
   said_refused k g e = rw g e
 
 module _ (files : List (List ℕ)) (x : Said) (o : Out) where
@@ -87,7 +86,7 @@ pub fits_short : (n : ℕ) → image_fits n ≡ true → n < 2 ^ 32
 unfolding image_fits
 fits_short n e = omega (arith, leb-true n 4294967295 e)
 
--- Files that question 1 takes are read themselves, others count as one empty file.
+-- Files that question FileLength takes are read themselves, others count as one empty file.
 pub listable_short : (t : Tables) → longest t.files < 2 ^ 32 → listable t ≡ t
 unfolding image_fits
 listable_short t h = ap (with_files t) (choose_true t.files ([] ∷ []) (le-leb (longest t.files) 4294967295 (omega arith)))

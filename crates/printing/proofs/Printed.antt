@@ -7,7 +7,7 @@ use native.Mathlib.Omega.{arith}
 use lib.ListN.{length, take, drop, replicate, length-replicate}
 use lib.Seq.{length-take-le, take_at}
 use Rattle.reads.specs.Files.{longest}
-use Rattle.reads.specs.Outcome.{Outcome, value, absent, number, and_then}
+use Rattle.reads.specs.Outcome.{Outcome, value, absent, refused, and_then}
 use Rattle.pointers.specs.Open.{Opened, opening, opened_index}
 use Rattle.reads.specs.Table.{records}
 use Rattle.pointers.specs.Tables.{Tables, under, with_index}
@@ -39,6 +39,7 @@ use Rattle.printing.specs.Pieces.{Standing, standing, to_come, begun, pieces}
 use Rattle.printing.proofs.BundleOpens.{opening_same, framed_same, index_whole, index_long, files_length, index_most, index_asks, counted_by}
 use Rattle.printing.proofs.BundleParts.{decoded_bundled}
 use Rattle.printing.proofs.Comes.{Sound, come_under, come_step, pieces_text}
+use Rattle.reads.specs.declared.answer.Question.TheVariants.{BundleLength}
 
 -- What is left of a listing comes as the text of its lines.
 abbrev made : MarkedLeft → Standing
@@ -86,7 +87,7 @@ ledger_room t o short l long first second a b = omega (arith, pair_slots t o fir
 pub over_comes : (u : Setting) (t v : Tables) (o : Outcome Framed) (l : List ℕ) → goes_on (begun u o l).said ≡ false → to_come t (begun u o l) ≡ opened_text v o
 over_comes u t v (value f) l e = let z : ◌≡◌ {A = ℕ} 0 1 = cc in absurd (omega arith)
 over_comes u t v (absent r) l e = come_step t (begun u (absent r) l) (begun_sound u (absent r) l)
-over_comes u t v (number k) l e = come_step t (begun u (number k) l) (begun_sound u (number k) l) ∙ append-nil (refused_text k)
+over_comes u t v (refused k) l e = come_step t (begun u (refused k) l) (begun_sound u (refused k) l) ∙ append-nil (refused_text k)
 
 module _ (u : Setting) (bytes : List ℕ) (c : Counts) (a : Accepted bytes c) (more index l : List ℕ) (room : 10240 ≤ length index) (long : length l ≡ 8192) where
   abbrev words_read : List ℕ
@@ -165,7 +166,7 @@ module _ (u : Setting) (bytes : List ℕ) (c : Counts) (a : Accepted bytes c) (m
       go : (o : Outcome Framed) → framed_opening given (bundled bytes c zeros) ≡ o → to_come read (begun u o l) ≡ opened_text (under u tables_said) o
       go (value f) e = opened_comes f e
       go (absent r) e = over_comes u read (under u tables_said) (absent r) l refl
-      go (number k) e = over_comes u read (under u tables_said) (number k) l refl
+      go (refused k) e = over_comes u read (under u tables_said) (refused k) l refl
 
 -- What comes of a bundle that was decoded and then opened.
 module _ (u : Setting) (bytes words index l : List ℕ) where
@@ -184,7 +185,7 @@ module _ (u : Setting) (bytes words index l : List ℕ) where
         (begun u (opening_by bytes o (words_by bytes o words) index) l)
         ≡ opened_text (under u (with_index (bundle_tables bytes) (opened_index (bundle_tables bytes)))) (and_then o (λ c. framed_opening (ranges_of bytes) (bundle_tables bytes))))
         (λ a. accepted_comes u bytes (counts_of bytes) a (drop (table_words (counts_of bytes)) words) index l room long)
-        (over_comes u _ (under u (with_index (bundle_tables bytes) (opened_index (bundle_tables bytes)))) (number 13) l refl)
+        (over_comes u _ (under u (with_index (bundle_tables bytes) (opened_index (bundle_tables bytes)))) (refused BundleLength) l refl)
 
     -- The pieces that are handed out, one after the other, are the bundle's text.
     pub printed_pieces : (k : ℕ) → pieces (tables_lent bytes words_decoded opened) 4096 k (begun u (opening_in bytes words_decoded index) l) ≡ take (k * 4096) (bundle_text u bytes)

@@ -1,6 +1,6 @@
 -- What the calls over a bundle are lent and leave: words that its tables are decoded into, and an index.
 use Rattle.std.specs.Prelude.{ℕ, ◌+◌, List, [], ◌∷◌, ◌++◌, take, drop}
-use Rattle.reads.specs.Outcome.{Outcome, value, absent, number, and_then}
+use Rattle.reads.specs.Outcome.{Outcome, value, absent, refused, and_then}
 use Rattle.reads.specs.Place.{part}
 use Rattle.pointers.specs.Tables.{Tables, tables_of}
 use Rattle.listing.specs.Bundle.{words_from, segment_table_words, rebase_table_words, bind_table_words, info_at, segments_at, bundled_files, ranges_of, bundle_counts}
@@ -18,12 +18,12 @@ table_words c = segment_table_words c + section_table_words + rebase_table_words
 abbrev pub words_by : List ℕ → Outcome Counts → List ℕ → List ℕ
 words_by bytes (value c) words = words_from bytes segments_at (table_words c) ++ drop (table_words c) words
 words_by bytes (absent r) words = words
-words_by bytes (number k) words = words
+words_by bytes (refused k) words = words
 
 abbrev pub words_after : List ℕ → List ℕ → List ℕ
 words_after bytes words = words_by bytes (bundle_counts bytes) words
 
--- The tables of a bundle of these counts over files: each is its part of the words, and the index has as many words as question 8 asks.
+-- The tables of a bundle of these counts over files: each is its part of the words, and the index has as many words as question IndexLength asks.
 abbrev pub tables_over : List (List ℕ) → List ℕ → Counts → List ℕ → List ℕ → Tables
 tables_over files bytes c words index =
     tables_of
@@ -50,7 +50,7 @@ opening_in bytes words index = opening_by bytes (bundle_counts bytes) words inde
 abbrev pub index_by : List ℕ → Outcome Counts → List ℕ → List ℕ → List ℕ
 index_by bytes (value c) words index = framed_index (ranges_of bytes) (tables_in bytes c words index) ++ drop (index_words c) index
 index_by bytes (absent r) words index = index
-index_by bytes (number k) words index = index
+index_by bytes (refused k) words index = index
 
 abbrev pub index_after : List ℕ → List ℕ → List ℕ → List ℕ
 index_after bytes words index = index_by bytes (bundle_counts bytes) words index
@@ -59,7 +59,7 @@ index_after bytes words index = index_by bytes (bundle_counts bytes) words index
 abbrev pub tables_by : List ℕ → Outcome Counts → List ℕ → List ℕ → Tables
 tables_by bytes (value c) words index = tables_in bytes c words index
 tables_by bytes (absent r) words index = tables_of ([] ∷ []) [] [] [] [] [] []
-tables_by bytes (number k) words index = tables_of ([] ∷ []) [] [] [] [] [] []
+tables_by bytes (refused k) words index = tables_of ([] ∷ []) [] [] [] [] [] []
 
 abbrev pub tables_lent : List ℕ → List ℕ → List ℕ → Tables
 tables_lent bytes words index = tables_by bytes (bundle_counts bytes) words index

@@ -3,7 +3,7 @@
 -- for the ranges that the bundle gives (note 11).
 use Rattle.std.specs.Prelude.{ℕ, ◌+◌, ◌*◌, replicate}
 use mathlib.Core.List.{List, [], flat_map}
-use Rattle.reads.specs.Outcome.{Outcome, value, absent, number, and_then}
+use Rattle.reads.specs.Outcome.{Outcome, value, absent, refused, and_then}
 use Rattle.pointers.specs.Open.{opened_index}
 use Rattle.pointers.specs.Tables.{Tables, chains, under, with_index}
 use Rattle.pointers.specs.declared.setting.Setting.{Setting}
@@ -14,8 +14,9 @@ use Rattle.marking.specs.Framed.{framed_opening}
 use Rattle.marking.specs.Marked.{marked_listing}
 use Rattle.marking.specs.declared.framed.Framed.{Framed}
 use Rattle.printing.specs.LineText.{line_text, refused_text}
+use Rattle.reads.specs.declared.answer.Question.TheVariants.{SegmentTable, SectionTable, NameInside, BundleLength, NameUtf8, FileLent, RangeOrder}
 
--- The words of a bundle's index: as many as question 8 asks.
+-- The words of a bundle's index: as many as question IndexLength asks.
 abbrev pub index_words : Counts → ℕ
 index_words c = 2 * chains + c.rebases + c.binds
 
@@ -30,25 +31,25 @@ bundle_opening bytes = and_then (bundle_counts bytes) (λ _. framed_opening (ran
 -- What a bundle can meet (proofs/BundleOpens.antt: every bundle does): it is opened, or one of these numbers refuses it.
 pub data Met : Outcome Framed → Type 0 where
   opens : (f : Framed) → Met (value f)
-  refused_13 : Met (number 13)
-  refused_2 : Met (number 2)
-  refused_18 : Met (number 18)
-  refused_3 : Met (number 3)
-  refused_7 : Met (number 7)
-  refused_14 : Met (number 14)
-  refused_23 : Met (number 23)
+  refused_13 : Met (refused BundleLength)
+  refused_2 : Met (refused SegmentTable)
+  refused_18 : Met (refused FileLent)
+  refused_3 : Met (refused SectionTable)
+  refused_7 : Met (refused NameInside)
+  refused_14 : Met (refused NameUtf8)
+  refused_23 : Met (refused RangeOrder)
 
 -- The text of lines, one after the other; over opened tables the plain listing is a value (listing/proofs/PlainThere.antt).
 abbrev pub listing_text : List (List ℕ) → Outcome (List Line) → List ℕ
 listing_text files (value xs) = flat_map (line_text files) xs
 listing_text files (absent r) = []
-listing_text files (number k) = refused_text k
+listing_text files (refused k) = refused_text k
 
 -- The text of tables, by what opening gave.
 abbrev pub opened_text : Tables → Outcome Framed → List ℕ
 opened_text t (value f) = listing_text t.files (marked_listing f.frames t)
 opened_text t (absent r) = []
-opened_text t (number k) = refused_text k
+opened_text t (refused k) = refused_text k
 
 unfoldable pub bundle_text : Setting → List ℕ → List ℕ
 bundle_text u bytes = opened_text (under u (with_index (bundle_tables bytes) (opened_index (bundle_tables bytes)))) (bundle_opening bytes)

@@ -1,6 +1,6 @@
 -- The text of a listing's lines (document 01, "The program's listing"): fields split by one space, numbers lower-case hex, strings length,
 -- colon, bytes; `-` is none. An ivar's last field: note 8. A method's: note 11.
-use Rattle.std.specs.Prelude.{ℕ, ◌+◌, ◌*◌, ◌^◌, Bool, true, false, List, [], ◌∷◌, ◌++◌, leb, length}
+use Rattle.std.specs.Prelude.{ℕ, ◌+◌, ◌*◌, ◌^◌, Bool, true, false, List, [], ◌∷◌, ◌++◌, leb, length, Option, Some, None}
 use Rattle.reads.specs.Outcome.{choose}
 use Rattle.reads.specs.Files.{file_of}
 use Rattle.reads.specs.Place.{part}
@@ -11,13 +11,7 @@ use Rattle.reads.specs.declared.text.Reading.TheVariants as reading
 use Rattle.records.specs.declared.class.ClassRo.{ClassRo}
 use Rattle.records.specs.declared.ivar.Aligned.{Aligned}
 use Rattle.records.specs.declared.ivar.Aligned.TheVariants as aligned
-use Rattle.records.specs.declared.ivar.Alignment.{Alignment}
-use Rattle.records.specs.declared.ivar.Alignment.TheVariants as alignment
 use Rattle.records.specs.declared.ivar.Ivar.{Ivar}
-use Rattle.records.specs.declared.ivar.IvarOffset.{IvarOffset}
-use Rattle.records.specs.declared.ivar.IvarOffset.TheVariants as offset
-use Rattle.records.specs.declared.method.Imp.{Imp}
-use Rattle.records.specs.declared.method.Imp.TheVariants as imp
 use Rattle.records.specs.declared.method.Method.{Method}
 use Rattle.records.specs.declared.method.MethodKind.{MethodKind}
 use Rattle.records.specs.declared.method.MethodKind.TheVariants as kind
@@ -32,9 +26,9 @@ use Rattle.listing.specs.declared.line.InfoLine.{InfoLine}
 use Rattle.listing.specs.declared.line.Line.{Line}
 use Rattle.listing.specs.declared.line.Line.TheVariants as line
 use Rattle.listing.specs.declared.line.NameLine.{NameLine}
-use Rattle.listing.specs.declared.line.Named.{Named}
-use Rattle.listing.specs.declared.line.Named.TheVariants as named
 use Rattle.printing.specs.Buffer.{hex_text, decimal_text}
+use Rattle.reads.specs.Question.{number_of}
+use Rattle.reads.specs.declared.answer.Question.{Question}
 
 -- Each field comes after a space: none, a number, a string.
 unfoldable pub none_field : List ℕ
@@ -56,21 +50,21 @@ text_field files t = part_field (file_of files t.file) t
 unfoldable pub text_fields : List (List ℕ) → Text → Text → List ℕ
 text_fields files a b = text_field files a ++ text_field files b
 
-abbrev pub named_field : List (List ℕ) → Named → List ℕ
-named_field files (named.Text t) = text_field files t
-named_field files named.Nothing = none_field
+abbrev pub named_field : List (List ℕ) → Option Text → List ℕ
+named_field files (Some t) = text_field files t
+named_field files None = none_field
 
-abbrev pub imp_field : Imp → List ℕ
-imp_field (imp.At va) = number_field va
-imp_field imp.Nothing = none_field
+abbrev pub imp_field : Option ℕ → List ℕ
+imp_field (Some va) = number_field va
+imp_field None = none_field
 
-abbrev pub offset_field : IvarOffset → List ℕ
-offset_field (offset.At n) = number_field n
-offset_field offset.Nothing = none_field
+abbrev pub offset_field : Option ℕ → List ℕ
+offset_field (Some n) = number_field n
+offset_field None = none_field
 
-abbrev pub alignment_field : Alignment → List ℕ
-alignment_field (alignment.Log2 k) = number_field k
-alignment_field alignment.Nothing = none_field
+abbrev pub alignment_field : Option ℕ → List ℕ
+alignment_field (Some k) = number_field k
+alignment_field None = none_field
 
 -- 1 or 0.
 abbrev pub aligned_field : Aligned → List ℕ
@@ -176,5 +170,5 @@ unfoldable pub line_text : List (List ℕ) → Line → List ℕ
 line_text files x = fields_text files x ++ (10 ∷ [])
 
 -- Refused: `refused` and the number in decimal.
-unfoldable pub refused_text : ℕ → List ℕ
-refused_text k = ascii "refused " ++ (decimal_text k ++ (10 ∷ []))
+unfoldable pub refused_text : Question → List ℕ
+refused_text k = ascii "refused " ++ (decimal_text (number_of k) ++ (10 ∷ []))

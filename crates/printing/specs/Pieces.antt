@@ -1,7 +1,7 @@
 -- The text of a listing, handed out piece by piece: where its printing stands, the text still to come, and where it stands after so many bytes
 -- more.
 use Rattle.std.specs.Prelude.{ℕ, zero, suc, ◌+◌, ◌-◌, Bool, true, false, List, [], ◌∷◌, ◌++◌, leb, length, take, drop}
-use Rattle.reads.specs.Outcome.{Outcome, value, absent, number, choose}
+use Rattle.reads.specs.Outcome.{Outcome, value, absent, refused, choose}
 use Rattle.reads.specs.Files.{longest}
 use Rattle.pointers.specs.Question.{image_fits}
 use Rattle.pointers.specs.Tables.{Tables, tables_of, under}
@@ -25,7 +25,7 @@ said_text files (value (lacks x)) = []
 said_text files (value nothing) = []
 said_text files (value ended) = []
 said_text files (absent r) = []
-said_text files (number k) = refused_text k
+said_text files (refused k) = refused_text k
 
 -- One of two, by whether the listing goes on after what was said.
 abbrev pub if_on : {A : Type 0} → Outcome Answer → A → A → A
@@ -34,13 +34,13 @@ if_on (value (lacks x)) on over = on
 if_on (value nothing) on over = on
 if_on (value ended) on over = over
 if_on (absent r) on over = over
-if_on (number k) on over = over
+if_on (refused k) on over = over
 
 -- Whether a question refused.
 abbrev pub refusing : Outcome Answer → Bool
 refusing (value x) = false
 refusing (absent r) = false
-refusing (number k) = true
+refusing (refused k) = true
 
 -- What the last step said, how many bytes of its text are out, and the listing's state and ledger after it.
 pub record Standing : Type 0 where
@@ -93,12 +93,12 @@ past t p k = past_by t (enough p) p k
 abbrev pub begun_by : Outcome Framed → Outcome Answer
 begun_by (value f) = value nothing
 begun_by (absent r) = value ended
-begun_by (number k) = number k
+begun_by (refused k) = refused k
 
 abbrev pub frames_given : Outcome Framed → Frames
 frames_given (value f) = f.frames
 frames_given (absent r) = no_frames
-frames_given (number k) = no_frames
+frames_given (refused k) = no_frames
 
 abbrev pub begun : Setting → Outcome Framed → List ℕ → Standing
 begun u o l = standing (begun_by o) 0 (marked_start u (frames_given o)) l
@@ -143,6 +143,6 @@ further p at k = record { len = at + k; progress = record { said = p.said; out =
 abbrev pub with_files : Tables → List (List ℕ) → Tables
 with_files t files = under t.setting (tables_of files t.segments t.sections t.info t.rebases t.binds t.index)
 
--- The tables that pieces are read from: files that question 1 refuses, over which no listing is begun, count as one empty file.
+-- The tables that pieces are read from: files that question FileLength refuses, over which no listing is begun, count as one empty file.
 abbrev pub listable : Tables → Tables
 listable t = with_files t (choose (image_fits (longest t.files)) t.files ([] ∷ []))

@@ -4,17 +4,19 @@
 ghost use Rattle.std.specs.Prelude.{◌≤◌, ◌<◌, ◌^◌, ◌≡◌, ◌++◌, length, take, drop};
 ghost use Rattle.reads.specs.Reference.{before};
 ghost use Rattle.reads.specs.Files.{files_lent, files_of, longest};
-ghost use Rattle.listing.specs.Bundle.{Accepted, counts_outcome, bundle_counts, words_from, ranges_of, segments_at};
-ghost use Rattle.marking.specs.Framed.{framed_outcome, framed_opening, framed_index};
+ghost use Rattle.listing.specs.Bundle.{Accepted, bundle_counts, words_from, ranges_of, segments_at};
+ghost use Rattle.marking.specs.Framed.{framed_opening, framed_index};
 ghost use Rattle.printing.specs.BundleText.{index_words};
 ghost use Rattle.printing.specs.BundleLent.{table_words, words_after, tables_over, tables_in, opening_in, index_after, tables_lent};
 ghost use Rattle.printing.specs.Pieces.{standing_of, to_come, handed_of, piece_of};
+ghost use Rattle.reads.specs.Answer.{outcome};
 
 use crate::pieces::{Piece, Progress};
-use listing::bundle::{Counts, CountsAnswer, measure, ranges_of, words_at};
-use marking::framed::{FramedAnswer, open_framed};
+use listing::bundle::{Counts, measure, ranges_of, words_at};
+use marking::framed::{Framed, open_framed};
 use pointers::index::HEADS;
 use pointers::section::ObjcSection;
+use reads::answer::Missing;
 
 // The tables of a bundle of these counts.
 fn decode_counted(bytes: &[u8], counts: Counts, words: &mut [u64])
@@ -29,23 +31,23 @@ fn decode_counted(bytes: &[u8], counts: Counts, words: &mut [u64])
     words_at(bytes, Counts::SEGMENTS_AT, &mut words[0..end]);
 }
 
-fn decode_bytes(bytes: &[u8], words: &mut [u64]) -> CountsAnswer
+fn decode_bytes(bytes: &[u8], words: &mut [u64]) -> Result<Counts, Missing>
     requires { 4096 ≤ length words.old }
-    ensures outcome { counts_outcome result ≡ bundle_counts (before bytes) }
+    ensures outcome { outcome result ≡ bundle_counts (before bytes) }
     ensures contents { words.new ≡ words_after (before bytes) words.old }
 {
     match measure(bytes) {
-        CountsAnswer::Counts(counts) => {
+        Ok(counts) => {
             decode_counted(bytes, counts, words);
-            CountsAnswer::Counts(counts)
+            Ok(counts)
         }
-        CountsAnswer::Missing(m) => CountsAnswer::Missing(m),
+        Err(m) => Err(m),
     }
 }
 
 // Question 13; then the words of the bundle's tables.
-pub fn decode(input: &[u8; 32769], n: usize, words: &mut [u64; 4096]) -> CountsAnswer
-    ensures outcome { counts_outcome result ≡ bundle_counts (take n (before input)) }
+pub fn decode(input: &[u8; 32769], n: usize, words: &mut [u64; 4096]) -> Result<Counts, Missing>
+    ensures outcome { outcome result ≡ bundle_counts (take n (before input)) }
     ensures contents { words.new ≡ words_after (take n (before input)) words.old }
 {
     let all: &[u8] = input;
@@ -67,11 +69,11 @@ fn open_files(
     counts: Counts,
     words: &[u64],
     index: &mut [u32],
-) -> FramedAnswer
+) -> Result<Framed, Missing>
     requires accepted { Accepted bytes.now counts }
     requires in_bounds { 4096 ≤ length words.now }
     requires in_bounds_2 { 10240 ≤ length index.old }
-    ensures outcome { framed_outcome result ≡ framed_opening (ranges_of (before bytes)) (tables_over (files_of files) (before bytes) counts (before words) index.old) }
+    ensures outcome { outcome result ≡ framed_opening (ranges_of (before bytes)) (tables_over (files_of files) (before bytes) counts (before words) index.old) }
     ensures contents { index.new ≡ framed_index (ranges_of (before bytes)) (tables_over (files_of files) (before bytes) counts (before words) index.old) ++ drop (index_words counts) index.old }
 {
     let first = counts.segment_words();
@@ -93,11 +95,16 @@ fn open_files(
 }
 
 // The same over the bundle's own files.
-fn open_counted(bytes: &[u8], counts: Counts, words: &[u64], index: &mut [u32]) -> FramedAnswer
+fn open_counted(
+    bytes: &[u8],
+    counts: Counts,
+    words: &[u64],
+    index: &mut [u32],
+) -> Result<Framed, Missing>
     requires accepted { Accepted bytes.now counts }
     requires in_bounds { 4096 ≤ length words.now }
     requires in_bounds_2 { 10240 ≤ length index.old }
-    ensures outcome { framed_outcome result ≡ framed_opening (ranges_of (before bytes)) (tables_in (before bytes) counts (before words) index.old) }
+    ensures outcome { outcome result ≡ framed_opening (ranges_of (before bytes)) (tables_in (before bytes) counts (before words) index.old) }
     ensures contents { index.new ≡ framed_index (ranges_of (before bytes)) (tables_in (before bytes) counts (before words) index.old) ++ drop (index_words counts) index.old }
 {
     let at1 = counts.image1_at();
@@ -111,15 +118,15 @@ fn open_counted(bytes: &[u8], counts: Counts, words: &[u64], index: &mut [u32]) 
     open_files(&files, bytes, counts, words, index)
 }
 
-fn open_bytes(bytes: &[u8], words: &[u64], index: &mut [u32]) -> FramedAnswer
+fn open_bytes(bytes: &[u8], words: &[u64], index: &mut [u32]) -> Result<Framed, Missing>
     requires in_bounds { 4096 ≤ length words.now }
     requires in_bounds_2 { 10240 ≤ length index.old }
-    ensures outcome { framed_outcome result ≡ opening_in (before bytes) (before words) index.old }
+    ensures outcome { outcome result ≡ opening_in (before bytes) (before words) index.old }
     ensures contents { index.new ≡ index_after (before bytes) (before words) index.old }
 {
     match measure(bytes) {
-        CountsAnswer::Counts(counts) => open_counted(bytes, counts, words, index),
-        CountsAnswer::Missing(m) => FramedAnswer::Missing(m),
+        Ok(counts) => open_counted(bytes, counts, words, index),
+        Err(m) => Err(m),
     }
 }
 
@@ -129,8 +136,8 @@ pub fn open(
     n: usize,
     words: &[u64; 4096],
     index: &mut [u32; 10240],
-) -> FramedAnswer
-    ensures outcome { framed_outcome result ≡ opening_in (take n (before input)) (before words) index.old }
+) -> Result<Framed, Missing>
+    ensures outcome { outcome result ≡ opening_in (take n (before input)) (before words) index.old }
     ensures contents { index.new ≡ index_after (take n (before input)) (before words) index.old }
 {
     let all: &[u8] = input;
@@ -222,10 +229,8 @@ fn piece_bytes(
         to_come t (standing_of result.progress ledger.new) ≡ drop (length out.old) (to_come t (standing_of progress ledger.old)) }
 {
     match measure(bytes) {
-        CountsAnswer::Counts(counts) => piece_counted(
-            progress, bytes, counts, words, index, ledger, out,
-        ),
-        CountsAnswer::Missing(_) => {
+        Ok(counts) => piece_counted(progress, bytes, counts, words, index, ledger, out),
+        Err(_) => {
             let empty = &bytes[0..0];
             let files = [empty];
             progress.fill(

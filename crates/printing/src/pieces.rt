@@ -1,19 +1,18 @@
 // The text of a listing, handed out piece by piece into a buffer that the caller lends; a line may be cut between pieces.
 ghost use Rattle.std.specs.Prelude.{◌<◌, ◌^◌, ◌≡◌, length, drop};
 ghost use Rattle.std.proofs.Math.Seq.{paste};
-ghost use Rattle.reads.specs.Answer.{missed};
+ghost use Rattle.reads.specs.Answer.{missed, outcome};
 ghost use Rattle.reads.specs.Files.{files_lent, files_of, longest};
 ghost use Rattle.pointers.specs.Tables.{lent, reading_new, reading_under};
 ghost use Rattle.listing.specs.ListingAnswer.{said_of};
 ghost use Rattle.listing.proofs.Remaining.{goes_on};
-ghost use Rattle.marking.specs.Framed.{framed_outcome};
 ghost use Rattle.printing.specs.Buffer.{Puts};
 ghost use Rattle.printing.specs.Pieces.{said_text, standing_of, stepped, begun, refusing, to_come, handed_of, piece_of, fits, further, listable};
 
 use crate::buffer::Out;
 use frames::frames::Frames;
 use listing::listing::Said;
-use marking::framed::FramedAnswer;
+use marking::framed::Framed;
 use marking::marked_listing::MarkedListing;
 use pointers::question::image_fits;
 use pointers::setting::Setting;
@@ -64,25 +63,25 @@ fn goes_on(said: Said) -> bool
 
 impl Progress {
     // The start under the new reading, by what opening answered.
-    pub fn new(answer: FramedAnswer) -> Progress
-        ensures { standing_of result ≡ begun reading_new (framed_outcome answer) }
+    pub fn new(answer: Result<Framed, Missing>) -> Progress
+        ensures { standing_of result ≡ begun reading_new (outcome answer) }
     {
         Progress::under(Reading::New, answer)
     }
 
     // The same under either reading.
-    pub fn under(reading: Reading, answer: FramedAnswer) -> Progress
-        ensures { standing_of result ≡ begun (reading_under reading) (framed_outcome answer) }
+    pub fn under(reading: Reading, answer: Result<Framed, Missing>) -> Progress
+        ensures { standing_of result ≡ begun (reading_under reading) (outcome answer) }
     {
         Progress::starting(Setting::under(reading), answer)
     }
 
     // The same under any setting.
-    pub fn starting(setting: Setting, answer: FramedAnswer) -> Progress
-        ensures { standing_of result ≡ begun setting (framed_outcome answer) }
+    pub fn starting(setting: Setting, answer: Result<Framed, Missing>) -> Progress
+        ensures { standing_of result ≡ begun setting (outcome answer) }
     {
         match answer {
-            FramedAnswer::Framed(framed) => {
+            Ok(framed) => {
                 let frames = framed.frames;
                 Progress {
                     said: Said::Nothing,
@@ -90,7 +89,7 @@ impl Progress {
                     listing: MarkedListing::starting(setting, frames),
                 }
             }
-            FramedAnswer::Missing(m) => Progress::over(setting, m),
+            Err(m) => Progress::over(setting, m),
         }
     }
 

@@ -7,12 +7,13 @@ ghost use Rattle.printing.specs.LineText.{none_field, number_field, string_field
 ghost use Rattle.reads.specs.Files.{files_of};
 
 use crate::buffer::Out;
-use listing::line::{CategoryLine, ClassLine, EndLine, InfoLine, Line, NameLine, Named, RowLine};
+use listing::line::{CategoryLine, ClassLine, EndLine, InfoLine, Line, NameLine, RowLine};
+use reads::answer::Question;
 use reads::files::is_lent;
 use reads::text::Text;
 use records::class::ClassRo;
-use records::ivar::{Aligned, Alignment, Ivar, IvarOffset};
-use records::method::{Imp, Method};
+use records::ivar::{Aligned, Ivar};
+use records::method::Method;
 use records::property::Property;
 use records::protocol::ObjcProtocol;
 use records::row::Row;
@@ -94,42 +95,42 @@ impl Out<'_> {
     }
 
     // A field that is a name or none.
-    fn named(&mut self, files: &[&[u8]], name: Named)
+    fn named(&mut self, files: &[&[u8]], name: Option<Text>)
         ensures { Puts self.old (named_field (files_of files) name) self.new }
     {
         match name {
-            Named::Text(t) => self.text(files, t),
-            Named::Nothing => self.none(),
+            Some(t) => self.text(files, t),
+            None => self.none(),
         }
     }
 
     // An implementation's address, or none.
-    fn imp(&mut self, imp: Imp)
+    fn imp(&mut self, imp: Option<u64>)
         ensures { Puts self.old (imp_field imp) self.new }
     {
         match imp {
-            Imp::At(va) => self.number(va),
-            Imp::Nothing => self.none(),
+            Some(va) => self.number(va),
+            None => self.none(),
         }
     }
 
     // An ivar's offset, or none.
-    fn offset(&mut self, offset: IvarOffset)
+    fn offset(&mut self, offset: Option<u32>)
         ensures { Puts self.old (offset_field offset) self.new }
     {
         match offset {
-            IvarOffset::At(n) => self.number(n as u64),
-            IvarOffset::Nothing => self.none(),
+            Some(n) => self.number(n as u64),
+            None => self.none(),
         }
     }
 
     // An ivar's alignment, or none.
-    fn alignment(&mut self, alignment: Alignment)
+    fn alignment(&mut self, alignment: Option<u8>)
         ensures { Puts self.old (alignment_field alignment) self.new }
     {
         match alignment {
-            Alignment::Log2(n) => self.number(n as u64),
-            Alignment::Nothing => self.none(),
+            Some(n) => self.number(n as u64),
+            None => self.none(),
         }
     }
 
@@ -301,11 +302,11 @@ impl Out<'_> {
     }
 
     // `refused` and the number of the question, in decimal.
-    pub(crate) fn refused(&mut self, k: u8)
+    pub(crate) fn refused(&mut self, k: Question)
         ensures { Puts self.old (refused_text k) self.new }
     {
         self.bytes(b"refused ");
-        self.decimal(k as u64);
+        self.decimal(k.number() as u64);
         self.byte(b'\n');
     }
 }

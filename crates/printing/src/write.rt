@@ -64,7 +64,7 @@ pub fn write_under(
     ensures { let t = tables_lent (take n (before input)) words.new index.new in
         (result.whole ≡ true → to_come t (standing_of result.progress ledger.new) ≡ []) }
 {
-    decode(input, n, words);
+    let _ = decode(input, n, words);
     let start = Progress::under(reading, open(input, n, words, index));
     write_pieces(fd, start, input, n, words, index, ledger, out)
 }

@@ -6,12 +6,13 @@ use mathlib.Core.List.{[], ◌∷◌}
 use mathlib.Core.Logic.{inr}
 use native.Mathlib.Omega.{arith}
 use lib.ListN.{get_or}
-use Rattle.reads.specs.Outcome.{value, number, choose}
+use Rattle.reads.specs.Outcome.{value, refused, choose}
 use Rattle.ranges.specs.Range.{range, lies, covers, range_words}
 use Rattle.ranges.specs.Runs.{run, ended, begun, runs, runs_from, merged}
 use Rattle.ranges.specs.Written.{result, written, merged_into}
 use Rattle.ranges.proofs.Covers.{covers_one, lies_true}
 use Rattle.ranges.proofs.MergedLaws.{merged_itself}
+use Rattle.reads.specs.declared.answer.Question.TheVariants.{RangeRoom}
 
 -- Ranges that touch are one, whatever their order.
 touching : merged (20 ∷ []) (range 0 5 4 ∷ range 0 2 3 ∷ []) ≡ range 0 2 7 ∷ []
@@ -51,6 +52,6 @@ room : merged_into (20 ∷ 20 ∷ []) (range 1 2 3 ∷ range 0 5 4 ∷ []) (7 �
 unfolding merged_into written range_words merged runs_from runs run ended begun covers lies choose
 room = refl
 
-no_room : merged_into (20 ∷ 20 ∷ []) (range 1 2 3 ∷ range 0 5 4 ∷ []) (7 ∷ 7 ∷ 7 ∷ 7 ∷ 7 ∷ []) ≡ result (number 24) (7 ∷ 7 ∷ 7 ∷ 7 ∷ 7 ∷ [])
+no_room : merged_into (20 ∷ 20 ∷ []) (range 1 2 3 ∷ range 0 5 4 ∷ []) (7 ∷ 7 ∷ 7 ∷ 7 ∷ 7 ∷ []) ≡ result (refused RangeRoom) (7 ∷ 7 ∷ 7 ∷ 7 ∷ 7 ∷ [])
 unfolding merged_into written range_words merged runs_from runs run ended begun covers lies choose
 no_room = refl

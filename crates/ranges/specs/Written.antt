@@ -1,37 +1,33 @@
 -- Ranges written into a lent buffer (document 02, note 13), or 24 where it is too short.
-use Rattle.std.specs.Prelude.{ℕ, ◌*◌, List, ◌++◌, leb, length, drop}
-use Rattle.reads.specs.Answer.{missed}
-use Rattle.reads.specs.Outcome.{Outcome, value, number, choose}
+use Rattle.std.specs.Prelude.{ℕ, ◌*◌, List, ◌++◌, leb, length, drop, Result}
+use Rattle.reads.specs.Answer.{outcome}
+use Rattle.reads.specs.Outcome.{Outcome, value, refused, choose}
 use Rattle.ranges.specs.Range.{Range, range_words}
 use Rattle.ranges.specs.Runs.{merged}
-use Rattle.ranges.specs.declared.answer.RangesAnswer.{RangesAnswer}
-use Rattle.ranges.specs.declared.answer.RangesAnswer.TheVariants as answer
-
-abbrev pub ranges_outcome : RangesAnswer → Outcome ℕ
-ranges_outcome (answer.Ranges n) = value n
-ranges_outcome (answer.Missing m) = missed m
+use Rattle.reads.specs.declared.answer.Missing.{Missing}
+use Rattle.reads.specs.declared.answer.Question.TheVariants.{RangeRoom}
 
 -- The answer, and the buffer as it is left.
-pub record Result : Type 0 where
+pub record Settled : Type 0 where
   pub answer : Outcome ℕ
   pub words : List ℕ
 
-abbrev pub result : Outcome ℕ → List ℕ → Result
+abbrev pub result : Outcome ℕ → List ℕ → Settled
 result answer words = record { answer = answer; words = words }
 
-abbrev pub result_of : RangesAnswer → List ℕ → Result
-result_of r words = result (ranges_outcome r) words
+abbrev pub result_of : Result ℕ Missing → List ℕ → Settled
+result_of r words = result (outcome r) words
 
 -- A number of ranges, three words each, or 24 where a buffer has no room for them.
 unfoldable pub room_for : ℕ → List ℕ → Outcome ℕ
-room_for n out = choose (leb (n * 3) (length out)) (value n) (number 24)
+room_for n out = choose (leb (n * 3) (length out)) (value n) (refused RangeRoom)
 
 -- Ranges written at the front of the buffer; with 24 nothing is written.
-unfoldable pub written : List Range → List ℕ → Result
+unfoldable pub written : List Range → List ℕ → Settled
 written rs out =
     choose (leb (length rs * 3) (length out))
     (result (value (length rs)) (range_words rs ++ drop (length rs * 3) out))
-    (result (number 24) out)
+    (result (refused RangeRoom) out)
 
-unfoldable pub merged_into : List ℕ → List Range → List ℕ → Result
+unfoldable pub merged_into : List ℕ → List Range → List ℕ → Settled
 merged_into lengths rs out = written (merged lengths rs) out

@@ -1,7 +1,5 @@
 -- The next breakpoint as a walk over the rows of a table finds it, from row i on.
 use Rattle.std.proofs.Common.{◌≡◌, ℕ, ◌+◌, ◌-◌, ◌^◌, ◌<◌, ◌≤◌, min, Bool, true, false, ltb, List, [], ◌∷◌, length, sym, refl, ap, ◌∙◌, arith}
-use Rattle.reads.specs.declared.breaks.Break.{Break}
-use Rattle.reads.specs.declared.breaks.Break.TheVariants.{At, Nothing}
 use Rattle.reads.specs.declared.segment.Segment.{Segment}
 use Rattle.reads.specs.Outcome.{choose}
 use Rattle.reads.specs.Files.{file_of}
@@ -9,19 +7,20 @@ use Rattle.reads.specs.Table.{records}
 use Rattle.reads.specs.Segment.{segment_words, segment_at, ends}
 use Rattle.reads.specs.Breaks.{readable_part, breaks, lesser, lower, next_break}
 use Rattle.reads.proofs.SegmentRows.{rows_from, rows_read, rows_none}
+use Rattle.std.specs.Prelude.{Option, Some, None}
 
 -- The lesser of `best` and the least of a list above va, the list's first taken first.
-unfoldable pub lowest : ℕ → Break → List ℕ → Break
+unfoldable pub lowest : ℕ → Option ℕ → List ℕ → Option ℕ
 lowest va best [] = best
 lowest va best (b ∷ bs) = lowest va (lower va best b) bs
 
-lower_swap : (va : ℕ) (o : Break) (a b : ℕ) → lower va (lower va o a) b ≡ lower va (lower va o b) a
+lower_swap : (va : ℕ) (o : Option ℕ) (a b : ℕ) → lower va (lower va o a) b ≡ lower va (lower va o b) a
 unfolding lower choose
 lower_swap va o a b = go (ltb va a) (ltb va b)
   where
-    either : (x : Break) → lesser b (lesser a x) ≡ lesser a (lesser b x)
-    either Nothing = ap At (omega arith)
-    either (At x) = ap At (omega arith)
+    either : (x : Option ℕ) → lesser b (lesser a x) ≡ lesser a (lesser b x)
+    either None = ap Some (omega arith)
+    either (Some x) = ap Some (omega arith)
 
     go : (t u : Bool) → choose u (lesser b (choose t (lesser a o) o)) (choose t (lesser a o) o) ≡ choose t (lesser a (choose u (lesser b o) o)) (choose u (lesser b o) o)
     go true true = either o
@@ -29,15 +28,15 @@ lower_swap va o a b = go (ltb va a) (ltb va b)
     go false true = refl
     go false false = refl
 
-lowest_lower : (va : ℕ) (o : Break) (b : ℕ) (bs : List ℕ) → lower va (lowest va o bs) b ≡ lowest va (lower va o b) bs
+lowest_lower : (va : ℕ) (o : Option ℕ) (b : ℕ) (bs : List ℕ) → lower va (lowest va o bs) b ≡ lowest va (lower va o b) bs
 unfolding lowest
 lowest_lower va o b [] = refl
-lowest_lower va o b (a ∷ bs) = lowest_lower va (lower va o a) b bs ∙ ap (λ (x : Break). lowest va x bs) (lower_swap va o a b)
+lowest_lower va o b (a ∷ bs) = lowest_lower va (lower va o a) b bs ∙ ap (λ (x : Option ℕ). lowest va x bs) (lower_swap va o a b)
 
-pub lowest_is_next_break : (va : ℕ) (bs : List ℕ) → lowest va Nothing bs ≡ next_break bs va
+pub lowest_is_next_break : (va : ℕ) (bs : List ℕ) → lowest va None bs ≡ next_break bs va
 unfolding lowest next_break
 lowest_is_next_break va [] = refl
-lowest_is_next_break va (b ∷ bs) = sym (lowest_lower va Nothing b bs) ∙ ap (λ (x : Break). lower va x b) (lowest_is_next_break va bs)
+lowest_is_next_break va (b ∷ bs) = sym (lowest_lower va None b bs) ∙ ap (λ (x : Option ℕ). lower va x b) (lowest_is_next_break va bs)
 
 module _ (s : Segment) where
   -- A file of fewer than 2^64 bytes has no offset past 64 bits.
@@ -50,7 +49,7 @@ module _ (s : Segment) where
   readable_part_size n k = omega arith
 
 -- The breakpoints of the rows from row i on, with the best so far; r is what the whole walk gives.
-module _ (ws : List ℕ) (i : ℕ) (fs : List (List ℕ)) (k va : ℕ) (best r : Break) (so_far : lowest va best (breaks fs k (rows_from ws i)) ≡ r) where
+module _ (ws : List ℕ) (i : ℕ) (fs : List (List ℕ)) (k va : ℕ) (best r : Option ℕ) (so_far : lowest va best (breaks fs k (rows_from ws i)) ≡ r) where
   pub lowest_out : records segment_words ws ≤ i → best ≡ r
   unfolding breaks lowest
   lowest_out h = sym (simp (rows_none ws i h)) ∙ so_far
@@ -61,7 +60,7 @@ module _ (ws : List ℕ) (i : ℕ) (fs : List (List ℕ)) (k va : ℕ) (best r :
     unfolding breaks lowest choose
     lowest_ends e = sym (simp (rows_read ws i fits s at, e)) ∙ so_far
 
-    pub lowest_more : ends s ≡ false → (size : ℕ) (a b c : Break) → size ≡ readable_part (length (file_of fs s.file)) k s
+    pub lowest_more : ends s ≡ false → (size : ℕ) (a b c : Option ℕ) → size ≡ readable_part (length (file_of fs s.file)) k s
         → a ≡ lower va best s.vmaddr → b ≡ lower va a (s.vmaddr + size) → c ≡ lower va b (s.vmaddr + s.vmsize)
         → lowest va c (breaks fs k (rows_from ws (i + 1))) ≡ r
     unfolding breaks lowest choose

@@ -12,7 +12,6 @@ use Rattle.reads.specs.Table.{records}
 use Rattle.reads.specs.Segment.{segment_words, rows, ends, holds, place_at, placed, lookup}
 use Rattle.reads.specs.Place.{Image, readable_at, readable}
 use Rattle.reads.specs.declared.place.Place.{Place}
-use Rattle.reads.specs.declared.breaks.Break.TheVariants.{At, Nothing}
 use Rattle.reads.specs.declared.segment.Segment.{Segment}
 use Rattle.reads.specs.Breaks.{is_value, can_read, readable_part, breaks, breaks_of, next_break, above}
 use Rattle.reads.proofs.Tests.{le_same, by_choose, choose_same}
@@ -20,6 +19,7 @@ use Rattle.reads.proofs.SegmentRows.{rows_length}
 use Rattle.reads.proofs.LeastAbove.{next_break_member, next_break_least, next_break_none, above_length}
 use Rattle.reads.proofs.BreakSteps.{readable_part_size}
 use Rattle.reads.proofs.Lookups.{holds_is, ends_not}
+use Rattle.std.specs.Prelude.{Some, None}
 
 -- The length of a segment's file.
 abbrev size : List (List ℕ) → Segment → ℕ
@@ -145,7 +145,7 @@ breaks_length fs k (s ∷ ss) =
 
 module _ (m : Image) (k va : ℕ) where
   -- Up to the next breakpoint bytes can be read everywhere or nowhere.
-  pub can_read_until_break : (b x : ℕ) → next_break (breaks_of m k) va ≡ At b → va ≤ x → x < b
+  pub can_read_until_break : (b x : ℕ) → next_break (breaks_of m k) va ≡ Some b → va ≤ x → x < b
       → can_read m k x ≡ can_read m k va
   unfolding can_read readable
   can_read_until_break b x e l h = sym (lookup_same m.files k (rows m.words) va x l clear)
@@ -154,12 +154,12 @@ module _ (m : Image) (k va : ℕ) where
       clear c i = elim (dec_le c va) [ yes u ↦ inl u | no f ↦ inr (omega (arith, next_break_least (breaks_of m k) va b e c i (omega arith))) ]
 
   -- With no breakpoint above, nothing can be read from there on.
-  pub unreadable_past_breaks : (x : ℕ) → next_break (breaks_of m k) va ≡ Nothing → va ≤ x → can_read m k x ≡ false
+  pub unreadable_past_breaks : (x : ℕ) → next_break (breaks_of m k) va ≡ None → va ≤ x → can_read m k x ≡ false
   unfolding can_read readable
   unreadable_past_breaks x e l =
       simp (lookup_past m.files k (rows m.words) x (λ b i. omega (arith, next_break_none (breaks_of m k) va e b i)))
 
-  pub next_break_fits : (b : ℕ) → next_break (breaks_of m k) va ≡ At b → b < 2 ^ 64
+  pub next_break_fits : (b : ℕ) → next_break (breaks_of m k) va ≡ Some b → b < 2 ^ 64
   next_break_fits b e = breaks_fit m.files k (rows m.words) b (next_break_member (breaks_of m k) va b e)
 
   -- At most three breakpoints for each row of the table lie above any address.

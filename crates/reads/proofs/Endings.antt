@@ -2,7 +2,7 @@
 use Rattle.std.proofs.Common.{◌≡◌, ℕ, zero, suc, ◌+◌, ◌-◌, ◌<◌, ◌≤◌, min, Bool, true, false, eqb, leb, List, [], ◌∷◌, length, get_or, drop, sym, refl, ap, ◌∙◌, arith, length-drop, get_or-drop, ltb-true, lt-ltb, eqb-true, le-leb}
 use native.Mathlib.Decide.{dec_le}
 use borrow.Author.Tests.{eqb-false}
-use Rattle.reads.specs.Outcome.{Outcome, value, absent, number, and_then, choose, nonzero, text_of}
+use Rattle.reads.specs.Outcome.{Outcome, value, absent, refused, and_then, choose, nonzero, text_of}
 use Rattle.reads.specs.Files.{file_of}
 use Rattle.reads.specs.Segment.{rows, lookup}
 use Rattle.reads.specs.Place.{Image}
@@ -97,7 +97,7 @@ module _ (m : Image) (va : ℕ) where
       go true e o q = unfold choose in refl
       go false e (value p) q = unfold choose in rw q (there p (eqb-false va 0 e) q)
       go false e (absent r) q = unfold choose in rw q
-      go false e (number k) q = unfold choose in rw q
+      go false e (refused k) q = unfold choose in rw q
 
   pub same_ends : text_in Old m va ≡ text_in New m va → StringEnds m va
   unfolding text_in

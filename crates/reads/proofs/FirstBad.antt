@@ -1,7 +1,6 @@
 -- What `Bad k` says of a text: k is the offset of the first byte that no text of the grammar continues with, or the length
 -- of a text that ends inside a character.
 use Rattle.std.proofs.Common.{◌≡◌, ℕ, suc, ◌+◌, ◌-◌, ◌<◌, ◌≤◌, Bool, true, false, leb, ◌↔◌, List, [], ◌∷◌, ◌++◌, length, take, drop, sym, refl, ap, ◌∙◌, subst, true≢false, append_assoc, arith, take-add, leb-true}
-use mathlib.Core.Option.{Option, none, some, some-injective, none-ne-some}
 use native.Mathlib.Decide.{dec_le}
 use Rattle.reads.proofs.Tests.{both_true}
 use Rattle.reads.specs.Outcome.{choose}
@@ -10,18 +9,20 @@ use Rattle.reads.specs.declared.text.Verdict.{Verdict}
 use Rattle.reads.specs.declared.text.Verdict.TheVariants.{Good, Bad}
 use Rattle.reads.proofs.Rows.{inside_between, all, begun_all}
 use Rattle.reads.proofs.Grammar.{accepts, utf8_accepts, octets_accepts, utf8_octets}
+use Rattle.reads.proofs.Options.{none_not_some, some_same}
+use Rattle.std.specs.Prelude.{Option, None, Some}
 
 -- Each range holds a byte, so what is due can always come
 abbrev filled : Range → Bool
 filled (lo to hi) = leb lo hi
 
-filled_after : (w : List Range) (b : ℕ) (w' : List Range) → all filled w ≡ true → due_after w b ≡ some w' → all filled w' ≡ true
+filled_after : (w : List Range) (b : ℕ) (w' : List Range) → all filled w ≡ true → due_after w b ≡ Some w' → all filled w' ≡ true
 filled_after [] b w' a q = begun_all filled chars b w' refl q
 filled_after (r ∷ rs) b w' a q = go (inside r b) q
   where
-    go : (x : Bool) → choose x (some rs) none ≡ some w' → all filled w' ≡ true
-    go true q' = ap (all filled) (sym (some-injective rs w' (unfold choose in q'))) ∙ (both_true (filled r) (all filled rs) a).1
-    go false q' = absurd (none-ne-some w' (unfold choose in q'))
+    go : (x : Bool) → choose x (Some rs) None ≡ Some w' → all filled w' ≡ true
+    go true q' = ap (all filled) (sym (some_same rs w' (unfold choose in q'))) ∙ (both_true (filled r) (all filled rs) a).1
+    go false q' = absurd (none_not_some w' (unfold choose in q'))
 
 lows : List Range → List ℕ
 lows [] = []
@@ -58,7 +59,7 @@ bad_at (b ∷ s) at w k a e = go (due_after w b) refl e (λ w' a' e'. bad_at s (
   where
     go : (o : Option (List Range)) → due_after w b ≡ o → go_on o (Bad at) (λ w'. judge (suc at) w' s) ≡ Bad k
         → ((w' : List Range) → all filled w' ≡ true → judge (suc at) w' s ≡ Bad k → BadAt (suc at) w' s k) → BadAt at w (b ∷ s) k
-    go none q e' f =
+    go None q e' f =
         let z : at ≡ k = cc in
         record {
           j = 0;
@@ -67,7 +68,7 @@ bad_at (b ∷ s) at w k a e = go (due_after w b) refl e (λ w' a' e'. bad_at s (
           goes = (lows w, accepts_lows w a);
           stops = λ h t. rw q;
         }
-    go (some w') q e' f =
+    go (Some w') q e' f =
         let m = f w' (filled_after w b w' a q) e' in
         record {
           j = suc m.j;

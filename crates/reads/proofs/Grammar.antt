@@ -2,16 +2,17 @@
 use Rattle.std.proofs.Common.{◌≡◌, ℕ, suc, Bool, true, false, ◌↔◌, List, [], ◌∷◌, ◌++◌, sym, refl, ap, ◌∙◌, subst}
 use mathlib.Core.Bool.{false≢true}
 use mathlib.Core.List.{Memᴰ}
-use mathlib.Core.Option.{Option, none, some, none-ne-some}
 use Rattle.reads.specs.Outcome.{choose}
 use Rattle.reads.specs.Utf8.{Range, inside, chars, Fit, fit_none, fit_more, Octets, octets_none, octets_more, due_after, go_on, judge, is_good, utf8}
 use Rattle.reads.specs.declared.text.Verdict.TheVariants.{Bad}
 use Rattle.reads.proofs.Rows.{begun_unique, begun_some}
+use Rattle.reads.proofs.Options.{none_not_some}
+use Rattle.std.specs.Prelude.{Option, None, Some}
 
 -- What is accepted, without the offsets
 abbrev pub onward : Option (List Range) → (List Range → Bool) → Bool
-onward none f = false
-onward (some w) f = f w
+onward None f = false
+onward (Some w) f = f w
 
 -- s goes on where w are due, and ends between characters.
 unfoldable pub accepts : List Range → List ℕ → Bool
@@ -27,8 +28,8 @@ judge_accepts (b ∷ s) at w = go (due_after w b) (λ w'. judge_accepts s (suc a
   where
     go : (o : Option (List Range)) → ((w' : List Range) → is_good (judge (suc at) w' s) ≡ accepts w' s)
         → is_good (go_on o (Bad at) (λ w'. judge (suc at) w' s)) ≡ onward o (λ w'. accepts w' s)
-    go none f = refl
-    go (some w') f = f w'
+    go None f = refl
+    go (Some w') f = f w'
 
 pub utf8_accepts : (s : List ℕ) → utf8 s ≡ accepts [] s
 unfolding utf8
@@ -43,7 +44,7 @@ record Completes (w : List Range) (s : List ℕ) : Type 0 where
   octets : Octets rest
   is : s ≡ c ++ rest
 
-back : (w : List Range) (b : ℕ) (s : List ℕ) (w' : List Range) → due_after w b ≡ some w' → Completes w' s → Completes w (b ∷ s)
+back : (w : List Range) (b : ℕ) (s : List ℕ) (w' : List Range) → due_after w b ≡ Some w' → Completes w' s → Completes w (b ∷ s)
 back [] b s w' q k =
     let m = begun_some chars b w' q in
     record {
@@ -55,7 +56,7 @@ back [] b s w' q k =
     }
 back (r ∷ rs) b s w' q k = go (inside r b) refl q
   where
-    go : (x : Bool) → inside r b ≡ x → choose x (some rs) none ≡ some w' → Completes (r ∷ rs) (b ∷ s)
+    go : (x : Bool) → inside r b ≡ x → choose x (Some rs) None ≡ Some w' → Completes (r ∷ rs) (b ∷ s)
     go true i q' =
         let e : w' ≡ rs = unfold choose in cc in
         record {
@@ -65,7 +66,7 @@ back (r ∷ rs) b s w' q k = go (inside r b) refl q
           octets = k.octets;
           is = ap (λ (l : List ℕ). b ∷ l) k.is;
         }
-    go false i q' = absurd (none-ne-some w' (unfold choose in q'))
+    go false i q' = absurd (none_not_some w' (unfold choose in q'))
 
 accepts_completes : (s : List ℕ) (w : List Range) → accepts w s ≡ true → Completes w s
 unfolding accepts
@@ -75,8 +76,8 @@ accepts_completes (b ∷ s) w e = go (due_after w b) refl e (λ w' e'. accepts_c
   where
     go : (o : Option (List Range)) → due_after w b ≡ o → onward o (λ w'. accepts w' s) ≡ true
         → ((w' : List Range) → accepts w' s ≡ true → Completes w' s) → Completes w (b ∷ s)
-    go none q e' f = absurd (false≢true e')
-    go (some w') q e' f = back w b s w' q (f w' e')
+    go None q e' f = absurd (false≢true e')
+    go (Some w') q e' f = back w b s w' q (f w' e')
 
 -- In the grammar: accepted
 fit_accepts : {w : List Range} {c : List ℕ} (s : List ℕ) → Fit w c → accepts w (c ++ s) ≡ accepts [] s

@@ -2,16 +2,15 @@
 use Rattle.std.proofs.Common.{◌≡◌, ℕ, zero, suc, ◌+◌, ◌-◌, ◌*◌, ◌%◌, ◌^◌, ◌<◌, ◌≤◌, Bool, true, false, ltb, List, [], ◌∷◌, length, get_or, drop, ℤ, negsuc, sym, refl, ap, ◌∙◌, mod-lt, zero-add, add-one, arith, drop-cons, to_z-of_z, w64, SFits, to_z, of_z, ltb-false, le-ltb, lt-ltb}
 use native.Mathlib.Nat.{pow-succ'}
 use lib.Seq.{drop-length}
-use Rattle.reads.specs.Answer.{missed, word_outcome}
-use Rattle.reads.specs.Outcome.{Outcome, value, absent, number, and_then, choose}
+use Rattle.reads.specs.Answer.{missed, outcome}
+use Rattle.reads.specs.Outcome.{Outcome, value, absent, refused, and_then, choose}
 use Rattle.reads.specs.Signed.{twos}
 use Rattle.reads.specs.Leb128.{digit_count, unsigned_digits, negative, signed_digits, within64, within_signed64, by_sign, magnitude, digit, signed_read, sleb_of}
 use Rattle.reads.specs.declared.answer.Reason.TheVariants.{Unreadable, Malformed}
 use Rattle.reads.specs.declared.answer.Missing.{Missing}
 use Rattle.reads.specs.declared.answer.Missing.TheVariants.{Absent, Refused}
-use Rattle.reads.specs.declared.answer.Word.{Word}
-use Rattle.reads.specs.declared.answer.Word.TheVariants as word
 use Rattle.reads.proofs.TwosLaws.{twos_negative, twos_positive}
+use Rattle.std.specs.Prelude.{Result, Ok, Err}
 
 low_below : (b : ℕ) → b % 128 < 128
 low_below b = mod-lt b (omega arith)
@@ -108,23 +107,23 @@ unfolding sleb_of choose
 sleb_beyond ds h = simp (signed_by_sign ds, within_signed, le-ltb _ (2 ^ 63) h)
 
 -- The signed number of digits of which the code has the magnitude.
-module _ (ds : List ℕ) (w : Word) (said : word_outcome w ≡ within64 (magnitude (negative ds) ds)) where
-  magnitude_is : (m : ℕ) → w ≡ word.Value m → magnitude (negative ds) ds ≡ m
+module _ (ds : List ℕ) (w : Result ℕ Missing) (said : outcome w ≡ within64 (magnitude (negative ds) ds)) where
+  magnitude_is : (m : ℕ) → w ≡ Ok m → magnitude (negative ds) ds ≡ m
   unfolding within64
-  magnitude_is m g = value_fits (ltb (magnitude (negative ds) ds) (2 ^ 64)) _ m (cc (ap word_outcome g))
+  magnitude_is m g = value_fits (ltb (magnitude (negative ds) ds) (2 ^ 64)) _ m (cc (ap outcome g))
 
-  pub sleb_fits : (m : ℕ) → w ≡ word.Value m → m < 2 ^ 63 → value (signed_read (by_sign (negative ds) m) (length ds)) ≡ sleb_of ds
+  pub sleb_fits : (m : ℕ) → w ≡ Ok m → m < 2 ^ 63 → value (signed_read (by_sign (negative ds) m) (length ds)) ≡ sleb_of ds
   unfolding sleb_of choose
   sleb_fits m g h = simp (signed_by_sign ds, magnitude_is m g, within_signed, lt-ltb m (2 ^ 63) h)
 
-  pub sleb_over : (m : ℕ) → w ≡ word.Value m → 2 ^ 63 ≤ m → absent Malformed ≡ sleb_of ds
+  pub sleb_over : (m : ℕ) → w ≡ Ok m → 2 ^ 63 ≤ m → absent Malformed ≡ sleb_of ds
   sleb_over m g h = sleb_beyond ds (rw (magnitude_is m g) h)
 
-  pub sleb_missing : (m : Missing) → w ≡ word.Missing m → missed m ≡ sleb_of ds
+  pub sleb_missing : (m : Missing) → w ≡ Err m → missed m ≡ sleb_of ds
   unfolding within64
   sleb_missing m g =
       let n : ℕ = magnitude (negative ds) ds in
-      let a = missing_over (ltb n (2 ^ 64)) n m (cc (ap word_outcome g)) in
+      let a = missing_over (ltb n (2 ^ 64)) n m (cc (ap outcome g)) in
       rw a.1 (sleb_beyond ds (omega (arith, ltb-false n (2 ^ 64) a.0)))
 
 -- The digits of all bytes, where i bytes that are not the last digit come before.
@@ -134,12 +133,12 @@ shifted i o = and_then o (λ k. value (i + k))
 shifted_zero : (o : Outcome ℕ) → o ≡ shifted 0 o
 shifted_zero (value k) = ap value (sym (zero-add k))
 shifted_zero (absent r) = refl
-shifted_zero (number k) = refl
+shifted_zero (refused k) = refl
 
 shifted_suc : (i : ℕ) (o : Outcome ℕ) → shifted i (and_then o (λ k. value (suc k))) ≡ shifted (suc i) o
 shifted_suc i (value k) = ap value (omega arith)
 shifted_suc i (absent r) = refl
-shifted_suc i (number k) = refl
+shifted_suc i (refused k) = refl
 
 -- The count of the digits as the code comes to byte i.
 pub Counted : List ℕ → ℕ → Type 0
@@ -183,12 +182,12 @@ count_bounds (b ∷ bs) k e = go (count_bounds bs) (ltb b 128) refl (digit_count
         let g : absent r ≡ value k = rw (t, d) at e in
         let z : ◌≡◌ {A = ℕ} 0 1 = cc in
         absurd (omega arith)
-    go rest false t (number j) d =
-        let g : number j ≡ value k = rw (t, d) at e in
+    go rest false t (refused j) d =
+        let g : refused j ≡ value k = rw (t, d) at e in
         let z : ◌≡◌ {A = ℕ} 0 1 = cc in
         absurd (omega arith)
 
 -- There is a digit, and the digits are among the bytes.
-pub digit_count_bounds : (w : Word) (bs : List ℕ) (k : ℕ) → word_outcome w ≡ digit_count bs → w ≡ word.Value k
+pub digit_count_bounds : (w : Result ℕ Missing) (bs : List ℕ) (k : ℕ) → outcome w ≡ digit_count bs → w ≡ Ok k
     → (0 < k) × (k ≤ length bs)
-digit_count_bounds w bs k e g = count_bounds bs k (cc (ap word_outcome g))
+digit_count_bounds w bs k e g = count_bounds bs k (cc (ap outcome g))

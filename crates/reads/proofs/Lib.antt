@@ -1,4 +1,5 @@
 -- Laws that the proofs of reads share, and that the crates above cite.
+pub mod Options
 pub mod Tests
 pub mod Outcomes
 pub mod Masks

@@ -6,16 +6,16 @@ use Rattle.std.specs.Int.{from_le_bytes, from_be_bytes}
 use mathlib.Core.List.{reverse-append}
 use borrow.Author.Tests.{lt-leb}
 use lib.ListN.{length-reverse}
-use Rattle.reads.specs.Outcome.{Outcome, value, absent, number, and_then, because, choose}
+use Rattle.reads.specs.Outcome.{Outcome, value, absent, refused, and_then, because, choose}
 use Rattle.reads.specs.declared.answer.Reason.TheVariants.{Unreadable}
 use Rattle.reads.specs.Segment.{rows, lookup, place_at}
 use Rattle.reads.specs.Files.{files_lent, file_of}
 use Rattle.reads.specs.Place.{Image, image_of, le, be, part, readable_at, readable, word_in, le_in}
-use Rattle.reads.specs.Answer.{place_outcome}
 use Rattle.reads.specs.declared.place.Place.{Place}
-use Rattle.reads.specs.declared.place.Placed.{Placed}
-use Rattle.reads.specs.declared.place.Placed.TheVariants as placed
 use Rattle.reads.proofs.LentFiles.{lent_below, lent_by_bytes, file_lent}
+use Rattle.std.specs.Prelude.{Result, Ok}
+use Rattle.reads.specs.Answer.{outcome}
+use Rattle.reads.specs.declared.answer.Missing.{Missing}
 
 -- x after n bytes: times 256 for each.
 abbrev pub scaled : ℕ → ℕ → ℕ
@@ -171,19 +171,19 @@ module _ (fs : List (List ℕ)) (k : ℕ) where
       let r = readable_at_room (length (file_of fs q.file)) q k p e in
       subst (λ (x : Place). p.offset + k ≤ length (file_of fs x.file)) r.0 r.1
   then_room (absent r) p e = let z : ◌≡◌ {A = ℕ} 0 1 = cc in absurd (omega arith)
-  then_room (number j) p e = let z : ◌≡◌ {A = ℕ} 0 1 = cc in absurd (omega arith)
+  then_room (refused j) p e = let z : ◌≡◌ {A = ℕ} 0 1 = cc in absurd (omega arith)
 
 pub readable_room : (m : Image) (va k : ℕ) (p : Place) → readable m va k ≡ value p → p.offset + k ≤ length (file_of m.files p.file)
 unfolding readable
 readable_room m va k p e = then_room m.files k (lookup (rows m.words) va) p e
 
 -- The same, of an answer of the code.
-pub answer_at_room : (w : Placed) (n : ℕ) (q : Place) (k : ℕ) (p : Place) → place_outcome w ≡ readable_at n q k → w ≡ placed.At p → p.offset + k ≤ n
+pub answer_at_room : (w : Result Place Missing) (n : ℕ) (q : Place) (k : ℕ) (p : Place) → outcome w ≡ readable_at n q k → w ≡ Ok p → p.offset + k ≤ n
 answer_at_room w n q k p e g = (readable_at_room n q k p (rw (← e, g))).1
 
 -- The file of a place that was found for some bytes is lent, and holds them.
-module _ (w : Placed) (fs : List (Bor (List ℕ))) (ws : List ℕ) (va k : ℕ) (p : Place) (e : place_outcome w ≡ readable (image_of (files_lent fs) ws) va k)
-    (g : w ≡ placed.At p) (some : 0 < k) where
+module _ (w : Result Place Missing) (fs : List (Bor (List ℕ))) (ws : List ℕ) (va k : ℕ) (p : Place) (e : outcome w ≡ readable (image_of (files_lent fs) ws) va k)
+    (g : w ≡ Ok p) (some : 0 < k) where
   found_room : p.offset + k ≤ length (file_of (files_lent fs) p.file)
   found_room = readable_room (image_of (files_lent fs) ws) va k p (rw (← e, g))
 

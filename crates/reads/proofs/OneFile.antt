@@ -1,7 +1,7 @@
 -- One file with number 0 everywhere gives what one image gave (document 02, note 6): lookups, reads and texts. Other files may be lent beside
 -- it: no lookup leads there.
 use Rattle.std.proofs.Common.{◌≡◌, ℕ, zero, suc, ◌+◌, ◌-◌, ◌<◌, ◌≤◌, Bool, true, false, leb, List, [], ◌∷◌, map, length, drop, refl, ap, ◌∙◌, arith}
-use Rattle.reads.specs.Outcome.{Outcome, value, absent, number, and_then, because, or_else, choose, sum64, nonzero, text_of}
+use Rattle.reads.specs.Outcome.{Outcome, value, absent, refused, and_then, because, or_else, choose, sum64, nonzero, text_of}
 use Rattle.reads.specs.Table.{records, word_of, tabulate}
 use Rattle.reads.specs.Files.{file_of}
 use Rattle.reads.specs.Segment.{segment, segment_at, rows, ends, holds, place_at, placed, lookup}
@@ -28,7 +28,7 @@ pub record Widened (width : ℕ) (old new : List ℕ) : Type 0 where
 abbrev pub in_file : Outcome ℕ → Outcome Place
 in_file (value offset) = value (place_at 0 offset)
 in_file (absent r) = absent r
-in_file (number k) = number k
+in_file (refused k) = refused k
 
 abbrev pub text_in_file : one.Text → Text
 text_in_file t = text_of 0 t.offset t.len
@@ -36,7 +36,7 @@ text_in_file t = text_of 0 t.offset t.len
 abbrev pub texts_in_file : Outcome one.Text → Outcome Text
 texts_in_file (value t) = value (text_in_file t)
 texts_in_file (absent r) = absent r
-texts_in_file (number k) = number k
+texts_in_file (refused k) = refused k
 
 abbrev widen : one.Segment → Segment
 widen s = segment s.vmaddr s.vmsize s.fileoff s.filesize 0
@@ -50,7 +50,7 @@ placed_one s va = go (leb s.filesize (va - s.vmaddr)) (sum64 s.fileoff (va - s.v
     go true o = unfold choose in refl
     go false (value offset) = unfold choose in refl
     go false (absent r) = unfold choose in refl
-    go false (number k) = unfold choose in refl
+    go false (refused k) = unfold choose in refl
 
 lookup_widened : (ss : List one.Segment) (va : ℕ) → lookup (map widen ss) va ≡ in_file (one.lookup ss va)
 unfolding lookup one.lookup ends holds
@@ -94,7 +94,7 @@ module _ {old new : List ℕ} (w : Widened 4 old new) where
       go : (o : Outcome ℕ) → and_then (in_file o) (λ p. value va) ≡ and_then o (λ offset. value va)
       go (value offset) = refl
       go (absent r) = refl
-      go (number k) = refl
+      go (refused k) = refl
 
   pub picked_one : (x : ℕ) → picked new x ≡ one.picked old x
   unfolding picked picked_wide one.picked
@@ -103,7 +103,7 @@ module _ {old new : List ℕ} (w : Widened 4 old new) where
       go : (o : Outcome ℕ) → because NoData (or_else (and_then o (mapped new)) (nonzero (data64 x))) ≡ because NoData (or_else (and_then o (one.mapped old)) (nonzero (data64 x)))
       go (value a) = rw (mapped_one a)
       go (absent r) = refl
-      go (number k) = refl
+      go (refused k) = refl
 
   -- What is read there is what was read in the image.
   module _ (file : List ℕ) (others : List (List ℕ)) where
@@ -123,7 +123,7 @@ module _ {old new : List ℕ} (w : Widened 4 old new) where
             ≡ in_file (and_then (because Unreadable o) (λ offset. one.readable_at file offset k))
         go (value offset) = unfold readable_at file_of in inside offset (leb (offset + k) (length file))
         go (absent r) = refl
-        go (number n) = refl
+        go (refused n) = refl
 
     pub word_one : (k va : ℕ) → word (image_of (file ∷ others) new) k va ≡ one.word image k va
     unfolding word one.word file_of
@@ -133,7 +133,7 @@ module _ {old new : List ℕ} (w : Widened 4 old new) where
             → and_then (in_file o) (λ p. value (le (part (file_of (file ∷ others) p.file) p.offset k))) ≡ and_then o (λ offset. value (le (part file offset k)))
         go (value offset) = unfold file_of in refl
         go (absent r) = refl
-        go (number n) = refl
+        go (refused n) = refl
 
     text_at_one : (r : Reading) (offset : ℕ) → text_from r file (place_at 0 offset) ≡ texts_in_file (one.text_at r file offset)
     unfolding text_from
@@ -157,14 +157,14 @@ module _ {old new : List ℕ} (w : Widened 4 old new) where
         found : (o : Outcome ℕ) → and_then (in_file o) (λ p. text_at r (file ∷ others) p) ≡ texts_in_file (and_then o (one.text_at r file))
         found (value offset) = unfold file_of in text_at_one r offset
         found (absent why) = refl
-        found (number k) = refl
+        found (refused k) = refl
 
         go : (o : Outcome ℕ)
             → and_then o (λ a. and_then (lookup (rows new) a) (λ p. text_at r (file ∷ others) p))
             ≡ texts_in_file (and_then o (λ a. and_then (one.lookup (one.rows old) a) (one.text_at r file)))
         go (value a) = rw (lookup_one a) (found (one.lookup (one.rows old) a))
         go (absent why) = refl
-        go (number k) = refl
+        go (refused k) = refl
 
 -- Such a table: two segments of four words, and the same with a file number each.
 abbrev four_words : List ℕ

@@ -1,19 +1,15 @@
 -- Laws of outcomes, in the form in which a proof of code uses them: w is an answer of the code whose outcome is x.
 use Rattle.std.proofs.Common.{◌≡◌, ℕ, ◌+◌, ◌^◌, ◌<◌, ◌≤◌, Bool, true, false, refl, ap, ◌∙◌, arith, le-ltb, lt-ltb, ne_eqb}
-use Rattle.reads.specs.Outcome.{Outcome, value, absent, number, and_then, because, or_else, or_first, is_absent, or_zero, or_empty, choose, sum64, nonzero}
-use Rattle.reads.specs.Answer.{missed, word_outcome, place_outcome, text_outcome}
+use Rattle.reads.specs.Outcome.{Outcome, value, absent, refused, and_then, because, or_else, or_first, is_absent, or_zero, or_empty, choose, sum64, nonzero}
+use Rattle.reads.specs.Answer.{missed, outcome}
 use Rattle.reads.specs.declared.answer.Reason.{Reason}
 use Rattle.reads.specs.declared.answer.Reason.TheVariants.{NullAddress, FieldOverflow}
 use Rattle.reads.specs.declared.answer.Missing.{Missing}
 use Rattle.reads.specs.declared.answer.Missing.TheVariants.{Absent, Refused}
 use Rattle.reads.specs.declared.place.Place.{Place}
-use Rattle.reads.specs.declared.place.Placed.{Placed}
-use Rattle.reads.specs.declared.place.Placed.TheVariants as placed
 use Rattle.reads.specs.declared.text.Text.{Text}
-use Rattle.reads.specs.declared.text.TextAnswer.{TextAnswer}
-use Rattle.reads.specs.declared.text.TextAnswer.TheVariants as text
-use Rattle.reads.specs.declared.answer.Word.{Word}
-use Rattle.reads.specs.declared.answer.Word.TheVariants as word
+use Rattle.std.specs.Prelude.{Result, Ok, Err}
+use Rattle.reads.specs.declared.answer.Question.{Question}
 
 pub sum_fits : (a b : ℕ) → a + b < 2 ^ 64 → sum64 a b ≡ value (a + b)
 unfolding sum64 choose
@@ -36,18 +32,18 @@ pub then_then : {A B C : Type 0} (o : Outcome A) (f : A → Outcome B) (g : B �
     → and_then (and_then o f) g ≡ and_then o (λ a. and_then (f a) g)
 then_then (value a) f g = refl
 then_then (absent r) f g = refl
-then_then (number k) f g = refl
+then_then (refused k) f g = refl
 
 pub then_value : {A : Type 0} (o : Outcome A) → and_then o (λ a. value a) ≡ o
 then_value (value a) = refl
 then_value (absent r) = refl
-then_value (number k) = refl
+then_value (refused k) = refl
 
 -- A chain that gives a value came by one.
 pub then_came : {A B : Type 0} (o : Outcome A) (f : A → Outcome B) (b : B) → and_then o f ≡ value b → (a : A) × (o ≡ value a) × (f a ≡ value b)
 then_came (value a) f b e = (a, refl, e)
 then_came (absent r) f b e = let z : ◌≡◌ {A = ℕ} 0 1 = cc in absurd (omega arith)
-then_came (number k) f b e = let z : ◌≡◌ {A = ℕ} 0 1 = cc in absurd (omega arith)
+then_came (refused k) f b e = let z : ◌≡◌ {A = ℕ} 0 1 = cc in absurd (omega arith)
 
 -- What is missing stays so.
 pub missed_then : {A B : Type 0} (m : Missing) (f : A → Outcome B) → missed m ≡ and_then (missed m) f
@@ -62,33 +58,33 @@ module _ {W A B : Type 0} (out : W → Outcome A) (f : A → Outcome B) where
   pub on_missing : {w v : W} {x : Outcome A} (m : Missing) → out w ≡ x → w ≡ v → out v ≡ missed m → missed m ≡ and_then x f
   on_missing m e g h = rw (← e, g, h) (missed_then m f)
 
-  pub on_number : {w v : W} {x : Outcome A} {k : ℕ} → out w ≡ x → w ≡ v → out v ≡ number k → number k ≡ and_then x f
+  pub on_number : {w v : W} {x : Outcome A} {k : Question} → out w ≡ x → w ≡ v → out v ≡ refused k → refused k ≡ and_then x f
   on_number e g h = rw (← e, g, h)
 
 module _ {B : Type 0} where
-  pub word_value : (w : Word) (x : Outcome ℕ) (f : ℕ → Outcome B) (n : ℕ) (y : Outcome B)
-      → word_outcome w ≡ x → w ≡ word.Value n → y ≡ f n → y ≡ and_then x f
-  word_value w x f n y e g h = on_value word_outcome f e g refl h
+  pub word_value : (w : Result ℕ Missing) (x : Outcome ℕ) (f : ℕ → Outcome B) (n : ℕ) (y : Outcome B)
+      → outcome w ≡ x → w ≡ Ok n → y ≡ f n → y ≡ and_then x f
+  word_value w x f n y e g h = on_value outcome f e g refl h
 
-  pub word_missing : (w : Word) (x : Outcome ℕ) (f : ℕ → Outcome B) (m : Missing)
-      → word_outcome w ≡ x → w ≡ word.Missing m → missed m ≡ and_then x f
-  word_missing w x f m e g = on_missing word_outcome f m e g refl
+  pub word_missing : (w : Result ℕ Missing) (x : Outcome ℕ) (f : ℕ → Outcome B) (m : Missing)
+      → outcome w ≡ x → w ≡ Err m → missed m ≡ and_then x f
+  word_missing w x f m e g = on_missing outcome f m e g refl
 
-  pub place_value : (w : Placed) (x : Outcome Place) (f : Place → Outcome B) (p : Place) (y : Outcome B)
-      → place_outcome w ≡ x → w ≡ placed.At p → y ≡ f p → y ≡ and_then x f
-  place_value w x f p y e g h = on_value place_outcome f e g refl h
+  pub place_value : (w : Result Place Missing) (x : Outcome Place) (f : Place → Outcome B) (p : Place) (y : Outcome B)
+      → outcome w ≡ x → w ≡ Ok p → y ≡ f p → y ≡ and_then x f
+  place_value w x f p y e g h = on_value outcome f e g refl h
 
-  pub place_missing : (w : Placed) (x : Outcome Place) (f : Place → Outcome B) (m : Missing)
-      → place_outcome w ≡ x → w ≡ placed.Missing m → missed m ≡ and_then x f
-  place_missing w x f m e g = on_missing place_outcome f m e g refl
+  pub place_missing : (w : Result Place Missing) (x : Outcome Place) (f : Place → Outcome B) (m : Missing)
+      → outcome w ≡ x → w ≡ Err m → missed m ≡ and_then x f
+  place_missing w x f m e g = on_missing outcome f m e g refl
 
-  pub text_value : (w : TextAnswer) (x : Outcome Text) (f : Text → Outcome B) (t : Text) (y : Outcome B)
-      → text_outcome w ≡ x → w ≡ text.Found t → y ≡ f t → y ≡ and_then x f
-  text_value w x f t y e g h = on_value text_outcome f e g refl h
+  pub text_value : (w : Result Text Missing) (x : Outcome Text) (f : Text → Outcome B) (t : Text) (y : Outcome B)
+      → outcome w ≡ x → w ≡ Ok t → y ≡ f t → y ≡ and_then x f
+  text_value w x f t y e g h = on_value outcome f e g refl h
 
-  pub text_missing : (w : TextAnswer) (x : Outcome Text) (f : Text → Outcome B) (m : Missing)
-      → text_outcome w ≡ x → w ≡ text.Missing m → missed m ≡ and_then x f
-  text_missing w x f m e g = on_missing text_outcome f m e g refl
+  pub text_missing : (w : Result Text Missing) (x : Outcome Text) (f : Text → Outcome B) (m : Missing)
+      → outcome w ≡ x → w ≡ Err m → missed m ≡ and_then x f
+  text_missing w x f m e g = on_missing outcome f m e g refl
 
 -- A second lookup where the first is absent.
 module _ {W A : Type 0} (out : W → Outcome A) (y : Outcome A) where
@@ -98,7 +94,7 @@ module _ {W A : Type 0} (out : W → Outcome A) (y : Outcome A) where
   pub else_absent : {w v : W} {x z : Outcome A} {r : Reason} → out w ≡ x → w ≡ v → out v ≡ absent r → z ≡ y → z ≡ or_else x y
   else_absent e g h k = rw (← e, g, h) k
 
-  pub else_number : {w v : W} {x : Outcome A} {k : ℕ} → out w ≡ x → w ≡ v → out v ≡ number k → number k ≡ or_else x y
+  pub else_number : {w v : W} {x : Outcome A} {k : Question} → out w ≡ x → w ≡ v → out v ≡ refused k → refused k ≡ or_else x y
   else_number e g h = rw (← e, g, h)
 
 -- A second lookup where the first is absent, whose reason stands.
@@ -109,7 +105,7 @@ module _ {W A : Type 0} (out : W → Outcome A) (y : Outcome A) where
   pub first_absent : {w v : W} {x z : Outcome A} {r : Reason} → out w ≡ x → w ≡ v → out v ≡ absent r → z ≡ because r y → z ≡ or_first x y
   first_absent e g h k = rw (← e, g, h) k
 
-  pub first_number : {w v : W} {x : Outcome A} {k : ℕ} → out w ≡ x → w ≡ v → out v ≡ number k → number k ≡ or_first x y
+  pub first_number : {w v : W} {x : Outcome A} {k : Question} → out w ≡ x → w ≡ v → out v ≡ refused k → refused k ≡ or_first x y
   first_number e g h = rw (← e, g, h)
 
 -- The second lookup's reason stands, and the code has tested the first for absence.
@@ -117,12 +113,12 @@ module _ {A : Type 0} (y : Outcome A) where
   absent_else : (o : Outcome A) → true ≡ is_absent o → y ≡ or_else o y
   absent_else (value a) e = let z : ◌≡◌ {A = ℕ} 0 1 = cc in absurd (omega arith)
   absent_else (absent r) e = refl
-  absent_else (number k) e = let z : ◌≡◌ {A = ℕ} 0 1 = cc in absurd (omega arith)
+  absent_else (refused k) e = let z : ◌≡◌ {A = ℕ} 0 1 = cc in absurd (omega arith)
 
   present_else : (o : Outcome A) → false ≡ is_absent o → o ≡ or_else o y
   present_else (value a) e = refl
   present_else (absent r) e = let z : ◌≡◌ {A = ℕ} 0 1 = cc in absurd (omega arith)
-  present_else (number k) e = refl
+  present_else (refused k) e = refl
 
 -- b is what the test gave of the answer w.
 module _ {W A : Type 0} (out : W → Outcome A) (y : Outcome A) where
@@ -133,18 +129,18 @@ module _ {W A : Type 0} (out : W → Outcome A) (y : Outcome A) where
   when_present w e t b = rw (← e) (present_else y (out w) (rw (← b) t))
 
 -- "or 0", "or empty" and another reason, of an answer whose outcome is x.
-pub or_zero_of : (r w : Word) (x : Outcome ℕ) → word_outcome r ≡ or_zero (word_outcome w) → word_outcome w ≡ x → word_outcome r ≡ or_zero x
+pub or_zero_of : (r w : Result ℕ Missing) (x : Outcome ℕ) → outcome r ≡ or_zero (outcome w) → outcome w ≡ x → outcome r ≡ or_zero x
 or_zero_of r w x e g = e ∙ ap or_zero g
 
-pub or_empty_of : (r w : TextAnswer) (x : Outcome Text) → text_outcome r ≡ or_empty (text_outcome w) → text_outcome w ≡ x → text_outcome r ≡ or_empty x
+pub or_empty_of : (r w : Result Text Missing) (x : Outcome Text) → outcome r ≡ or_empty (outcome w) → outcome w ≡ x → outcome r ≡ or_empty x
 or_empty_of r w x e g = e ∙ ap or_empty g
 
-pub because_of : (r w : Word) (why : Reason) (x : Outcome ℕ) → word_outcome r ≡ because why (word_outcome w) → word_outcome w ≡ x
-    → word_outcome r ≡ because why x
+pub because_of : (r w : Result ℕ Missing) (why : Reason) (x : Outcome ℕ) → outcome r ≡ because why (outcome w) → outcome w ≡ x
+    → outcome r ≡ because why x
 because_of r w why x e g = e ∙ ap (because why) g
 
-pub text_because_of : (r w : TextAnswer) (why : Reason) (x : Outcome Text) → text_outcome r ≡ because why (text_outcome w) → text_outcome w ≡ x
-    → text_outcome r ≡ because why x
+pub text_because_of : (r w : Result Text Missing) (why : Reason) (x : Outcome Text) → outcome r ≡ because why (outcome w) → outcome w ≡ x
+    → outcome r ≡ because why x
 text_because_of r w why x e g = e ∙ ap (because why) g
 
 pub ruleset outcomes = (or_zero_of, or_empty_of, because_of, text_because_of, word_value, word_missing, place_value, place_missing, text_value, text_missing)

@@ -1,6 +1,5 @@
 -- One pass over bytes: what its steps say of the text, one law for each of their cases.
 use Rattle.std.proofs.Common.{◌≡◌, ℕ, suc, ◌+◌, ◌<◌, ◌≤◌, min, Bool, true, false, eqb, ltb, leb, List, [], ◌∷◌, length, get_or, drop, sym, refl, ap, ◌∙◌, subst, true≢false, arith, drop_of_length-le, drop-cons, ltb-true, le-ltb, lt-ltb, eq-eqb, ne_eqb, leb-true}
-use mathlib.Core.Option.{Option, none, some}
 use native.Mathlib.Decide.{dec_le}
 use lib.ListN.{get_or-eq_default}
 use Rattle.reads.specs.Outcome.{choose}
@@ -12,6 +11,7 @@ use Rattle.reads.specs.declared.text.Step.{Step}
 use Rattle.reads.specs.declared.text.Verdict.TheVariants.{Bad}
 use Rattle.reads.proofs.Tests.{both_true}
 use Rattle.reads.proofs.Rows.{all, begun_all, inside_between, inside_over, multi_row, multi_under, multi_over}
+use Rattle.std.specs.Prelude.{Option, None, Some}
 
 module _ (b : ℕ) (s : List ℕ) where
   pub text_zero : b ≡ 0 → text (b ∷ s) ≡ []
@@ -79,13 +79,13 @@ module _ {z : Bool} {s : List ℕ} {w : List Range} {i : ℕ} (l : Left z s w i)
         ap (λ (q : Option (List Range)). go_on q (Bad i) (λ v. judge (suc i) v (up_to z (drop (suc i) s)))) (sym e)
         ∙ ap (judge i w) (sym next_judged) ∙ l.judged
 
-    pub left_on : (v : List Range) → due_after w (get_or s i 0) ≡ some v → Left z s v (byte_after s i).read
+    pub left_on : (v : List Range) → due_after w (get_or s i 0) ≡ Some v → Left z s v (byte_after s i).read
     left_on v e =
         subst (Left z s v) (sym (read_there s i h))
-        record { within = h; long = omega (arith, l.long, ap length next_judged); judged = by_due (some v) e }
+        record { within = h; long = omega (arith, l.long, ap length next_judged); judged = by_due (Some v) e }
 
-    pub left_bad : due_after w (get_or s i 0) ≡ none → FoundBad z s i
-    left_bad e = record { within = l.within; long = l.long; judged = by_due none e }
+    pub left_bad : due_after w (get_or s i 0) ≡ None → FoundBad z s i
+    left_bad e = record { within = l.within; long = l.long; judged = by_due None e }
 
 -- A byte that is not the one due is bad, and so is a zero byte that ends the text, and the end.
 judge_misfit_front : (z : Bool) (i : ℕ) (r : Range) (w : List Range) (b : ℕ) (s : List ℕ) → inside r b ≡ false → judge i (r ∷ w) (up_to z (b ∷ s)) ≡ Bad i
@@ -185,7 +185,7 @@ module _ {z : Bool} {s : List ℕ} {i : ℕ} (l : Left z s [] i) (h : 0x80 ≤ g
   stands_character = go (begun multi (get_or s i 0)) refl
     where
       go : (o : Option (List Range)) → begun multi (get_or s i 0) ≡ o → Stands z s i [] (follow_row s (byte_after s i) o)
-      go none q =
+      go None q =
           record {
             is = refl;
             ahead = omega arith;
@@ -193,7 +193,7 @@ module _ {z : Bool} {s : List ℕ} {i : ℕ} (l : Left z s [] i) (h : 0x80 ≤ g
             on = λ e. absurd (true≢false (sym e));
             bad = λ e. left_bad l first_inside first_there (after_first ∙ q);
           }
-      go (some w) q =
+      go (Some w) q =
           stands_all w (record { fits = true; last = byte_after s i }) (begun_all above_zero multi (get_or s i 0) w refl q)
           record {
             is = refl;
@@ -240,7 +240,7 @@ module _ (s : List ℕ) (first : ByteRead) where
   -- The k-th row of the grammar: what is due after the byte between lo and hi, of which q, t and u are the first, second and third.
   module _ (k lo hi : ℕ) (a : lo ≤ first.byte) (b : first.byte ≤ hi) where
     of_row : (w : List Range) → get_or multi k [] ≡ (lo to hi) ∷ w → follow_all s (record { fits = true; last = first }) w ≡ character s first
-    of_row w e = by_row (some w) (multi_row k lo hi first.byte e a b)
+    of_row w e = by_row (Some w) (multi_row k lo hi first.byte e a b)
 
     module _ {r : Range} {q : Step} (d : q ≡ due s first r) where
       pub one_due : get_or multi k [] ≡ (lo to hi) ∷ r ∷ [] → q ≡ character s first
@@ -258,7 +258,7 @@ module _ (s : List ℕ) (first : ByteRead) where
             g ∙ ap (λ (p : Step). follow s p tail) (f ∙ ap (λ (p : Step). follow s p tail) d) ∙ of_row (r ∷ tail ∷ tail ∷ []) e
 
   pub character_under : first.byte < 0xC2 → record { fits = false; last = first } ≡ character s first
-  character_under b = by_row none (multi_under first.byte b)
+  character_under b = by_row None (multi_under first.byte b)
 
   pub character_over : 0xF4 < first.byte → record { fits = false; last = first } ≡ character s first
-  character_over b = by_row none (multi_over first.byte b)
+  character_over b = by_row None (multi_over first.byte b)

@@ -3,11 +3,12 @@ use Rattle.std.proofs.Common.{◌≡◌, ℕ, zero, suc, ◌<◌, ◌≤◌, Boo
 use mathlib.Core.Bool.{and-false}
 use mathlib.Core.List.Memᴰ
 use mathlib.Core.List.{Memᴰ}
-use mathlib.Core.Option.{none, some, none-ne-some}
 use borrow.Author.Tests.{lt-leb}
 use Rattle.reads.proofs.Tests.{both_true}
 use Rattle.reads.specs.Outcome.{choose}
 use Rattle.reads.specs.Utf8.{Range, ◌to◌, inside, multi, begun}
+use Rattle.reads.proofs.Options.{none_not_some}
+use Rattle.std.specs.Prelude.{None, Some}
 
 -- A byte and a range
 module _ (lo hi b : ℕ) where
@@ -46,7 +47,7 @@ all_above (((l to h) ∷ v) ∷ rows) n lo hi w a m =
 
 -- The row that holds a byte in its first range is the one begun.
 pub begun_unique : (rows : List (List Range)) (r : Range) (w : List Range) (b : ℕ) → ascending rows ≡ true → Memᴰ (r ∷ w) rows
-    → inside r b ≡ true → begun rows b ≡ some w
+    → inside r b ≡ true → begun rows b ≡ Some w
 unfolding choose
 begun_unique [] r w b a m t = absurd (Memᴰ.not-nil m)
 begun_unique ([] ∷ rows) r w b a m t =
@@ -57,7 +58,7 @@ begun_unique (((l to h) ∷ v) ∷ rows) (lo to hi) w b a m t =
     let p : (lo to hi) ≡ (l to h) = cc in
     let q : w ≡ v = cc in
     let i : inside (l to h) b ≡ true = subst (λ (x : Range). inside x b ≡ true) p t in
-    simp i (ap some (sym q)))
+    simp i (ap Some (sym q)))
     (λ m'.
     let n : h < lo = all_above rows h lo hi w (both_true (above_all h rows) (ascending rows) a).0 m' in
     let k : h < b = omega (arith, leb-true lo b (both_true (leb lo b) (leb b hi) t).0) in
@@ -70,12 +71,12 @@ nth (v ∷ rows) zero r w e = Memᴰ.head (sym e)
 nth (v ∷ rows) (suc k) r w e = Memᴰ.tail (nth rows k r w e)
 
 -- The k-th row of the characters of more than one byte, where a byte lies in its first range.
-pub multi_row : (k lo hi b : ℕ) {w : List Range} → get_or multi k [] ≡ (lo to hi) ∷ w → lo ≤ b → b ≤ hi → begun multi b ≡ some w
+pub multi_row : (k lo hi b : ℕ) {w : List Range} → get_or multi k [] ≡ (lo to hi) ∷ w → lo ≤ b → b ≤ hi → begun multi b ≡ Some w
 multi_row k lo hi b {w} e h l =
     begun_unique multi (lo to hi) w b refl (nth multi k (lo to hi) w e) (inside_between lo hi b h l)
 
 -- Below and above the rows' first ranges.
-pub multi_under : (b : ℕ) → b < 0xC2 → begun multi b ≡ none
+pub multi_under : (b : ℕ) → b < 0xC2 → begun multi b ≡ None
 unfolding choose
 multi_under b h =
     simp (
@@ -89,7 +90,7 @@ multi_under b h =
       inside_under 0xF4 0xF4 b (omega arith),
     )
 
-pub multi_over : (b : ℕ) → 0xF4 < b → begun multi b ≡ none
+pub multi_over : (b : ℕ) → 0xF4 < b → begun multi b ≡ None
 unfolding choose
 multi_over b h =
     simp (
@@ -109,15 +110,15 @@ pub record Begun (rows : List (List Range)) (b : ℕ) (w : List Range) : Type 0 
   pub row : Memᴰ (first ∷ w) rows
   pub in_first : inside first b ≡ true
 
-pub begun_some : (rows : List (List Range)) (b : ℕ) (w : List Range) → begun rows b ≡ some w → Begun rows b w
+pub begun_some : (rows : List (List Range)) (b : ℕ) (w : List Range) → begun rows b ≡ Some w → Begun rows b w
 unfolding choose
-begun_some [] b w q = absurd (none-ne-some w q)
+begun_some [] b w q = absurd (none_not_some w q)
 begun_some ([] ∷ rows) b w q =
     let m = begun_some rows b w q in
     record { first = m.first; row = Memᴰ.tail m.row; in_first = m.in_first }
 begun_some ((r ∷ rs) ∷ rows) b w q = go (inside r b) refl q (λ q'. begun_some rows b w q')
   where
-    go : (x : Bool) → inside r b ≡ x → choose x (some rs) (begun rows b) ≡ some w → (begun rows b ≡ some w → Begun rows b w)
+    go : (x : Bool) → inside r b ≡ x → choose x (Some rs) (begun rows b) ≡ Some w → (begun rows b ≡ Some w → Begun rows b w)
         → Begun ((r ∷ rs) ∷ rows) b w
     go true i q' f = let e : r ∷ w ≡ r ∷ rs = cc in record { first = r; row = Memᴰ.head e; in_first = i }
     go false i q' f =
@@ -137,7 +138,7 @@ all_member p (x ∷ l) a h m =
     (λ m'. all_member p l a (both_true (p x) (all p l) h).1 m')
     (Memᴰ.cases_cons m)
 
-pub begun_all : (p : Range → Bool) (rows : List (List Range)) (b : ℕ) (w : List Range) → all (all p) rows ≡ true → begun rows b ≡ some w
+pub begun_all : (p : Range → Bool) (rows : List (List Range)) (b : ℕ) (w : List Range) → all (all p) rows ≡ true → begun rows b ≡ Some w
     → all p w ≡ true
 begun_all p rows b w h q =
     let m = begun_some rows b w q in

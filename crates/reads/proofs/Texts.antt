@@ -2,7 +2,7 @@
 use Rattle.std.proofs.Common.{◌≡◌, ℕ, suc, ◌+◌, ◌<◌, ◌≤◌, min, Bool, true, false, eqb, leb, List, [], ◌∷◌, length, get_or, drop, sym, refl, ap, ◌∙◌, subst, arith, length-drop, drop_of_length-le, drop-cons, leb-true}
 use native.Mathlib.Decide.{dec_le}
 use borrow.Author.Tests.{lt-leb}
-use Rattle.reads.specs.Outcome.{Outcome, value, absent, number, and_then, choose, nonzero, text_of}
+use Rattle.reads.specs.Outcome.{Outcome, value, absent, refused, and_then, choose, nonzero, text_of}
 use Rattle.reads.specs.Files.{file_of}
 use Rattle.reads.specs.Segment.{rows, lookup}
 use Rattle.reads.specs.Place.{Image}
@@ -127,7 +127,7 @@ place_inside r files (value p) t e =
     let u = text_inside r (file_of files p.file) p t e in
     subst (λ (f : ℕ). t.offset + t.len ≤ length (file_of files f)) (sym u.0) u.1
 place_inside r files (absent why) t e = let z : ◌≡◌ {A = ℕ} 0 1 = cc in absurd (omega arith)
-place_inside r files (number k) t e = let z : ◌≡◌ {A = ℕ} 0 1 = cc in absurd (omega arith)
+place_inside r files (refused k) t e = let z : ◌≡◌ {A = ℕ} 0 1 = cc in absurd (omega arith)
 
 pub text_in_inside : (r : Reading) (m : Image) (va : ℕ) (t : Text) → value t ≡ text_in r m va → t.offset + t.len ≤ length (file_of m.files t.file)
 unfolding text_in
@@ -136,4 +136,4 @@ text_in_inside r m va t e = go (nonzero va) e
     go : (o : Outcome ℕ) → value t ≡ and_then o (λ a. and_then (lookup (rows m.words) a) (λ p. text_at r m.files p)) → Inside m.files t
     go (value a) q = place_inside r m.files (lookup (rows m.words) a) t q
     go (absent why) q = let z : ◌≡◌ {A = ℕ} 0 1 = cc in absurd (omega arith)
-    go (number k) q = let z : ◌≡◌ {A = ℕ} 0 1 = cc in absurd (omega arith)
+    go (refused k) q = let z : ◌≡◌ {A = ℕ} 0 1 = cc in absurd (omega arith)

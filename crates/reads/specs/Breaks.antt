@@ -1,18 +1,16 @@
 -- Breakpoints: the addresses at which it may change whether bytes can be read, and the least of them above an address
 -- (document 01, Steps: a search tries at most 3 x S + 1 indices).
-use Rattle.std.specs.Prelude.{ℕ, ◌+◌, ◌-◌, ◌^◌, min, Bool, true, false, List, [], ◌∷◌, length, nat_lt}
-use Rattle.reads.specs.Outcome.{Outcome, value, absent, number, choose}
+use Rattle.std.specs.Prelude.{ℕ, ◌+◌, ◌-◌, ◌^◌, min, Bool, true, false, List, [], ◌∷◌, length, nat_lt, Option, Some, None}
+use Rattle.reads.specs.Outcome.{Outcome, value, absent, refused, choose}
 use Rattle.reads.specs.Files.{file_of}
 use Rattle.reads.specs.Segment.{rows, ends}
 use Rattle.reads.specs.Place.{Image, readable}
 use Rattle.reads.specs.declared.segment.Segment.{Segment}
-use Rattle.reads.specs.declared.breaks.Break.{Break}
-use Rattle.reads.specs.declared.breaks.Break.TheVariants.{At, Nothing}
 
 abbrev pub is_value : {A : Type 0} → Outcome A → Bool
 is_value (value a) = true
 is_value (absent r) = false
-is_value (number k) = false
+is_value (refused k) = false
 
 -- k bytes can be read at an address.
 unfoldable pub can_read : Image → ℕ → ℕ → Bool
@@ -35,17 +33,17 @@ abbrev pub breaks_of : Image → ℕ → List ℕ
 breaks_of m k = breaks m.files k (rows m.words)
 
 -- The lesser of b and a breakpoint, if there is one.
-abbrev pub lesser : ℕ → Break → Break
-lesser b Nothing = At b
-lesser b (At a) = At (min b a)
+abbrev pub lesser : ℕ → Option ℕ → Option ℕ
+lesser b None = Some b
+lesser b (Some a) = Some (min b a)
 
 -- The same if b lies above va, else only the other.
-unfoldable pub lower : ℕ → Break → ℕ → Break
+unfoldable pub lower : ℕ → Option ℕ → ℕ → Option ℕ
 lower va other b = choose (nat_lt va b) (lesser b other) other
 
 -- The least of a list above va.
-unfoldable pub next_break : List ℕ → ℕ → Break
-next_break [] va = Nothing
+unfoldable pub next_break : List ℕ → ℕ → Option ℕ
+next_break [] va = None
 next_break (b ∷ bs) va = lower va (next_break bs va) b
 
 -- How many of a list lie above va.

@@ -1,23 +1,10 @@
 -- LEB128 numbers (DWARF 5, section 7.6): digits of seven bits, the least first, bit 7 set in every digit but the last.
 use Rattle.std.specs.Prelude.{ℕ, suc, ◌+◌, ◌-◌, ◌*◌, ◌/◌, ◌%◌, ◌^◌, Bool, true, false, List, [], ◌∷◌, length, take, ℤ, pos, negsuc, ◌==◌, nat_lt, slice_index}
-use Rattle.reads.specs.Answer.{missed}
 use Rattle.reads.specs.Outcome.{Outcome, value, absent, and_then, choose}
 use Rattle.reads.specs.Signed.{twos}
 use Rattle.reads.specs.declared.answer.Reason.TheVariants.{Unreadable, Malformed}
 use Rattle.reads.specs.declared.leb128.Uleb.{Uleb}
-use Rattle.reads.specs.declared.leb128.UlebAnswer.{UlebAnswer}
-use Rattle.reads.specs.declared.leb128.UlebAnswer.TheVariants as uleb
 use Rattle.reads.specs.declared.leb128.Sleb.{Sleb}
-use Rattle.reads.specs.declared.leb128.SlebAnswer.{SlebAnswer}
-use Rattle.reads.specs.declared.leb128.SlebAnswer.TheVariants as sleb
-
-abbrev pub uleb_outcome : UlebAnswer → Outcome Uleb
-uleb_outcome (uleb.Read u) = value u
-uleb_outcome (uleb.Missing m) = missed m
-
-abbrev pub sleb_outcome : SlebAnswer → Outcome Sleb
-sleb_outcome (sleb.Read s) = value s
-sleb_outcome (sleb.Missing m) = missed m
 
 abbrev pub unsigned_read : ℕ → ℕ → Uleb
 unsigned_read n consumed = record { value = n; consumed = consumed }

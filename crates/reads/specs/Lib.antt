@@ -1,6 +1,7 @@
 -- The definitions that the contracts of reads cite.
 pub mod Reference
 pub mod Outcome
+pub mod Question
 pub mod Answer
 pub mod Table
 pub mod Files

@@ -4,11 +4,12 @@ use Rattle.std.specs.Prelude.{ℕ, ◌+◌, ◌^◌, Bool, true, false, ◌==◌
 use Rattle.reads.specs.declared.answer.Reason.{Reason}
 use Rattle.reads.specs.declared.answer.Reason.TheVariants.{NullAddress, FieldOverflow}
 use Rattle.reads.specs.declared.text.Text.{Text}
+use Rattle.reads.specs.declared.answer.Question.{Question}
 
 pub data Outcome (A : Type 0) : Type 0 where
   value : A → Outcome A
   absent : Reason → Outcome A
-  number : ℕ → Outcome A
+  refused : Question → Outcome A
 
 -- No question refuses: a value or absent.
 pub data Unrefused {A : Type 0} : Outcome A → Type 0 where
@@ -19,30 +20,30 @@ pub data Unrefused {A : Type 0} : Outcome A → Type 0 where
 abbrev pub and_then : {A B : Type 0} → Outcome A → (A → Outcome B) → Outcome B
 and_then (value a) f = f a
 and_then (absent r) f = absent r
-and_then (number k) f = number k
+and_then (refused k) f = refused k
 
 -- An absence gets this reason.
 abbrev pub because : {A : Type 0} → Reason → Outcome A → Outcome A
 because why (value a) = value a
 because why (absent r) = absent why
-because why (number k) = number k
+because why (refused k) = refused k
 
 -- The first, or the second where the first is absent; where both are, the second's reason stands.
 abbrev pub or_else : {A : Type 0} → Outcome A → Outcome A → Outcome A
 or_else (value a) o = value a
 or_else (absent r) o = o
-or_else (number k) o = number k
+or_else (refused k) o = refused k
 
 -- The same, but where both are absent the first's reason stands.
 abbrev pub or_first : {A : Type 0} → Outcome A → Outcome A → Outcome A
 or_first (value a) o = value a
 or_first (absent r) o = because r o
-or_first (number k) o = number k
+or_first (refused k) o = refused k
 
 abbrev pub is_absent : {A : Type 0} → Outcome A → Bool
 is_absent (value a) = false
 is_absent (absent r) = true
-is_absent (number k) = false
+is_absent (refused k) = false
 
 -- "or 0" (document 01, Records): absent counts as 0.
 abbrev pub or_zero : Outcome ℕ → Outcome ℕ

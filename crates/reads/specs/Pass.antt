@@ -1,6 +1,5 @@
 -- One pass over bytes (document 02, note 4), a byte at a time: what its steps read. proofs/Passes.antt has what they say of a text.
-use Rattle.std.specs.Prelude.{ℕ, suc, ◌+◌, true, false, List, [], ◌∷◌, length, drop, nat_lt, slice_index}
-use Rattle.std.proofs.Math.Option.{Option, none, some}
+use Rattle.std.specs.Prelude.{ℕ, suc, ◌+◌, true, false, List, [], ◌∷◌, length, drop, nat_lt, slice_index, Option, None, Some}
 use Rattle.reads.specs.Outcome.{choose}
 use Rattle.reads.specs.Utf8.{Range, inside, multi, begun}
 use Rattle.reads.specs.Text.{text, scanned}
@@ -28,8 +27,8 @@ follow_all s p (r ∷ w) = follow_all s (follow s p r) w
 
 -- The character that begins with `first`, by what is due after that.
 abbrev pub follow_row : List ℕ → ByteRead → Option (List Range) → Step
-follow_row s first none = record { fits = false; last = first }
-follow_row s first (some w) = follow_all s (record { fits = true; last = first }) w
+follow_row s first None = record { fits = false; last = first }
+follow_row s first (Some w) = follow_all s (record { fits = true; last = first }) w
 
 -- The character of more than one octet that begins with `first`.
 unfoldable pub character : List ℕ → ByteRead → Step

@@ -1,7 +1,7 @@
 -- Texts in the files of an image (document 01, Reading rules, third point; document 02, notes 2, 4, 6 and 12; util.rs, read_cstr_at and
 -- cstr_from_fixed).
 use Rattle.std.specs.Prelude.{ℕ, suc, ◌+◌, min, Bool, true, false, List, [], ◌∷◌, length, drop, ◌==◌, nat_le, nat_lt}
-use Rattle.reads.specs.Outcome.{Outcome, value, absent, number, and_then, choose, nonzero, text_of}
+use Rattle.reads.specs.Outcome.{Outcome, value, absent, refused, and_then, choose, nonzero, text_of}
 use Rattle.reads.specs.Files.{file_of}
 use Rattle.reads.specs.Segment.{rows, lookup}
 use Rattle.reads.specs.Place.{Image}
@@ -76,7 +76,7 @@ read_at files p = read_from (file_of files p.file) p.offset
 abbrev pub or_none : Outcome ℕ → ℕ
 or_none (value n) = n
 or_none (absent r) = 0
-or_none (number k) = 0
+or_none (refused k) = 0
 
 -- How many a read of the text at an address reads: none at 0 and where nothing is mapped.
 unfoldable pub read_in : Image → ℕ → ℕ
@@ -86,7 +86,7 @@ read_in m va = or_none (and_then (nonzero va) (λ a. and_then (lookup (rows m.wo
 unfoldable pub length_plus_one : Outcome Text → ℕ
 length_plus_one (value t) = t.len + 1
 length_plus_one (absent r) = 0
-length_plus_one (number k) = 0
+length_plus_one (refused k) = 0
 
 -- The length of the text in a field of fixed size, 0 where it is not UTF-8.
 unfoldable pub fixed_length : List ℕ → ℕ

@@ -1,7 +1,6 @@
 -- UTF-8 by the ABNF of RFC 3629, section 4. Each alternative of a rule is a row of ranges, in the RFC's order.
-use Rattle.std.specs.Prelude.{◌≡◌, ℕ, suc, ◌<◌, ◌≤◌, Bool, true, false, ◌&&◌, List, [], ◌∷◌, ◌++◌, length, take, nat_le}
+use Rattle.std.specs.Prelude.{◌≡◌, ℕ, suc, ◌<◌, ◌≤◌, Bool, true, false, ◌&&◌, List, [], ◌∷◌, ◌++◌, length, take, nat_le, Option, None, Some}
 use mathlib.Core.List.{Memᴰ}
-use Rattle.std.proofs.Math.Option.{Option, none, some}
 use Rattle.reads.specs.Outcome.{choose}
 use Rattle.reads.specs.declared.text.Verdict.{Verdict}
 use Rattle.reads.specs.declared.text.Verdict.TheVariants.{Good, Bad}
@@ -76,22 +75,22 @@ pub record FirstBad (s : List ℕ) (k : ℕ) : Type 0 where
 
 -- The rest of the first row that b begins.
 abbrev pub begun : List (List Range) → ℕ → Option (List Range)
-begun [] b = none
+begun [] b = None
 begun ([] ∷ rows) b = begun rows b
-begun ((r ∷ rs) ∷ rows) b = choose (inside r b) (some rs) (begun rows b)
+begun ((r ∷ rs) ∷ rows) b = choose (inside r b) (Some rs) (begun rows b)
 
 -- The ranges that are due after b, where w are due before it (none between characters), if any text goes on so.
 abbrev pub due_after : List Range → ℕ → Option (List Range)
 due_after [] b = begun chars b
-due_after (r ∷ rs) b = choose (inside r b) (some rs) none
+due_after (r ∷ rs) b = choose (inside r b) (Some rs) None
 
 abbrev pub stopped : List Range → ℕ → Verdict
 stopped [] at = Good
 stopped (r ∷ rs) at = Bad at
 
 abbrev pub go_on : Option (List Range) → Verdict → (List Range → Verdict) → Verdict
-go_on none v f = v
-go_on (some w) v f = f w
+go_on None v f = v
+go_on (Some w) v f = f w
 
 -- The text s, of which `at` bytes came before and w are due: good, or bad at the offset of the first byte that no text of
 -- the grammar continues with, or at its length where it ends inside a character.

@@ -1,11 +1,10 @@
 // Addresses of the image, and the masks of a pointer word.
 ghost use Rattle.std.specs.Prelude.{◌≡◌};
 ghost use Rattle.reads.specs.Reference.{before};
-ghost use Rattle.reads.specs.Answer.{word_outcome};
 ghost use Rattle.reads.specs.Address.{stripped, mapped, picked_wide, picked_either, picked};
+ghost use Rattle.reads.specs.Answer.{outcome};
 
-use crate::answer::{Reason, Word, because, is_absent, nonzero};
-use crate::place::Placed;
+use crate::answer::{Missing, Reason, because, is_absent, nonzero};
 use crate::segment::vm_to_file_offset_in;
 
 // An address of the image, with the constants of addresses.
@@ -36,29 +35,29 @@ impl Address {
 
     // An address that looks up.
     #[tactic(auto, using(crate::proofs::Outcomes::outcomes), unfolding(crate::specs::Address::mapped))]
-    pub fn mapped(segments: &[u64], va: u64) -> Word
-        ensures { word_outcome result ≡ mapped (before segments) va }
+    pub fn mapped(segments: &[u64], va: u64) -> Result<u64, Missing>
+        ensures { outcome result ≡ mapped (before segments) va }
     {
         match vm_to_file_offset_in(segments, va) {
-            Placed::At(_) => Word::Value(va),
-            Placed::Missing(m) => Word::Missing(m),
+            Ok(_) => Ok(va),
+            Err(m) => Err(m),
         }
     }
 
     // The data address by the wide mask.
-    fn pick_wide(segments: &[u64], word: u64) -> Word
-        ensures { word_outcome result ≡ picked_wide (before segments) word }
+    fn pick_wide(segments: &[u64], word: u64) -> Result<u64, Missing>
+        ensures { outcome result ≡ picked_wide (before segments) word }
     {
         match nonzero(word & Address::FAST_DATA_MASK_ARM64E) {
-            Word::Value(va) => Address::mapped(segments, va),
-            Word::Missing(m) => Word::Missing(m),
+            Ok(va) => Address::mapped(segments, va),
+            Err(m) => Err(m),
         }
     }
 
     // The data address by the wide mask, else by the other.
     #[tactic(auto, using(crate::proofs::Outcomes::outcomes), unfolding(crate::specs::Address::picked_wide))]
-    fn pick_either(segments: &[u64], word: u64) -> Word
-        ensures { word_outcome result ≡ picked_either (before segments) word }
+    fn pick_either(segments: &[u64], word: u64) -> Result<u64, Missing>
+        ensures { outcome result ≡ picked_either (before segments) word }
     {
         let wide = Address::pick_wide(segments, word);
         if is_absent(wide) {
@@ -69,8 +68,8 @@ impl Address {
 
     // The data address in the bits word of a class: mask_class_ro_pointer.
     #[tactic(auto, using(crate::proofs::Outcomes::outcomes), unfolding(crate::specs::Address::picked))]
-    pub fn pick(segments: &[u64], word: u64) -> Word
-        ensures { word_outcome result ≡ picked (before segments) word }
+    pub fn pick(segments: &[u64], word: u64) -> Result<u64, Missing>
+        ensures { outcome result ≡ picked (before segments) word }
     {
         because(Address::pick_either(segments, word), Reason::NoData)
     }

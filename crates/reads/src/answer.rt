@@ -1,7 +1,8 @@
 // The answers of the reading functions, by cases: what was found, or what stands in its place and why.
 ghost use Rattle.std.specs.Prelude.{◌≡◌};
 ghost use Rattle.reads.specs.Outcome.{because, is_absent, or_zero, sum64, nonzero};
-ghost use Rattle.reads.specs.Answer.{missing_because, word_outcome};
+ghost use Rattle.reads.specs.Answer.{missing_because, outcome};
+ghost use Rattle.reads.specs.Question.{number_of};
 
 // Why a value is absent.
 #[derive(Clone, Copy)]
@@ -35,11 +36,50 @@ pub enum Reason {
     Malformed,
 }
 
+// What a call asks of what it is lent; each question has its number (docs/QUESTIONS.md).
+#[derive(Clone, Copy, Debug, PartialEq, Eq)]
+pub enum Question {
+    FileLength = 1,
+    SegmentTable = 2,
+    SectionTable = 3,
+    ImageInfoLength = 4,
+    RebaseTable = 5,
+    BindTable = 6,
+    NameInside = 7,
+    IndexLength = 8,
+    ChainOrder = 9,
+    WalkState = 10,
+    LedgerLength = 11,
+    ItemRoom = 12,
+    BundleLength = 13,
+    NameUtf8 = 14,
+    Header = 15,
+    LoadCommands = 16,
+    Depth = 17,
+    FileLent = 18,
+    FixupData = 19,
+    FixupSlot = 20,
+    AncestryRoom = 21,
+    SelectorRoom = 22,
+    RangeOrder = 23,
+    RangeRoom = 24,
+    FileKind = 25,
+}
+
+impl Question {
+    // Its number, which programs print and callers in C get.
+    pub fn number(self) -> u8
+        ensures { result ≡ number_of self }
+    {
+        self as u8
+    }
+}
+
 // What stands in place of a value: absent for a reason, or the number of the question that refuses.
 #[derive(Clone, Copy)]
 pub enum Missing {
     Absent(Reason),
-    Refused(u8),
+    Refused(Question),
 }
 
 impl Missing {
@@ -54,27 +94,13 @@ impl Missing {
     }
 }
 
-// A number, or none.
-#[derive(Clone, Copy)]
-pub enum Word {
-    Value(u64),
-    Missing(Missing),
-}
-
-// A signed number, or none.
-#[derive(Clone, Copy)]
-pub enum Signed {
-    Value(i32),
-    Missing(Missing),
-}
-
 // Neither a number nor refused.
-pub fn is_absent(w: Word) -> bool
-    ensures { result ≡ is_absent (word_outcome w) }
+pub fn is_absent(w: Result<u64, Missing>) -> bool
+    ensures { result ≡ is_absent (outcome w) }
 {
     match w {
-        Word::Value(_) => false,
-        Word::Missing(m) => match m {
+        Ok(_) => false,
+        Err(m) => match m {
             Missing::Absent(_) => true,
             Missing::Refused(_) => false,
         },
@@ -82,43 +108,43 @@ pub fn is_absent(w: Word) -> bool
 }
 
 // An absent number gets this reason.
-pub fn because(w: Word, why: Reason) -> Word
-    ensures { word_outcome result ≡ because why (word_outcome w) }
+pub fn because(w: Result<u64, Missing>, why: Reason) -> Result<u64, Missing>
+    ensures { outcome result ≡ because why (outcome w) }
 {
     match w {
-        Word::Value(n) => Word::Value(n),
-        Word::Missing(m) => Word::Missing(m.because(why)),
+        Ok(n) => Ok(n),
+        Err(m) => Err(m.because(why)),
     }
 }
 
 // "or 0": an absent number counts as 0.
-pub fn or_zero(w: Word) -> Word
-    ensures { word_outcome result ≡ or_zero (word_outcome w) }
+pub fn or_zero(w: Result<u64, Missing>) -> Result<u64, Missing>
+    ensures { outcome result ≡ or_zero (outcome w) }
 {
     if is_absent(w) {
-        return Word::Value(0);
+        return Ok(0);
     }
     w
 }
 
 // The address of a field, absent over 64 bits: checked_add.
 #[tactic(auto, using(std::proofs::lemmas::Bool::Decides::nat_tests), unfolding(crate::specs::Outcome::sum64, crate::specs::Outcome::choose))]
-pub fn checked_add(a: u64, b: u64) -> Word
-    ensures { word_outcome result ≡ sum64 a b }
+pub fn checked_add(a: u64, b: u64) -> Result<u64, Missing>
+    ensures { outcome result ≡ sum64 a b }
 {
     if 0xFFFF_FFFF_FFFF_FFFF - a < b {
-        return Word::Missing(Missing::Absent(Reason::FieldOverflow));
+        return Err(Missing::Absent(Reason::FieldOverflow));
     }
-    Word::Value(a + b)
+    Ok(a + b)
 }
 
 // An address that is not 0.
 #[tactic(auto, using(std::proofs::lemmas::Bool::Decides::nat_tests), unfolding(crate::specs::Outcome::nonzero, crate::specs::Outcome::choose))]
-pub fn nonzero(x: u64) -> Word
-    ensures { word_outcome result ≡ nonzero x }
+pub fn nonzero(x: u64) -> Result<u64, Missing>
+    ensures { outcome result ≡ nonzero x }
 {
     if x == 0 {
-        return Word::Missing(Missing::Absent(Reason::NullAddress));
+        return Err(Missing::Absent(Reason::NullAddress));
     }
-    Word::Value(x)
+    Ok(x)
 }

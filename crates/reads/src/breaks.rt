@@ -6,13 +6,6 @@ ghost use Rattle.reads.specs.Breaks.{readable_part, breaks_of, lower, next_break
 use crate::files::file_len;
 use crate::segment::Segment;
 
-// A breakpoint, or none.
-#[derive(Clone, Copy)]
-pub enum Break {
-    At(u64),
-    Nothing,
-}
-
 // How many addresses of the segment, from its first on, lie in its file part and have `least` bytes from there on in a
 // file of n bytes.
 fn readable_part(s: Segment, n: u64, least: u64) -> u64
@@ -35,24 +28,24 @@ fn readable_part(s: Segment, n: u64, least: u64) -> u64
 
 // The lesser of the breakpoint found so far and b, if b lies above va.
 #[tactic(auto, using(std::proofs::lemmas::Bool::Decides::nat_tests), unfolding(crate::specs::Breaks::lower, crate::specs::Outcome::choose))]
-fn lower(va: u64, best: Break, b: u64) -> Break
+fn lower(va: u64, best: Option<u64>, b: u64) -> Option<u64>
     ensures { result ≡ lower va best b }
 {
     if b <= va {
         return best;
     }
     match best {
-        Break::Nothing => Break::At(b),
-        Break::At(a) => Break::At(b.min(a)),
+        None => Some(b),
+        Some(a) => Some(b.min(a)),
     }
 }
 
 // The least breakpoint above an address: until there, `least` bytes can be read everywhere or nowhere. The segments may
 // overlap, and may stand in any order.
-pub fn next_break(files: &[&[u8]], segments: &[u64], least: u64, va: u64) -> Break
+pub fn next_break(files: &[&[u8]], segments: &[u64], least: u64, va: u64) -> Option<u64>
     ensures { result ≡ next_break (breaks_of (lent_image files segments) least) va }
 {
-    let mut best = Break::Nothing;
+    let mut best = None;
     for i in 0..segments.len() / Segment::WORDS {
         let s = Segment::at(segments, i);
         if s.ends() {

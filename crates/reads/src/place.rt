@@ -1,11 +1,11 @@
 // Numbers in the files of an image, at a place and at an address.
 ghost use Rattle.std.specs.Prelude.{◌≡◌, ◌+◌, ◌^◌, ◌<◌, ◌≤◌, length, nat_le};
 ghost use Rattle.reads.specs.Reference.{before};
-ghost use Rattle.reads.specs.Answer.{word_outcome, place_outcome};
 ghost use Rattle.reads.specs.Files.{files_of};
 ghost use Rattle.reads.specs.Place.{lent_image, le, be, part, readable_at, readable, le_at, be_at, word, word_in, le_in};
+ghost use Rattle.reads.specs.Answer.{outcome};
 
-use crate::answer::{Missing, Reason, Word};
+use crate::answer::{Missing, Reason};
 use crate::files::{bytes_of, file_len};
 use crate::segment::vm_to_file_offset_in;
 
@@ -16,34 +16,27 @@ pub struct Place {
     pub offset: u64,
 }
 
-// A place, or none.
-#[derive(Clone, Copy)]
-pub enum Placed {
-    At(Place),
-    Missing(Missing),
-}
-
 // A place, if k bytes from it lie in its file of n bytes.
 #[tactic(auto, using(std::proofs::lemmas::Bool::Decides::nat_tests), unfolding(crate::specs::Place::readable_at, crate::specs::Outcome::choose))]
-pub fn readable_at(n: u64, p: Place, k: u64) -> Placed
-    ensures { place_outcome result ≡ readable_at n p k }
+pub fn readable_at(n: u64, p: Place, k: u64) -> Result<Place, Missing>
+    ensures { outcome result ≡ readable_at n p k }
 {
     if p.offset <= n {
         if k <= n - p.offset {
-            return Placed::At(p);
+            return Ok(p);
         }
     }
-    Placed::Missing(Missing::Absent(Reason::Unreadable))
+    Err(Missing::Absent(Reason::Unreadable))
 }
 
 // The place of an address, if k bytes can be read there: only the first byte is looked up.
 #[tactic(auto, using(crate::proofs::Outcomes::outcomes), unfolding(crate::specs::Place::readable))]
-pub fn readable(files: &[&[u8]], segments: &[u64], va: u64, k: u64) -> Placed
-    ensures { place_outcome result ≡ readable (lent_image files segments) va k }
+pub fn readable(files: &[&[u8]], segments: &[u64], va: u64, k: u64) -> Result<Place, Missing>
+    ensures { outcome result ≡ readable (lent_image files segments) va k }
 {
     match vm_to_file_offset_in(segments, va) {
-        Placed::At(p) => readable_at(file_len(files, p.file), p, k),
-        Placed::Missing(m) => Placed::Missing(m.because(Reason::Unreadable)),
+        Ok(p) => readable_at(file_len(files, p.file), p, k),
+        Err(m) => Err(m.because(Reason::Unreadable)),
     }
 }
 
@@ -71,98 +64,102 @@ fn be<const N: usize>(bytes: &[u8], at: usize) -> u64
 
 // The number of N bytes at an offset of one slice.
 #[tactic(auto, using(crate::proofs::Outcomes::outcomes), unfolding(crate::specs::Place::le_at))]
-pub(crate) fn read_le_at<const N: usize>(bytes: &[u8], offset: u64) -> Word
+pub(crate) fn read_le_at<const N: usize>(bytes: &[u8], offset: u64) -> Result<u64, Missing>
     requires { N ≤ 8 }
-    ensures { word_outcome result ≡ le_at (before bytes) N offset }
+    ensures { outcome result ≡ le_at (before bytes) N offset }
 {
     match readable_at(bytes.len() as u64, Place { file: 0, offset }, N as u64) {
-        Placed::At(p) => Word::Value(le::<N>(bytes, p.offset as usize)),
-        Placed::Missing(m) => Word::Missing(m),
+        Ok(p) => Ok(le::<N>(bytes, p.offset as usize)),
+        Err(m) => Err(m),
     }
 }
 
 // The same in big-endian order. Not one function with read_le_at over the order: its contract would have to choose between
 // the two definitions.
 #[tactic(auto, using(crate::proofs::Outcomes::outcomes), unfolding(crate::specs::Place::be_at))]
-pub(crate) fn read_be_at<const N: usize>(bytes: &[u8], offset: u64) -> Word
+pub(crate) fn read_be_at<const N: usize>(bytes: &[u8], offset: u64) -> Result<u64, Missing>
     requires { N ≤ 8 }
-    ensures { word_outcome result ≡ be_at (before bytes) N offset }
+    ensures { outcome result ≡ be_at (before bytes) N offset }
 {
     match readable_at(bytes.len() as u64, Place { file: 0, offset }, N as u64) {
-        Placed::At(p) => Word::Value(be::<N>(bytes, p.offset as usize)),
-        Placed::Missing(m) => Word::Missing(m),
+        Ok(p) => Ok(be::<N>(bytes, p.offset as usize)),
+        Err(m) => Err(m),
     }
 }
 
 // The number of N bytes at an address.
 #[tactic(auto, using(crate::proofs::Outcomes::outcomes, crate::proofs::Numbers::found_file, crate::proofs::Numbers::found_holds), unfolding(crate::specs::Place::word))]
-pub(crate) fn read<const N: usize>(files: &[&[u8]], segments: &[u64], va: u64) -> Word
+pub(crate) fn read<const N: usize>(
+    files: &[&[u8]],
+    segments: &[u64],
+    va: u64,
+) -> Result<u64, Missing>
     requires some { 0 < N }
     requires fits { N ≤ 8 }
-    ensures { word_outcome result ≡ word (lent_image files segments) N va }
+    ensures { outcome result ≡ word (lent_image files segments) N va }
 {
     match readable(files, segments, va, N as u64) {
-        Placed::At(p) => {
+        Ok(p) => {
             let f = p.file as usize;
             let bytes = files[f];
-            Word::Value(le::<N>(bytes, p.offset as usize))
+            Ok(le::<N>(bytes, p.offset as usize))
         }
-        Placed::Missing(m) => Word::Missing(m),
+        Err(m) => Err(m),
     }
 }
 
 // The number of two bytes at an offset of one slice.
-pub fn read_u16_le_at(bytes: &[u8], offset: u64) -> Word
-    ensures { word_outcome result ≡ le_at (before bytes) 2 offset }
+pub fn read_u16_le_at(bytes: &[u8], offset: u64) -> Result<u64, Missing>
+    ensures { outcome result ≡ le_at (before bytes) 2 offset }
 {
     read_le_at::<2>(bytes, offset)
 }
 
 // The number of four bytes at an offset of one slice.
-pub fn read_u32_le_at(bytes: &[u8], offset: u64) -> Word
-    ensures { word_outcome result ≡ le_at (before bytes) 4 offset }
+pub fn read_u32_le_at(bytes: &[u8], offset: u64) -> Result<u64, Missing>
+    ensures { outcome result ≡ le_at (before bytes) 4 offset }
 {
     read_le_at::<4>(bytes, offset)
 }
 
 // The number of eight bytes at an offset of one slice.
-pub fn read_u64_le_at(bytes: &[u8], offset: u64) -> Word
-    ensures { word_outcome result ≡ le_at (before bytes) 8 offset }
+pub fn read_u64_le_at(bytes: &[u8], offset: u64) -> Result<u64, Missing>
+    ensures { outcome result ≡ le_at (before bytes) 8 offset }
 {
     read_le_at::<8>(bytes, offset)
 }
 
 // The number of four bytes at an offset of one slice, in big-endian order.
-pub fn read_u32_be_at(bytes: &[u8], offset: u64) -> Word
-    ensures { word_outcome result ≡ be_at (before bytes) 4 offset }
+pub fn read_u32_be_at(bytes: &[u8], offset: u64) -> Result<u64, Missing>
+    ensures { outcome result ≡ be_at (before bytes) 4 offset }
 {
     read_be_at::<4>(bytes, offset)
 }
 
 // The number of eight bytes at an offset of one slice, in big-endian order.
-pub fn read_u64_be_at(bytes: &[u8], offset: u64) -> Word
-    ensures { word_outcome result ≡ be_at (before bytes) 8 offset }
+pub fn read_u64_be_at(bytes: &[u8], offset: u64) -> Result<u64, Missing>
+    ensures { outcome result ≡ be_at (before bytes) 8 offset }
 {
     read_be_at::<8>(bytes, offset)
 }
 
 // The number of two bytes at an address.
-pub fn read_u16(files: &[&[u8]], segments: &[u64], va: u64) -> Word
-    ensures { word_outcome result ≡ word (lent_image files segments) 2 va }
+pub fn read_u16(files: &[&[u8]], segments: &[u64], va: u64) -> Result<u64, Missing>
+    ensures { outcome result ≡ word (lent_image files segments) 2 va }
 {
     read::<2>(files, segments, va)
 }
 
 // The number of four bytes at an address.
-pub fn read_u32(files: &[&[u8]], segments: &[u64], va: u64) -> Word
-    ensures { word_outcome result ≡ word (lent_image files segments) 4 va }
+pub fn read_u32(files: &[&[u8]], segments: &[u64], va: u64) -> Result<u64, Missing>
+    ensures { outcome result ≡ word (lent_image files segments) 4 va }
 {
     read::<4>(files, segments, va)
 }
 
 // The number of eight bytes at an address.
-pub fn read_u64(files: &[&[u8]], segments: &[u64], va: u64) -> Word
-    ensures { word_outcome result ≡ word (lent_image files segments) 8 va }
+pub fn read_u64(files: &[&[u8]], segments: &[u64], va: u64) -> Result<u64, Missing>
+    ensures { outcome result ≡ word (lent_image files segments) 8 va }
 {
     read::<8>(files, segments, va)
 }

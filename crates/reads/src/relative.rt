@@ -1,12 +1,12 @@
 // Signed 32-bit offsets, the addresses that they are relative to, and the addresses of slots.
 ghost use Rattle.std.specs.Prelude.{◌≡◌};
 ghost use Rattle.reads.specs.Reference.{before};
-ghost use Rattle.reads.specs.Answer.{signed_outcome};
 ghost use Rattle.reads.specs.Files.{files_of};
 ghost use Rattle.reads.specs.Relative.{signed32, signed_in, signed_at, relative, slot_address};
+ghost use Rattle.reads.specs.Answer.{outcome};
 
-use crate::answer::Signed;
-use crate::place::{Place, Placed, le, readable_at, u32_in};
+use crate::answer::Missing;
+use crate::place::{Place, le, readable_at, u32_in};
 
 // The signed number of 32 bits.
 pub fn signed(x: u32) -> i32
@@ -17,15 +17,15 @@ pub fn signed(x: u32) -> i32
 
 // The signed number of four bytes at an offset of one slice.
 #[tactic(auto, using(crate::proofs::Outcomes::outcomes), unfolding(crate::specs::Relative::signed_at))]
-pub fn read_i32_le_at(bytes: &[u8], offset: u64) -> Signed
-    ensures { signed_outcome result ≡ signed_at (before bytes) offset }
+pub fn read_i32_le_at(bytes: &[u8], offset: u64) -> Result<i32, Missing>
+    ensures { outcome result ≡ signed_at (before bytes) offset }
 {
     match readable_at(bytes.len() as u64, Place { file: 0, offset }, 4) {
-        Placed::At(p) => {
+        Ok(p) => {
             let at = p.offset as usize;
-            Signed::Value(signed(le::<4>(bytes, at) as u32))
+            Ok(signed(le::<4>(bytes, at) as u32))
         }
-        Placed::Missing(m) => Signed::Missing(m),
+        Err(m) => Err(m),
     }
 }
 

@@ -1,12 +1,12 @@
 // The segment table, lent as words, and the translation between addresses and places.
 ghost use Rattle.std.specs.Prelude.{◌≡◌, ◌<◌, ◌≤◌};
 ghost use Rattle.reads.specs.Reference.{before};
-ghost use Rattle.reads.specs.Answer.{word_outcome, place_outcome};
 ghost use Rattle.reads.specs.Table.{records};
 ghost use Rattle.reads.specs.Segment.{segment_words, segment_at, rows, ends, holds, placed, lookup, ends_in_file, mapped_size, carries, address_of};
+ghost use Rattle.reads.specs.Answer.{outcome};
 
-use crate::answer::{Missing, Reason, Word, because, checked_add};
-use crate::place::{Place, Placed};
+use crate::answer::{Missing, Reason, because, checked_add};
+use crate::place::Place;
 
 // A row of the segment table.
 #[derive(Clone, Copy)]
@@ -67,18 +67,18 @@ impl Segment {
 
     // The place of an address that the segment holds.
     #[tactic(auto, using(std::proofs::lemmas::Bool::Decides::nat_tests), unfolding(crate::specs::Segment::placed, crate::specs::Outcome::sum64, crate::specs::Outcome::choose))]
-    pub(crate) fn place(self, va: u64) -> Placed
+    pub(crate) fn place(self, va: u64) -> Result<Place, Missing>
         requires { self.vmaddr ≤ va }
-        ensures { place_outcome result ≡ placed self va }
+        ensures { outcome result ≡ placed self va }
     {
         let distance = va - self.vmaddr;
         if self.filesize <= distance {
-            return Placed::Missing(Missing::Absent(Reason::Unmapped));
+            return Err(Missing::Absent(Reason::Unmapped));
         }
         if Segment::MAX - self.fileoff < distance {
-            return Placed::Missing(Missing::Absent(Reason::Unmapped));
+            return Err(Missing::Absent(Reason::Unmapped));
         }
-        Placed::At(Place {
+        Ok(Place {
             file: self.file,
             offset: self.fileoff + distance,
         })
@@ -87,19 +87,19 @@ impl Segment {
 
 // The place of an address. Segments count in order: one that exceeds 64 bits ends the lookup, the first that holds the
 // address decides. What is absent is Unmapped, whatever ends the lookup.
-pub fn vm_to_file_offset_in(segments: &[u64], va: u64) -> Placed
-    ensures { place_outcome result ≡ lookup (rows (before segments)) va }
+pub fn vm_to_file_offset_in(segments: &[u64], va: u64) -> Result<Place, Missing>
+    ensures { outcome result ≡ lookup (rows (before segments)) va }
 {
     for i in 0..segments.len() / Segment::WORDS {
         let s = Segment::at(segments, i);
         if s.ends() {
-            return Placed::Missing(Missing::Absent(Reason::Unmapped));
+            return Err(Missing::Absent(Reason::Unmapped));
         }
         if s.holds(va) {
             return s.place(va);
         }
     }
-    Placed::Missing(Missing::Absent(Reason::Unmapped))
+    Err(Missing::Absent(Reason::Unmapped))
 }
 
 impl Segment {
@@ -135,17 +135,17 @@ impl Segment {
 }
 
 // The address of an offset of a file: the inverse of `vm_to_file_offset_in`. The first segment that maps the offset decides.
-pub fn file_offset_to_vm_in(segments: &[u64], file: u64, offset: u64) -> Word
-    ensures { word_outcome result ≡ address_of (rows (before segments)) file offset }
+pub fn file_offset_to_vm_in(segments: &[u64], file: u64, offset: u64) -> Result<u64, Missing>
+    ensures { outcome result ≡ address_of (rows (before segments)) file offset }
 {
     for i in 0..segments.len() / Segment::WORDS {
         let s = Segment::at(segments, i);
         if s.ends_in_file() {
-            return Word::Missing(Missing::Absent(Reason::Unmapped));
+            return Err(Missing::Absent(Reason::Unmapped));
         }
         if s.carries(file, offset) {
             return because(checked_add(s.vmaddr, offset - s.fileoff), Reason::Unmapped);
         }
     }
-    Word::Missing(Missing::Absent(Reason::Unmapped))
+    Err(Missing::Absent(Reason::Unmapped))
 }

@@ -1,14 +1,14 @@
 // Spots: the place of an address together with its room, so that what lies near it is read without another lookup.
 ghost use Rattle.std.specs.Prelude.{◌≡◌, ◌<◌, true, false};
 ghost use Rattle.reads.specs.Reference.{before};
-ghost use Rattle.reads.specs.Answer.{place_outcome};
 ghost use Rattle.reads.specs.Place.{lent_image};
 ghost use Rattle.reads.specs.Segment.{ends, holds};
 ghost use Rattle.reads.specs.Spot.{distance, nowhere, spot_at, spot_in, readable_spot, spot_place};
+ghost use Rattle.reads.specs.Answer.{outcome};
 
 use crate::answer::{Missing, Reason};
 use crate::files::file_len;
-use crate::place::{Place, Placed};
+use crate::place::Place;
 use crate::segment::Segment;
 
 // Where an address looks up, and its room: for how many bytes from it on the place moves with the address. A room of 0: the address is in
@@ -109,13 +109,13 @@ pub fn readable_spot(files: &[&[u8]], segments: &[u64], va: u64, k: u64) -> Spot
 
 // The place of a spot, if it has one.
 #[tactic(auto, using(std::proofs::lemmas::Bool::Decides::nat_tests), unfolding(crate::specs::Spot::spot_place, crate::specs::Outcome::choose))]
-pub fn spot_place(s: Spot) -> Placed
-    ensures { place_outcome result ≡ spot_place s }
+pub fn spot_place(s: Spot) -> Result<Place, Missing>
+    ensures { outcome result ≡ spot_place s }
 {
     if s.room == 0 {
-        return Placed::Missing(Missing::Absent(Reason::Unreadable));
+        return Err(Missing::Absent(Reason::Unreadable));
     }
-    Placed::At(Place {
+    Ok(Place {
         file: s.file,
         offset: s.offset,
     })

@@ -2,7 +2,6 @@
 // which raises the count of the bytes read.
 ghost use Rattle.std.specs.Prelude.{◌≡◌, ◌≤◌, length};
 ghost use Rattle.reads.specs.Reference.{before};
-ghost use Rattle.reads.specs.Answer.{text_outcome};
 ghost use Rattle.reads.specs.Outcome.{because, or_empty};
 ghost use Rattle.reads.specs.Utf8.{◌to◌, tail, verdict, utf8};
 ghost use Rattle.reads.specs.Pass.{byte_after, due, follow, character, broken_at};
@@ -11,10 +10,11 @@ ghost use Rattle.reads.specs.Segment.{place_at};
 ghost use Rattle.reads.specs.Place.{lent_image};
 ghost use Rattle.reads.specs.declared.text.Reading.TheVariants.{Old};
 ghost use Rattle.reads.specs.Text.{ended, scan_of, good_text, text_of_scan, text_from, read_from, text_at, read_at, text_in, read_in, fixed_length, length_plus_one};
+ghost use Rattle.reads.specs.Answer.{outcome};
 
-use crate::answer::{Missing, Reason, Word, nonzero};
-use crate::files::bytes_of;
-use crate::place::{Place, Placed};
+use crate::answer::{Missing, Reason, nonzero};
+use crate::files::{bytes_of, is_lent};
+use crate::place::Place;
 use crate::segment::vm_to_file_offset_in;
 
 // A text: a part of a file of the image.
@@ -30,13 +30,6 @@ pub struct Text {
 pub enum Reading {
     Old,
     New,
-}
-
-// A text, or none.
-#[derive(Clone, Copy)]
-pub enum TextAnswer {
-    Found(Text),
-    Missing(Missing),
 }
 
 // Bytes are UTF-8, or they are not: the offset of the first byte that no well-formed text can continue, or their count where
@@ -58,7 +51,7 @@ pub struct Scan {
 // A text or none, and how many bytes were read for it: the count is raised at each byte.
 #[derive(Clone, Copy)]
 pub struct CstrRead {
-    pub text: TextAnswer,
+    pub text: Result<Text, Missing>,
     pub read: u64,
 }
 
@@ -78,29 +71,29 @@ struct Step {
 }
 
 // An absent text counts as the text in file 0 at offset 0 of length 0.
-pub fn or_empty(t: TextAnswer) -> TextAnswer
-    ensures { text_outcome result ≡ or_empty (text_outcome t) }
+pub fn or_empty(t: Result<Text, Missing>) -> Result<Text, Missing>
+    ensures { outcome result ≡ or_empty (outcome t) }
 {
     match t {
-        TextAnswer::Found(s) => TextAnswer::Found(s),
-        TextAnswer::Missing(m) => match m {
-            Missing::Absent(_) => TextAnswer::Found(Text {
+        Ok(s) => Ok(s),
+        Err(m) => match m {
+            Missing::Absent(_) => Ok(Text {
                 file: 0,
                 offset: 0,
                 len: 0,
             }),
-            Missing::Refused(k) => TextAnswer::Missing(Missing::Refused(k)),
+            Missing::Refused(k) => Err(Missing::Refused(k)),
         },
     }
 }
 
 // An absent text gets this reason.
-pub fn text_because(t: TextAnswer, why: Reason) -> TextAnswer
-    ensures { text_outcome result ≡ because why (text_outcome t) }
+pub fn text_because(t: Result<Text, Missing>, why: Reason) -> Result<Text, Missing>
+    ensures { outcome result ≡ because why (outcome t) }
 {
     match t {
-        TextAnswer::Found(s) => TextAnswer::Found(s),
-        TextAnswer::Missing(m) => TextAnswer::Missing(m.because(why)),
+        Ok(s) => Ok(s),
+        Err(m) => Err(m.because(why)),
     }
 }
 
@@ -263,29 +256,29 @@ fn ended(scan: Scan) -> bool
 }
 
 // The text that a scan from a place found, if it is UTF-8.
-fn good_text(p: Place, scan: Scan) -> TextAnswer
-    ensures { text_outcome result ≡ good_text p scan }
+fn good_text(p: Place, scan: Scan) -> Result<Text, Missing>
+    ensures { outcome result ≡ good_text p scan }
 {
     let verdict = scan.verdict;
     match verdict {
-        Verdict::Good => TextAnswer::Found(Text {
+        Verdict::Good => Ok(Text {
             file: p.file,
             offset: p.offset,
             len: scan.len,
         }),
-        Verdict::Bad(k) => TextAnswer::Missing(Missing::Absent(Reason::NotUtf8(k))),
+        Verdict::Bad(k) => Err(Missing::Absent(Reason::NotUtf8(k))),
     }
 }
 
 // The same under a reading: that it has no end goes before that it is not UTF-8.
-fn text_of_scan(reading: Reading, p: Place, scan: Scan) -> TextAnswer
-    ensures { text_outcome result ≡ text_of_scan reading p scan }
+fn text_of_scan(reading: Reading, p: Place, scan: Scan) -> Result<Text, Missing>
+    ensures { outcome result ≡ text_of_scan reading p scan }
 {
     match reading {
         Reading::Old => good_text(p, scan),
         Reading::New => {
             if !ended(scan) {
-                return TextAnswer::Missing(Missing::Absent(Reason::Unterminated));
+                return Err(Missing::Absent(Reason::Unterminated));
             }
             good_text(p, scan)
         }
@@ -295,11 +288,11 @@ fn text_of_scan(reading: Reading, p: Place, scan: Scan) -> TextAnswer
 // The text at a place whose file has these bytes, and how many bytes were read.
 #[tactic(auto, using(std::proofs::lemmas::Bool::Decides::nat_tests), unfolding(crate::specs::Text::text_from, crate::specs::Text::read_from, crate::specs::Outcome::choose))]
 fn read_cstr_in(bytes: &[u8], reading: Reading, p: Place) -> CstrRead
-    ensures { (text_outcome result.text ≡ text_from reading (before bytes) p) × (result.read ≡ read_from (before bytes) p.offset) }
+    ensures { (outcome result.text ≡ text_from reading (before bytes) p) × (result.read ≡ read_from (before bytes) p.offset) }
 {
     if (bytes.len() as u64) < p.offset {
         return CstrRead {
-            text: TextAnswer::Missing(Missing::Absent(Reason::PastEnd)),
+            text: Err(Missing::Absent(Reason::PastEnd)),
             read: 0,
         };
     }
@@ -312,34 +305,43 @@ fn read_cstr_in(bytes: &[u8], reading: Reading, p: Place) -> CstrRead
 
 // The text at a place, and how many bytes were read: a file that is not lent has no bytes.
 pub fn read_cstr_at(files: &[&[u8]], reading: Reading, p: Place) -> CstrRead
-    ensures { (text_outcome result.text ≡ text_at reading (files_of files) p) × (result.read ≡ read_at (files_of files) p) }
+    ensures { (outcome result.text ≡ text_at reading (files_of files) p) × (result.read ≡ read_at (files_of files) p) }
 {
+    // Not one call: the compiler would copy the pass into each caller, and its loop is slower there.
+    if !is_lent(files, p.file) {
+        return read_cstr_in(b"", reading, p);
+    }
     read_cstr_in(bytes_of(files, p.file), reading, p)
 }
 
 // The text at an address, and how many bytes were read: absent at 0 and where nothing is mapped, and then none.
 #[tactic(auto, using(crate::proofs::Outcomes::outcomes), unfolding(crate::specs::Text::text_in, crate::specs::Text::read_in))]
 pub fn read_cstr_counted(files: &[&[u8]], segments: &[u64], reading: Reading, va: u64) -> CstrRead
-    ensures { let m = lent_image files segments in (text_outcome result.text ≡ text_in reading m va) × (result.read ≡ read_in m va) }
+    ensures { let m = lent_image files segments in (outcome result.text ≡ text_in reading m va) × (result.read ≡ read_in m va) }
 {
     match nonzero(va) {
-        Word::Value(a) => match vm_to_file_offset_in(segments, a) {
-            Placed::At(p) => read_cstr_at(files, reading, p),
-            Placed::Missing(m) => CstrRead {
-                text: TextAnswer::Missing(m),
+        Ok(a) => match vm_to_file_offset_in(segments, a) {
+            Ok(p) => read_cstr_at(files, reading, p),
+            Err(m) => CstrRead {
+                text: Err(m),
                 read: 0,
             },
         },
-        Word::Missing(m) => CstrRead {
-            text: TextAnswer::Missing(m),
+        Err(m) => CstrRead {
+            text: Err(m),
             read: 0,
         },
     }
 }
 
 // The same without the count.
-pub fn read_cstr(files: &[&[u8]], segments: &[u64], reading: Reading, va: u64) -> TextAnswer
-    ensures { text_outcome result ≡ text_in reading (lent_image files segments) va }
+pub fn read_cstr(
+    files: &[&[u8]],
+    segments: &[u64],
+    reading: Reading,
+    va: u64,
+) -> Result<Text, Missing>
+    ensures { outcome result ≡ text_in reading (lent_image files segments) va }
 {
     let r = read_cstr_counted(files, segments, reading, va);
     r.text
@@ -351,8 +353,8 @@ pub fn read_cstr_or_empty(
     segments: &[u64],
     reading: Reading,
     va: u64,
-) -> TextAnswer
-    ensures { text_outcome result ≡ or_empty (text_in reading (lent_image files segments) va) }
+) -> Result<Text, Missing>
+    ensures { outcome result ≡ or_empty (text_in reading (lent_image files segments) va) }
 {
     or_empty(read_cstr(files, segments, reading, va))
 }
@@ -379,7 +381,7 @@ pub extern "C" fn reads_cstr_length_plus_one(bytes: &[u8], offset: u64) -> u64
     let r = read_cstr_in(bytes, Reading::Old, Place { file: 0, offset });
     let t = r.text;
     match t {
-        TextAnswer::Found(t) => t.len + 1,
-        TextAnswer::Missing(_) => 0,
+        Ok(t) => t.len + 1,
+        Err(_) => 0,
     }
 }

@@ -3,7 +3,7 @@
 use mathlib.Core.Path.{◌≡◌, refl, ap}
 use mathlib.Core.Bool.{Bool, true, false}
 use mathlib.Core.List.{List, [], ◌∷◌, ◌++◌}
-use Rattle.reads.specs.Outcome.{Outcome, value, absent, number, and_then, or_else, or_first, because, choose}
+use Rattle.reads.specs.Outcome.{Outcome, value, absent, refused, and_then, or_else, or_first, because, choose}
 use Rattle.reads.specs.declared.answer.Reason.{Reason}
 use Rattle.pointers.specs.Tables.{Tables}
 use Rattle.records.specs.Ask.{Ask, answer}
@@ -33,19 +33,19 @@ module _ (P : Ask → Type 0) where
       → ((a : A) → Each P (us a) → Same (f a) (g a) (us a) (vs a)) → Same (and_then o f) (and_then o g) (if_value o us) (if_value o vs)
   value_same (value a) f g us vs e h = h a e
   value_same (absent r) f g us vs e h = same (absent r) []
-  value_same (number k) f g us vs e h = same (number k) []
+  value_same (refused k) f g us vs e h = same (refused k) []
 
   else_same : {A : Type 0} (o d e : Outcome A) (us vs : List Ask) → Each P (if_absent o us) → (Each P us → Same d e us vs)
       → Same (or_else o d) (or_else o e) (if_absent o us) (if_absent o vs)
   else_same (value a) d e us vs h k = same (value a) []
   else_same (absent r) d e us vs h k = k h
-  else_same (number n) d e us vs h k = same (number n) []
+  else_same (refused n) d e us vs h k = same (refused n) []
 
   first_same : {A : Type 0} (o d e : Outcome A) (us vs : List Ask) → Each P (if_absent o us) → (Each P us → Same d e us vs)
       → Same (or_first o d) (or_first o e) (if_absent o us) (if_absent o vs)
   first_same (value a) d e us vs h k = same (value a) []
   first_same (absent r) d e us vs h k = record { outcome = ap (because r) (k h).outcome; questions = (k h).questions }
-  first_same (number n) d e us vs h k = same (number n) []
+  first_same (refused n) d e us vs h k = same (refused n) []
 
   choose_same : {A : Type 0} (b : Bool) (d d' e e' : Outcome A) (us us' vs vs' : List Ask) → Each P (choose b us vs)
       → (Each P us → Same d d' us us') → (Each P vs → Same e e' vs vs') → Same (choose b d e) (choose b d' e') (choose b us vs) (choose b us' vs')

@@ -3,12 +3,12 @@ use Prim.Native.Nat.{ℕ, zero, suc, ◌+◌, ◌-◌, ◌≤◌, ◌<◌}
 use mathlib.Core.Path.{◌≡◌, refl, ap, ◌∙◌}
 use mathlib.Core.Bool.{Bool, true, false}
 use mathlib.Core.List.{List, [], ◌∷◌, ◌++◌, append-nil}
-use mathlib.Core.Option.{none, some}
 use mathlib.Core.Logic.{⊎_elim}
 use native.Mathlib.Nat.{zero-add, add-zero, suc-add, add-suc, eq-or-lt_of_le}
 use native.Mathlib.Omega.{arith}
 use Rattle.reads.proofs.Tests.{by_choose, choose_true, choose_false}
 use Rattle.records.specs.Search.{first, all_from}
+use Rattle.std.specs.Prelude.{None, Some}
 
 -- What is known of the index found among the k from i on.
 pub record FirstOf (test : ℕ → Bool) (k i j : ℕ) : Type 0 where
@@ -18,13 +18,13 @@ pub record FirstOf (test : ℕ → Bool) (k i j : ℕ) : Type 0 where
   pub before : (x : ℕ) → i ≤ x → x < j → test x ≡ false
 
 module _ (test : ℕ → Bool) where
-  first_pass : (k i : ℕ) → test i ≡ true → first test (suc k) i ≡ some i
+  first_pass : (k i : ℕ) → test i ≡ true → first test (suc k) i ≡ Some i
   unfolding first
-  first_pass k i t = choose_true (some i) (first test k (suc i)) t
+  first_pass k i t = choose_true (Some i) (first test k (suc i)) t
 
   first_fail : (k i : ℕ) → test i ≡ false → first test (suc k) i ≡ first test k (suc i)
   unfolding first
-  first_fail k i t = choose_false (some i) (first test k (suc i)) t
+  first_fail k i t = choose_false (Some i) (first test k (suc i)) t
 
   all_pass : (k i : ℕ) → test i ≡ true → all_from test (suc k) i ≡ i ∷ all_from test k (suc i)
   unfolding all_from
@@ -39,11 +39,11 @@ module _ (test : ℕ → Bool) where
   fails_from i P here later x l =
       ⊎_elim (λ (e : i ≡ x). rw (← e) here) (λ u. later x u) (eq-or-lt_of_le l)
 
-  pub first_some : (k i j : ℕ) → first test k i ≡ some j → FirstOf test k i j
+  pub first_some : (k i j : ℕ) → first test k i ≡ Some j → FirstOf test k i j
   unfolding first
   first_some zero i j = λ e. let z : ◌≡◌ {A = ℕ} 0 1 = cc in absurd (omega arith)
   first_some (suc k) i j =
-      by_choose (λ o. o ≡ some j → FirstOf test (suc k) i j) (λ t e. here t (cc)) (λ t e. later t (first_some k (suc i) j e))
+      by_choose (λ o. o ≡ Some j → FirstOf test (suc k) i j) (λ t e. here t (cc)) (λ t e. later t (first_some k (suc i) j e))
     where
       here : test i ≡ true → i ≡ j → FirstOf test (suc k) i j
       here t e = record { from = omega arith; below = omega arith; passes = rw (← e) t; before = λ x l u. absurd (omega arith) }
@@ -57,20 +57,20 @@ module _ (test : ℕ → Bool) where
             before = λ x l. fails_from i (λ y. y < j → test y ≡ false) (λ u. t) (λ y p. f.before y p) x l;
           }
 
-  pub first_is_none : (k i : ℕ) → first test k i ≡ none → (x : ℕ) → i ≤ x → x < i + k → test x ≡ false
+  pub first_is_none : (k i : ℕ) → first test k i ≡ None → (x : ℕ) → i ≤ x → x < i + k → test x ≡ false
   unfolding first
   first_is_none zero i = λ e x l u. absurd (omega arith)
   first_is_none (suc k) i =
-      by_choose (λ o. o ≡ none → (x : ℕ) → i ≤ x → x < i + suc k → test x ≡ false)
+      by_choose (λ o. o ≡ None → (x : ℕ) → i ≤ x → x < i + suc k → test x ≡ false)
       (λ t e. let z : ◌≡◌ {A = ℕ} 0 1 = cc in absurd (omega arith))
       (λ t e. fails_from i (λ y. y < i + suc k → test y ≡ false) (λ u. t) (λ y p u. first_is_none k (suc i) e y p (omega arith)))
 
   -- The first of all is the one found, and the others come after it.
-  pub all_of_some : (k i j : ℕ) → first test k i ≡ some j → all_from test k i ≡ j ∷ all_from test (k - (suc j - i)) (suc j)
+  pub all_of_some : (k i j : ℕ) → first test k i ≡ Some j → all_from test k i ≡ j ∷ all_from test (k - (suc j - i)) (suc j)
   unfolding first all_from
   all_of_some zero i j = λ e. cc
   all_of_some (suc k) i j =
-      by_choose (λ o. o ≡ some j → all_from test (suc k) i ≡ j ∷ all_from test (suc k - (suc j - i)) (suc j)) (λ t e. here t (cc))
+      by_choose (λ o. o ≡ Some j → all_from test (suc k) i ≡ j ∷ all_from test (suc k - (suc j - i)) (suc j)) (λ t e. here t (cc))
       (λ t e. later t (first_some k (suc i) j e).from (all_of_some k (suc i) j e))
     where
       here : test i ≡ true → i ≡ j → all_from test (suc k) i ≡ j ∷ all_from test (suc k - (suc j - i)) (suc j)
@@ -84,18 +84,18 @@ module _ (test : ℕ → Bool) where
           let n : suc k - (suc j - i) ≡ k - (suc j - suc i) = omega arith in
           all_fail k i t ∙ ih ∙ rw n
 
-  pub all_of_first_none : (k i : ℕ) → first test k i ≡ none → all_from test k i ≡ []
+  pub all_of_first_none : (k i : ℕ) → first test k i ≡ None → all_from test k i ≡ []
   unfolding first all_from
   all_of_first_none zero i = λ e. refl
   all_of_first_none (suc k) i =
-      by_choose (λ o. o ≡ none → all_from test (suc k) i ≡ []) (λ t e. cc) (λ t e. all_fail k i t ∙ all_of_first_none k (suc i) e)
+      by_choose (λ o. o ≡ None → all_from test (suc k) i ≡ []) (λ t e. cc) (λ t e. all_fail k i t ∙ all_of_first_none k (suc i) e)
 
   -- What is found among k indices is found among more.
-  pub first_of_more : (k d i j : ℕ) → first test k i ≡ some j → first test (k + d) i ≡ some j
+  pub first_of_more : (k d i j : ℕ) → first test k i ≡ Some j → first test (k + d) i ≡ Some j
   unfolding first
   first_of_more zero d i j = λ e. let z : ◌≡◌ {A = ℕ} 0 1 = cc in absurd (omega arith)
   first_of_more (suc k) d i j =
-      by_choose (λ o. o ≡ some j → first test (suc k + d) i ≡ some j) (λ t e. rw suc-add (first_pass (k + d) i t ∙ e))
+      by_choose (λ o. o ≡ Some j → first test (suc k + d) i ≡ Some j) (λ t e. rw suc-add (first_pass (k + d) i t ∙ e))
       (λ t e. rw suc-add (first_fail (k + d) i t ∙ first_of_more k d (suc i) j e))
 
   -- d indices that fail are passed over.
@@ -139,14 +139,14 @@ module _ (test : ℕ → Bool) (count i : ℕ) where
       let b : i + (j - i) ≡ j = omega arith in
       rw a (first_run test (j - i) (count - j) i (λ x p q. f x p (omega arith)) ∙ ap (first test (count - j)) b)
 
-  pub first_past : count ≤ i → first test (count - i) i ≡ none
+  pub first_past : count ≤ i → first test (count - i) i ≡ None
   unfolding first
   first_past h = let a : count - i ≡ 0 = omega arith in rw a
 
-  pub first_here : i < count → test i ≡ true → first test (count - i) i ≡ some i
+  pub first_here : i < count → test i ≡ true → first test (count - i) i ≡ Some i
   first_here h e =
       let a : count - i ≡ suc (count - suc i) = omega arith in
       rw a (first_pass test (count - suc i) i e)
 
-pub first_none : (test : ℕ → Bool) (count i : ℕ) → ((x : ℕ) → i ≤ x → x < count → test x ≡ false) → i ≤ count → first test (count - i) i ≡ none
+pub first_none : (test : ℕ → Bool) (count i : ℕ) → ((x : ℕ) → i ≤ x → x < count → test x ≡ false) → i ≤ count → first test (count - i) i ≡ None
 first_none test count i f l = first_skip test count i count l (omega arith) f ∙ first_past test count count (omega arith)

@@ -2,23 +2,21 @@
 use Prim.Native.Nat.{ℕ, ◌+◌, ◌-◌, ◌*◌, ◌/◌, ◌^◌, ◌≤◌, ◌<◌}
 use mathlib.Core.Path.{◌≡◌, sym, ◌∙◌}
 use mathlib.Core.Bool.{true, false, and-false}
-use mathlib.Core.Option.{none, some}
 use native.Mathlib.Nat.{mul-zero, mul-le-mul, le_dest, mul-le-mul_right, div-mul-le_self, lt-div-mul-add}
 use native.Mathlib.Omega.{arith}
 use borrow.Author.Tests.{lt-ltb, le-ltb}
 use Rattle.reads.specs.Breaks.{can_read, breaks_of, next_break}
 use Rattle.reads.specs.Place.{Image}
-use Rattle.reads.specs.declared.breaks.Break.TheVariants.{At, Nothing}
 use Rattle.reads.proofs.Breakpoints.{can_read_until_break, unreadable_past_breaks, above_few}
 use Rattle.reads.proofs.LeastAbove.{next_break_above, above_falls}
 use Rattle.records.specs.List.{least, entry_address, entry}
-use Rattle.records.specs.Search.{entry_of, first_readable, search_budget}
+use Rattle.records.specs.Search.{first_readable, search_budget}
 use Rattle.records.specs.Tries.{ahead, Leads}
-use Rattle.records.specs.declared.list.Entry.{Entry}
 use Rattle.records.specs.declared.list.Layout.{Layout}
 use Rattle.records.specs.declared.list.Try.{Try}
 use Rattle.records.specs.declared.list.Try.TheVariants.{Stop, Go}
 use Rattle.records.proofs.Firsts.{first_skip, first_past, first_here, first_none}
+use Rattle.std.specs.Prelude.{Option, Some, None}
 
 -- An index times an entry size fits 64 bits.
 pub product_fits : (a b : ℕ) → a < 2 ^ 32 → b < 2 ^ 32 → a * b < 2 ^ 64
@@ -46,41 +44,41 @@ module _ (m : Image) (h : Layout) (i : ℕ) where
   entry_readable l e = rw (lt-ltb (entry_address h i) (2 ^ 64) l, e)
 
 module _ (m : Image) (h : Layout) (i : ℕ) where
-  pub search_past : h.count ≤ i → none ≡ first_readable m h i
+  pub search_past : h.count ≤ i → None ≡ first_readable m h i
   unfolding first_readable
   search_past l = sym (first_past (entry m h) h.count i l)
 
   -- No entry from i on can be read.
-  nowhere : i < h.count → ((x : ℕ) → i ≤ x → x < h.count → entry m h x ≡ false) → none ≡ first_readable m h i
+  nowhere : i < h.count → ((x : ℕ) → i ≤ x → x < h.count → entry m h x ≡ false) → None ≡ first_readable m h i
   unfolding first_readable
   nowhere l f = sym (first_none (entry m h) h.count i f (omega arith))
 
   -- The address of entry i is over 64 bits, and so is each later one.
-  pub search_over : i < h.count → 2 ^ 64 ≤ entry_address h i → none ≡ first_readable m h i
+  pub search_over : i < h.count → 2 ^ 64 ≤ entry_address h i → None ≡ first_readable m h i
   search_over l w = nowhere l (λ x p q. entry_over m h x (omega (arith, addresses_rise h i x p)))
 
-  pub search_here : i < h.count → entry_address h i < 2 ^ 64 → can_read m (least h.kind) (entry_address h i) ≡ true → some i ≡ first_readable m h i
+  pub search_here : i < h.count → entry_address h i < 2 ^ 64 → can_read m (least h.kind) (entry_address h i) ≡ true → Some i ≡ first_readable m h i
   unfolding first_readable
   search_here l f e = sym (first_here (entry m h) h.count i l (entry_readable m h i f e))
 
   -- No breakpoint is left above entry i, so no entry from there on can be read.
-  pub entries_past_breaks : next_break (breaks_of m (least h.kind)) (entry_address h i) ≡ Nothing → (x : ℕ) → i ≤ x → entry m h x ≡ false
+  pub entries_past_breaks : next_break (breaks_of m (least h.kind)) (entry_address h i) ≡ None → (x : ℕ) → i ≤ x → entry m h x ≡ false
   entries_past_breaks e x l =
       entry_unreadable m h x (unreadable_past_breaks m (least h.kind) (entry_address h i) (entry_address h x) e (addresses_rise h i x l))
 
-  pub search_past_breaks : i < h.count → next_break (breaks_of m (least h.kind)) (entry_address h i) ≡ Nothing → none ≡ first_readable m h i
+  pub search_past_breaks : i < h.count → next_break (breaks_of m (least h.kind)) (entry_address h i) ≡ None → None ≡ first_readable m h i
   search_past_breaks l e = nowhere l (λ x p q. entries_past_breaks e x p)
 
   module _ (low : i < h.count) (not : can_read m (least h.kind) (entry_address h i) ≡ false) where
     -- Entries of size 0 all have one address.
-    pub search_flat : h.size ≡ 0 → none ≡ first_readable m h i
+    pub search_flat : h.size ≡ 0 → None ≡ first_readable m h i
     search_flat z = nowhere low (λ x p q. entry_unreadable m h x (rw (one_place x) not))
       where
         one_place : (x : ℕ) → entry_address h x ≡ entry_address h i
         one_place x = simp (z, mul-zero)
 
     -- The next breakpoint is b.
-    module _ (sized : h.size ≡ 0 → ⊥) (b : ℕ) (next : next_break (breaks_of m (least h.kind)) (entry_address h i) ≡ At b) where
+    module _ (sized : h.size ≡ 0 → ⊥) (b : ℕ) (next : next_break (breaks_of m (least h.kind)) (entry_address h i) ≡ Some b) where
       entry_under : entry_address h i < b
       entry_under = next_break_above (breaks_of m (least h.kind)) (entry_address h i) b next
 
@@ -94,7 +92,7 @@ module _ (m : Image) (h : Layout) (i : ℕ) where
       fails x l u =
           entry_unreadable m h x (can_read_until_break m (least h.kind) (entry_address h i) b (entry_address h x) next (addresses_rise h i x l) (below x l u) ∙ not)
 
-      pub jump_out : h.count - i - 1 ≤ gap h i b → none ≡ first_readable m h i
+      pub jump_out : h.count - i - 1 ≤ gap h i b → None ≡ first_readable m h i
       jump_out g = nowhere low (λ x p q. fails x p (omega arith))
 
       pub jump_same : gap h i b < h.count - i - 1 → first_readable m h (i + gap h i b + 1) ≡ first_readable m h i
@@ -114,7 +112,7 @@ module _ (m : Image) (h : Layout) (i : ℕ) where
 
 -- What trying an index leaves, by the case that came.
 module _ (m : Image) (h : Layout) (i : ℕ) (r : Try) (tried : Leads m h i r) where
-  pub stopped : (entry : Entry) → r ≡ Stop entry → entry_of entry ≡ first_readable m h i
+  pub stopped : (entry : Option ℕ) → r ≡ Stop entry → entry ≡ first_readable m h i
   stopped entry e = rw e at tried
 
   pub went : (j : ℕ) → r ≡ Go j → (first_readable m h j ≡ first_readable m h i) × (ahead m h j < ahead m h i)

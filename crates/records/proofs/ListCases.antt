@@ -2,7 +2,6 @@
 use Prim.Native.Nat.{ℕ, ◌-◌, ◌/◌, ◌%◌, ◌^◌}
 use mathlib.Core.Path.{◌≡◌, refl}
 use mathlib.Core.List.{List, [], ◌∷◌, map}
-use mathlib.Core.Option.{some}
 use native.Mathlib.Omega.{arith}
 use lib.ListN.{length, replicate}
 use Rattle.reads.specs.Outcome.{Outcome, value, absent, choose, sum64, nonzero}
@@ -24,6 +23,7 @@ use Rattle.records.specs.declared.list.RowKind.TheVariants as row
 use Rattle.records.proofs.Firsts.{first_of_more}
 use Rattle.records.proofs.HubImage.{counted, bytes, four_files, segments}
 use Rattle.records.proofs.Readables.{readables_before_breaks_end}
+use Rattle.std.specs.Prelude.{Some}
 
 abbrev laid : ℕ → ℕ → ℕ → RowKind → Layout
 laid base size count kind = record { base = base; size = size; count = count; kind = kind }
@@ -93,7 +93,7 @@ unfolding file_of all_from entry can_read readable readable_at lookup rows ends 
 hidden_three = readables_before_breaks_end hidden_image hidden 6 (omega arith) refl
 
 -- From entry 2 on, the search finds what is no longer hidden.
-pub hidden_next : first_readable hidden_image hidden 2 ≡ some 4
+pub hidden_next : first_readable hidden_image hidden 2 ≡ Some 4
 unfolding file_of first_readable first entry can_read readable readable_at lookup rows ends holds placed sum64 choose
 hidden_next = first_of_more (entry hidden_image hidden) 3 (4294967295 - 2 - 3) 2 4 refl
 

@@ -5,7 +5,7 @@ use mathlib.Core.Path.{◌≡◌, refl, ap}
 use mathlib.Core.List.{List, [], ◌∷◌}
 use lib.ListN.{get_or, replicate}
 use Rattle.reads.specs.Outcome as outcomes
-use Rattle.reads.specs.Outcome.{Outcome, value, absent, number, and_then, or_else, or_first, choose}
+use Rattle.reads.specs.Outcome.{Outcome, value, absent, refused, and_then, or_else, or_first, choose}
 use Rattle.reads.specs.Address as address
 use Rattle.reads.specs.Files.{file_of}
 use Rattle.reads.specs.Place.{le_in, word_in}
@@ -109,7 +109,7 @@ module _ (b : Lent) (segments binds : List ℕ) (n : ℕ) (s : Widened 4 b.segme
       go : (o : Outcome ℕ) → and_then o (address.picked segments) ≡ and_then o (image.picked b.segments)
       go (value x) = picked_one s x
       go (absent r) = refl
-      go (number k) = refl
+      go (refused k) = refl
   answer_one (slot a) = resolve_one s b.image empties b.rebases b.index b.setting a
   answer_one (rebase a) = refl
   answer_one (pointer va k) = pointer_one s b.image empties b.rebases b.index b.setting va k
@@ -121,7 +121,7 @@ module _ (b : Lent) (segments binds : List ℕ) (n : ℕ) (s : Widened 4 b.segme
   then_one : {A B : Type 0} (o : Outcome A) {f g : A → Outcome B} → ((a : A) → f a ≡ g a) → and_then o f ≡ and_then o g
   then_one (value a) h = h a
   then_one (absent r) h = refl
-  then_one (number k) h = refl
+  then_one (refused k) h = refl
 
   -- Every definition of a record, a row or a name gives what it gave.
   pub one_file_decodes : {A : Type 0} (d : Decode A) → run over d ≡ run_before b d

@@ -3,7 +3,6 @@ use Prim.Native.Nat.{ℕ, suc, ◌-◌, ◌*◌, ◌/◌, ◌^◌, ◌≤◌, �
 use mathlib.Core.Path.{◌≡◌, ◌∙◌}
 use mathlib.Core.Bool.{true, false}
 use mathlib.Core.List.{List, [], ◌∷◌}
-use mathlib.Core.Option.{none, some}
 use native.Mathlib.Nat.{sub-zero, sub_self}
 use native.Mathlib.Omega.{arith}
 use lib.Dec.{ltb}
@@ -13,7 +12,6 @@ use Rattle.reads.specs.Files.{longest}
 use Rattle.reads.specs.Place.{Image}
 use Rattle.reads.specs.Segment.{segment_words}
 use Rattle.reads.specs.Table.{records}
-use Rattle.reads.specs.declared.breaks.Break.TheVariants.{Nothing}
 use Rattle.reads.proofs.Tests.{both_true}
 use Rattle.records.specs.List.{least, entry_address, entry}
 use Rattle.records.specs.Search.{all_from, first_readable, readables}
@@ -22,6 +20,7 @@ use Rattle.records.proofs.Firsts.{FirstOf, first_some, first_is_none, all_of_som
 use Rattle.records.proofs.Headers.{least_12}
 use Rattle.records.proofs.Jumps.{entries_past_breaks}
 use Rattle.records.proofs.Windows.{passing_within, reads_few}
+use Rattle.std.specs.Prelude.{None, Some}
 
 -- The readable entries from index i on.
 abbrev pub rest_from : Image → Layout → ℕ → List ℕ
@@ -35,25 +34,25 @@ module _ (m : Image) (h : Layout) where
 
   -- What a search from i on finds, and what is then left of the readable entries from there on.
   module _ (i : ℕ) where
-    pub found : (j : ℕ) → first_readable m h i ≡ some j → FirstOf (entry m h) (h.count - i) i j
+    pub found : (j : ℕ) → first_readable m h i ≡ Some j → FirstOf (entry m h) (h.count - i) i j
     unfolding first_readable
     found j e = first_some (entry m h) (h.count - i) i j e
 
-    pub found_below_count : (j : ℕ) → first_readable m h i ≡ some j → j < h.count
+    pub found_below_count : (j : ℕ) → first_readable m h i ≡ Some j → j < h.count
     found_below_count j e = let f = found j e in omega (arith, f.from, f.below)
 
-    pub not_found : first_readable m h i ≡ none → (x : ℕ) → i ≤ x → x < h.count → entry m h x ≡ false
+    pub not_found : first_readable m h i ≡ None → (x : ℕ) → i ≤ x → x < h.count → entry m h x ≡ false
     unfolding first_readable
     not_found e x l u = first_is_none (entry m h) (h.count - i) i e x l (omega arith)
 
-    pub rest_of_some : (j : ℕ) → first_readable m h i ≡ some j → rest_from m h i ≡ j ∷ rest_from m h (suc j)
+    pub rest_of_some : (j : ℕ) → first_readable m h i ≡ Some j → rest_from m h i ≡ j ∷ rest_from m h (suc j)
     unfolding first_readable
     rest_of_some j e =
         let f = found j e in
         let n : h.count - i - (suc j - i) ≡ h.count - suc j = omega (arith, f.from, f.below) in
         all_of_some (entry m h) (h.count - i) i j e ∙ rw n
 
-    pub rest_of_none : first_readable m h i ≡ none → rest_from m h i ≡ []
+    pub rest_of_none : first_readable m h i ≡ None → rest_from m h i ≡ []
     unfolding first_readable
     rest_of_none e = all_of_first_none (entry m h) (h.count - i) i e
 
@@ -80,6 +79,6 @@ module _ (m : Image) (h : Layout) where
   readables_below d l f = all_of_less (entry m h) h.count d l f
 
   -- So where no breakpoint lies above entry d.
-  pub readables_before_breaks_end : (d : ℕ) → d ≤ h.count → next_break (breaks_of m (least h.kind)) (entry_address h d) ≡ Nothing
+  pub readables_before_breaks_end : (d : ℕ) → d ≤ h.count → next_break (breaks_of m (least h.kind)) (entry_address h d) ≡ None
       → readables m h ≡ all_from (entry m h) d 0
   readables_before_breaks_end d l e = readables_below d l (λ x p q. entries_past_breaks m h d e x p)

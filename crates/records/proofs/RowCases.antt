@@ -24,31 +24,29 @@ use Rattle.records.specs.Row.{small_imp, alignment_of, aligned_of}
 use Rattle.records.specs.declared.category.ObjcCategory.{ObjcCategory}
 use Rattle.records.specs.declared.ivar.Aligned.{Aligned}
 use Rattle.records.specs.declared.ivar.Aligned.TheVariants.{Yes, No, Unknown}
-use Rattle.records.specs.declared.ivar.Alignment.TheVariants as alignment
-use Rattle.records.specs.declared.ivar.IvarOffset.TheVariants as offset
-use Rattle.records.specs.declared.method.Imp.TheVariants.{At, Nothing}
+use Rattle.std.specs.Prelude.{Some, None}
 
 -- A small method's imp is none exactly if its offset is 0: one that is masked to 0 is there.
-pub small_imps : map (λ raw. small_imp raw (2 ^ 48 - 8)) (0 ∷ 8 ∷ []) ≡ Nothing ∷ At 0 ∷ []
+pub small_imps : map (λ raw. small_imp raw (2 ^ 48 - 8)) (0 ∷ 8 ∷ []) ≡ None ∷ Some 0 ∷ []
 unfolding small_imp stripped relative signed32 twos modulo64 choose
 small_imps = refl
 
 -- Alignment words on both sides of each bound.
 pub alignment_words : map alignment_of (0 ∷ 63 ∷ 64 ∷ 255 ∷ 0x100 ∷ 0xFFFFFFFE ∷ 0xFFFFFFFF ∷ [])
-    ≡ alignment.Log2 0
-    ∷ alignment.Log2 63
-    ∷ alignment.Nothing
-    ∷ alignment.Nothing
-    ∷ alignment.Nothing
-    ∷ alignment.Nothing
-    ∷ alignment.Log2 3
+    ≡ Some 0
+    ∷ Some 63
+    ∷ None
+    ∷ None
+    ∷ None
+    ∷ None
+    ∷ Some 3
     ∷ []
 unfolding alignment_of choose
 alignment_words = refl
 
 -- The offsets 0, 1, 8 and 0x80000000, which have 32, 0, 3 and 31 trailing zero bits.
 abbrev offsets_under : ℕ → List Aligned
-offsets_under k = map (λ n. aligned_of (offset.At n) (alignment.Log2 k)) (0 ∷ 1 ∷ 8 ∷ 0x80000000 ∷ [])
+offsets_under k = map (λ n. aligned_of (Some n) (Some k)) (0 ∷ 1 ∷ 8 ∷ 0x80000000 ∷ [])
 
 pub aligned_offsets : map offsets_under (0 ∷ 3 ∷ 31 ∷ 32 ∷ 40 ∷ 63 ∷ [])
     ≡ (Yes ∷ Yes ∷ Yes ∷ Yes ∷ [])
@@ -63,7 +61,7 @@ aligned_offsets = refl
 
 -- Without the one or the other it is unknown.
 pub unknown_aligned :
-    aligned_of (offset.At 8) alignment.Nothing ∷ aligned_of offset.Nothing (alignment.Log2 3) ∷ [] ≡ Unknown ∷ Unknown ∷ []
+    aligned_of (Some 8) None ∷ aligned_of None (Some 3) ∷ [] ≡ Unknown ∷ Unknown ∷ []
 unfolding aligned_of
 unknown_aligned = refl
 

@@ -1,6 +1,6 @@
 -- The questions that a definition asks of tables, and the definitions that are run within it (document 02, notes 12 and 13).
 use Rattle.std.specs.Prelude.{◌≡◌, Bool, true, false, List, [], ◌∷◌, ◌++◌}
-use Rattle.reads.specs.Outcome.{Outcome, value, absent, number, choose}
+use Rattle.reads.specs.Outcome.{Outcome, value, absent, refused, choose}
 use Rattle.reads.specs.declared.answer.Reason.{Reason}
 use Rattle.pointers.specs.Tables.{Tables}
 use Rattle.records.specs.Ask.{Ask}
@@ -10,12 +10,12 @@ use Rattle.records.specs.Decode.{Decode, made, asked, after, either, either_firs
 abbrev pub if_value : {A B : Type 0} → Outcome A → (A → List B) → List B
 if_value (value a) f = f a
 if_value (absent r) f = []
-if_value (number k) f = []
+if_value (refused k) f = []
 
 abbrev pub if_absent : {A B : Type 0} → Outcome A → List B → List B
 if_absent (value a) qs = []
 if_absent (absent r) qs = qs
-if_absent (number k) qs = []
+if_absent (refused k) qs = []
 
 -- In order, until an answer ends the definition.
 unfoldable pub asks : {A : Type 0} → Tables → Decode A → List Ask

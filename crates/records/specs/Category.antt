@@ -1,7 +1,6 @@
 -- Categories (objc-runtime-new.h, category_t; document 01, Category; category.rs).
 use Rattle.std.specs.Prelude.{ℕ, Bool}
-use Rattle.reads.specs.Outcome.{Outcome, value, choose}
-use Rattle.reads.specs.Answer.{missed}
+use Rattle.reads.specs.Outcome.{Outcome, choose}
 use Rattle.reads.specs.declared.text.Text.{Text}
 use Rattle.pointers.specs.Tables.{Tables}
 use Rattle.pointers.specs.ImageInfo.{bit}
@@ -9,19 +8,7 @@ use Rattle.records.specs.Decode.{Decode, run, done, then, when, readable, slot, 
 use Rattle.records.specs.Header.{category_size, category_size_with_class_properties, category_cls, category_instance_methods, category_class_methods, category_protocols, category_instance_properties, category_class_properties}
 use Rattle.records.specs.Class.{class_name_of}
 use Rattle.records.specs.declared.category.ObjcCategory.{ObjcCategory}
-use Rattle.records.specs.declared.category.CategoryAnswer.{CategoryAnswer}
-use Rattle.records.specs.declared.category.CategoryAnswer.TheVariants as category
 use Rattle.records.specs.declared.category.CategoryLists.{CategoryLists}
-use Rattle.records.specs.declared.category.CategoryListsAnswer.{CategoryListsAnswer}
-use Rattle.records.specs.declared.category.CategoryListsAnswer.TheVariants as lists
-
-abbrev pub category_outcome : CategoryAnswer → Outcome ObjcCategory
-category_outcome (category.Category c) = value c
-category_outcome (category.Missing m) = missed m
-
-abbrev pub category_lists_outcome : CategoryListsAnswer → Outcome CategoryLists
-category_lists_outcome (lists.Lists l) = value l
-category_lists_outcome (lists.Missing m) = missed m
 
 -- _classProperties where the image has the field; or 0.
 unfoldable pub decode_category_properties : ℕ → Bool → Decode ℕ

@@ -1,33 +1,14 @@
 -- Classes (objc-runtime-new.h, class_t and class_ro_t; document 01, Class; class.rs). The order of the lookups is the Rust's.
 use Rattle.std.specs.Prelude.{ℕ, ◌+◌, ◌-◌, ◌%◌, Bool, ◌||◌}
 use Rattle.pointers.specs.ImageInfo.{bit}
-use Rattle.reads.specs.Outcome.{Outcome, value}
-use Rattle.reads.specs.Answer.{missed}
+use Rattle.reads.specs.Outcome.{Outcome}
 use Rattle.reads.specs.declared.text.Text.{Text}
 use Rattle.pointers.specs.Tables.{Tables}
 use Rattle.records.specs.Decode.{Decode, run, done, then, else, else_first, or0, sum64, nonzero, readable, u32_in, u64_at, picked, picked_at, slot, rebase, pointer, pointer_or0, string, symbol}
 use Rattle.records.specs.Header.{class_size, class_superclass, class_bits, ro_size, ro_flags, ro_instance_start, ro_instance_size, ro_ivar_layout, ro_name, ro_base_methods, ro_base_protocols, ro_ivars, ro_weak_ivar_layout, ro_base_properties}
 use Rattle.records.specs.declared.class.ObjcClass.{ObjcClass}
-use Rattle.records.specs.declared.class.ClassAnswer.{ClassAnswer}
-use Rattle.records.specs.declared.class.ClassAnswer.TheVariants as class
 use Rattle.records.specs.declared.class.ClassRo.{ClassRo}
-use Rattle.records.specs.declared.class.ClassRoAnswer.{ClassRoAnswer}
-use Rattle.records.specs.declared.class.ClassRoAnswer.TheVariants as ro
 use Rattle.records.specs.declared.class.RoLists.{RoLists}
-use Rattle.records.specs.declared.class.RoListsAnswer.{RoListsAnswer}
-use Rattle.records.specs.declared.class.RoListsAnswer.TheVariants as lists
-
-abbrev pub class_outcome : ClassAnswer → Outcome ObjcClass
-class_outcome (class.Class c) = value c
-class_outcome (class.Missing m) = missed m
-
-abbrev pub class_ro_outcome : ClassRoAnswer → Outcome ClassRo
-class_ro_outcome (ro.Ro r) = value r
-class_ro_outcome (ro.Missing m) = missed m
-
-abbrev pub ro_lists_outcome : RoListsAnswer → Outcome RoLists
-ro_lists_outcome (lists.Lists l) = value l
-ro_lists_outcome (lists.Missing m) = missed m
 
 -- The data address without its low three bits, and the three of the stored word.
 unfoldable pub bits_of : ℕ → ℕ → ℕ

@@ -1,7 +1,7 @@
 -- A definition of a record or a row as data: what it asks, in order, and what it makes of the answers. `run` gives its outcome. What holds of
 -- every definition is proved once, by the cases below.
 use Rattle.std.specs.Prelude.{ℕ, Bool, ℤ}
-use Rattle.reads.specs.Outcome.{Outcome, value, absent, number, and_then, or_else, or_first, choose, text_of}
+use Rattle.reads.specs.Outcome.{Outcome, value, absent, refused, and_then, or_else, or_first, choose, text_of}
 use Rattle.reads.specs.declared.answer.Reason.{Reason}
 use Rattle.reads.specs.declared.place.Place.{Place}
 use Rattle.reads.specs.declared.text.Text.{Text}
@@ -19,7 +19,7 @@ pub data Tried (A : Type 0) : Type 0 where
 abbrev pub tried_of : {A : Type 0} → Outcome A → Outcome (Tried A)
 tried_of (value a) = value (given a)
 tried_of (absent r) = value (lacking r)
-tried_of (number k) = number k
+tried_of (refused k) = refused k
 
 -- A value; an answer; what comes after another; the second where the first is absent, with the second's reason where both are, or with
 -- the first's; one of two by a test; a trial of another, after which a definition goes on whether or not that is absent. (A type that varies between

@@ -1,7 +1,6 @@
 -- Lists (document 01, Lists; objc-runtime-new.h, entsize_list_tt; method.rs, ivar.rs, property.rs).
 use Rattle.std.specs.Prelude.{ℕ, ◌+◌, ◌-◌, ◌*◌, ◌%◌, ◌^◌, Bool, true, false, ◌&&◌, ltb}
-use Rattle.reads.specs.Outcome.{Outcome, value, choose}
-use Rattle.reads.specs.Answer.{missed}
+use Rattle.reads.specs.Outcome.{Outcome, choose}
 use Rattle.reads.specs.Breaks.{can_read}
 use Rattle.reads.specs.Place.{Image}
 use Rattle.pointers.specs.Tables.{Tables}
@@ -13,12 +12,6 @@ use Rattle.records.specs.declared.list.ListKind.TheVariants as list
 use Rattle.records.specs.declared.list.RowKind.{RowKind}
 use Rattle.records.specs.declared.list.RowKind.TheVariants as row
 use Rattle.records.specs.declared.list.Layout.{Layout}
-use Rattle.records.specs.declared.list.LayoutAnswer.{LayoutAnswer}
-use Rattle.records.specs.declared.list.LayoutAnswer.TheVariants as answer
-
-abbrev pub layout_outcome : LayoutAnswer → Outcome Layout
-layout_outcome (answer.List h) = value h
-layout_outcome (answer.Missing m) = missed m
 
 -- Least sizes: those of the structs.
 abbrev pub least : RowKind → ℕ

@@ -1,25 +1,12 @@
 -- Protocols (objc-runtime-new.h, protocol_t; document 01, Protocol; protocol.rs).
 use Rattle.std.specs.Prelude.{ℕ, leb}
-use Rattle.reads.specs.Outcome.{Outcome, value}
-use Rattle.reads.specs.Answer.{missed}
+use Rattle.reads.specs.Outcome.{Outcome}
 use Rattle.reads.specs.declared.place.Place.{Place}
 use Rattle.pointers.specs.Tables.{Tables}
 use Rattle.records.specs.Decode.{Decode, run, done, then, when, or0, sum64, readable, u32_in, slot, pointer, pointer_or0, string}
 use Rattle.records.specs.Header.{protocol_size, protocol_mangled_name, protocol_protocols, protocol_instance_methods, protocol_class_methods, protocol_optional_instance_methods, protocol_optional_class_methods, protocol_instance_properties, protocol_own_size, protocol_flags, protocol_class_properties, protocol_size_with_class_properties}
 use Rattle.records.specs.declared.protocol.ObjcProtocol.{ObjcProtocol}
-use Rattle.records.specs.declared.protocol.ProtocolAnswer.{ProtocolAnswer}
-use Rattle.records.specs.declared.protocol.ProtocolAnswer.TheVariants as protocol
 use Rattle.records.specs.declared.protocol.ProtocolLists.{ProtocolLists}
-use Rattle.records.specs.declared.protocol.ProtocolListsAnswer.{ProtocolListsAnswer}
-use Rattle.records.specs.declared.protocol.ProtocolListsAnswer.TheVariants as lists
-
-abbrev pub protocol_outcome : ProtocolAnswer → Outcome ObjcProtocol
-protocol_outcome (protocol.Protocol p) = value p
-protocol_outcome (protocol.Missing m) = missed m
-
-abbrev pub protocol_lists_outcome : ProtocolListsAnswer → Outcome ProtocolLists
-protocol_lists_outcome (lists.Lists l) = value l
-protocol_lists_outcome (lists.Missing m) = missed m
 
 -- _classProperties: its 8 bytes must be readable; or 0.
 unfoldable pub decode_trailing : ℕ → Decode ℕ

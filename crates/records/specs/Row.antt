@@ -1,9 +1,8 @@
 -- Rows of method, ivar and property lists (objc-runtime-new.h, method_t, ivar_t, property_t; document 01, Rows; method.rs, ivar.rs,
 -- property.rs; alignments: note 8).
-use Rattle.std.specs.Prelude.{ℕ, Bool, true, false, ◌||◌, eqb, leb}
+use Rattle.std.specs.Prelude.{ℕ, Bool, true, false, ◌||◌, eqb, leb, Option, Some, None}
 use Rattle.std.specs.Int.Count.{count_trailing_zeros}
 use Rattle.reads.specs.Outcome.{Outcome, value, choose}
-use Rattle.reads.specs.Answer.{missed}
 use Rattle.reads.specs.Address.{stripped}
 use Rattle.reads.specs.Relative.{signed32, relative}
 use Rattle.reads.specs.declared.place.Place.{Place}
@@ -15,56 +14,20 @@ use Rattle.records.specs.declared.row.Row.{Row}
 use Rattle.records.specs.declared.row.Row.TheVariants as row
 use Rattle.records.specs.declared.list.RowKind.{RowKind}
 use Rattle.records.specs.declared.list.RowKind.TheVariants as rows
-use Rattle.records.specs.declared.row.RowAnswer.{RowAnswer}
-use Rattle.records.specs.declared.row.RowAnswer.TheVariants as answer
-use Rattle.records.specs.declared.method.Imp.{Imp}
-use Rattle.records.specs.declared.method.Imp.TheVariants as imp
 use Rattle.records.specs.declared.method.Method.{Method}
 use Rattle.records.specs.declared.method.MethodKind.{MethodKind}
 use Rattle.records.specs.declared.method.MethodKind.TheVariants as kind
-use Rattle.records.specs.declared.method.MethodAnswer.{MethodAnswer}
-use Rattle.records.specs.declared.method.MethodAnswer.TheVariants as method
 use Rattle.records.specs.declared.ivar.Aligned.{Aligned}
 use Rattle.records.specs.declared.ivar.Aligned.TheVariants as aligned
-use Rattle.records.specs.declared.ivar.Alignment.{Alignment}
-use Rattle.records.specs.declared.ivar.Alignment.TheVariants as alignment
 use Rattle.records.specs.declared.ivar.Ivar.{Ivar}
-use Rattle.records.specs.declared.ivar.IvarOffset.{IvarOffset}
-use Rattle.records.specs.declared.ivar.IvarOffset.TheVariants as offset
-use Rattle.records.specs.declared.ivar.OffsetAnswer.{OffsetAnswer}
-use Rattle.records.specs.declared.ivar.OffsetAnswer.TheVariants as offsets
-use Rattle.records.specs.declared.ivar.IvarAnswer.{IvarAnswer}
-use Rattle.records.specs.declared.ivar.IvarAnswer.TheVariants as ivar
 use Rattle.records.specs.declared.property.Property.{Property}
-use Rattle.records.specs.declared.property.PropertyAnswer.{PropertyAnswer}
-use Rattle.records.specs.declared.property.PropertyAnswer.TheVariants as property
 
-abbrev pub row_outcome : RowAnswer → Outcome Row
-row_outcome (answer.Row r) = value r
-row_outcome (answer.Missing m) = missed m
-
-abbrev pub method_outcome : MethodAnswer → Outcome Method
-method_outcome (method.Row r) = value r
-method_outcome (method.Missing m) = missed m
-
-abbrev pub ivar_outcome : IvarAnswer → Outcome Ivar
-ivar_outcome (ivar.Row r) = value r
-ivar_outcome (ivar.Missing m) = missed m
-
-abbrev pub offset_outcome : OffsetAnswer → Outcome IvarOffset
-offset_outcome (offsets.Offset o) = value o
-offset_outcome (offsets.Missing m) = missed m
-
-abbrev pub property_outcome : PropertyAnswer → Outcome Property
-property_outcome (property.Row r) = value r
-property_outcome (property.Missing m) = missed m
-
-abbrev pub method_of : Text → Text → Imp → MethodKind → Method
+abbrev pub method_of : Text → Text → Option ℕ → MethodKind → Method
 method_of selector types implementation kind = record { selector = selector; types = types; implementation = implementation; kind = kind }
 
 -- A legacy method's imp: 0 is none.
-unfoldable pub legacy_imp : ℕ → Imp
-legacy_imp va = choose (eqb va 0) imp.Nothing (imp.At va)
+unfoldable pub legacy_imp : ℕ → Option ℕ
+legacy_imp va = choose (eqb va 0) None (Some va)
 
 -- method_t::big: name and types must resolve, imp or 0.
 unfoldable pub decode_legacy_method : ℕ → Decode Method
@@ -81,8 +44,8 @@ abbrev pub legacy_method_at : Tables → ℕ → Outcome Method
 legacy_method_at t va = run t (decode_legacy_method va)
 
 -- A small method's imp, from its stored word and the address of its field: none exactly if the offset is 0, else masked to 48 bits.
-unfoldable pub small_imp : ℕ → ℕ → Imp
-small_imp raw va = choose (eqb raw 0) imp.Nothing (imp.At (stripped (relative va (signed32 raw))))
+unfoldable pub small_imp : ℕ → ℕ → Option ℕ
+small_imp raw va = choose (eqb raw 0) None (Some (stripped (relative va (signed32 raw))))
 
 -- A small method's selector: its offset's target itself, or indirect, through one slot.
 unfoldable pub decode_selector : Bool → ℕ → Place → Decode ℕ
@@ -125,23 +88,23 @@ abbrev pub small_method_at : Tables → ℕ → Bool → Outcome Method
 small_method_at t va direct = run t (decode_small_method va direct)
 
 -- An ivar's alignment: 0xFFFFFFFF gives 3 (WORD_SHIFT), 0 to 63 stand, anything else is none.
-unfoldable pub alignment_of : ℕ → Alignment
+unfoldable pub alignment_of : ℕ → Option ℕ
 alignment_of raw =
-    choose (eqb raw 0xFFFFFFFF) (alignment.Log2 3) (choose (leb raw 63) (alignment.Log2 raw) alignment.Nothing)
+    choose (eqb raw 0xFFFFFFFF) (Some 3) (choose (leb raw 63) (Some raw) None)
 
 -- Whether an offset has at least as many trailing zero bits as the alignment; offset 0 always does. Unknown where one of the two is none.
-unfoldable pub aligned_of : IvarOffset → Alignment → Aligned
-aligned_of (offset.At n) (alignment.Log2 k) = choose (eqb n 0 || leb k (count_trailing_zeros 32 n)) aligned.Yes aligned.No
-aligned_of (offset.At n) alignment.Nothing = aligned.Unknown
-aligned_of offset.Nothing a = aligned.Unknown
+unfoldable pub aligned_of : Option ℕ → Option ℕ → Aligned
+aligned_of (Some n) (Some k) = choose (eqb n 0 || leb k (count_trailing_zeros 32 n)) aligned.Yes aligned.No
+aligned_of (Some n) None = aligned.Unknown
+aligned_of None a = aligned.Unknown
 
 -- An ivar's offset: the four bytes at the pointed place, none if the pointer is 0 or they cannot be read.
-unfoldable pub decode_offset : ℕ → Decode IvarOffset
+unfoldable pub decode_offset : ℕ → Decode (Option ℕ)
 decode_offset place =
-    else (then (nonzero place) (λ a. then (readable a 4) (λ p. then (u32_in p 0) (λ n. done (offset.At n)))))
-    (done offset.Nothing)
+    else (then (nonzero place) (λ a. then (readable a 4) (λ p. then (u32_in p 0) (λ n. done (Some n)))))
+    (done None)
 
-abbrev pub offset_at : Tables → ℕ → Outcome IvarOffset
+abbrev pub offset_at : Tables → ℕ → Outcome (Option ℕ)
 offset_at t place = run t (decode_offset place)
 
 -- ivar_t: the offset's pointer or 0, name must resolve, type or 0.

@@ -1,24 +1,16 @@
 -- The first readable entry of a list, index by index: the plain definition (document 01, Lists), and all of them.
-use Rattle.std.specs.Prelude.{ℕ, zero, suc, ◌+◌, ◌-◌, ◌*◌, Bool, List, [], ◌∷◌}
-use Rattle.std.proofs.Math.Option.{Option, none, some}
+use Rattle.std.specs.Prelude.{ℕ, zero, suc, ◌+◌, ◌-◌, ◌*◌, Bool, List, [], ◌∷◌, Some, None, Option}
 use Rattle.reads.specs.Outcome.{choose}
 use Rattle.reads.specs.Place.{Image}
 use Rattle.reads.specs.Segment.{segment_words}
 use Rattle.reads.specs.Table.{records}
 use Rattle.records.specs.List.{entry}
-use Rattle.records.specs.declared.list.Entry.{Entry}
-use Rattle.records.specs.declared.list.Entry.TheVariants.{At, Nothing}
 use Rattle.records.specs.declared.list.Layout.{Layout}
-
--- The index that the code's answer holds, if any.
-abbrev pub entry_of : Entry → Option ℕ
-entry_of (At i) = some i
-entry_of Nothing = none
 
 -- The first of the k indices from i on that passes a test.
 unfoldable pub first : (ℕ → Bool) → ℕ → ℕ → Option ℕ
-first test zero i = none
-first test (suc k) i = choose (test i) (some i) (first test k (suc i))
+first test zero i = None
+first test (suc k) i = choose (test i) (Some i) (first test k (suc i))
 
 -- Those of the k indices from i on that pass it, in order.
 unfoldable pub all_from : (ℕ → Bool) → ℕ → ℕ → List ℕ

@@ -3,7 +3,7 @@ use Rattle.std.specs.Prelude.{ℕ, ◌<◌, ◌≡◌}
 use Rattle.reads.specs.Breaks.{breaks_of, above}
 use Rattle.reads.specs.Place.{Image}
 use Rattle.records.specs.List.{least, entry_address}
-use Rattle.records.specs.Search.{entry_of, first_readable}
+use Rattle.records.specs.Search.{first_readable}
 use Rattle.records.specs.declared.list.Layout.{Layout}
 use Rattle.records.specs.declared.list.Try.{Try}
 use Rattle.records.specs.declared.list.Try.TheVariants.{Stop, Go}
@@ -14,5 +14,5 @@ ahead m h i = above (breaks_of m (least h.kind)) (entry_address h i)
 
 -- The search's answer, or a later index from which the answer is the same and fewer breakpoints lie ahead.
 abbrev pub Leads : Image → Layout → ℕ → Try → Type 0
-Leads m h i (Stop entry) = entry_of entry ≡ first_readable m h i
+Leads m h i (Stop entry) = entry ≡ first_readable m h i
 Leads m h i (Go j) = (first_readable m h j ≡ first_readable m h i) × (ahead m h j < ahead m h i)

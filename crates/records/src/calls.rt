@@ -1,22 +1,21 @@
 // Calls: each asks 1 to 6 and 8 of what it is lent, and then decodes. What the other modules of this crate decode, they decode without asking.
 ghost use Rattle.std.specs.Prelude.{◌≡◌};
-ghost use Rattle.reads.specs.Answer.{text_outcome};
 ghost use Rattle.pointers.specs.Question.{guarded};
 ghost use Rattle.pointers.specs.Tables.{lent, under};
-ghost use Rattle.records.specs.Category.{category_outcome, category_at, category_class_name};
-ghost use Rattle.records.specs.Class.{class_outcome, class_ro_outcome, class_at, class_ro_at, ro_of, class_name_at, superclass_name};
-ghost use Rattle.records.specs.Protocol.{protocol_outcome, protocol_at};
+ghost use Rattle.records.specs.Category.{category_at, category_class_name};
+ghost use Rattle.records.specs.Class.{class_at, class_ro_at, ro_of, class_name_at, superclass_name};
+ghost use Rattle.records.specs.Protocol.{protocol_at};
+ghost use Rattle.reads.specs.Answer.{outcome};
 
-use crate::category::{CategoryAnswer, ObjcCategory, category_at};
+use crate::category::{ObjcCategory, category_at};
 use crate::class::{
-    ClassAnswer, ClassRoAnswer, ObjcClass, class_at, class_name_at, class_name_of, class_ro_at,
-    ro_of,
+    ClassRo, ObjcClass, class_at, class_name_at, class_name_of, class_ro_at, ro_of,
 };
-use crate::protocol::{ProtocolAnswer, protocol_at};
-use pointers::question::{Asked, ask};
+use crate::protocol::{ObjcProtocol, protocol_at};
+use pointers::question::ask;
 use pointers::setting::Setting;
 use reads::answer::Missing;
-use reads::text::TextAnswer;
+use reads::text::Text;
 
 // The class at an address.
 pub fn decode_class(
@@ -30,15 +29,15 @@ pub fn decode_class(
     setting: Setting,
     va: u64,
     is_meta: bool,
-) -> ClassAnswer
+) -> Result<ObjcClass, Missing>
     ensures { let t = under setting (lent files segments sections info rebases binds index) in
-        class_outcome result ≡ guarded t (class_at t va is_meta) }
+        outcome result ≡ guarded t (class_at t va is_meta) }
 {
     match ask(files, segments, sections, info, rebases, binds, index) {
-        Asked::Yes => class_at(
+        Ok(()) => class_at(
             files, segments, sections, info, rebases, binds, index, setting, va, is_meta,
         ),
-        Asked::Refused(k) => ClassAnswer::Missing(Missing::Refused(k)),
+        Err(k) => Err(Missing::Refused(k)),
     }
 }
 
@@ -53,15 +52,15 @@ pub fn decode_class_ro(
     index: &[u32],
     setting: Setting,
     va: u64,
-) -> ClassRoAnswer
+) -> Result<ClassRo, Missing>
     ensures { let t = under setting (lent files segments sections info rebases binds index) in
-        class_ro_outcome result ≡ guarded t (class_ro_at t va) }
+        outcome result ≡ guarded t (class_ro_at t va) }
 {
     match ask(files, segments, sections, info, rebases, binds, index) {
-        Asked::Yes => class_ro_at(
+        Ok(()) => class_ro_at(
             files, segments, sections, info, rebases, binds, index, setting, va,
         ),
-        Asked::Refused(k) => ClassRoAnswer::Missing(Missing::Refused(k)),
+        Err(k) => Err(Missing::Refused(k)),
     }
 }
 
@@ -76,15 +75,15 @@ pub fn decode_class_name(
     index: &[u32],
     setting: Setting,
     va: u64,
-) -> TextAnswer
+) -> Result<Text, Missing>
     ensures { let t = under setting (lent files segments sections info rebases binds index) in
-        text_outcome result ≡ guarded t (class_name_at t va) }
+        outcome result ≡ guarded t (class_name_at t va) }
 {
     match ask(files, segments, sections, info, rebases, binds, index) {
-        Asked::Yes => class_name_at(
+        Ok(()) => class_name_at(
             files, segments, sections, info, rebases, binds, index, setting, va,
         ),
-        Asked::Refused(k) => TextAnswer::Missing(Missing::Refused(k)),
+        Err(k) => Err(Missing::Refused(k)),
     }
 }
 
@@ -100,12 +99,12 @@ impl ObjcClass {
         binds: &[u64],
         index: &[u32],
         setting: Setting,
-    ) -> TextAnswer
+    ) -> Result<Text, Missing>
         ensures { let t = under setting (lent files segments sections info rebases binds index) in
-            text_outcome result ≡ guarded t (superclass_name t self) }
+            outcome result ≡ guarded t (superclass_name t self) }
     {
         match ask(files, segments, sections, info, rebases, binds, index) {
-            Asked::Yes => class_name_of(
+            Ok(()) => class_name_of(
                 files,
                 segments,
                 sections,
@@ -117,7 +116,7 @@ impl ObjcClass {
                 self.address,
                 self.superclass_address,
             ),
-            Asked::Refused(k) => TextAnswer::Missing(Missing::Refused(k)),
+            Err(k) => Err(Missing::Refused(k)),
         }
     }
 
@@ -132,15 +131,15 @@ impl ObjcClass {
         binds: &[u64],
         index: &[u32],
         setting: Setting,
-    ) -> ClassRoAnswer
+    ) -> Result<ClassRo, Missing>
         ensures { let t = under setting (lent files segments sections info rebases binds index) in
-            class_ro_outcome result ≡ guarded t (ro_of t self) }
+            outcome result ≡ guarded t (ro_of t self) }
     {
         match ask(files, segments, sections, info, rebases, binds, index) {
-            Asked::Yes => ro_of(
+            Ok(()) => ro_of(
                 files, segments, sections, info, rebases, binds, index, setting, self,
             ),
-            Asked::Refused(k) => ClassRoAnswer::Missing(Missing::Refused(k)),
+            Err(k) => Err(Missing::Refused(k)),
         }
     }
 }
@@ -156,15 +155,15 @@ pub fn decode_protocol(
     index: &[u32],
     setting: Setting,
     va: u64,
-) -> ProtocolAnswer
+) -> Result<ObjcProtocol, Missing>
     ensures { let t = under setting (lent files segments sections info rebases binds index) in
-        protocol_outcome result ≡ guarded t (protocol_at t va) }
+        outcome result ≡ guarded t (protocol_at t va) }
 {
     match ask(files, segments, sections, info, rebases, binds, index) {
-        Asked::Yes => protocol_at(
+        Ok(()) => protocol_at(
             files, segments, sections, info, rebases, binds, index, setting, va,
         ),
-        Asked::Refused(k) => ProtocolAnswer::Missing(Missing::Refused(k)),
+        Err(k) => Err(Missing::Refused(k)),
     }
 }
 
@@ -179,15 +178,15 @@ pub fn decode_category(
     index: &[u32],
     setting: Setting,
     va: u64,
-) -> CategoryAnswer
+) -> Result<ObjcCategory, Missing>
     ensures { let t = under setting (lent files segments sections info rebases binds index) in
-        category_outcome result ≡ guarded t (category_at t va) }
+        outcome result ≡ guarded t (category_at t va) }
 {
     match ask(files, segments, sections, info, rebases, binds, index) {
-        Asked::Yes => category_at(
+        Ok(()) => category_at(
             files, segments, sections, info, rebases, binds, index, setting, va,
         ),
-        Asked::Refused(k) => CategoryAnswer::Missing(Missing::Refused(k)),
+        Err(k) => Err(Missing::Refused(k)),
     }
 }
 
@@ -203,12 +202,12 @@ impl ObjcCategory {
         binds: &[u64],
         index: &[u32],
         setting: Setting,
-    ) -> TextAnswer
+    ) -> Result<Text, Missing>
         ensures { let t = under setting (lent files segments sections info rebases binds index) in
-            text_outcome result ≡ guarded t (category_class_name t self) }
+            outcome result ≡ guarded t (category_class_name t self) }
     {
         match ask(files, segments, sections, info, rebases, binds, index) {
-            Asked::Yes => class_name_of(
+            Ok(()) => class_name_of(
                 files,
                 segments,
                 sections,
@@ -220,7 +219,7 @@ impl ObjcCategory {
                 self.address,
                 self.class_address,
             ),
-            Asked::Refused(k) => TextAnswer::Missing(Missing::Refused(k)),
+            Err(k) => Err(Missing::Refused(k)),
         }
     }
 }

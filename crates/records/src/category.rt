@@ -1,18 +1,18 @@
 // Categories (objc-runtime-new.h, category_t).
 ghost use Rattle.std.specs.Prelude.{◌≡◌};
-ghost use Rattle.reads.specs.Answer.{word_outcome, place_outcome};
 ghost use Rattle.reads.specs.Outcome.{choose};
 ghost use Rattle.reads.specs.Place.{lent_image, readable};
 ghost use Rattle.pointers.specs.Tables.{lent, under};
 ghost use Rattle.records.specs.Header.{category_size, category_size_with_class_properties};
-ghost use Rattle.records.specs.Category.{category_outcome, category_lists_outcome, category_lists_at, category_properties_at, category_of, category_at};
+ghost use Rattle.records.specs.Category.{category_lists_at, category_properties_at, category_of, category_at};
+ghost use Rattle.reads.specs.Answer.{outcome};
 
-use pointers::imageinfo::{ImageInfo, ImageInfoAnswer};
+use pointers::imageinfo::ImageInfo;
 use pointers::setting::Setting;
 use pointers::slot::{pointer_or_0, resolve_pointer};
-use reads::answer::{Missing, Word};
-use reads::place::{Placed, readable};
-use reads::text::{Text, TextAnswer, read_cstr};
+use reads::answer::Missing;
+use reads::place::{Place, readable};
+use reads::text::{Text, read_cstr};
 
 // A category: name, host class, and the addresses of its lists; class_properties is 0 where it has none.
 #[derive(Clone, Copy)]
@@ -30,12 +30,6 @@ pub struct ObjcCategory {
 impl ObjcCategory {
     // The size of category_t without _classProperties.
     pub const SIZE: u64 = 48;
-}
-
-#[derive(Clone, Copy)]
-pub enum CategoryAnswer {
-    Category(ObjcCategory),
-    Missing(Missing),
 }
 
 // The size of category_t with _classProperties, and its fields (its name is at 0).
@@ -62,15 +56,9 @@ struct CategoryLists {
     instance_properties: u64,
 }
 
-#[derive(Clone, Copy)]
-enum CategoryListsAnswer {
-    Lists(CategoryLists),
-    Missing(Missing),
-}
-
 // category_t is wider where it has the field for class properties.
-fn whole_category(files: &[&[u8]], segments: &[u64], va: u64, wide: bool) -> Placed
-    ensures { place_outcome result ≡ readable (lent_image files segments) va (choose wide category_size_with_class_properties category_size) }
+fn whole_category(files: &[&[u8]], segments: &[u64], va: u64, wide: bool) -> Result<Place, Missing>
+    ensures { outcome result ≡ readable (lent_image files segments) va (choose wide category_size_with_class_properties category_size) }
 {
     if wide {
         return readable(files, segments, va, SIZE_WITH_CLASS_PROPERTIES);
@@ -90,9 +78,9 @@ fn category_properties_at(
     setting: Setting,
     va: u64,
     wide: bool,
-) -> Word
+) -> Result<u64, Missing>
     ensures { let t = under setting (lent files segments sections info rebases binds index) in
-        word_outcome result ≡ category_properties_at t va wide }
+        outcome result ≡ category_properties_at t va wide }
 {
     if wide {
         return pointer_or_0(
@@ -105,7 +93,7 @@ fn category_properties_at(
             CLASS_PROPERTIES,
         );
     }
-    Word::Value(0)
+    Ok(0)
 }
 
 // The lists of a category_t but its class properties; each or 0.
@@ -119,9 +107,9 @@ fn category_lists_at(
     index: &[u32],
     setting: Setting,
     va: u64,
-) -> CategoryListsAnswer
+) -> Result<CategoryLists, Missing>
     ensures { let t = under setting (lent files segments sections info rebases binds index) in
-        category_lists_outcome result ≡ category_lists_at t va }
+        outcome result ≡ category_lists_at t va }
 {
     let instance_methods = match pointer_or_0(
         files,
@@ -132,8 +120,8 @@ fn category_lists_at(
         va,
         INSTANCE_METHODS,
     ) {
-        Word::Value(instance_methods) => instance_methods,
-        Word::Missing(m) => return CategoryListsAnswer::Missing(m),
+        Ok(instance_methods) => instance_methods,
+        Err(m) => return Err(m),
     };
     let class_methods = match pointer_or_0(
         files,
@@ -144,12 +132,12 @@ fn category_lists_at(
         va,
         CLASS_METHODS,
     ) {
-        Word::Value(class_methods) => class_methods,
-        Word::Missing(m) => return CategoryListsAnswer::Missing(m),
+        Ok(class_methods) => class_methods,
+        Err(m) => return Err(m),
     };
     let protocols = match pointer_or_0(files, segments, rebases, index, setting, va, PROTOCOLS) {
-        Word::Value(protocols) => protocols,
-        Word::Missing(m) => return CategoryListsAnswer::Missing(m),
+        Ok(protocols) => protocols,
+        Err(m) => return Err(m),
     };
     let instance_properties = match pointer_or_0(
         files,
@@ -160,10 +148,10 @@ fn category_lists_at(
         va,
         INSTANCE_PROPERTIES,
     ) {
-        Word::Value(instance_properties) => instance_properties,
-        Word::Missing(m) => return CategoryListsAnswer::Missing(m),
+        Ok(instance_properties) => instance_properties,
+        Err(m) => return Err(m),
     };
-    CategoryListsAnswer::Lists(CategoryLists {
+    Ok(CategoryLists {
         instance_methods,
         class_methods,
         protocols,
@@ -183,40 +171,40 @@ fn category_of(
     setting: Setting,
     va: u64,
     wide: bool,
-) -> CategoryAnswer
+) -> Result<ObjcCategory, Missing>
     ensures { let t = under setting (lent files segments sections info rebases binds index) in
-        category_outcome result ≡ category_of t va wide }
+        outcome result ≡ category_of t va wide }
 {
     let _p = match whole_category(files, segments, va, wide) {
-        Placed::At(p) => p,
-        Placed::Missing(m) => return CategoryAnswer::Missing(m),
+        Ok(p) => p,
+        Err(m) => return Err(m),
     };
     let name_va = match resolve_pointer(files, segments, rebases, index, setting, va) {
-        Word::Value(name_va) => name_va,
-        Word::Missing(m) => return CategoryAnswer::Missing(m),
+        Ok(name_va) => name_va,
+        Err(m) => return Err(m),
     };
     let class_address = match pointer_or_0(files, segments, rebases, index, setting, va, CLS) {
-        Word::Value(class_address) => class_address,
-        Word::Missing(m) => return CategoryAnswer::Missing(m),
+        Ok(class_address) => class_address,
+        Err(m) => return Err(m),
     };
     let lists = match category_lists_at(
         files, segments, sections, info, rebases, binds, index, setting, va,
     ) {
-        CategoryListsAnswer::Lists(lists) => lists,
-        CategoryListsAnswer::Missing(m) => return CategoryAnswer::Missing(m),
+        Ok(lists) => lists,
+        Err(m) => return Err(m),
     };
     let class_properties = match category_properties_at(
         files, segments, sections, info, rebases, binds, index, setting, va, wide,
     ) {
-        Word::Value(class_properties) => class_properties,
-        Word::Missing(m) => return CategoryAnswer::Missing(m),
+        Ok(class_properties) => class_properties,
+        Err(m) => return Err(m),
     };
     let reading = setting.reading;
     let name = match read_cstr(files, segments, reading, name_va) {
-        TextAnswer::Found(name) => name,
-        TextAnswer::Missing(m) => return CategoryAnswer::Missing(m),
+        Ok(name) => name,
+        Err(m) => return Err(m),
     };
-    CategoryAnswer::Category(ObjcCategory {
+    Ok(ObjcCategory {
         address: va,
         name,
         class_address,
@@ -239,17 +227,17 @@ pub fn category_at(
     index: &[u32],
     setting: Setting,
     va: u64,
-) -> CategoryAnswer
+) -> Result<ObjcCategory, Missing>
     ensures { let t = under setting (lent files segments sections info rebases binds index) in
-        category_outcome result ≡ category_at t va }
+        outcome result ≡ category_at t va }
 {
     match ImageInfo::parse(info) {
-        ImageInfoAnswer::Info(i) => {
+        Ok(i) => {
             let wide = i.has_category_class_properties();
             category_of(
                 files, segments, sections, info, rebases, binds, index, setting, va, wide,
             )
         }
-        ImageInfoAnswer::Missing(m) => CategoryAnswer::Missing(m),
+        Err(m) => Err(m),
     }
 }

@@ -1,23 +1,23 @@
 // Classes and their read-only records (objc-runtime-new.h, class_t and class_ro_t).
 ghost use Rattle.std.specs.Prelude.{◌≡◌};
-ghost use Rattle.reads.specs.Answer.{word_outcome, text_outcome};
 ghost use Rattle.reads.specs.Outcome.{or_zero};
 ghost use Rattle.reads.specs.Files.{files_lent};
 ghost use Rattle.reads.specs.Place.{image_of, lent_image};
 ghost use Rattle.pointers.specs.ImageInfo.{bit};
 ghost use Rattle.pointers.specs.Tables.{lent, under};
 ghost use Rattle.records.specs.Near.{Near};
-ghost use Rattle.records.specs.Class.{class_outcome, class_ro_outcome, bits_of, data_at, class_at, ro_lists_outcome, ro_lists_at, class_ro_at, ro_of, ro_data_at, class_name_at, bound_name, decoded_name, class_name_of, fast_flags, is_swift};
+ghost use Rattle.records.specs.Class.{bits_of, data_at, class_at, ro_lists_at, class_ro_at, ro_of, ro_data_at, class_name_at, bound_name, decoded_name, class_name_of, fast_flags, is_swift};
 ghost use Rattle.records.specs.Ask.{picked_in};
+ghost use Rattle.reads.specs.Answer.{outcome};
 
 use crate::near::{field, field_or_0};
 use pointers::setting::Setting;
 use pointers::slot::{pointer, rebase_at, slot_or_0, symbol_at};
 use reads::address::Address;
-use reads::answer::{Missing, Word, checked_add, is_absent, nonzero, or_zero};
-use reads::place::{Placed, read_u64, readable, u32_in};
+use reads::answer::{Missing, checked_add, is_absent, nonzero, or_zero};
+use reads::place::{read_u64, readable, u32_in};
 use reads::spot::{Spot, readable_spot, spot_place};
-use reads::text::{Text, TextAnswer, read_cstr, text_because};
+use reads::text::{Text, read_cstr, text_because};
 
 // A class or metaclass.
 #[derive(Clone, Copy)]
@@ -27,12 +27,6 @@ pub struct ObjcClass {
     pub superclass_address: u64,
     pub bits: u64,
     pub is_meta: bool,
-}
-
-#[derive(Clone, Copy)]
-pub enum ClassAnswer {
-    Class(ObjcClass),
-    Missing(Missing),
 }
 
 // The read-only record of a class: name, and the addresses of its lists.
@@ -51,12 +45,6 @@ pub struct ClassRo {
     pub properties: u64,
 }
 
-#[derive(Clone, Copy)]
-pub enum ClassRoAnswer {
-    Ro(ClassRo),
-    Missing(Missing),
-}
-
 // What stands behind the name of a class_ro_t: its lists, and the weak ivar layout among them; each or 0.
 #[derive(Clone, Copy)]
 struct RoLists {
@@ -65,12 +53,6 @@ struct RoLists {
     ivars: u64,
     weak_ivar_layout: u64,
     properties: u64,
-}
-
-#[derive(Clone, Copy)]
-enum RoListsAnswer {
-    Lists(RoLists),
-    Missing(Missing),
 }
 
 // The fields of class_ro_t.
@@ -113,9 +95,9 @@ fn data_at(
     setting: Setting,
     slot: u64,
     raw: u64,
-) -> Word
+) -> Result<u64, Missing>
     ensures { let t = under setting (lent files segments sections info rebases binds index) in
-        word_outcome result ≡ data_at t slot raw }
+        outcome result ≡ data_at t slot raw }
 {
     let target = rebase_at(rebases, index, setting, slot);
     if is_absent(target) {
@@ -136,9 +118,9 @@ fn data_or_0(
     setting: Setting,
     slot: u64,
     raw: u64,
-) -> Word
+) -> Result<u64, Missing>
     ensures { let t = under setting (lent files segments sections info rebases binds index) in
-        word_outcome result ≡ or_zero (data_at t slot raw) }
+        outcome result ≡ or_zero (data_at t slot raw) }
 {
     or_zero(data_at(
         files, segments, sections, info, rebases, binds, index, setting, slot, raw,
@@ -157,41 +139,41 @@ pub fn class_at(
     setting: Setting,
     va: u64,
     is_meta: bool,
-) -> ClassAnswer
+) -> Result<ObjcClass, Missing>
     ensures { let t = under setting (lent files segments sections info rebases binds index) in
-        class_outcome result ≡ class_at t va is_meta }
+        outcome result ≡ class_at t va is_meta }
 {
     let _p = match readable(files, segments, va, ObjcClass::SIZE) {
-        Placed::At(p) => p,
-        Placed::Missing(m) => return ClassAnswer::Missing(m),
+        Ok(p) => p,
+        Err(m) => return Err(m),
     };
     let super_slot = match checked_add(va, ObjcClass::SUPERCLASS) {
-        Word::Value(super_slot) => super_slot,
-        Word::Missing(m) => return ClassAnswer::Missing(m),
+        Ok(super_slot) => super_slot,
+        Err(m) => return Err(m),
     };
     let bits_slot = match checked_add(va, ObjcClass::BITS) {
-        Word::Value(bits_slot) => bits_slot,
-        Word::Missing(m) => return ClassAnswer::Missing(m),
+        Ok(bits_slot) => bits_slot,
+        Err(m) => return Err(m),
     };
     let isa = match slot_or_0(files, segments, rebases, index, setting, va) {
-        Word::Value(isa) => isa,
-        Word::Missing(m) => return ClassAnswer::Missing(m),
+        Ok(isa) => isa,
+        Err(m) => return Err(m),
     };
     let superclass = match slot_or_0(files, segments, rebases, index, setting, super_slot) {
-        Word::Value(superclass) => superclass,
-        Word::Missing(m) => return ClassAnswer::Missing(m),
+        Ok(superclass) => superclass,
+        Err(m) => return Err(m),
     };
     let raw = match read_u64(files, segments, bits_slot) {
-        Word::Value(raw) => raw,
-        Word::Missing(m) => return ClassAnswer::Missing(m),
+        Ok(raw) => raw,
+        Err(m) => return Err(m),
     };
     let target = match data_or_0(
         files, segments, sections, info, rebases, binds, index, setting, bits_slot, raw,
     ) {
-        Word::Value(target) => target,
-        Word::Missing(m) => return ClassAnswer::Missing(m),
+        Ok(target) => target,
+        Err(m) => return Err(m),
     };
-    ClassAnswer::Class(ObjcClass {
+    Ok(ObjcClass {
         address: va,
         isa,
         superclass_address: superclass,
@@ -212,10 +194,10 @@ fn ro_lists_at(
     setting: Setting,
     s: Spot,
     va: u64,
-) -> RoListsAnswer
+) -> Result<RoLists, Missing>
     requires { Near (image_of (files_lent files.now) segments.now) va s 72 }
     ensures { let t = under setting (lent files segments sections info rebases binds index) in
-        ro_lists_outcome result ≡ ro_lists_at t va }
+        outcome result ≡ ro_lists_at t va }
 {
     let methods = match field_or_0(
         files,
@@ -227,8 +209,8 @@ fn ro_lists_at(
         va,
         BASE_METHODS,
     ) {
-        Word::Value(methods) => methods,
-        Word::Missing(m) => return RoListsAnswer::Missing(m),
+        Ok(methods) => methods,
+        Err(m) => return Err(m),
     };
     let protocols = match field_or_0(
         files,
@@ -240,12 +222,12 @@ fn ro_lists_at(
         va,
         BASE_PROTOCOLS,
     ) {
-        Word::Value(protocols) => protocols,
-        Word::Missing(m) => return RoListsAnswer::Missing(m),
+        Ok(protocols) => protocols,
+        Err(m) => return Err(m),
     };
     let ivars = match field_or_0(files, segments, rebases, index, setting, s, va, IVARS) {
-        Word::Value(ivars) => ivars,
-        Word::Missing(m) => return RoListsAnswer::Missing(m),
+        Ok(ivars) => ivars,
+        Err(m) => return Err(m),
     };
     let weak_ivar_layout = match field_or_0(
         files,
@@ -257,8 +239,8 @@ fn ro_lists_at(
         va,
         WEAK_IVAR_LAYOUT,
     ) {
-        Word::Value(weak_ivar_layout) => weak_ivar_layout,
-        Word::Missing(m) => return RoListsAnswer::Missing(m),
+        Ok(weak_ivar_layout) => weak_ivar_layout,
+        Err(m) => return Err(m),
     };
     let properties = match field_or_0(
         files,
@@ -270,10 +252,10 @@ fn ro_lists_at(
         va,
         BASE_PROPERTIES,
     ) {
-        Word::Value(properties) => properties,
-        Word::Missing(m) => return RoListsAnswer::Missing(m),
+        Ok(properties) => properties,
+        Err(m) => return Err(m),
     };
-    RoListsAnswer::Lists(RoLists {
+    Ok(RoLists {
         methods,
         protocols,
         ivars,
@@ -293,14 +275,14 @@ pub fn class_ro_at(
     index: &[u32],
     setting: Setting,
     va: u64,
-) -> ClassRoAnswer
+) -> Result<ClassRo, Missing>
     ensures { let t = under setting (lent files segments sections info rebases binds index) in
-        class_ro_outcome result ≡ class_ro_at t va }
+        outcome result ≡ class_ro_at t va }
 {
     let s = readable_spot(files, segments, va, ClassRo::SIZE);
     let p = match spot_place(s) {
-        Placed::At(p) => p,
-        Placed::Missing(m) => return ClassRoAnswer::Missing(m),
+        Ok(p) => p,
+        Err(m) => return Err(m),
     };
     let ivar_layout = match field_or_0(
         files,
@@ -312,25 +294,25 @@ pub fn class_ro_at(
         va,
         IVAR_LAYOUT,
     ) {
-        Word::Value(ivar_layout) => ivar_layout,
-        Word::Missing(m) => return ClassRoAnswer::Missing(m),
+        Ok(ivar_layout) => ivar_layout,
+        Err(m) => return Err(m),
     };
     let name_va = match field(files, segments, rebases, index, setting, s, va, NAME) {
-        Word::Value(name_va) => name_va,
-        Word::Missing(m) => return ClassRoAnswer::Missing(m),
+        Ok(name_va) => name_va,
+        Err(m) => return Err(m),
     };
     let lists = match ro_lists_at(
         files, segments, sections, info, rebases, binds, index, setting, s, va,
     ) {
-        RoListsAnswer::Lists(lists) => lists,
-        RoListsAnswer::Missing(m) => return ClassRoAnswer::Missing(m),
+        Ok(lists) => lists,
+        Err(m) => return Err(m),
     };
     let reading = setting.reading;
     let name = match read_cstr(files, segments, reading, name_va) {
-        TextAnswer::Found(name) => name,
-        TextAnswer::Missing(m) => return ClassRoAnswer::Missing(m),
+        Ok(name) => name,
+        Err(m) => return Err(m),
     };
-    ClassRoAnswer::Ro(ClassRo {
+    Ok(ClassRo {
         address: va,
         flags: u32_in(files, p, FLAGS),
         instance_start: u32_in(files, p, INSTANCE_START),
@@ -356,15 +338,15 @@ pub fn ro_of(
     index: &[u32],
     setting: Setting,
     class: ObjcClass,
-) -> ClassRoAnswer
+) -> Result<ClassRo, Missing>
     ensures { let t = under setting (lent files segments sections info rebases binds index) in
-        class_ro_outcome result ≡ ro_of t class }
+        outcome result ≡ ro_of t class }
 {
     match Address::pick(segments, class.bits) {
-        Word::Value(va) => class_ro_at(
+        Ok(va) => class_ro_at(
             files, segments, sections, info, rebases, binds, index, setting, va,
         ),
-        Word::Missing(m) => ClassRoAnswer::Missing(m),
+        Err(m) => Err(m),
     }
 }
 
@@ -379,9 +361,9 @@ fn ro_data_at(
     index: &[u32],
     setting: Setting,
     slot: u64,
-) -> Word
+) -> Result<u64, Missing>
     ensures { let t = under setting (lent files segments sections info rebases binds index) in
-        word_outcome result ≡ ro_data_at t slot }
+        outcome result ≡ ro_data_at t slot }
 {
     let target = rebase_at(rebases, index, setting, slot);
     if is_absent(target) {
@@ -391,12 +373,12 @@ fn ro_data_at(
 }
 
 // The pick of the word in a slot.
-fn picked_at(files: &[&[u8]], segments: &[u64], slot: u64) -> Word
-    ensures { word_outcome result ≡ picked_in (lent_image files segments) slot }
+fn picked_at(files: &[&[u8]], segments: &[u64], slot: u64) -> Result<u64, Missing>
+    ensures { outcome result ≡ picked_in (lent_image files segments) slot }
 {
     match read_u64(files, segments, slot) {
-        Word::Value(raw) => Address::pick(segments, raw),
-        Word::Missing(m) => Word::Missing(m),
+        Ok(raw) => Address::pick(segments, raw),
+        Err(m) => Err(m),
     }
 }
 
@@ -411,27 +393,27 @@ pub fn class_name_at(
     index: &[u32],
     setting: Setting,
     va: u64,
-) -> TextAnswer
+) -> Result<Text, Missing>
     ensures { let t = under setting (lent files segments sections info rebases binds index) in
-        text_outcome result ≡ class_name_at t va }
+        outcome result ≡ class_name_at t va }
 {
     let _p = match readable(files, segments, va, ObjcClass::SIZE) {
-        Placed::At(p) => p,
-        Placed::Missing(m) => return TextAnswer::Missing(m),
+        Ok(p) => p,
+        Err(m) => return Err(m),
     };
     let bits_slot = match checked_add(va, ObjcClass::BITS) {
-        Word::Value(bits_slot) => bits_slot,
-        Word::Missing(m) => return TextAnswer::Missing(m),
+        Ok(bits_slot) => bits_slot,
+        Err(m) => return Err(m),
     };
     let ro_va = match ro_data_at(
         files, segments, sections, info, rebases, binds, index, setting, bits_slot,
     ) {
-        Word::Value(ro_va) => ro_va,
-        Word::Missing(m) => return TextAnswer::Missing(m),
+        Ok(ro_va) => ro_va,
+        Err(m) => return Err(m),
     };
     let name_va = match pointer(files, segments, rebases, index, setting, ro_va, NAME) {
-        Word::Value(name_va) => name_va,
-        Word::Missing(m) => return TextAnswer::Missing(m),
+        Ok(name_va) => name_va,
+        Err(m) => return Err(m),
     };
     let reading = setting.reading;
     read_cstr(files, segments, reading, name_va)
@@ -448,13 +430,13 @@ fn bound_name(
     index: &[u32],
     setting: Setting,
     address: u64,
-) -> TextAnswer
+) -> Result<Text, Missing>
     ensures { let t = under setting (lent files segments sections info rebases binds index) in
-        text_outcome result ≡ bound_name t address }
+        outcome result ≡ bound_name t address }
 {
     match checked_add(address, ObjcClass::SUPERCLASS) {
-        Word::Value(slot) => symbol_at(files, rebases, binds, index, slot),
-        Word::Missing(m) => TextAnswer::Missing(m),
+        Ok(slot) => symbol_at(files, rebases, binds, index, slot),
+        Err(m) => Err(m),
     }
 }
 
@@ -469,15 +451,15 @@ fn decoded_name(
     index: &[u32],
     setting: Setting,
     class_va: u64,
-) -> TextAnswer
+) -> Result<Text, Missing>
     ensures { let t = under setting (lent files segments sections info rebases binds index) in
-        text_outcome result ≡ decoded_name t class_va }
+        outcome result ≡ decoded_name t class_va }
 {
     match nonzero(class_va) {
-        Word::Value(va) => class_name_at(
+        Ok(va) => class_name_at(
             files, segments, sections, info, rebases, binds, index, setting, va,
         ),
-        Word::Missing(m) => TextAnswer::Missing(m),
+        Err(m) => Err(m),
     }
 }
 
@@ -494,22 +476,22 @@ pub fn class_name_of(
     setting: Setting,
     address: u64,
     class_va: u64,
-) -> TextAnswer
+) -> Result<Text, Missing>
     ensures { let t = under setting (lent files segments sections info rebases binds index) in
-        text_outcome result ≡ class_name_of t address class_va }
+        outcome result ≡ class_name_of t address class_va }
 {
     match decoded_name(
         files, segments, sections, info, rebases, binds, index, setting, class_va,
     ) {
-        TextAnswer::Found(name) => TextAnswer::Found(name),
-        TextAnswer::Missing(m) => match m {
+        Ok(name) => Ok(name),
+        Err(m) => match m {
             Missing::Absent(why) => text_because(
                 bound_name(
                     files, segments, sections, info, rebases, binds, index, setting, address,
                 ),
                 why,
             ),
-            Missing::Refused(k) => TextAnswer::Missing(Missing::Refused(k)),
+            Missing::Refused(k) => Err(Missing::Refused(k)),
         },
     }
 }

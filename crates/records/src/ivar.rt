@@ -1,31 +1,16 @@
 // Rows of ivar lists (objc-runtime-new.h, ivar_t).
-ghost use Rattle.std.specs.Prelude.{◌≡◌};
-ghost use Rattle.reads.specs.Answer.{missed};
+ghost use Rattle.std.specs.Prelude.{◌≡◌, None};
+ghost use Rattle.reads.specs.Answer.{missed, outcome};
 ghost use Rattle.reads.specs.Outcome.{value, or_else};
 ghost use Rattle.pointers.specs.Tables.{lent, under};
-ghost use Rattle.records.specs.Row.{ivar_outcome, alignment_of, aligned_of, offset_outcome, offset_at, ivar_at};
-ghost use Rattle.records.specs.declared.ivar.IvarOffset.TheVariants as none;
+ghost use Rattle.records.specs.Row.{alignment_of, aligned_of, offset_at, ivar_at};
 
 use crate::near::{field, field_or_0, first_slot_or_0};
 use pointers::setting::Setting;
-use reads::answer::{Missing, Word, nonzero};
-use reads::place::{Placed, readable, u32_in};
+use reads::answer::{Missing, nonzero};
+use reads::place::{readable, u32_in};
 use reads::spot::{readable_spot, spot_place};
-use reads::text::{Text, TextAnswer, read_cstr, read_cstr_or_empty};
-
-// An ivar's offset in its instance, or none: a stored 0 is the offset 0.
-#[derive(Clone, Copy)]
-pub enum IvarOffset {
-    At(u32),
-    Nothing,
-}
-
-// An ivar's alignment by its log2; none where its word can be no alignment.
-#[derive(Clone, Copy)]
-pub enum Alignment {
-    Log2(u8),
-    Nothing,
-}
+use reads::text::{Text, read_cstr, read_cstr_or_empty};
 
 // Whether an ivar's offset is aligned; unknown without an offset or an alignment.
 #[derive(Clone, Copy)]
@@ -35,20 +20,14 @@ pub enum Aligned {
     Unknown,
 }
 
-#[derive(Clone, Copy)]
-enum OffsetAnswer {
-    Offset(IvarOffset),
-    Missing(Missing),
-}
-
 // A row of an ivar list.
 #[derive(Clone, Copy)]
 pub struct Ivar {
     pub name: Text,
     pub type_encoding: Text,
-    pub offset: IvarOffset,
+    pub offset: Option<u32>,
     pub size: u32,
-    pub log2_alignment: Alignment,
+    pub log2_alignment: Option<u8>,
     pub aligned: Aligned,
 }
 
@@ -65,34 +44,28 @@ impl Ivar {
     pub const OWN_SIZE: u64 = 28;
 }
 
-#[derive(Clone, Copy)]
-pub enum IvarAnswer {
-    Row(Ivar),
-    Missing(Missing),
-}
-
 // The alignment: 0xFFFFFFFF gives WORD_SHIFT, 0 to 63 stand, anything else is none.
-fn alignment_of(raw: u32) -> Alignment
+fn alignment_of(raw: u32) -> Option<u8>
     ensures { result ≡ alignment_of raw }
 {
     if raw == 0xFFFF_FFFF {
-        return Alignment::Log2(3);
+        return Some(3);
     }
     if raw > 63 {
-        return Alignment::Nothing;
+        return None;
     }
-    Alignment::Log2(raw as u8)
+    Some(raw as u8)
 }
 
 // Whether the offset has at least as many trailing zero bits as the alignment. Offset 0 has a test of its own: it always does, but its count
 // is 32, and alignments go to 63.
-fn aligned_of(offset: IvarOffset, alignment: Alignment) -> Aligned
+fn aligned_of(offset: Option<u32>, alignment: Option<u8>) -> Aligned
     ensures { result ≡ aligned_of offset alignment }
 {
-    let IvarOffset::At(n) = offset else {
+    let Some(n) = offset else {
         return Aligned::Unknown;
     };
-    let Alignment::Log2(log2) = alignment else {
+    let Some(log2) = alignment else {
         return Aligned::Unknown;
     };
     if n == 0 {
@@ -105,12 +78,12 @@ fn aligned_of(offset: IvarOffset, alignment: Alignment) -> Aligned
 }
 
 // No offset, where it is absent.
-fn or_none(m: Missing) -> OffsetAnswer
-    ensures { offset_outcome result ≡ or_else (missed m) (value none.Nothing) }
+fn or_none(m: Missing) -> Result<Option<u32>, Missing>
+    ensures { outcome result ≡ or_else (missed m) (value None) }
 {
     match m {
-        Missing::Absent(_) => OffsetAnswer::Offset(IvarOffset::Nothing),
-        Missing::Refused(k) => OffsetAnswer::Missing(Missing::Refused(k)),
+        Missing::Absent(_) => Ok(None),
+        Missing::Refused(k) => Err(Missing::Refused(k)),
     }
 }
 
@@ -125,16 +98,16 @@ fn offset_at(
     index: &[u32],
     setting: Setting,
     place: u64,
-) -> OffsetAnswer
+) -> Result<Option<u32>, Missing>
     ensures { let t = under setting (lent files segments sections info rebases binds index) in
-        offset_outcome result ≡ offset_at t place }
+        outcome result ≡ offset_at t place }
 {
     match nonzero(place) {
-        Word::Value(va) => match readable(files, segments, va, 4) {
-            Placed::At(p) => OffsetAnswer::Offset(IvarOffset::At(u32_in(files, p, 0))),
-            Placed::Missing(m) => or_none(m),
+        Ok(va) => match readable(files, segments, va, 4) {
+            Ok(p) => Ok(Some(u32_in(files, p, 0))),
+            Err(m) => or_none(m),
         },
-        Word::Missing(m) => or_none(m),
+        Err(m) => or_none(m),
     }
 }
 
@@ -149,44 +122,44 @@ pub(crate) fn ivar_at(
     index: &[u32],
     setting: Setting,
     va: u64,
-) -> IvarAnswer
+) -> Result<Ivar, Missing>
     ensures { let t = under setting (lent files segments sections info rebases binds index) in
-        ivar_outcome result ≡ ivar_at t va }
+        outcome result ≡ ivar_at t va }
 {
     let s = readable_spot(files, segments, va, Ivar::SIZE);
     let p = match spot_place(s) {
-        Placed::At(p) => p,
-        Placed::Missing(m) => return IvarAnswer::Missing(m),
+        Ok(p) => p,
+        Err(m) => return Err(m),
     };
     let place = match first_slot_or_0(files, segments, rebases, index, setting, s, va) {
-        Word::Value(place) => place,
-        Word::Missing(m) => return IvarAnswer::Missing(m),
+        Ok(place) => place,
+        Err(m) => return Err(m),
     };
     let name_va = match field(files, segments, rebases, index, setting, s, va, Ivar::NAME) {
-        Word::Value(name_va) => name_va,
-        Word::Missing(m) => return IvarAnswer::Missing(m),
+        Ok(name_va) => name_va,
+        Err(m) => return Err(m),
     };
     let type_va = match field_or_0(files, segments, rebases, index, setting, s, va, Ivar::TYPE) {
-        Word::Value(type_va) => type_va,
-        Word::Missing(m) => return IvarAnswer::Missing(m),
+        Ok(type_va) => type_va,
+        Err(m) => return Err(m),
     };
     let reading = setting.reading;
     let name = match read_cstr(files, segments, reading, name_va) {
-        TextAnswer::Found(name) => name,
-        TextAnswer::Missing(m) => return IvarAnswer::Missing(m),
+        Ok(name) => name,
+        Err(m) => return Err(m),
     };
     let type_encoding = match read_cstr_or_empty(files, segments, reading, type_va) {
-        TextAnswer::Found(type_encoding) => type_encoding,
-        TextAnswer::Missing(m) => return IvarAnswer::Missing(m),
+        Ok(type_encoding) => type_encoding,
+        Err(m) => return Err(m),
     };
     let offset = match offset_at(
         files, segments, sections, info, rebases, binds, index, setting, place,
     ) {
-        OffsetAnswer::Offset(offset) => offset,
-        OffsetAnswer::Missing(m) => return IvarAnswer::Missing(m),
+        Ok(offset) => offset,
+        Err(m) => return Err(m),
     };
     let log2_alignment = alignment_of(u32_in(files, p, Ivar::ALIGNMENT_RAW));
-    IvarAnswer::Row(Ivar {
+    Ok(Ivar {
         name,
         type_encoding,
         offset,

@@ -1,24 +1,24 @@
 // Headers of method, ivar and property lists, and the search for the next entry that can be read.
 ghost use Rattle.std.specs.Prelude.{◌≡◌, ◌<◌};
 ghost use Rattle.reads.specs.Reference.{before};
-ghost use Rattle.reads.specs.Answer.{word_outcome};
 ghost use Rattle.reads.specs.Breaks.{can_read};
 ghost use Rattle.reads.specs.Outcome.{value, choose};
 ghost use Rattle.reads.specs.Files.{files_lent};
 ghost use Rattle.reads.specs.Place.{image_of, lent_image};
 ghost use Rattle.pointers.specs.Tables.{lent, under};
 ghost use Rattle.records.specs.Ask.{even_list, entry_size};
-ghost use Rattle.records.specs.List.{layout_outcome, least, method_rows, rows_of, size_of, must_be_even, list_at};
-ghost use Rattle.records.specs.Search.{entry_of, first_readable, search_budget};
+ghost use Rattle.records.specs.List.{least, method_rows, rows_of, size_of, must_be_even, list_at};
+ghost use Rattle.records.specs.Search.{first_readable, search_budget};
 ghost use Rattle.records.specs.Tries.{ahead, Leads};
+ghost use Rattle.reads.specs.Answer.{outcome};
 
 use crate::ivar::Ivar;
 use crate::method::Method;
 use crate::property::Property;
 use pointers::setting::Setting;
-use reads::answer::{Missing, Reason, Word, checked_add, nonzero};
-use reads::breaks::{Break, next_break};
-use reads::place::{Placed, readable, u32_in};
+use reads::answer::{Missing, Reason, checked_add, nonzero};
+use reads::breaks::next_break;
+use reads::place::{readable, u32_in};
 use reads::segment::Segment;
 
 // Bits of a method list's first word that are not its entry size (objc-runtime-new.h, entsize_list_tt<method_t, ..>).
@@ -55,12 +55,6 @@ pub struct Layout {
     pub kind: RowKind,
 }
 
-#[derive(Clone, Copy)]
-pub enum LayoutAnswer {
-    List(Layout),
-    Missing(Missing),
-}
-
 impl Layout {
     // entsize_list_tt: its size, entsizeAndFlags, count.
     pub const HEADER_SIZE: u64 = 8;
@@ -70,17 +64,10 @@ impl Layout {
     pub const COUNT: u64 = 4;
 }
 
-// The index of an entry, or none.
-#[derive(Clone, Copy)]
-pub enum Entry {
-    At(u64),
-    Nothing,
-}
-
 // What trying one index gives: the answer of the search, or the index to try next.
 #[derive(Clone, Copy)]
 pub(crate) enum Try {
-    Stop(Entry),
+    Stop(Option<u64>),
     Go(u64),
 }
 
@@ -133,32 +120,32 @@ pub(crate) fn least(kind: RowKind) -> u64
 }
 
 // An entry size that is at least the least size.
-fn entry_size(least: u64, size: u32) -> Word
-    ensures { word_outcome result ≡ entry_size least size }
+fn entry_size(least: u64, size: u32) -> Result<u64, Missing>
+    ensures { outcome result ≡ entry_size least size }
 {
     if (size as u64) < least {
-        return Word::Missing(Missing::Absent(Reason::ShortEntry));
+        return Err(Missing::Absent(Reason::ShortEntry));
     }
-    Word::Value(size as u64)
+    Ok(size as u64)
 }
 
 // The address of a list that must not be odd.
-pub fn even_list(va: u64) -> Word
-    ensures { word_outcome result ≡ even_list va }
+pub fn even_list(va: u64) -> Result<u64, Missing>
+    ensures { outcome result ≡ even_list va }
 {
     if va % 2 == 0 {
-        return Word::Value(va);
+        return Ok(va);
     }
-    Word::Missing(Missing::Absent(Reason::OddList))
+    Err(Missing::Absent(Reason::OddList))
 }
 
 // The address of a list, even as its kind asks.
-fn list_address(kind: ListKind, va: u64) -> Word
-    ensures { word_outcome result ≡ choose (must_be_even kind) (even_list va) (value va) }
+fn list_address(kind: ListKind, va: u64) -> Result<u64, Missing>
+    ensures { outcome result ≡ choose (must_be_even kind) (even_list va) (value va) }
 {
     match kind {
         ListKind::Methods => even_list(va),
-        ListKind::Ivars => Word::Value(va),
+        ListKind::Ivars => Ok(va),
         ListKind::Properties => even_list(va),
     }
 }
@@ -175,34 +162,34 @@ pub fn list_at(
     setting: Setting,
     kind: ListKind,
     va: u64,
-) -> LayoutAnswer
+) -> Result<Layout, Missing>
     ensures { let t = under setting (lent files segments sections info rebases binds index) in
-        layout_outcome result ≡ list_at t kind va }
+        outcome result ≡ list_at t kind va }
 {
     match nonzero(va) {
-        Word::Value(_) => {}
-        Word::Missing(m) => return LayoutAnswer::Missing(m),
+        Ok(_) => {}
+        Err(m) => return Err(m),
     }
     match list_address(kind, va) {
-        Word::Value(_) => {}
-        Word::Missing(m) => return LayoutAnswer::Missing(m),
+        Ok(_) => {}
+        Err(m) => return Err(m),
     }
     let p = match readable(files, segments, va, Layout::HEADER_SIZE) {
-        Placed::At(p) => p,
-        Placed::Missing(m) => return LayoutAnswer::Missing(m),
+        Ok(p) => p,
+        Err(m) => return Err(m),
     };
     let w = u32_in(files, p, Layout::ENTSIZE_AND_FLAGS);
     let rows = rows_of(kind, w);
     let size = size_of(kind, w);
     match entry_size(least(rows), size) {
-        Word::Value(_) => {}
-        Word::Missing(m) => return LayoutAnswer::Missing(m),
+        Ok(_) => {}
+        Err(m) => return Err(m),
     }
     let base = match checked_add(va, Layout::HEADER_SIZE) {
-        Word::Value(base) => base,
-        Word::Missing(m) => return LayoutAnswer::Missing(m),
+        Ok(base) => base,
+        Err(m) => return Err(m),
     };
-    LayoutAnswer::List(Layout {
+    Ok(Layout {
         base,
         size,
         count: u32_in(files, p, Layout::COUNT),
@@ -215,8 +202,8 @@ fn can_read(files: &[&[u8]], segments: &[u64], k: u64, va: u64) -> bool
     ensures { result ≡ can_read (lent_image files segments) k va }
 {
     match readable(files, segments, va, k) {
-        Placed::At(p) => true,
-        Placed::Missing(m) => false,
+        Ok(p) => true,
+        Err(m) => false,
     }
 }
 
@@ -227,39 +214,39 @@ fn try_at(files: &[&[u8]], segments: &[u64], h: Layout, i: u64) -> Try
 {
     let count = h.count as u64;
     if count <= i {
-        return Try::Stop(Entry::Nothing);
+        return Try::Stop(None);
     }
     let size = h.size as u64;
     // Entries from the first whose address passes 64 bits are not readable.
     let way = i * size;
     if 0xFFFF_FFFF_FFFF_FFFF - h.base < way {
-        return Try::Stop(Entry::Nothing);
+        return Try::Stop(None);
     }
     let va = h.base + way;
     let rows = h.kind;
     let k = least(rows);
     if can_read(files, segments, k, va) {
-        return Try::Stop(Entry::At(i));
+        return Try::Stop(Some(i));
     }
-    let Break::At(b) = next_break(files, segments, k, va) else {
-        return Try::Stop(Entry::Nothing);
+    let Some(b) = next_break(files, segments, k, va) else {
+        return Try::Stop(None);
     };
     // Entries of size 0 all have one address.
     if size == 0 {
-        return Try::Stop(Entry::Nothing);
+        return Try::Stop(None);
     }
     // As many entries after i start below the breakpoint.
     let gap = (b - va - 1) / size;
     if count - i - 1 <= gap {
-        return Try::Stop(Entry::Nothing);
+        return Try::Stop(None);
     }
     Try::Go(i + gap + 1)
 }
 
 // Spends one of the budget at each index tried. Each try leaves fewer breakpoints ahead, so the budget does not run out.
-fn search(files: &[&[u8]], segments: &[u64], h: Layout, from: u64, budget: u64) -> Entry
+fn search(files: &[&[u8]], segments: &[u64], h: Layout, from: u64, budget: u64) -> Option<u64>
     requires { ahead (image_of (files_lent files.now) segments.now) h from < budget }
-    ensures { entry_of result ≡ first_readable (lent_image files segments) h from }
+    ensures { result ≡ first_readable (lent_image files segments) h from }
 {
     let mut i = from;
     let mut left = budget;
@@ -284,8 +271,8 @@ fn search_budget(segments: &[u64]) -> u64
 }
 
 // The first entry from an index on, below the count, that can be read.
-pub fn first_readable(files: &[&[u8]], segments: &[u64], h: Layout, from: u32) -> Entry
-    ensures { entry_of result ≡ first_readable (lent_image files segments) h from }
+pub fn first_readable(files: &[&[u8]], segments: &[u64], h: Layout, from: u32) -> Option<u64>
+    ensures { result ≡ first_readable (lent_image files segments) h from }
 {
     let budget = search_budget(segments);
     search(files, segments, h, from as u64, budget)

@@ -1,20 +1,20 @@
 // Rows of method lists (objc-runtime-new.h, method_t and method_t::small).
 ghost use Rattle.std.specs.Prelude.{◌≡◌};
-ghost use Rattle.reads.specs.Answer.{word_outcome, text_outcome};
 ghost use Rattle.reads.specs.Relative.{relative, signed_in};
 ghost use Rattle.reads.specs.Files.{files_of};
 ghost use Rattle.pointers.specs.Tables.{lent, under};
-ghost use Rattle.records.specs.Row.{method_outcome, legacy_imp, legacy_method_at, small_imp, selector_at, types_at, small_kind, small_method_at, is_small};
+ghost use Rattle.records.specs.Row.{legacy_imp, legacy_method_at, small_imp, selector_at, types_at, small_kind, small_method_at, is_small};
+ghost use Rattle.reads.specs.Answer.{outcome};
 
 use crate::near::{field, field_or_0, first_slot};
 use pointers::setting::Setting;
 use pointers::slot::resolve_pointer;
 use reads::address::Address;
-use reads::answer::{Missing, Word, checked_add};
-use reads::place::{Place, Placed, readable, u32_in};
+use reads::answer::{Missing, checked_add};
+use reads::place::{Place, readable, u32_in};
 use reads::relative::{i32_in, relative_pointer, signed};
 use reads::spot::{readable_spot, spot_place};
-use reads::text::{Text, TextAnswer, read_cstr, read_cstr_or_empty};
+use reads::text::{Text, read_cstr, read_cstr_or_empty};
 
 // Which form of method_t a row came from.
 #[derive(Clone, Copy)]
@@ -24,26 +24,13 @@ pub enum MethodKind {
     SmallDirect,
 }
 
-// An implementation's address, or none: an implementation that is there can be 0 after masking.
-#[derive(Clone, Copy)]
-pub enum Imp {
-    At(u64),
-    Nothing,
-}
-
 // A row of a method list.
 #[derive(Clone, Copy)]
 pub struct Method {
     pub selector: Text,
     pub types: Text,
-    pub implementation: Imp,
+    pub implementation: Option<u64>,
     pub kind: MethodKind,
-}
-
-#[derive(Clone, Copy)]
-pub enum MethodAnswer {
-    Row(Method),
-    Missing(Missing),
 }
 
 impl Method {
@@ -77,13 +64,13 @@ impl Method {
 }
 
 // A legacy method's imp: 0 is none.
-fn legacy_imp(va: u64) -> Imp
+fn legacy_imp(va: u64) -> Option<u64>
     ensures { result ≡ legacy_imp va }
 {
     if va == 0 {
-        return Imp::Nothing;
+        return None;
     }
-    Imp::At(va)
+    Some(va)
 }
 
 // method_t::big.
@@ -97,18 +84,18 @@ pub(crate) fn legacy_method_at(
     index: &[u32],
     setting: Setting,
     va: u64,
-) -> MethodAnswer
+) -> Result<Method, Missing>
     ensures { let t = under setting (lent files segments sections info rebases binds index) in
-        method_outcome result ≡ legacy_method_at t va }
+        outcome result ≡ legacy_method_at t va }
 {
     let s = readable_spot(files, segments, va, Method::SIZE);
     let _p = match spot_place(s) {
-        Placed::At(p) => p,
-        Placed::Missing(m) => return MethodAnswer::Missing(m),
+        Ok(p) => p,
+        Err(m) => return Err(m),
     };
     let name_va = match first_slot(files, segments, rebases, index, setting, s, va) {
-        Word::Value(name_va) => name_va,
-        Word::Missing(m) => return MethodAnswer::Missing(m),
+        Ok(name_va) => name_va,
+        Err(m) => return Err(m),
     };
     let types_va = match field(
         files,
@@ -120,23 +107,23 @@ pub(crate) fn legacy_method_at(
         va,
         Method::TYPES,
     ) {
-        Word::Value(types_va) => types_va,
-        Word::Missing(m) => return MethodAnswer::Missing(m),
+        Ok(types_va) => types_va,
+        Err(m) => return Err(m),
     };
     let imp_va = match field_or_0(files, segments, rebases, index, setting, s, va, Method::IMP) {
-        Word::Value(imp_va) => imp_va,
-        Word::Missing(m) => return MethodAnswer::Missing(m),
+        Ok(imp_va) => imp_va,
+        Err(m) => return Err(m),
     };
     let reading = setting.reading;
     let selector = match read_cstr(files, segments, reading, name_va) {
-        TextAnswer::Found(selector) => selector,
-        TextAnswer::Missing(m) => return MethodAnswer::Missing(m),
+        Ok(selector) => selector,
+        Err(m) => return Err(m),
     };
     let types = match read_cstr_or_empty(files, segments, reading, types_va) {
-        TextAnswer::Found(types) => types,
-        TextAnswer::Missing(m) => return MethodAnswer::Missing(m),
+        Ok(types) => types,
+        Err(m) => return Err(m),
     };
-    MethodAnswer::Row(Method {
+    Ok(Method {
         selector,
         types,
         implementation: legacy_imp(imp_va),
@@ -145,13 +132,13 @@ pub(crate) fn legacy_method_at(
 }
 
 // A small method's imp: none exactly if its offset is 0, else masked to 48 bits.
-fn small_imp(raw: u32, field: u64) -> Imp
+fn small_imp(raw: u32, field: u64) -> Option<u64>
     ensures { result ≡ small_imp raw field }
 {
     if raw == 0 {
-        return Imp::Nothing;
+        return None;
     }
-    Imp::At(Address::strip(relative_pointer(field, signed(raw))))
+    Some(Address::strip(relative_pointer(field, signed(raw))))
 }
 
 fn small_kind(direct: bool) -> MethodKind
@@ -183,13 +170,13 @@ fn selector_at(
     direct: bool,
     field: u64,
     p: Place,
-) -> Word
+) -> Result<u64, Missing>
     ensures { let t = under setting (lent files segments sections info rebases binds index) in
-        word_outcome result ≡ selector_at t direct field p }
+        outcome result ≡ selector_at t direct field p }
 {
     let target = target_of(files, p, Method::SMALL_NAME, field);
     if direct {
-        return Word::Value(target);
+        return Ok(target);
     }
     resolve_pointer(files, segments, rebases, index, setting, target)
 }
@@ -206,9 +193,9 @@ fn types_at(
     setting: Setting,
     field: u64,
     p: Place,
-) -> TextAnswer
+) -> Result<Text, Missing>
     ensures { let t = under setting (lent files segments sections info rebases binds index) in
-        text_outcome result ≡ types_at t field p }
+        outcome result ≡ types_at t field p }
 {
     let reading = setting.reading;
     read_cstr_or_empty(
@@ -231,32 +218,32 @@ pub(crate) fn small_method_at(
     setting: Setting,
     va: u64,
     direct: bool,
-) -> MethodAnswer
+) -> Result<Method, Missing>
     ensures { let t = under setting (lent files segments sections info rebases binds index) in
-        method_outcome result ≡ small_method_at t va direct }
+        outcome result ≡ small_method_at t va direct }
 {
     let p = match readable(files, segments, va, Method::SMALL_SIZE) {
-        Placed::At(p) => p,
-        Placed::Missing(m) => return MethodAnswer::Missing(m),
+        Ok(p) => p,
+        Err(m) => return Err(m),
     };
     let types_field = match checked_add(va, Method::SMALL_TYPES) {
-        Word::Value(types_field) => types_field,
-        Word::Missing(m) => return MethodAnswer::Missing(m),
+        Ok(types_field) => types_field,
+        Err(m) => return Err(m),
     };
     let imp_field = match checked_add(va, Method::SMALL_IMP) {
-        Word::Value(imp_field) => imp_field,
-        Word::Missing(m) => return MethodAnswer::Missing(m),
+        Ok(imp_field) => imp_field,
+        Err(m) => return Err(m),
     };
     let name_va = match selector_at(
         files, segments, sections, info, rebases, binds, index, setting, direct, va, p,
     ) {
-        Word::Value(name_va) => name_va,
-        Word::Missing(m) => return MethodAnswer::Missing(m),
+        Ok(name_va) => name_va,
+        Err(m) => return Err(m),
     };
     let reading = setting.reading;
     let selector = match read_cstr(files, segments, reading, name_va) {
-        TextAnswer::Found(selector) => selector,
-        TextAnswer::Missing(m) => return MethodAnswer::Missing(m),
+        Ok(selector) => selector,
+        Err(m) => return Err(m),
     };
     let types = match types_at(
         files,
@@ -270,10 +257,10 @@ pub(crate) fn small_method_at(
         types_field,
         p,
     ) {
-        TextAnswer::Found(types) => types,
-        TextAnswer::Missing(m) => return MethodAnswer::Missing(m),
+        Ok(types) => types,
+        Err(m) => return Err(m),
     };
-    MethodAnswer::Row(Method {
+    Ok(Method {
         selector,
         types,
         implementation: small_imp(u32_in(files, p, Method::SMALL_IMP), imp_field),

@@ -1,16 +1,16 @@
 // Pointer fields of a record or row whose bytes can be read, from the spot of its address.
 ghost use Rattle.std.specs.Prelude.{◌≡◌, ◌+◌};
 ghost use Rattle.reads.specs.Reference.{before};
-ghost use Rattle.reads.specs.Answer.{word_outcome};
 ghost use Rattle.reads.specs.Outcome.{or_zero};
 ghost use Rattle.reads.specs.Files.{files_lent};
 ghost use Rattle.reads.specs.Place.{image_of, lent_image};
 ghost use Rattle.pointers.specs.Slot.{resolve, pointer_at, pointer_or0_at};
 ghost use Rattle.records.specs.Near.{Near};
+ghost use Rattle.reads.specs.Answer.{outcome};
 
 use pointers::setting::Setting;
 use pointers::slot::resolve_near;
-use reads::answer::{Word, checked_add, or_zero};
+use reads::answer::{Missing, checked_add, or_zero};
 use reads::spot::Spot;
 
 // The pointer in the first field.
@@ -22,9 +22,9 @@ pub(crate) fn first_slot(
     setting: Setting,
     s: Spot,
     va: u64,
-) -> Word
+) -> Result<u64, Missing>
     requires { Near (image_of (files_lent files.now) segments.now) va s 8 }
-    ensures { word_outcome result ≡ resolve (lent_image files segments) (before rebases) (before index) setting va }
+    ensures { outcome result ≡ resolve (lent_image files segments) (before rebases) (before index) setting va }
 {
     resolve_near(files, segments, rebases, index, setting, s, 0, va)
 }
@@ -38,9 +38,9 @@ pub(crate) fn first_slot_or_0(
     setting: Setting,
     s: Spot,
     va: u64,
-) -> Word
+) -> Result<u64, Missing>
     requires { Near (image_of (files_lent files.now) segments.now) va s 8 }
-    ensures { word_outcome result ≡ or_zero (resolve (lent_image files segments) (before rebases) (before index) setting va) }
+    ensures { outcome result ≡ or_zero (resolve (lent_image files segments) (before rebases) (before index) setting va) }
 {
     or_zero(first_slot(files, segments, rebases, index, setting, s, va))
 }
@@ -55,13 +55,13 @@ pub(crate) fn field(
     s: Spot,
     va: u64,
     k: u64,
-) -> Word
+) -> Result<u64, Missing>
     requires { Near (image_of (files_lent files.now) segments.now) va s (k + 8) }
-    ensures { word_outcome result ≡ pointer_at (lent_image files segments) (before rebases) (before index) setting va k }
+    ensures { outcome result ≡ pointer_at (lent_image files segments) (before rebases) (before index) setting va k }
 {
     match checked_add(va, k) {
-        Word::Value(slot) => resolve_near(files, segments, rebases, index, setting, s, k, slot),
-        Word::Missing(m) => Word::Missing(m),
+        Ok(slot) => resolve_near(files, segments, rebases, index, setting, s, k, slot),
+        Err(m) => Err(m),
     }
 }
 
@@ -75,14 +75,12 @@ pub(crate) fn field_or_0(
     s: Spot,
     va: u64,
     k: u64,
-) -> Word
+) -> Result<u64, Missing>
     requires { Near (image_of (files_lent files.now) segments.now) va s (k + 8) }
-    ensures { word_outcome result ≡ pointer_or0_at (lent_image files segments) (before rebases) (before index) setting va k }
+    ensures { outcome result ≡ pointer_or0_at (lent_image files segments) (before rebases) (before index) setting va k }
 {
     match checked_add(va, k) {
-        Word::Value(slot) => or_zero(resolve_near(
-            files, segments, rebases, index, setting, s, k, slot,
-        )),
-        Word::Missing(m) => Word::Missing(m),
+        Ok(slot) => or_zero(resolve_near(files, segments, rebases, index, setting, s, k, slot)),
+        Err(m) => Err(m),
     }
 }

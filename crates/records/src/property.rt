@@ -1,14 +1,14 @@
 // Rows of property lists (objc-runtime-new.h, property_t).
 ghost use Rattle.std.specs.Prelude.{◌≡◌};
 ghost use Rattle.pointers.specs.Tables.{lent, under};
-ghost use Rattle.records.specs.Row.{property_outcome, property_at};
+ghost use Rattle.records.specs.Row.{property_at};
+ghost use Rattle.reads.specs.Answer.{outcome};
 
 use crate::near::{field_or_0, first_slot};
 use pointers::setting::Setting;
-use reads::answer::{Missing, Word};
-use reads::place::Placed;
+use reads::answer::Missing;
 use reads::spot::{readable_spot, spot_place};
-use reads::text::{Text, TextAnswer, read_cstr, read_cstr_or_empty};
+use reads::text::{Text, read_cstr, read_cstr_or_empty};
 
 // A row of a property list; `parse_attributes` takes its attributes apart.
 #[derive(Clone, Copy)]
@@ -24,12 +24,6 @@ impl Property {
     pub const ATTRIBUTES: u64 = 8;
 }
 
-#[derive(Clone, Copy)]
-pub enum PropertyAnswer {
-    Row(Property),
-    Missing(Missing),
-}
-
 // property_t, 16 bytes.
 pub(crate) fn property_at(
     files: &[&[u8]],
@@ -41,18 +35,18 @@ pub(crate) fn property_at(
     index: &[u32],
     setting: Setting,
     va: u64,
-) -> PropertyAnswer
+) -> Result<Property, Missing>
     ensures { let t = under setting (lent files segments sections info rebases binds index) in
-        property_outcome result ≡ property_at t va }
+        outcome result ≡ property_at t va }
 {
     let s = readable_spot(files, segments, va, Property::SIZE);
     let _p = match spot_place(s) {
-        Placed::At(p) => p,
-        Placed::Missing(m) => return PropertyAnswer::Missing(m),
+        Ok(p) => p,
+        Err(m) => return Err(m),
     };
     let name_va = match first_slot(files, segments, rebases, index, setting, s, va) {
-        Word::Value(name_va) => name_va,
-        Word::Missing(m) => return PropertyAnswer::Missing(m),
+        Ok(name_va) => name_va,
+        Err(m) => return Err(m),
     };
     let attributes_va = match field_or_0(
         files,
@@ -64,17 +58,17 @@ pub(crate) fn property_at(
         va,
         Property::ATTRIBUTES,
     ) {
-        Word::Value(attributes_va) => attributes_va,
-        Word::Missing(m) => return PropertyAnswer::Missing(m),
+        Ok(attributes_va) => attributes_va,
+        Err(m) => return Err(m),
     };
     let reading = setting.reading;
     let name = match read_cstr(files, segments, reading, name_va) {
-        TextAnswer::Found(name) => name,
-        TextAnswer::Missing(m) => return PropertyAnswer::Missing(m),
+        Ok(name) => name,
+        Err(m) => return Err(m),
     };
     let attributes = match read_cstr_or_empty(files, segments, reading, attributes_va) {
-        TextAnswer::Found(attributes) => attributes,
-        TextAnswer::Missing(m) => return PropertyAnswer::Missing(m),
+        Ok(attributes) => attributes,
+        Err(m) => return Err(m),
     };
-    PropertyAnswer::Row(Property { name, attributes })
+    Ok(Property { name, attributes })
 }

@@ -1,14 +1,14 @@
 // Protocols (objc-runtime-new.h, protocol_t).
 ghost use Rattle.std.specs.Prelude.{◌≡◌};
-ghost use Rattle.reads.specs.Answer.{word_outcome};
 ghost use Rattle.pointers.specs.Tables.{lent, under};
-ghost use Rattle.records.specs.Protocol.{protocol_outcome, protocol_lists_outcome, protocol_lists_at, class_properties_at, trailing_at, protocol_at};
+ghost use Rattle.records.specs.Protocol.{protocol_lists_at, class_properties_at, trailing_at, protocol_at};
+ghost use Rattle.reads.specs.Answer.{outcome};
 
 use pointers::setting::Setting;
 use pointers::slot::{pointer, pointer_or_0, slot_or_0};
-use reads::answer::{Missing, Word, checked_add};
-use reads::place::{Place, Placed, readable, u32_in};
-use reads::text::{Text, TextAnswer, read_cstr};
+use reads::answer::{Missing, checked_add};
+use reads::place::{Place, readable, u32_in};
+use reads::text::{Text, read_cstr};
 
 // A protocol: name, and the addresses of its lists; class_properties is 0 where it has none.
 #[derive(Clone, Copy)]
@@ -29,12 +29,6 @@ pub struct ObjcProtocol {
 impl ObjcProtocol {
     // The size of protocol_t up to its flags.
     pub const SIZE: u64 = 72;
-}
-
-#[derive(Clone, Copy)]
-pub enum ProtocolAnswer {
-    Protocol(ObjcProtocol),
-    Missing(Missing),
 }
 
 // The fields of protocol_t, and its own size from which it has _classProperties.
@@ -71,12 +65,6 @@ struct ProtocolLists {
     instance_properties: u64,
 }
 
-#[derive(Clone, Copy)]
-enum ProtocolListsAnswer {
-    Lists(ProtocolLists),
-    Missing(Missing),
-}
-
 // _classProperties: its 8 bytes must be readable, even where a rebase fills the slot; or 0.
 fn trailing_at(
     files: &[&[u8]],
@@ -88,17 +76,17 @@ fn trailing_at(
     index: &[u32],
     setting: Setting,
     va: u64,
-) -> Word
+) -> Result<u64, Missing>
     ensures { let t = under setting (lent files segments sections info rebases binds index) in
-        word_outcome result ≡ trailing_at t va }
+        outcome result ≡ trailing_at t va }
 {
     let slot = match checked_add(va, CLASS_PROPERTIES) {
-        Word::Value(slot) => slot,
-        Word::Missing(m) => return Word::Missing(m),
+        Ok(slot) => slot,
+        Err(m) => return Err(m),
     };
     let _p = match readable(files, segments, slot, 8) {
-        Placed::At(p) => p,
-        Placed::Missing(m) => return Word::Missing(m),
+        Ok(p) => p,
+        Err(m) => return Err(m),
     };
     slot_or_0(files, segments, rebases, index, setting, slot)
 }
@@ -115,16 +103,16 @@ fn class_properties_at(
     setting: Setting,
     va: u64,
     p: Place,
-) -> Word
+) -> Result<u64, Missing>
     ensures { let t = under setting (lent files segments sections info rebases binds index) in
-        word_outcome result ≡ class_properties_at t va p }
+        outcome result ≡ class_properties_at t va p }
 {
     if SIZE_WITH_CLASS_PROPERTIES <= u32_in(files, p, OWN_SIZE) {
         return trailing_at(
             files, segments, sections, info, rebases, binds, index, setting, va,
         );
     }
-    Word::Value(0)
+    Ok(0)
 }
 
 // The lists of a protocol_t but its class properties; each or 0.
@@ -138,13 +126,13 @@ fn protocol_lists_at(
     index: &[u32],
     setting: Setting,
     va: u64,
-) -> ProtocolListsAnswer
+) -> Result<ProtocolLists, Missing>
     ensures { let t = under setting (lent files segments sections info rebases binds index) in
-        protocol_lists_outcome result ≡ protocol_lists_at t va }
+        outcome result ≡ protocol_lists_at t va }
 {
     let protocols = match pointer_or_0(files, segments, rebases, index, setting, va, PROTOCOLS) {
-        Word::Value(protocols) => protocols,
-        Word::Missing(m) => return ProtocolListsAnswer::Missing(m),
+        Ok(protocols) => protocols,
+        Err(m) => return Err(m),
     };
     let instance_methods = match pointer_or_0(
         files,
@@ -155,8 +143,8 @@ fn protocol_lists_at(
         va,
         INSTANCE_METHODS,
     ) {
-        Word::Value(instance_methods) => instance_methods,
-        Word::Missing(m) => return ProtocolListsAnswer::Missing(m),
+        Ok(instance_methods) => instance_methods,
+        Err(m) => return Err(m),
     };
     let class_methods = match pointer_or_0(
         files,
@@ -167,8 +155,8 @@ fn protocol_lists_at(
         va,
         CLASS_METHODS,
     ) {
-        Word::Value(class_methods) => class_methods,
-        Word::Missing(m) => return ProtocolListsAnswer::Missing(m),
+        Ok(class_methods) => class_methods,
+        Err(m) => return Err(m),
     };
     let optional_instance_methods = match pointer_or_0(
         files,
@@ -179,8 +167,8 @@ fn protocol_lists_at(
         va,
         OPTIONAL_INSTANCE_METHODS,
     ) {
-        Word::Value(optional_instance_methods) => optional_instance_methods,
-        Word::Missing(m) => return ProtocolListsAnswer::Missing(m),
+        Ok(optional_instance_methods) => optional_instance_methods,
+        Err(m) => return Err(m),
     };
     let optional_class_methods = match pointer_or_0(
         files,
@@ -191,8 +179,8 @@ fn protocol_lists_at(
         va,
         OPTIONAL_CLASS_METHODS,
     ) {
-        Word::Value(optional_class_methods) => optional_class_methods,
-        Word::Missing(m) => return ProtocolListsAnswer::Missing(m),
+        Ok(optional_class_methods) => optional_class_methods,
+        Err(m) => return Err(m),
     };
     let instance_properties = match pointer_or_0(
         files,
@@ -203,10 +191,10 @@ fn protocol_lists_at(
         va,
         INSTANCE_PROPERTIES,
     ) {
-        Word::Value(instance_properties) => instance_properties,
-        Word::Missing(m) => return ProtocolListsAnswer::Missing(m),
+        Ok(instance_properties) => instance_properties,
+        Err(m) => return Err(m),
     };
-    ProtocolListsAnswer::Lists(ProtocolLists {
+    Ok(ProtocolLists {
         protocols,
         instance_methods,
         class_methods,
@@ -227,36 +215,36 @@ pub fn protocol_at(
     index: &[u32],
     setting: Setting,
     va: u64,
-) -> ProtocolAnswer
+) -> Result<ObjcProtocol, Missing>
     ensures { let t = under setting (lent files segments sections info rebases binds index) in
-        protocol_outcome result ≡ protocol_at t va }
+        outcome result ≡ protocol_at t va }
 {
     let p = match readable(files, segments, va, ObjcProtocol::SIZE) {
-        Placed::At(p) => p,
-        Placed::Missing(m) => return ProtocolAnswer::Missing(m),
+        Ok(p) => p,
+        Err(m) => return Err(m),
     };
     let name_va = match pointer(files, segments, rebases, index, setting, va, MANGLED_NAME) {
-        Word::Value(name_va) => name_va,
-        Word::Missing(m) => return ProtocolAnswer::Missing(m),
+        Ok(name_va) => name_va,
+        Err(m) => return Err(m),
     };
     let lists = match protocol_lists_at(
         files, segments, sections, info, rebases, binds, index, setting, va,
     ) {
-        ProtocolListsAnswer::Lists(lists) => lists,
-        ProtocolListsAnswer::Missing(m) => return ProtocolAnswer::Missing(m),
+        Ok(lists) => lists,
+        Err(m) => return Err(m),
     };
     let reading = setting.reading;
     let name = match read_cstr(files, segments, reading, name_va) {
-        TextAnswer::Found(name) => name,
-        TextAnswer::Missing(m) => return ProtocolAnswer::Missing(m),
+        Ok(name) => name,
+        Err(m) => return Err(m),
     };
     let class_properties = match class_properties_at(
         files, segments, sections, info, rebases, binds, index, setting, va, p,
     ) {
-        Word::Value(class_properties) => class_properties,
-        Word::Missing(m) => return ProtocolAnswer::Missing(m),
+        Ok(class_properties) => class_properties,
+        Err(m) => return Err(m),
     };
-    ProtocolAnswer::Protocol(ObjcProtocol {
+    Ok(ObjcProtocol {
         address: va,
         name,
         protocols: lists.protocols,

@@ -2,12 +2,13 @@
 ghost use Rattle.std.specs.Prelude.{true, false, ◌≡◌};
 ghost use Rattle.reads.specs.Outcome.{and_then};
 ghost use Rattle.pointers.specs.Tables.{lent, under};
-ghost use Rattle.records.specs.Row.{row_outcome, method_outcome, ivar_outcome, property_outcome, method_row, ivar_row, property_row, row_at};
+ghost use Rattle.records.specs.Row.{method_row, ivar_row, property_row, row_at};
+ghost use Rattle.reads.specs.Answer.{outcome};
 
-use crate::ivar::{Ivar, IvarAnswer, ivar_at};
+use crate::ivar::{Ivar, ivar_at};
 use crate::list::RowKind;
-use crate::method::{Method, MethodAnswer, legacy_method_at, small_method_at};
-use crate::property::{Property, PropertyAnswer, property_at};
+use crate::method::{Method, legacy_method_at, small_method_at};
+use crate::property::{Property, property_at};
 use pointers::setting::Setting;
 use reads::answer::Missing;
 
@@ -18,36 +19,30 @@ pub enum Row {
     Property(Property),
 }
 
-#[derive(Clone, Copy)]
-pub enum RowAnswer {
-    Row(Row),
-    Missing(Missing),
-}
-
-fn method_row(a: MethodAnswer) -> RowAnswer
-    ensures { row_outcome result ≡ and_then (method_outcome a) method_row }
+fn method_row(a: Result<Method, Missing>) -> Result<Row, Missing>
+    ensures { outcome result ≡ and_then (outcome a) method_row }
 {
     match a {
-        MethodAnswer::Row(m) => RowAnswer::Row(Row::Method(m)),
-        MethodAnswer::Missing(m) => RowAnswer::Missing(m),
+        Ok(m) => Ok(Row::Method(m)),
+        Err(m) => Err(m),
     }
 }
 
-fn ivar_row(a: IvarAnswer) -> RowAnswer
-    ensures { row_outcome result ≡ and_then (ivar_outcome a) ivar_row }
+fn ivar_row(a: Result<Ivar, Missing>) -> Result<Row, Missing>
+    ensures { outcome result ≡ and_then (outcome a) ivar_row }
 {
     match a {
-        IvarAnswer::Row(i) => RowAnswer::Row(Row::Ivar(i)),
-        IvarAnswer::Missing(m) => RowAnswer::Missing(m),
+        Ok(i) => Ok(Row::Ivar(i)),
+        Err(m) => Err(m),
     }
 }
 
-fn property_row(a: PropertyAnswer) -> RowAnswer
-    ensures { row_outcome result ≡ and_then (property_outcome a) property_row }
+fn property_row(a: Result<Property, Missing>) -> Result<Row, Missing>
+    ensures { outcome result ≡ and_then (outcome a) property_row }
 {
     match a {
-        PropertyAnswer::Row(p) => RowAnswer::Row(Row::Property(p)),
-        PropertyAnswer::Missing(m) => RowAnswer::Missing(m),
+        Ok(p) => Ok(Row::Property(p)),
+        Err(m) => Err(m),
     }
 }
 
@@ -63,9 +58,9 @@ pub fn row_at(
     setting: Setting,
     kind: RowKind,
     va: u64,
-) -> RowAnswer
+) -> Result<Row, Missing>
     ensures { let t = under setting (lent files segments sections info rebases binds index) in
-        row_outcome result ≡ row_at t kind va }
+        outcome result ≡ row_at t kind va }
 {
     match kind {
         RowKind::Legacy => method_row(legacy_method_at(

@@ -7,7 +7,7 @@ ghost use Rattle.std.specs.Prelude.{◌≤◌, length};
 ghost use Rattle.replay.specs.Parts.{size_of};
 
 use printing::write::write_under;
-use reads::answer::Word;
+use reads::answer::Missing;
 use reads::place::read_u64_le_at;
 use reads::text::Reading;
 use std::fs::File;
@@ -34,7 +34,7 @@ enum Replayed {
 }
 
 // The next word of the file, absent where the file ends before.
-fn read_word(file: &mut File) -> Word {
+fn read_word(file: &mut File) -> Result<u64, Missing> {
     let mut word = [0u8; 8];
     match file.read_exact(&mut word) {
         Ok(()) => read_u64_le_at(&word, 0),
@@ -61,8 +61,8 @@ fn read_part(file: &mut File, to: &mut [u8]) -> Part
     ensures { size_of result ≤ length to.new }
 {
     match read_word(file) {
-        Word::Value(n) => fill(file, n, to),
-        Word::Missing(_) => Part::Cut,
+        Ok(n) => fill(file, n, to),
+        Err(_) => Part::Cut,
     }
 }
 
@@ -154,7 +154,7 @@ fn replay_file(file: &mut File) -> Replayed {
     let mut ledger = [0u64; 8192];
     let mut out = [0u8; 4096];
     match read_word(file) {
-        Word::Value(count) => replay_all(
+        Ok(count) => replay_all(
             file,
             count,
             &mut input,
@@ -163,7 +163,7 @@ fn replay_file(file: &mut File) -> Replayed {
             &mut ledger,
             &mut out,
         ),
-        Word::Missing(_) => Replayed::Cut,
+        Err(_) => Replayed::Cut,
     }
 }
 

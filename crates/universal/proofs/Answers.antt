@@ -16,6 +16,7 @@ use Rattle.universal.specs.declared.arch.Arch.{Arch}
 use Rattle.universal.specs.declared.arch.Wanted.{Wanted}
 use Rattle.universal.specs.declared.arch.Wanted.TheVariants as wanted
 use Rattle.universal.specs.declared.part.PartAnswer.TheVariants.{Found, Absent, Refused}
+use Rattle.reads.specs.declared.answer.Question.TheVariants.{LoadCommands}
 
 -- A thin file; p is it as a part.
 module _ (file : List ℕ) (w : Wanted) (p : Part) (e : p ≡ thin_part file) where
@@ -43,7 +44,7 @@ module _ (file : List ℕ) (w : Wanted) (p : Part) (e : p ≡ thin_part file) wh
 
 -- A part and the file's n bytes.
 module _ (n : ℕ) (p : Part) where
-  pub part_outside : n < p.offset + p.size → Refused 16 ≡ in_file n p
+  pub part_outside : n < p.offset + p.size → Refused LoadCommands ≡ in_file n p
   unfolding in_file
   part_outside l = sym (choose_false _ _ (lt-leb (p.offset + p.size) n l))
 
@@ -53,11 +54,11 @@ module _ (n : ℕ) (p : Part) where
 
 -- A universal file.
 module _ (file : List ℕ) (wide : Bool) where
-  pub wanted_no_table : (w : Wanted) → table_fits file wide ≡ false → Refused 16 ≡ fat_wanted file wide w
+  pub wanted_no_table : (w : Wanted) → table_fits file wide ≡ false → Refused LoadCommands ≡ fat_wanted file wide w
   unfolding fat_wanted
   wanted_no_table w t = sym (choose_false _ _ t)
 
-  pub at_no_table : (i : ℕ) → table_fits file wide ≡ false → Refused 16 ≡ fat_at file wide i
+  pub at_no_table : (i : ℕ) → table_fits file wide ≡ false → Refused LoadCommands ≡ fat_at file wide i
   unfolding fat_at
   at_no_table i t = sym (choose_false _ _ t)
 

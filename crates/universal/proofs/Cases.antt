@@ -13,6 +13,7 @@ use Rattle.universal.specs.declared.arch.Arch.{Arch}
 use Rattle.universal.specs.declared.arch.Wanted.TheVariants as wanted
 use Rattle.universal.specs.declared.part.PartAnswer.{PartAnswer}
 use Rattle.universal.specs.declared.part.PartAnswer.TheVariants.{Found, Absent, Refused}
+use Rattle.reads.specs.declared.answer.Question.TheVariants.{LoadCommands}
 
 -- machine.h: CPU_TYPE_I386, CPU_TYPE_X86_64, CPU_TYPE_ARM64.
 abbrev cpu_i386 : ℕ
@@ -79,12 +80,12 @@ pub record Two : Type 0 where
   pub told_1 : part_at two 1 ≡ Found (part_of cpu_arm64 0 52 4)
   pub told_all : part_at two 2 ≡ Absent
   -- The file cut by one byte: the second part is not whole.
-  pub part_cut : default (take 55 two) ≡ Refused 16
+  pub part_cut : default (take 55 two) ≡ Refused LoadCommands
   pub other_whole : named (arch_of cpu_x86_64 3) (take 55 two) ≡ Found (part_of cpu_x86_64 0x80000003 48 4)
   pub cut_told : part_at (take 55 two) 1 ≡ Found (part_of cpu_arm64 0 52 4)
-  pub table_cut : default (take 47 two) ≡ Refused 16
-  pub table_cut_told : part_at (take 47 two) 0 ≡ Refused 16
-  pub header_cut : default (take 7 two) ≡ Refused 16
+  pub table_cut : default (take 47 two) ≡ Refused LoadCommands
+  pub table_cut_told : part_at (take 47 two) 0 ≡ Refused LoadCommands
+  pub header_cut : default (take 7 two) ≡ Refused LoadCommands
 
 pub record Others : Type 0 where
   pub no_arm64 : default (fat 2 (entry cpu_i386 3 48 4 ++ entry cpu_x86_64 3 52 4)) ≡ Found (part_of cpu_x86_64 3 52 4)
@@ -96,11 +97,11 @@ pub record Others : Type 0 where
   -- Of two of one architecture the first.
   pub first : default (fat 2 (entry cpu_arm64 0 48 4 ++ entry cpu_arm64 0 52 4)) ≡ Found (part_of cpu_arm64 0 48 4)
   pub wide : default (fat64 2 (entry64 cpu_x86_64 3 72 4 ++ entry64 cpu_arm64 0 76 4)) ≡ Found (part_of cpu_arm64 0 76 4)
-  pub wide_cut : default (take 79 (fat64 2 (entry64 cpu_x86_64 3 72 4 ++ entry64 cpu_arm64 0 76 4))) ≡ Refused 16
-  pub wide_table_cut : default (take 71 (fat64 2 (entry64 cpu_x86_64 3 72 4 ++ entry64 cpu_arm64 0 76 4))) ≡ Refused 16
+  pub wide_cut : default (take 79 (fat64 2 (entry64 cpu_x86_64 3 72 4 ++ entry64 cpu_arm64 0 76 4))) ≡ Refused LoadCommands
+  pub wide_table_cut : default (take 71 (fat64 2 (entry64 cpu_x86_64 3 72 4 ++ entry64 cpu_arm64 0 76 4))) ≡ Refused LoadCommands
   -- The sum of offset and size is no sum modulo 2^32.
-  pub far : default (fat 1 (entry cpu_arm64 0 0xFFFFFFFF 1)) ≡ Refused 16
-  pub entries_past_end : default (fat 2 (entry cpu_arm64 0 28 4)) ≡ Refused 16
+  pub far : default (fat 1 (entry cpu_arm64 0 0xFFFFFFFF 1)) ≡ Refused LoadCommands
+  pub entries_past_end : default (fat 2 (entry cpu_arm64 0 28 4)) ≡ Refused LoadCommands
   pub no_entries : default (fat 0 []) ≡ Absent
   pub no_entries_told : part_at (fat 0 []) 0 ≡ Absent
 

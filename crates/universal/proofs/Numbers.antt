@@ -5,15 +5,14 @@ use mathlib.Core.Bool.{Bool, true, false}
 use mathlib.Core.List.{List}
 use native.Mathlib.Omega.{arith}
 use Rattle.reads.specs.Outcome.{value, absent, and_then, choose}
-use Rattle.reads.specs.Answer.{missed, word_outcome}
+use Rattle.reads.specs.Answer.{missed, outcome}
 use Rattle.reads.specs.Place.{readable_at, be_at}
 use Rattle.reads.specs.declared.answer.Reason.TheVariants.{Unreadable}
 use Rattle.reads.specs.declared.answer.Missing.{Missing}
 use Rattle.reads.specs.declared.answer.Missing.TheVariants.{Absent, Refused}
-use Rattle.reads.specs.declared.answer.Word.{Word}
-use Rattle.reads.specs.declared.answer.Word.TheVariants as word
 use Rattle.reads.specs.declared.place.Place.{Place}
 use Rattle.universal.specs.Number.{be_in}
+use Rattle.std.specs.Prelude.{Result, Ok, Err}
 
 -- A number or 0, by whether its bytes lie in the slice.
 module _ (p : Place) (f : Place → ℕ) where
@@ -28,11 +27,11 @@ module _ (p : Place) (f : Place → ℕ) where
   none_by true (Refused k) e = let z : ◌≡◌ {A = ℕ} 0 1 = cc in absurd (omega arith)
   none_by false m e = refl
 
-module _ (bytes : List ℕ) (k at : ℕ) (w : Word) (e : word_outcome w ≡ be_at bytes k at) where
-  pub be_value : (n : ℕ) → w ≡ word.Value n → n ≡ be_in bytes k at
+module _ (bytes : List ℕ) (k at : ℕ) (w : Result ℕ Missing) (e : outcome w ≡ be_at bytes k at) where
+  pub be_value : (n : ℕ) → w ≡ Ok n → n ≡ be_in bytes k at
   unfolding be_at readable_at be_in
-  be_value n g = value_by _ _ _ n (sym (ap word_outcome g) ∙ e)
+  be_value n g = value_by _ _ _ n (sym (ap outcome g) ∙ e)
 
-  pub be_none : (m : Missing) → w ≡ word.Missing m → 0 ≡ be_in bytes k at
+  pub be_none : (m : Missing) → w ≡ Err m → 0 ≡ be_in bytes k at
   unfolding be_at readable_at be_in
-  be_none m g = none_by _ _ _ m (sym (ap word_outcome g) ∙ e)
+  be_none m g = none_by _ _ _ m (sym (ap outcome g) ∙ e)

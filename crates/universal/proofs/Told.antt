@@ -24,10 +24,11 @@ use Rattle.universal.specs.declared.arch.Wanted.TheVariants as wanted
 use Rattle.universal.specs.declared.arch.Sought.{Sought}
 use Rattle.universal.specs.declared.arch.Sought.TheVariants as sought
 use Rattle.universal.specs.declared.part.PartAnswer.TheVariants.{Found, Absent, Refused}
+use Rattle.reads.specs.declared.answer.Question.TheVariants.{LoadCommands}
 
 -- Answers by their tests.
 module _ (p q : Part) where
-  wanted_came : (t u v : Bool) → choose t (choose u (choose v (Found p) (Refused 16)) Absent) (Refused 16) ≡ Found q
+  wanted_came : (t u v : Bool) → choose t (choose u (choose v (Found p) (Refused LoadCommands)) Absent) (Refused LoadCommands) ≡ Found q
       → (t ≡ true) × (u ≡ true) × (v ≡ true) × (p ≡ q)
   unfolding choose
   wanted_came true true true e = (refl, refl, refl, cc)
@@ -35,13 +36,13 @@ module _ (p q : Part) where
   wanted_came true false v e = let z : ◌≡◌ {A = ℕ} 0 1 = cc in absurd (omega arith)
   wanted_came false u v e = let z : ◌≡◌ {A = ℕ} 0 1 = cc in absurd (omega arith)
 
-  at_came : (t u : Bool) → choose t (choose u (Found p) Absent) (Refused 16) ≡ Found q → (u ≡ true) × (p ≡ q)
+  at_came : (t u : Bool) → choose t (choose u (Found p) Absent) (Refused LoadCommands) ≡ Found q → (u ≡ true) × (p ≡ q)
   unfolding choose
   at_came true true e = (refl, cc)
   at_came true false e = let z : ◌≡◌ {A = ℕ} 0 1 = cc in absurd (omega arith)
   at_came false u e = let z : ◌≡◌ {A = ℕ} 0 1 = cc in absurd (omega arith)
 
-wanted_gone : (p : Part) (t u v : Bool) → choose t (choose u (choose v (Found p) (Refused 16)) Absent) (Refused 16) ≡ Absent → u ≡ false
+wanted_gone : (p : Part) (t u v : Bool) → choose t (choose u (choose v (Found p) (Refused LoadCommands)) Absent) (Refused LoadCommands) ≡ Absent → u ≡ false
 unfolding choose
 wanted_gone p true true true e = let z : ◌≡◌ {A = ℕ} 0 1 = cc in absurd (omega arith)
 wanted_gone p true true false e = let z : ◌≡◌ {A = ℕ} 0 1 = cc in absurd (omega arith)

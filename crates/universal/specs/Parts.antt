@@ -11,6 +11,7 @@ use Rattle.universal.specs.declared.arch.Wanted.{Wanted}
 use Rattle.universal.specs.declared.arch.Wanted.TheVariants as wanted
 use Rattle.universal.specs.declared.part.PartAnswer.{PartAnswer}
 use Rattle.universal.specs.declared.part.PartAnswer.TheVariants.{Found, Absent, Refused}
+use Rattle.reads.specs.declared.answer.Question.TheVariants.{LoadCommands}
 
 -- A thin file is one part, the whole file; mach_header_64 (loader.h), little-endian: cputype +4, cpusubtype +8.
 abbrev pub thin_part : List ℕ → Part
@@ -24,13 +25,13 @@ thin_wanted file (wanted.Arch a) =
 
 -- 16, of a part: it lies in a file of n bytes.
 unfoldable pub in_file : ℕ → Part → PartAnswer
-in_file n p = choose (leb (p.offset + p.size) n) (Found p) (Refused 16)
+in_file n p = choose (leb (p.offset + p.size) n) (Found p) (Refused LoadCommands)
 
 -- The wanted part of a universal file: 16 of the table, then of that part.
 unfoldable pub fat_wanted : List ℕ → Bool → Wanted → PartAnswer
 fat_wanted file wide w =
     let i = chosen file wide (nfat_arch file) w in
-    choose (table_fits file wide) (choose (ltb i (nfat_arch file)) (in_file (length file) (arch_at file wide i)) Absent) (Refused 16)
+    choose (table_fits file wide) (choose (ltb i (nfat_arch file)) (in_file (length file) (arch_at file wide i)) Absent) (Refused LoadCommands)
 
 abbrev pub wanted_by : Kind → List ℕ → Wanted → PartAnswer
 wanted_by kind.Thin file w = thin_wanted file w
@@ -43,7 +44,7 @@ part_wanted file w = wanted_by (kind_of file) file w
 
 -- Part i of a universal file, wherever its range lies: 16 of the table.
 unfoldable pub fat_at : List ℕ → Bool → ℕ → PartAnswer
-fat_at file wide i = choose (table_fits file wide) (choose (ltb i (nfat_arch file)) (Found (arch_at file wide i)) Absent) (Refused 16)
+fat_at file wide i = choose (table_fits file wide) (choose (ltb i (nfat_arch file)) (Found (arch_at file wide i)) Absent) (Refused LoadCommands)
 
 abbrev pub at_by : Kind → List ℕ → ℕ → PartAnswer
 at_by kind.Thin file i = choose (eqb i 0) (Found (thin_part file)) Absent

@@ -3,7 +3,6 @@ ghost use Rattle.std.specs.Prelude.{◌≡◌};
 ghost use Rattle.reads.specs.Reference.{before};
 ghost use Rattle.universal.specs.Number.{be_in};
 
-use reads::answer::Word;
 use reads::place::{read_u32_be_at, read_u64_be_at};
 
 // The number of four bytes.
@@ -11,8 +10,8 @@ pub(crate) fn be32(bytes: &[u8], at: u64) -> u64
     ensures { result ≡ be_in (before bytes) 4 at }
 {
     match read_u32_be_at(bytes, at) {
-        Word::Value(n) => n,
-        Word::Missing(_) => 0,
+        Ok(n) => n,
+        Err(_) => 0,
     }
 }
 
@@ -21,7 +20,7 @@ pub(crate) fn be64(bytes: &[u8], at: u64) -> u64
     ensures { result ≡ be_in (before bytes) 8 at }
 {
     match read_u64_be_at(bytes, at) {
-        Word::Value(n) => n,
-        Word::Missing(_) => 0,
+        Ok(n) => n,
+        Err(_) => 0,
     }
 }

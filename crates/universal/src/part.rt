@@ -6,6 +6,7 @@ ghost use Rattle.universal.specs.Parts.{thin_part, thin_wanted, in_file, fat_wan
 use crate::arch::{Wanted, chosen, is_arch};
 use crate::fat::{Kind, NFAT_ARCH, Part, arch_at, kind_of, table_fits};
 use crate::number::be32;
+use reads::answer::Question;
 use reads::place::u32_from;
 
 // A part; or that there is none; or the number of the question that says no.
@@ -13,7 +14,7 @@ use reads::place::u32_from;
 pub enum PartAnswer {
     Found(Part),
     Absent,
-    Refused(u8),
+    Refused(Question),
 }
 
 // mach_header_64 (loader.h)
@@ -59,10 +60,10 @@ fn in_file(n: u64, p: Part) -> PartAnswer
     ensures { result ≡ in_file n p }
 {
     if n < p.offset {
-        return PartAnswer::Refused(16);
+        return PartAnswer::Refused(Question::LoadCommands);
     }
     if n - p.offset < p.size {
-        return PartAnswer::Refused(16);
+        return PartAnswer::Refused(Question::LoadCommands);
     }
     PartAnswer::Found(p)
 }
@@ -72,7 +73,7 @@ fn fat_wanted(file: &[u8], wide: bool, wanted: Wanted) -> PartAnswer
     ensures { result ≡ fat_wanted (before file) wide wanted }
 {
     if !table_fits(file, wide) {
-        return PartAnswer::Refused(16);
+        return PartAnswer::Refused(Question::LoadCommands);
     }
     let count = be32(file, NFAT_ARCH);
     let i = chosen(file, wide, count, wanted);
@@ -98,7 +99,7 @@ fn fat_at(file: &[u8], wide: bool, i: u64) -> PartAnswer
     ensures { result ≡ fat_at (before file) wide i }
 {
     if !table_fits(file, wide) {
-        return PartAnswer::Refused(16);
+        return PartAnswer::Refused(Question::LoadCommands);
     }
     if be32(file, NFAT_ARCH) <= i {
         return PartAnswer::Absent;

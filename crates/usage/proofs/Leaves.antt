@@ -7,7 +7,7 @@ use native.Mathlib.Omega.{arith}
 use lib.ListN.{length}
 use borrow.Author.Tests.{le-leb, lt-leb}
 use Rattle.reads.specs.Answer.{missed}
-use Rattle.reads.specs.Outcome.{Outcome, value, absent, number, and_then, is_absent}
+use Rattle.reads.specs.Outcome.{Outcome, value, absent, refused, and_then, is_absent}
 use Rattle.reads.specs.Files.{file_of}
 use Rattle.reads.specs.declared.answer.Missing.{Missing}
 use Rattle.reads.specs.declared.answer.Missing.TheVariants.{Absent, Refused}
@@ -50,7 +50,7 @@ module _ {W A : Type 0} (out : W → Outcome A) (m : List ℕ) where
       go : (o : Outcome A) → is_absent o ≡ true → n ≡ noted_all (if_absent o rs) m
       go (value a) q = absurd (true≢false (sym q))
       go (absent why) q = r
-      go (number k) q = absurd (true≢false (sym q))
+      go (refused k) q = absurd (true≢false (sym q))
 
   pub uses_present : (w : W) {x : Outcome A} {b : Bool} (rs : List Range) → out w ≡ x → b ≡ is_absent (out w) → b ≡ false → m ≡ noted_all (if_absent x rs) m
   uses_present w {x} {b} rs e g h = go x (sym (ap is_absent e) ∙ sym g ∙ h)
@@ -58,7 +58,7 @@ module _ {W A : Type 0} (out : W → Outcome A) (m : List ℕ) where
       go : (o : Outcome A) → is_absent o ≡ false → m ≡ noted_all (if_absent o rs) m
       go (value a) q = noted_none m
       go (absent why) q = absurd (true≢false q)
-      go (number k) q = noted_none m
+      go (refused k) q = noted_none m
 
 -- A field, by where it lies.
 module _ (files : List (List ℕ)) (k : ℕ) (p : Place) (i n : ℕ) (size : n ≡ length (file_of files p.file)) (m : List ℕ) where

@@ -3,16 +3,14 @@ use Prim.Native.Nat.{ℕ}
 use mathlib.Core.Path.{◌≡◌, refl, sym, ap, ◌∙◌}
 use mathlib.Core.Bool.{Bool, true, false, not, true≢false}
 use mathlib.Core.List.{List, [], ◌∷◌, ◌++◌}
-use Rattle.reads.specs.Answer.{missed, word_outcome, text_outcome}
+use Rattle.reads.specs.Answer.{missed, outcome}
 use Rattle.reads.specs.Outcome as outcomes
 use Rattle.reads.specs.Place as places
 use Rattle.reads.specs.Place.{Image}
 use Rattle.reads.specs.declared.answer.Reason.TheVariants.{NullAddress}
-use Rattle.reads.specs.declared.answer.Word.{Word}
-use Rattle.reads.specs.declared.text.TextAnswer.{TextAnswer}
 use Rattle.reads.proofs.Outcomes.{nonzero_zero, nonzero_else}
 use Rattle.reads.specs.Breaks.{is_value}
-use Rattle.reads.specs.Outcome.{Outcome, value, absent, number, and_then, or_else, or_zero, is_absent}
+use Rattle.reads.specs.Outcome.{Outcome, value, absent, refused, and_then, or_else, or_zero, is_absent}
 use Rattle.reads.proofs.Tests.{choose_true, choose_false}
 use Rattle.reads.specs.declared.answer.Missing.{Missing}
 use Rattle.reads.specs.declared.answer.Missing.TheVariants.{Absent, Refused}
@@ -29,6 +27,8 @@ use Rattle.ranges.specs.Sheet.{noted_all}
 use Rattle.used.specs.Used.{uses, used, uses_field, uses_word, uses_slot, uses_pointer, uses_text, uses_symbol}
 use Rattle.used.proofs.UsedParts.{used_done, used_asked, used_then, used_else, used_else_first, used_when}
 use Rattle.usage.specs.Traced.{traced, trace, going, going_on, going_after, lacks_after}
+use Rattle.std.specs.Prelude.{Result}
+use Rattle.reads.specs.declared.text.Text.{Text}
 
 pub noted_append : (rs ss : List Range) (m : List ℕ) → noted_all (rs ++ ss) m ≡ noted_all ss (noted_all rs m)
 unfolding noted_all
@@ -56,7 +56,7 @@ or0_uses t a = used_else t (slot a) (done 0) ∙ whole (slots.slot t a)
     whole : (o : Outcome ℕ) → used t (slot a) ++ if_absent o (used {A = ℕ} t (done 0)) ≡ uses_slot t a
     whole (value x) = append_none (used t (slot a)) ∙ used_asked t (ask.slot a)
     whole (absent r) = ap (λ (l : List Range). used t (slot a) ++ l) (used_done t 0) ∙ append_none (used t (slot a)) ∙ used_asked t (ask.slot a)
-    whole (number k) = append_none (used t (slot a)) ∙ used_asked t (ask.slot a)
+    whole (refused k) = append_none (used t (slot a)) ∙ used_asked t (ask.slot a)
 
 module _ (t : Tables) {m : List ℕ} where
   -- After the first part, which gives a value; and where that gives none.
@@ -108,7 +108,7 @@ module _ (t : Tables) {m : List ℕ} where
         go : (o : Outcome A) → run t d ≡ o → Notes t (then d f) m n
         go (value a) e = past d f a e (ap (λ x. x.sheet) g.is) (next a)
         go (absent r) e = absurd (true≢false (sym h ∙ ap (λ x. x.on) g.is ∙ ap is_value e))
-        go (number k) e = absurd (true≢false (sym h ∙ ap (λ x. x.on) g.is ∙ ap is_value e))
+        go (refused k) e = absurd (true≢false (sym h ∙ ap (λ x. x.on) g.is ∙ ap is_value e))
 
     pub goes_stop : Goes t d m m' b → b ≡ false → Notes t (then d f) m m'
     goes_stop g h = go (run t d) refl
@@ -116,7 +116,7 @@ module _ (t : Tables) {m : List ℕ} where
         go : (o : Outcome A) → run t d ≡ o → Notes t (then d f) m m'
         go (value a) e = absurd (true≢false (sym (ap is_value e) ∙ sym (ap (λ x. x.on) g.is) ∙ h))
         go (absent r) e = stops d f (Absent r) e (ap (λ x. x.sheet) g.is)
-        go (number k) e = stops d f (Refused k) e (ap (λ x. x.sheet) g.is)
+        go (refused k) e = stops d f (Refused k) e (ap (λ x. x.sheet) g.is)
 
   -- Nothing is used after it.
   module _ {A B : Type 0} {d : Decode A} {f : A → Decode B} {m' : List ℕ} where
@@ -126,7 +126,7 @@ module _ (t : Tables) {m : List ℕ} where
         go : (o : Outcome A) → run t d ≡ o → Notes t (then d f) m m'
         go (value a) e = past d f a e h (record { noted = unfold noted_all in ap (λ (l : List Range). noted_all l m') (sym (none a)) })
         go (absent r) e = stops d f (Absent r) e h
-        go (number k) e = stops d f (Refused k) e h
+        go (refused k) e = stops d f (Refused k) e h
 
   pub pointer_goes : {va k : ℕ} {b : Bool} {m' : List ℕ} → going b m' ≡ going_on (slots.pointer_or0 t va k) (noted_all (uses_pointer t va k) m) → Goes t (pointer_or0 va k) m m' b
   pointer_goes {va} {k} {b} {m'} e = record { is = e ∙ ap (λ (l : List Range). going_on (slots.pointer_or0 t va k) (noted_all l m)) (sym (used_asked t (ask.pointer_or0 va k))) }
@@ -147,7 +147,7 @@ module _ (t : Tables) {m : List ℕ} where
         go : (o : Outcome A) → run t d ≡ o → c ≡ is_value (and_then o (λ a. run t (f a)))
         go (value a) e = ap (λ x. x.on) (next a).is
         go (absent r) e = absurd (true≢false (sym h ∙ ap (λ x. x.on) g.is ∙ ap is_value e))
-        go (number k) e = absurd (true≢false (sym h ∙ ap (λ x. x.on) g.is ∙ ap is_value e))
+        go (refused k) e = absurd (true≢false (sym h ∙ ap (λ x. x.on) g.is ∙ ap is_value e))
 
     pub part_stop : Goes t d m m' b → b ≡ false → Goes t (then d f) m m' false
     part_stop g h = both (then d f) (goes_stop g h) (go (run t d) refl)
@@ -155,7 +155,7 @@ module _ (t : Tables) {m : List ℕ} where
         go : (o : Outcome A) → run t d ≡ o → false ≡ is_value (and_then o (λ a. run t (f a)))
         go (value a) e = absurd (true≢false (sym (ap is_value e) ∙ sym (ap (λ x. x.on) g.is) ∙ h))
         go (absent r) e = refl
-        go (number k) e = refl
+        go (refused k) e = refl
 
   -- Its last question.
   pub part_last : {A B : Type 0} {d : Decode A} {f : A → B} {b : Bool} {n : List ℕ} → Goes t d m n b → Goes t (then d (λ a. done (f a))) m n b
@@ -165,7 +165,7 @@ module _ (t : Tables) {m : List ℕ} where
       go : (o : Outcome A) → is_value o ≡ is_value (and_then o (λ a. value (f a)))
       go (value a) = refl
       go (absent r) = refl
-      go (number k) = refl
+      go (refused k) = refl
 
 pub noted_of : (t : Tables) {A : Type 0} (d : Decode A) {m n : List ℕ} → Notes t d m n → n ≡ noted_all (used t d) m
 noted_of t d h = h.noted
@@ -180,12 +180,12 @@ goes_by t d e = record { is = e }
 nothing_first : (t : Tables) {A : Type 0} (o : Outcome A) (us : A → List Range) → ((a : A) → us a ≡ []) → if_value o us ≡ []
 nothing_first t (value a) us h = h a
 nothing_first t (absent r) us h = refl
-nothing_first t (number k) us h = refl
+nothing_first t (refused k) us h = refl
 
 nothing_else : {A : Type 0} (o : Outcome A) (rs : List Range) → rs ≡ [] → if_absent o rs ≡ []
 nothing_else (value a) rs e = refl
 nothing_else (absent r) rs e = e
-nothing_else (number k) rs e = refl
+nothing_else (refused k) rs e = refl
 
 pub data_uses : (t : Tables) {B : Type 0} (a raw : ℕ) (f : ℕ → B) → used t (then (or0 (decode_data a raw)) (λ x. done (f x))) ≡ []
 unfolding decode_data
@@ -282,7 +282,7 @@ first_absent t {A} d e m {b} {m'} {n} g h next = go (run t d) refl
     go (absent r) q =
         next ∙ ap (noted_all (used t e)) (ap (λ x. x.sheet) g) ∙ sym (noted_append (used t d) (used t e) m)
         ∙ ap (λ (l : List Range). noted_all l m) (sym (used_else_first t d e ∙ ap (λ (o : Outcome A). used t d ++ if_absent o (used t e)) q))
-    go (number k) q = absurd (true≢false (sym h ∙ ap (λ x. x.on) g ∙ ap is_absent q))
+    go (refused k) q = absurd (true≢false (sym h ∙ ap (λ x. x.on) g ∙ ap is_absent q))
 
 pub first_there : (t : Tables) {A : Type 0} (d e : Decode A) (m : List ℕ) {b : Bool} {m' : List ℕ} → going b m' ≡ going (is_absent (run t d)) (noted_all (used t d) m) → b ≡ false → m' ≡ noted_all (used t (else_first d e)) m
 first_there t {A} d e m {b} {m'} g h = go (run t d) refl
@@ -293,7 +293,7 @@ first_there t {A} d e m {b} {m'} g h = go (run t d) refl
     go : (o : Outcome A) → run t d ≡ o → m' ≡ noted_all (used t (else_first d e)) m
     go (value a) q = alone (value a) q (append_none (used t d))
     go (absent r) q = absurd (true≢false (sym (ap is_absent q) ∙ sym (ap (λ x. x.on) g) ∙ h))
-    go (number k) q = alone (number k) q (append_none (used t d))
+    go (refused k) q = alone (refused k) q (append_none (used t d))
 
 -- The class_ro of a bits word, by whether its slot has a rebase.
 module _ (t : Tables) (a : ℕ) (m : List ℕ) where
@@ -304,12 +304,12 @@ module _ (t : Tables) (a : ℕ) (m : List ℕ) where
       ∙ ap (λ (l : List Range). l ++ if_absent (slots.rebase t a) (used t (asked (ask.picked_at a)))) (used_asked t (ask.rebase a))
       ∙ ap (λ (l : List Range). if_absent (slots.rebase t a) l) (used_asked t (ask.picked_at a))
 
-  pub ro_absent : (w r : Word) {b : Bool} {n : List ℕ} → word_outcome w ≡ slots.rebase t a → b ≡ is_absent (word_outcome w) → b ≡ true → word_outcome r ≡ picked_in (image_in t) a
-      → n ≡ noted_all (uses_word (image_in t) a) m → traced (word_outcome r) n ≡ trace t (decode_ro_data a) m
+  pub ro_absent : (w r : Result ℕ Missing) {b : Bool} {n : List ℕ} → outcome w ≡ slots.rebase t a → b ≡ is_absent (outcome w) → b ≡ true → outcome r ≡ picked_in (image_in t) a
+      → n ≡ noted_all (uses_word (image_in t) a) m → traced (outcome r) n ≡ trace t (decode_ro_data a) m
   unfolding decode_ro_data
   ro_absent w r {b} {n} e g h p s =
-      ap (λ (x : List ℕ). traced (word_outcome r) x) (s ∙ ap (λ (l : List Range). noted_all l m) (sym (ro_uses ∙ none)))
-      ∙ ap (λ (x : Outcome ℕ). traced x (noted_all (used t (decode_ro_data a)) m)) (p ∙ outcome)
+      ap (λ (x : List ℕ). traced (outcome r) x) (s ∙ ap (λ (l : List Range). noted_all l m) (sym (ro_uses ∙ none)))
+      ∙ ap (λ (x : Outcome ℕ). traced x (noted_all (used t (decode_ro_data a)) m)) (p ∙ found)
     where
       is_absent_here : is_absent (slots.rebase t a) ≡ true
       is_absent_here = sym (ap is_absent e) ∙ sym g ∙ h
@@ -317,15 +317,15 @@ module _ (t : Tables) (a : ℕ) (m : List ℕ) where
       by : (o : Outcome ℕ) → is_absent o ≡ true → (if_absent o (uses_word (image_in t) a) ≡ uses_word (image_in t) a) × (picked_in (image_in t) a ≡ or_else o (picked_in (image_in t) a))
       by (value x) q = absurd (true≢false (sym q))
       by (absent why) q = (refl, refl)
-      by (number k) q = absurd (true≢false (sym q))
+      by (refused k) q = absurd (true≢false (sym q))
 
       none : if_absent (slots.rebase t a) (uses_word (image_in t) a) ≡ uses_word (image_in t) a
       none = (by (slots.rebase t a) is_absent_here).0
 
-      outcome : picked_in (image_in t) a ≡ or_else (slots.rebase t a) (picked_in (image_in t) a)
-      outcome = (by (slots.rebase t a) is_absent_here).1
+      found : picked_in (image_in t) a ≡ or_else (slots.rebase t a) (picked_in (image_in t) a)
+      found = (by (slots.rebase t a) is_absent_here).1
 
-  pub ro_present : (w : Word) {b : Bool} → word_outcome w ≡ slots.rebase t a → b ≡ is_absent (word_outcome w) → b ≡ false → traced (word_outcome w) m ≡ trace t (decode_ro_data a) m
+  pub ro_present : (w : Result ℕ Missing) {b : Bool} → outcome w ≡ slots.rebase t a → b ≡ is_absent (outcome w) → b ≡ false → traced (outcome w) m ≡ trace t (decode_ro_data a) m
   unfolding decode_ro_data noted_all
   ro_present w {b} e g h =
       ap (λ (x : Outcome ℕ). traced x m) (e ∙ (by (slots.rebase t a) here).1)
@@ -337,7 +337,7 @@ module _ (t : Tables) (a : ℕ) (m : List ℕ) where
       by : (o : Outcome ℕ) → is_absent o ≡ false → (if_absent o (uses_word (image_in t) a) ≡ []) × (o ≡ or_else o (picked_in (image_in t) a))
       by (value x) q = (refl, refl)
       by (absent why) q = absurd (true≢false q)
-      by (number k) q = (refl, refl)
+      by (refused k) q = (refl, refl)
 
 -- The name of a class, which 0 has not.
 none_noted : (m : List ℕ) → m ≡ noted_all [] m
@@ -352,7 +352,7 @@ module _ (t : Tables) (va : ℕ) (m : List ℕ) where
       ap (going true) (stops t {m = m} (nonzero va) decode_class_name (Absent NullAddress) none (one t m (ask.nonzero va) (none_noted m))).noted
       ∙ ap (λ (x : Bool). going x (noted_all (used t (then (nonzero va) decode_class_name)) m)) (sym (ap (λ (o : Outcome ℕ). is_absent (and_then o (λ a. run t (decode_class_name a)))) none))
 
-  pub nonzero_name : (r : TextAnswer) {b : Bool} {n : List ℕ} → (va ≡ 0 → ⊥) → text_outcome r ≡ run t (decode_class_name va) → b ≡ is_absent (text_outcome r) → n ≡ noted_all (used t (decode_class_name va)) m
+  pub nonzero_name : (r : Result Text Missing) {b : Bool} {n : List ℕ} → (va ≡ 0 → ⊥) → outcome r ≡ run t (decode_class_name va) → b ≡ is_absent (outcome r) → n ≡ noted_all (used t (decode_class_name va)) m
       → going b n ≡ going (is_absent (run t (decode_nonzero_class_name va))) (noted_all (used t (decode_nonzero_class_name va)) m)
   unfolding decode_nonzero_class_name
   nonzero_name r {b} {n} h e g s =
@@ -399,4 +399,4 @@ module _ (t : Tables) (m : List ℕ) {B : Type 0} where
       same : (o : Outcome A) → is_absent o ≡ is_absent (and_then o (λ a. value (g a)))
       same (value a) = refl
       same (absent r) = refl
-      same (number k) = refl
+      same (refused k) = refl

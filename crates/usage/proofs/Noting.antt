@@ -3,10 +3,9 @@ use Prim.Native.Nat.{ℕ}
 use mathlib.Core.Path.{◌≡◌, refl, sym, ap, ◌∙◌}
 use mathlib.Core.Bool.{Bool, true, false, true≢false}
 use mathlib.Core.List.{List, [], ◌++◌, append-nil}
-use Rattle.reads.specs.Answer.{missed, text_outcome}
-use Rattle.reads.specs.declared.text.TextAnswer.{TextAnswer}
+use Rattle.reads.specs.Answer.{missed, outcome}
 use Rattle.reads.specs.Breaks.{is_value}
-use Rattle.reads.specs.Outcome.{Outcome, value, absent, number, Unrefused, a_value, an_absence, and_then, or_zero, choose, text_of}
+use Rattle.reads.specs.Outcome.{Outcome, value, absent, refused, Unrefused, a_value, an_absence, and_then, or_zero, choose, text_of}
 use Rattle.reads.specs.Outcome.{or_empty as or_empty_of}
 use Rattle.reads.proofs.Unrefused.{text_in_unrefused}
 use Rattle.reads.specs.declared.answer.Missing.{Missing}
@@ -18,7 +17,6 @@ use Rattle.reads.specs.declared.place.Place.{Place}
 use Rattle.reads.proofs.Tests.{choose_true, choose_false}
 use Rattle.pointers.specs.Bytes as bytes
 use Rattle.records.specs.Row.{decode_selector, decode_types, decode_offset}
-use Rattle.records.specs.declared.ivar.IvarOffset.TheVariants as offset
 use Rattle.records.specs.Ask as asks
 use Rattle.records.specs.Ask.{Ask, Answer, answer}
 use Rattle.records.specs.Asks.{if_value, if_absent}
@@ -30,6 +28,7 @@ use Rattle.used.specs.Used.{uses, used}
 use Rattle.used.proofs.UsedParts.{used_done, used_asked, used_then, used_else, used_when}
 use Rattle.usage.specs.Traced.{traced, trace, going, going_on}
 use Rattle.usage.proofs.Leaves.{both_are}
+use Rattle.std.specs.Prelude.{Result, Some, None}
 
 module _ (t : Tables) {A B : Type 0} (d : Decode A) (f : A → Decode B) where
   -- After a value the rest is noted on the sheet on which the first part was.
@@ -51,7 +50,7 @@ module _ (t : Tables) {A B : Type 0} (d : Decode A) (f : A → Decode B) where
       go : (o : Outcome A) → run t d ≡ o → is_value o ≡ false → m₁ ≡ noted_all (used t (then d f)) m
       go (value a) q n = absurd (true≢false n)
       go (absent r) q n = ends (absent r) q refl
-      go (number k) q n = ends (number k) q refl
+      go (refused k) q n = ends (refused k) q refl
 
   -- The last part, after which nothing is used.
   pub noted_last : (m : List ℕ) {m₁ : List ℕ} → m₁ ≡ noted_all (used t d) m → ((a : A) → used t (f a) ≡ []) → m₁ ≡ noted_all (used t (then d f)) m
@@ -60,7 +59,7 @@ module _ (t : Tables) {A B : Type 0} (d : Decode A) (f : A → Decode B) where
       go : (o : Outcome A) → run t d ≡ o → m₁ ≡ noted_all (used t (then d f)) m
       go (value a) q = noted_next a m q g (rw (none a) (unfold noted_all in refl))
       go (absent r) q = noted_stop m (ap is_value q) g
-      go (number k) q = noted_stop m (ap is_value q) g
+      go (refused k) q = noted_stop m (ap is_value q) g
 
   -- By an answer that says whether to go on.
   pub going_next : {on : Bool} (m : List ℕ) {m₁ m₂ : List ℕ} → going on m₁ ≡ going_on (run t d) (noted_all (used t d) m) → on ≡ true
@@ -70,7 +69,7 @@ module _ (t : Tables) {A B : Type 0} (d : Decode A) (f : A → Decode B) where
       go : (o : Outcome A) → run t d ≡ o → is_value (run t d) ≡ true → m₂ ≡ noted_all (used t (then d f)) m
       go (value a) q n = noted_next a m q (ap (λ x. x.sheet) e) (h a)
       go (absent r) q n = absurd (true≢false (sym n ∙ ap is_value q))
-      go (number k) q n = absurd (true≢false (sym n ∙ ap is_value q))
+      go (refused k) q n = absurd (true≢false (sym n ∙ ap is_value q))
 
   pub going_stop : {on : Bool} (m : List ℕ) {m₁ : List ℕ} → going on m₁ ≡ going_on (run t d) (noted_all (used t d) m) → on ≡ false
       → m₁ ≡ noted_all (used t (then d f)) m
@@ -133,7 +132,7 @@ used_or t q a = used_else t (asked q) (done a) ∙ ap (λ l. used t (asked q) ++
     go : (o : Outcome (Answer q)) → used t (asked q) ++ if_absent o [] ≡ used t (asked q)
     go (value x) = append-nil (used t (asked q))
     go (absent r) = append-nil (used t (asked q))
-    go (number k) = append-nil (used t (asked q))
+    go (refused k) = append-nil (used t (asked q))
 
 -- The last part of a row: a text that need not be there.
 pub noted_text : (t : Tables) {B : Type 0} (va : ℕ) (f : Text → Decode B) (m : List ℕ) {m₁ : List ℕ} → m₁ ≡ noted_all (uses t (asks.string va)) m
@@ -159,7 +158,7 @@ noted_or t {A} d a m g = g ∙ ap (λ l. noted_all l m) (sym (used_else t d (don
     go : (o : Outcome A) → used t d ++ if_absent o [] ≡ used t d
     go (value x) = append-nil (used t d)
     go (absent r) = append-nil (used t d)
-    go (number k) = append-nil (used t d)
+    go (refused k) = append-nil (used t d)
 
 -- The text at an address that is known otherwise.
 pub text_at : (t : Tables) (va at : ℕ) (m : List ℕ) {m₁ : List ℕ} → va ≡ at → m₁ ≡ noted_all (uses t (asks.string va)) m → m₁ ≡ noted_all (uses t (asks.string at)) m
@@ -216,7 +215,7 @@ pub missing_none : (k : Missing) → false ≡ is_value {A = Text} (missed k)
 missing_none (Absent r) = refl
 missing_none (Refused j) = refl
 
-pub going_text : {b : Bool} {o : Outcome Text} {m n : List ℕ} (w : TextAnswer) → text_outcome w ≡ o → b ≡ is_value (text_outcome w) → m ≡ n → going b m ≡ going_on o n
+pub going_text : {b : Bool} {o : Outcome Text} {m n : List ℕ} (w : Result Text Missing) → outcome w ≡ o → b ≡ is_value (outcome w) → m ≡ n → going b m ≡ going_on o n
 going_text w e i f = rw (i, f, ← e) refl
 
 -- A small method's selector: the target of its offset, or what the slot there holds.
@@ -250,9 +249,9 @@ types_noted t field p m {m₁} target g e h =
     (text_or t (relative field (bytes.i32_in t p 4)) m₁ (text_at t target (relative field (bytes.i32_in t p 4)) m₁ e h))
 
 pub offset_noted : (t : Tables) (cell : ℕ) (m : List ℕ) {m₁ : List ℕ}
-    → m₁ ≡ noted_all (used t (then (nonzero cell) (λ a. then (readable a 4) (λ p. then (u32_in p 0) (λ n. done (offset.At n)))))) m → m₁ ≡ noted_all (used t (decode_offset cell)) m
+    → m₁ ≡ noted_all (used t (then (nonzero cell) (λ a. then (readable a 4) (λ p. then (u32_in p 0) (λ n. done (Some n)))))) m → m₁ ≡ noted_all (used t (decode_offset cell)) m
 unfolding decode_offset
-offset_noted t cell m g = noted_or t (then (nonzero cell) (λ a. then (readable a 4) (λ p. then (u32_in p 0) (λ n. done (offset.At n))))) offset.Nothing m g
+offset_noted t cell m g = noted_or t (then (nonzero cell) (λ a. then (readable a 4) (λ p. then (u32_in p 0) (λ n. done (Some n))))) None m g
 
 -- A part that uses nothing, answered by a call.
 module _ (t : Tables) {A B : Type 0} (d : Decode A) (f : A → Decode B) {W : Type 0} (out : W → Outcome A) {w v : W} (is : w ≡ v) where
@@ -277,7 +276,7 @@ none_then t {A} d f n h = used_then t d f ∙ ap (λ l. l ++ if_value (run t d) 
     go : (o : Outcome A) → if_value o (λ a. used t (f a)) ≡ []
     go (value a) = h a
     go (absent r) = refl
-    go (number k) = refl
+    go (refused k) = refl
 
 pub sum_none : (t : Tables) {B : Type 0} (va k : ℕ) (g : ℕ → B) → used t (then (sum64 va k) (λ base. done (g base))) ≡ []
 sum_none t va k g = none_then t (sum64 va k) (λ base. done (g base)) (used_asked t (asks.sum64 va k)) (λ base. used_done t (g base))

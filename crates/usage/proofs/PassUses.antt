@@ -7,7 +7,7 @@ use mathlib.Core.List.{List, [], ◌∷◌, ◌++◌, map}
 use lib.Dec.{eqb}
 use lib.ListN.{length}
 use borrow.Author.Tests.{eqb-true}
-use Rattle.reads.specs.Outcome.{Outcome, value, absent, number, Unrefused, a_value, an_absence, and_then, choose}
+use Rattle.reads.specs.Outcome.{Outcome, value, absent, refused, Unrefused, a_value, an_absence, and_then, choose}
 use Rattle.reads.specs.declared.text.Text.{Text}
 use Rattle.pointers.specs.Open.{Opened}
 use Rattle.pointers.specs.Tables.{Tables, image_in}
@@ -59,7 +59,7 @@ any p (x ∷ xs) = p x || any p xs
 abbrev hit : {A : Type 0} → Outcome A → (A → Bool) → Bool
 hit (value a) p = p a
 hit (absent r) p = false
-hit (number k) p = false
+hit (refused k) p = false
 
 any_append : {A : Type 0} (p : A → Bool) (xs ys : List A) → any p (xs ++ ys) ≡ (any p xs || any p ys)
 unfolding any
@@ -127,7 +127,7 @@ module _ (t : Tables) (f b : ℕ) where
       go : (o : Outcome A) → covers (if_value o (λ a. used t (g a))) f b ≡ hit o (λ a. has (g a))
       go (value a) = refl
       go (absent r) = unfold covers in refl
-      go (number k) = unfold covers in refl
+      go (refused k) = unfold covers in refl
 
   has_of : {A B : Type 0} (d : Decode A) (g : A → Decode (List B)) → has (of_value d g) ≡ (has d || hit (run t d) (λ a. has (g a)))
   has_of {A} {B} d g =
@@ -138,7 +138,7 @@ module _ (t : Tables) (f b : ℕ) where
       go : (o : Outcome A) → hit (tried_of o) (λ x. has (or_nothing g x)) ≡ hit o (λ a. has (g a))
       go (value a) = refl
       go (absent r) = has_done {A = List B} []
-      go (number k) = refl
+      go (refused k) = refl
 
   -- What is made of a value at the end uses nothing.
   has_last : {A B : Type 0} (d : Decode A) (g : A → B) → has (then d (λ a. done (g a))) ≡ has d
@@ -147,7 +147,7 @@ module _ (t : Tables) (f b : ℕ) where
       go : (o : Outcome A) → hit o (λ a. has (done (g a))) ≡ false
       go (value a) = has_done (g a)
       go (absent r) = refl
-      go (number k) = refl
+      go (refused k) = refl
 
   has_each : {A B : Type 0} (g : A → B) (d : Decode (List A)) → has (as_each g d) ≡ has d
   has_each g d = has_last d (map g)
@@ -158,7 +158,7 @@ module _ (t : Tables) (f b : ℕ) where
       go : (o : Outcome A) → hit o (λ a. has (done (a ∷ []))) ≡ false
       go (value a) = has_done (a ∷ [])
       go (absent r) = refl
-      go (number k) = refl
+      go (refused k) = refl
 
   has_joined : {A : Type 0} (d e : Decode (List A)) → There (run t d) → has (joined d e) ≡ (has d || has e)
   has_joined {A} d e h =
@@ -273,7 +273,7 @@ module _ (t : Tables) (o : Opened t) where
       go : (x : Outcome A) → hit (and_then (tried_of x) (λ y. run t (or_nothing (λ a. done (a ∷ [])) y))) (any q) ≡ hit x q
       go (value a) = or_false (q a)
       go (absent r) = refl
-      go (number k) = refl
+      go (refused k) = refl
 
   module _ (f b : ℕ) where
     abbrev uses : {A : Type 0} → Decode A → Bool
@@ -292,7 +292,7 @@ module _ (t : Tables) (o : Opened t) where
         go : (x : Outcome Row) → hit x (λ r. uses (done (row_line n r ∷ []))) ≡ false
         go (value r) = has_done t f b (row_line n r ∷ [])
         go (absent r) = refl
-        go (number k) = refl
+        go (refused k) = refl
 
     entry_there : (h : Layout) (j : ℕ) → There (run t (decode_entry h j))
     entry_there h j = go (unrefused t o (decode_row h.kind (entry_address h j)))
@@ -307,7 +307,7 @@ module _ (t : Tables) (o : Opened t) where
     hit_same : {A : Type 0} (x : Outcome A) {p q : A → Bool} → ((a : A) → p a ≡ q a) → hit x p ≡ hit x q
     hit_same (value a) h = h a
     hit_same (absent r) h = refl
-    hit_same (number k) h = refl
+    hit_same (refused k) h = refl
 
     rows_have : (n : ℕ) (k : ListKind) (va : ℕ) → uses (decode_entries (row_list k va)) ≡ uses (decode_field_lines n (row_list k va))
     unfolding decode_entries decode_field_lines
@@ -520,7 +520,7 @@ module _ (t : Tables) (o : Opened t) where
             ∙ ap (λ (y : Bool). (uses (decode_class a false) || y) || (lined (a_record.Class c) || hit (run t (meta c)) (λ m. lined (a_record.Class m)))) (sym (with_meta_uses c))
             ∙ ap (λ (y : Bool). (uses (decode_class a false) || uses (decode_with_meta c)) || y) (sym (meta_hit c))
         go (absent r) = sym (unfold any in or_false (uses (decode_class a false) || false))
-        go (number k) = sym (or_false (uses (decode_class a false) || false))
+        go (refused k) = sym (or_false (uses (decode_class a false) || false))
 
     -- Categories and protocols: present, and their lines.
     present_each : {A : Type 0} (d : Decode A) (x : A → Record) → uses (of_value d (λ r. decode_lines_of (x r))) ≡ (uses (present d) || hit (run t (present d)) (any (λ r. lined (x r))))
@@ -553,7 +553,7 @@ module _ (t : Tables) (o : Opened t) where
             ap (λ (y : Bool). uses (decode_address s) || y) (protocol_each p)
             ∙ or_assoc (uses (decode_address s)) (uses (present (decode_protocol p))) (hit (run t (present (decode_protocol p))) (any (λ r. lined (a_record.Protocol r))))
         go (absent r) = sym (unfold any in or_false (uses (decode_address s) || false))
-        go (number k) = sym (or_false (uses (decode_address s) || false))
+        go (refused k) = sym (or_false (uses (decode_address s) || false))
 
     protocol_there : (a : ℕ) → There (run t (pass_protocol a))
     unfolding pass_protocol

@@ -3,7 +3,6 @@ use Prim.Native.Nat.{ℕ, suc, ◌+◌, ◌-◌, ◌≤◌, ◌<◌, ◌^◌}
 use mathlib.Core.Path.{◌≡◌, refl, sym, ap, ◌∙◌}
 use mathlib.Core.Bool.{true}
 use mathlib.Core.List.{List, ◌++◌, append-nil}
-use mathlib.Core.Option.{some}
 use native.Mathlib.Omega.{arith}
 use borrow.Author.Tests.{ltb-true}
 use lib.Dec.{ltb}
@@ -18,9 +17,7 @@ use Rattle.pointers.specs.Tables.{Tables, image_in}
 use Rattle.records.specs.Asks.{if_value}
 use Rattle.records.specs.List.{entry, entry_address, decode_list, list_at, least}
 use Rattle.records.specs.Row.{decode_row}
-use Rattle.records.specs.Search.{first, all_from, first_readable, readables, entry_of}
-use Rattle.records.specs.declared.list.Entry.{Entry}
-use Rattle.records.specs.declared.list.Entry.TheVariants as entries
+use Rattle.records.specs.Search.{first, all_from, first_readable, readables}
 use Rattle.records.specs.declared.list.Layout.{Layout}
 use Rattle.records.specs.declared.list.ListKind.{ListKind}
 use Rattle.records.proofs.Firsts.{first_some, all_of_some, all_of_first_none}
@@ -28,11 +25,12 @@ use Rattle.ranges.specs.Sheet.{noted_all}
 use Rattle.ranges.proofs.SheetLaws.{noted_append}
 use Rattle.used.specs.Used.{used}
 use Rattle.usage.specs.ListUses.{rows_use, list_uses}
+use Rattle.std.specs.Prelude.{Option, Some, None}
 
-module _ (m : Image) (h : Layout) (i j : ℕ) (e : Entry) (said : entry_of e ≡ first_readable m h i) (is : e ≡ entries.At j) where
-  found : first (entry m h) (h.count - i) i ≡ some j
+module _ (m : Image) (h : Layout) (i j : ℕ) (e : Option ℕ) (said : e ≡ first_readable m h i) (is : e ≡ Some j) where
+  found : first (entry m h) (h.count - i) i ≡ Some j
   unfolding first_readable
-  found = sym said ∙ ap entry_of is
+  found = sym said ∙ is
 
   pub below_count : j < h.count
   below_count = let f = first_some (entry m h) (h.count - i) i j found in let a = f.from in let b = f.below in omega arith
@@ -62,11 +60,11 @@ module _ (m : Image) (h : Layout) (i j : ℕ) (e : Entry) (said : entry_of e ≡
       ∙ ap (λ k. noted_all (rows_use t h (all_from (entry m h) k (suc j))) s') left
       ∙ ap (λ k. noted_all (rows_use t h (all_from (entry m h) (h.count - (j + 1)) k)) s') next)
 
-pub rows_end : (t : Tables) (m : Image) (h : Layout) (i : ℕ) (e : Entry) (s w : List ℕ) → entry_of e ≡ first_readable m h i → e ≡ entries.Nothing
+pub rows_end : (t : Tables) (m : Image) (h : Layout) (i : ℕ) (e : Option ℕ) (s w : List ℕ) → e ≡ first_readable m h i → e ≡ None
     → noted_all (rows_use t h (all_from (entry m h) (h.count - i) i)) s ≡ w → s ≡ w
 unfolding rows_use noted_all first_readable
 rows_end t m h i e s w said is g =
-    sym (ap (λ l. noted_all (rows_use t h l) s) (all_of_first_none (entry m h) (h.count - i) i (sym said ∙ ap entry_of is))) ∙ g
+    sym (ap (λ l. noted_all (rows_use t h l) s) (all_of_first_none (entry m h) (h.count - i) i (sym said ∙ is))) ∙ g
 
 pub rows_all : (t : Tables) (m : Image) (h : Layout) (s : List ℕ) → noted_all (rows_use t h (all_from (entry m h) (h.count - 0) 0)) s ≡ noted_all (rows_use t h (readables m h)) s
 unfolding readables

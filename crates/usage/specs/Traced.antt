@@ -6,6 +6,7 @@ use Rattle.pointers.specs.Tables.{Tables}
 use Rattle.records.specs.Decode.{Decode, run}
 use Rattle.ranges.specs.Sheet.{noted_all}
 use Rattle.used.specs.Used.{used}
+use Rattle.reads.specs.Answer.{outcome}
 
 pub record Traced (A : Type 0) : Type 0 where
   pub outcome : Outcome A

@@ -1,24 +1,24 @@
 // Categories, noted on a sheet: the reads of category_t, in the order of its definition (records/specs/Category.antt).
 ghost use Rattle.std.specs.Prelude.{◌≡◌};
 ghost use Rattle.pointers.specs.Tables.{lent, under};
-ghost use Rattle.reads.specs.Answer.{place_outcome};
 ghost use Rattle.reads.specs.Outcome.{choose};
 ghost use Rattle.reads.specs.Place.{lent_image, readable};
 ghost use Rattle.records.specs.Category.{decode_category_lists, decode_category_properties, decode_category_of, decode_category};
 ghost use Rattle.ranges.specs.Sheet.{noted_all};
 ghost use Rattle.used.specs.Used.{used};
 ghost use Rattle.usage.specs.Traced.{going, going_after};
+ghost use Rattle.reads.specs.Answer.{outcome};
 
 use crate::leaf::{note_pointer_or_0, note_slot, note_text};
-use pointers::imageinfo::{ImageInfo, ImageInfoAnswer};
+use pointers::imageinfo::ImageInfo;
 use pointers::setting::Setting;
 use ranges::sheet::WORDS;
-use reads::answer::Word;
-use reads::place::{Placed, readable};
+use reads::answer::Missing;
+use reads::place::{Place, readable};
 
 // Whether the category's bytes can be read: it is wider where it has the field for class properties.
-fn whole_category(files: &[&[u8]], segments: &[u64], va: u64, wide: bool) -> Placed
-    ensures { place_outcome result ≡ readable (lent_image files segments) va (choose wide 56 48) }
+fn whole_category(files: &[&[u8]], segments: &[u64], va: u64, wide: bool) -> Result<Place, Missing>
+    ensures { outcome result ≡ readable (lent_image files segments) va (choose wide 56 48) }
 {
     if wide {
         return readable(files, segments, va, 56);
@@ -94,10 +94,10 @@ fn note_category_of(
     ensures { let t = under setting (lent files segments sections info rebases binds index) in
         sheet.new ≡ noted_all (used t (decode_category_of va wide)) sheet.old }
 {
-    let Placed::At(_p) = whole_category(files, segments, va, wide) else {
+    let Ok(_p) = whole_category(files, segments, va, wide) else {
         return;
     };
-    let Word::Value(name) = note_slot(files, segments, rebases, index, setting, va, sheet) else {
+    let Ok(name) = note_slot(files, segments, rebases, index, setting, va, sheet) else {
         return;
     };
     if !note_pointer_or_0(files, segments, rebases, index, setting, va, 8, sheet) {
@@ -133,12 +133,12 @@ pub fn note_category(
         sheet.new ≡ noted_all (used t (decode_category va)) sheet.old }
 {
     match ImageInfo::parse(info) {
-        ImageInfoAnswer::Info(i) => {
+        Ok(i) => {
             let wide = i.has_category_class_properties();
             note_category_of(
                 files, segments, sections, info, rebases, binds, index, setting, va, wide, sheet,
             );
         }
-        ImageInfoAnswer::Missing(_) => {}
+        Err(_) => {}
     }
 }

@@ -11,8 +11,8 @@ use crate::leaf::{
 };
 use pointers::setting::Setting;
 use ranges::sheet::WORDS;
-use reads::answer::{Word, checked_add};
-use reads::place::{Placed, readable};
+use reads::answer::checked_add;
+use reads::place::readable;
 
 // class_t: isa, superclass, bits.
 pub fn note_class(
@@ -31,13 +31,13 @@ pub fn note_class(
     ensures { let t = under setting (lent files segments sections info rebases binds index) in
         sheet.new ≡ noted_all (used t (decode_class va is_meta)) sheet.old }
 {
-    let Placed::At(_p) = readable(files, segments, va, 40) else {
+    let Ok(_p) = readable(files, segments, va, 40) else {
         return;
     };
-    let Word::Value(super_slot) = checked_add(va, 8) else {
+    let Ok(super_slot) = checked_add(va, 8) else {
         return;
     };
-    let Word::Value(bits_slot) = checked_add(va, 32) else {
+    let Ok(bits_slot) = checked_add(va, 32) else {
         return;
     };
     if !note_slot_or_0(files, segments, rebases, index, setting, va, sheet) {
@@ -96,7 +96,7 @@ pub fn note_class_ro(
     ensures { let t = under setting (lent files segments sections info rebases binds index) in
         sheet.new ≡ noted_all (used t (decode_class_ro va)) sheet.old }
 {
-    let Placed::At(p) = readable(files, segments, va, 72) else {
+    let Ok(p) = readable(files, segments, va, 72) else {
         return;
     };
     note_field(files, p, 0, 4, sheet);
@@ -105,8 +105,7 @@ pub fn note_class_ro(
     if !note_pointer_or_0(files, segments, rebases, index, setting, va, 16, sheet) {
         return;
     }
-    let Word::Value(name) = note_pointer(files, segments, rebases, index, setting, va, 24, sheet)
-    else {
+    let Ok(name) = note_pointer(files, segments, rebases, index, setting, va, 24, sheet) else {
         return;
     };
     if !note_ro_lists(

@@ -1,7 +1,6 @@
 // Names of classes, noted on a sheet: by the class that a record's slot at +8 holds, else by the slot's bind (records/specs/Class.antt).
 ghost use Rattle.std.specs.Prelude.{◌≡◌};
 ghost use Rattle.pointers.specs.Tables.{lent, under};
-ghost use Rattle.reads.specs.Answer.{word_outcome, text_outcome};
 ghost use Rattle.reads.specs.Outcome.{is_absent};
 ghost use Rattle.reads.specs.Place.{lent_image};
 ghost use Rattle.records.specs.Ask.{picked_in};
@@ -10,24 +9,25 @@ ghost use Rattle.records.specs.Decode.{run};
 ghost use Rattle.ranges.specs.Sheet.{noted_all};
 ghost use Rattle.used.specs.Used.{used};
 ghost use Rattle.usage.specs.Traced.{traced, trace, going};
+ghost use Rattle.reads.specs.Answer.{outcome};
 
 use crate::leaf::{note_pointer, note_symbol, note_text, note_word};
 use pointers::setting::Setting;
 use pointers::slot::rebase_at;
 use ranges::sheet::WORDS;
 use reads::address::Address;
-use reads::answer::{Missing, Word, checked_add, is_absent};
-use reads::place::{Placed, read_u64, readable};
-use reads::text::TextAnswer;
+use reads::answer::{Missing, checked_add, is_absent};
+use reads::place::{read_u64, readable};
+use reads::text::Text;
 use records::class::class_name_at;
 
 // The pick of the word in a slot.
-fn picked_at(files: &[&[u8]], segments: &[u64], slot: u64) -> Word
-    ensures { word_outcome result ≡ picked_in (lent_image files segments) slot }
+fn picked_at(files: &[&[u8]], segments: &[u64], slot: u64) -> Result<u64, Missing>
+    ensures { outcome result ≡ picked_in (lent_image files segments) slot }
 {
     match read_u64(files, segments, slot) {
-        Word::Value(raw) => Address::pick(segments, raw),
-        Word::Missing(m) => Word::Missing(m),
+        Ok(raw) => Address::pick(segments, raw),
+        Err(m) => Err(m),
     }
 }
 
@@ -43,9 +43,9 @@ fn note_ro_data(
     setting: Setting,
     slot: u64,
     sheet: &mut [u64; WORDS],
-) -> Word
+) -> Result<u64, Missing>
     ensures { let t = under setting (lent files segments sections info rebases binds index) in
-        traced (word_outcome result) sheet.new ≡ trace t (decode_ro_data slot) sheet.old }
+        traced (outcome result) sheet.new ≡ trace t (decode_ro_data slot) sheet.old }
 {
     let target = rebase_at(rebases, index, setting, slot);
     if is_absent(target) {
@@ -71,31 +71,30 @@ fn note_class_name(
     ensures { let t = under setting (lent files segments sections info rebases binds index) in
         sheet.new ≡ noted_all (used t (decode_class_name va)) sheet.old }
 {
-    let Placed::At(_p) = readable(files, segments, va, 40) else {
+    let Ok(_p) = readable(files, segments, va, 40) else {
         return;
     };
-    let Word::Value(bits) = checked_add(va, 32) else {
+    let Ok(bits) = checked_add(va, 32) else {
         return;
     };
-    let Word::Value(ro) = note_ro_data(
+    let Ok(ro) = note_ro_data(
         files, segments, sections, info, rebases, binds, index, setting, bits, sheet,
     ) else {
         return;
     };
-    let Word::Value(name) = note_pointer(files, segments, rebases, index, setting, ro, 24, sheet)
-    else {
+    let Ok(name) = note_pointer(files, segments, rebases, index, setting, ro, 24, sheet) else {
         return;
     };
     note_text(files, segments, name, sheet);
 }
 
 // The text is absent.
-fn text_absent(name: TextAnswer) -> bool
-    ensures { result ≡ is_absent (text_outcome name) }
+fn text_absent(name: Result<Text, Missing>) -> bool
+    ensures { result ≡ is_absent (outcome name) }
 {
     match name {
-        TextAnswer::Found(_) => false,
-        TextAnswer::Missing(m) => match m {
+        Ok(_) => false,
+        Err(m) => match m {
             Missing::Absent(_) => true,
             Missing::Refused(_) => false,
         },
@@ -146,8 +145,8 @@ fn note_bound_name(
         sheet.new ≡ noted_all (used t (decode_bound_name address)) sheet.old }
 {
     match checked_add(address, 8) {
-        Word::Value(slot) => note_symbol(files, rebases, binds, index, slot, sheet),
-        Word::Missing(_) => {}
+        Ok(slot) => note_symbol(files, rebases, binds, index, slot, sheet),
+        Err(_) => {}
     }
 }
 

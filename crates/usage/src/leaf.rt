@@ -1,7 +1,6 @@
 // Reads that are noted on a sheet: each notes the bytes that the question of the same name uses (used/specs/Used.antt), and some answer it.
 ghost use Rattle.std.specs.Prelude.{◌≡◌};
 ghost use Rattle.reads.specs.Reference.{before};
-ghost use Rattle.reads.specs.Answer.{word_outcome};
 ghost use Rattle.reads.specs.Outcome.{or_zero};
 ghost use Rattle.reads.specs.Files.{files_of};
 ghost use Rattle.reads.specs.Place.{lent_image};
@@ -9,23 +8,24 @@ ghost use Rattle.pointers.specs.Slot.{resolve, pointer_at, pointer_or0_at};
 ghost use Rattle.ranges.specs.Sheet.{noted_all};
 ghost use Rattle.used.specs.Used.{uses_word, uses_field, uses_slot_in, uses_pointer_in, uses_text, uses_symbol_in};
 ghost use Rattle.usage.specs.Traced.{traced, going, going_on};
+ghost use Rattle.reads.specs.Answer.{outcome};
 
 use pointers::setting::Setting;
 use pointers::slot::{bind_at, rebase_at, resolve_pointer, slot_or_0};
 use ranges::sheet::{WORDS, note};
-use reads::answer::{Word, checked_add, is_absent, nonzero};
+use reads::answer::{Missing, checked_add, is_absent, nonzero};
 use reads::files::file_len;
-use reads::place::{Place, Placed, readable};
+use reads::place::{Place, readable};
 use reads::segment::vm_to_file_offset_in;
-use reads::text::{Reading, TextAnswer, read_cstr_at};
+use reads::text::{Reading, read_cstr_at};
 
 // The word of 8 bytes at an address.
 pub fn note_word(files: &[&[u8]], segments: &[u64], va: u64, sheet: &mut [u64; WORDS])
     ensures { sheet.new ≡ noted_all (uses_word (lent_image files segments) va) sheet.old }
 {
     match readable(files, segments, va, 8) {
-        Placed::At(p) => note(sheet, p.file, p.offset, 8),
-        Placed::Missing(_) => {}
+        Ok(p) => note(sheet, p.file, p.offset, 8),
+        Err(_) => {}
     }
 }
 
@@ -72,8 +72,8 @@ pub fn note_slot(
     setting: Setting,
     slot: u64,
     sheet: &mut [u64; WORDS],
-) -> Word
-    ensures { traced (word_outcome result) sheet.new
+) -> Result<u64, Missing>
+    ensures { traced (outcome result) sheet.new
         ≡ traced (resolve (lent_image files segments) (before rebases) (before index) setting slot)
         (noted_all (uses_slot_in (lent_image files segments) (before rebases) (before index) setting slot) sheet.old) }
 {
@@ -97,8 +97,8 @@ pub fn note_slot_or_0(
 {
     note_stored(files, segments, rebases, index, setting, slot, sheet);
     match slot_or_0(files, segments, rebases, index, setting, slot) {
-        Word::Value(_) => true,
-        Word::Missing(_) => false,
+        Ok(_) => true,
+        Err(_) => false,
     }
 }
 
@@ -112,14 +112,14 @@ pub fn note_pointer(
     va: u64,
     k: u64,
     sheet: &mut [u64; WORDS],
-) -> Word
-    ensures { traced (word_outcome result) sheet.new
+) -> Result<u64, Missing>
+    ensures { traced (outcome result) sheet.new
         ≡ traced (pointer_at (lent_image files segments) (before rebases) (before index) setting va k)
         (noted_all (uses_pointer_in (lent_image files segments) (before rebases) (before index) setting va k) sheet.old) }
 {
     match checked_add(va, k) {
-        Word::Value(slot) => note_slot(files, segments, rebases, index, setting, slot, sheet),
-        Word::Missing(m) => Word::Missing(m),
+        Ok(slot) => note_slot(files, segments, rebases, index, setting, slot, sheet),
+        Err(m) => Err(m),
     }
 }
 
@@ -139,8 +139,8 @@ pub fn note_pointer_or_0(
         (noted_all (uses_pointer_in (lent_image files segments) (before rebases) (before index) setting va k) sheet.old) }
 {
     match checked_add(va, k) {
-        Word::Value(slot) => note_slot_or_0(files, segments, rebases, index, setting, slot, sheet),
-        Word::Missing(_) => false,
+        Ok(slot) => note_slot_or_0(files, segments, rebases, index, setting, slot, sheet),
+        Err(_) => false,
     }
 }
 
@@ -149,14 +149,14 @@ pub fn note_text(files: &[&[u8]], segments: &[u64], va: u64, sheet: &mut [u64; W
     ensures { sheet.new ≡ noted_all (uses_text (lent_image files segments) va) sheet.old }
 {
     match nonzero(va) {
-        Word::Value(a) => match vm_to_file_offset_in(segments, a) {
-            Placed::At(p) => {
+        Ok(a) => match vm_to_file_offset_in(segments, a) {
+            Ok(p) => {
                 let r = read_cstr_at(files, Reading::Old, p);
                 note(sheet, p.file, p.offset, r.read);
             }
-            Placed::Missing(_) => {}
+            Err(_) => {}
         },
-        Word::Missing(_) => {}
+        Err(_) => {}
     }
 }
 
@@ -172,7 +172,7 @@ pub fn note_symbol(
     ensures { sheet.new ≡ noted_all (uses_symbol_in (files_of files) (before rebases) (before binds) (before index) slot) sheet.old }
 {
     match bind_at(files, rebases, binds, index, slot) {
-        TextAnswer::Found(name) => note(sheet, name.file, name.offset, name.len),
-        TextAnswer::Missing(_) => {}
+        Ok(name) => note(sheet, name.file, name.offset, name.len),
+        Err(_) => {}
     }
 }

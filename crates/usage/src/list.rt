@@ -1,6 +1,5 @@
 // Headers of lists, noted on a sheet: their reads in the order of their definitions (records/specs/List.antt, walks/specs/ProtocolNames.antt).
 ghost use Rattle.std.specs.Prelude.{◌≡◌};
-ghost use Rattle.reads.specs.Answer.{word_outcome};
 ghost use Rattle.reads.specs.Outcome.{value, choose};
 ghost use Rattle.pointers.specs.Tables.{lent, under};
 ghost use Rattle.records.specs.Ask.{even_list};
@@ -8,21 +7,22 @@ ghost use Rattle.records.specs.List.{must_be_even, decode_list};
 ghost use Rattle.walks.specs.ProtocolNames.{decode_protocol_list};
 ghost use Rattle.ranges.specs.Sheet.{noted_all};
 ghost use Rattle.used.specs.Used.{used};
+ghost use Rattle.reads.specs.Answer.{outcome};
 
 use crate::leaf::note_field;
 use pointers::setting::Setting;
 use ranges::sheet::WORDS;
-use reads::answer::{Word, nonzero};
-use reads::place::{Placed, readable};
+use reads::answer::{Missing, nonzero};
+use reads::place::readable;
 use records::list::{ListKind, even_list};
 
 // The address of a list, even as its kind asks.
-fn list_address(kind: ListKind, va: u64) -> Word
-    ensures { word_outcome result ≡ choose (must_be_even kind) (even_list va) (value va) }
+fn list_address(kind: ListKind, va: u64) -> Result<u64, Missing>
+    ensures { outcome result ≡ choose (must_be_even kind) (even_list va) (value va) }
 {
     match kind {
         ListKind::Methods => even_list(va),
-        ListKind::Ivars => Word::Value(va),
+        ListKind::Ivars => Ok(va),
         ListKind::Properties => even_list(va),
     }
 }
@@ -44,13 +44,13 @@ pub fn note_list(
     ensures { let t = under setting (lent files segments sections info rebases binds index) in
         sheet.new ≡ noted_all (used t (decode_list kind va)) sheet.old }
 {
-    let Word::Value(address) = nonzero(va) else {
+    let Ok(address) = nonzero(va) else {
         return;
     };
-    let Word::Value(even) = list_address(kind, va) else {
+    let Ok(even) = list_address(kind, va) else {
         return;
     };
-    let Placed::At(place) = readable(files, segments, va, 8) else {
+    let Ok(place) = readable(files, segments, va, 8) else {
         return;
     };
     note_field(files, place, 0, 4, sheet);
@@ -73,13 +73,13 @@ pub fn note_protocol_list(
     ensures { let t = under setting (lent files segments sections info rebases binds index) in
         sheet.new ≡ noted_all (used t (decode_protocol_list va)) sheet.old }
 {
-    let Word::Value(address) = nonzero(va) else {
+    let Ok(address) = nonzero(va) else {
         return;
     };
-    let Word::Value(even) = even_list(va) else {
+    let Ok(even) = even_list(va) else {
         return;
     };
-    let Placed::At(place) = readable(files, segments, va, 8) else {
+    let Ok(place) = readable(files, segments, va, 8) else {
         return;
     };
     note_field(files, place, 0, 8, sheet);

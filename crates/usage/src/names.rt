@@ -1,18 +1,19 @@
 // The names of a protocol list, noted on a sheet: its header, and the name of each slot.
 ghost use Rattle.std.specs.Prelude.{◌≡◌};
 ghost use Rattle.pointers.specs.Tables.{lent, under};
-ghost use Rattle.walks.specs.ProtocolNames.{protocol_list_outcome, protocol_list_at, has_slot};
+ghost use Rattle.walks.specs.ProtocolNames.{protocol_list_at, has_slot};
 ghost use Rattle.ranges.specs.Sheet.{noted_all};
 ghost use Rattle.usage.specs.NamesUse.{slots_use, names_use};
+ghost use Rattle.reads.specs.Answer.{outcome};
 
 use crate::list::note_protocol_list;
 use crate::protocol_name::note_name_in;
 use pointers::setting::Setting;
 use ranges::sheet::WORDS;
-use reads::answer::{Word, checked_add, nonzero};
-use reads::place::{Placed, readable, u64_in};
+use reads::answer::{Missing, checked_add, nonzero};
+use reads::place::{readable, u64_in};
 use records::list::even_list;
-use walks::protocol_names::{ProtocolList, ProtocolListAnswer};
+use walks::protocol_names::ProtocolList;
 
 // protocol_list_t: a u64 count, then the slots.
 fn protocol_list_at(
@@ -25,27 +26,27 @@ fn protocol_list_at(
     index: &[u32],
     setting: Setting,
     va: u64,
-) -> ProtocolListAnswer
+) -> Result<ProtocolList, Missing>
     ensures { let t = under setting (lent files segments sections info rebases binds index) in
-        protocol_list_outcome result ≡ protocol_list_at t va }
+        outcome result ≡ protocol_list_at t va }
 {
     match nonzero(va) {
-        Word::Value(_) => {}
-        Word::Missing(m) => return ProtocolListAnswer::Missing(m),
+        Ok(_) => {}
+        Err(m) => return Err(m),
     }
     match even_list(va) {
-        Word::Value(_) => {}
-        Word::Missing(m) => return ProtocolListAnswer::Missing(m),
+        Ok(_) => {}
+        Err(m) => return Err(m),
     }
     let p = match readable(files, segments, va, 8) {
-        Placed::At(p) => p,
-        Placed::Missing(m) => return ProtocolListAnswer::Missing(m),
+        Ok(p) => p,
+        Err(m) => return Err(m),
     };
     let base = match checked_add(va, 8) {
-        Word::Value(base) => base,
-        Word::Missing(m) => return ProtocolListAnswer::Missing(m),
+        Ok(base) => base,
+        Err(m) => return Err(m),
     };
-    ProtocolListAnswer::List(ProtocolList {
+    Ok(ProtocolList {
         base,
         count: u64_in(files, p, 0).min(1_048_576),
     })
@@ -117,9 +118,9 @@ pub fn note_protocol_names(
     match protocol_list_at(
         files, segments, sections, info, rebases, binds, index, setting, va,
     ) {
-        ProtocolListAnswer::List(list) => note_slot_names(
+        Ok(list) => note_slot_names(
             files, segments, sections, info, rebases, binds, index, setting, list, sheet,
         ),
-        ProtocolListAnswer::Missing(_) => {}
+        Err(_) => {}
     }
 }

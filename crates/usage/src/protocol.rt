@@ -9,9 +9,9 @@ ghost use Rattle.usage.specs.Traced.{going, going_after};
 use crate::leaf::{note_field, note_pointer, note_pointer_or_0, note_stored, note_text};
 use pointers::setting::Setting;
 use ranges::sheet::WORDS;
-use reads::answer::{Word, checked_add};
-use reads::place::{Place, Placed, readable, u32_in};
-use reads::text::{TextAnswer, read_cstr};
+use reads::answer::checked_add;
+use reads::place::{Place, readable, u32_in};
+use reads::text::read_cstr;
 
 // _classProperties, where its 8 bytes can be read.
 fn note_trailing(
@@ -29,10 +29,10 @@ fn note_trailing(
     ensures { let t = under setting (lent files segments sections info rebases binds index) in
         sheet.new ≡ noted_all (used t (decode_trailing va)) sheet.old }
 {
-    let Word::Value(slot) = checked_add(va, 88) else {
+    let Ok(slot) = checked_add(va, 88) else {
         return;
     };
-    let Placed::At(_p) = readable(files, segments, slot, 8) else {
+    let Ok(_p) = readable(files, segments, slot, 8) else {
         return;
     };
     note_stored(files, segments, rebases, index, setting, slot, sheet);
@@ -113,11 +113,10 @@ pub fn note_protocol(
     ensures { let t = under setting (lent files segments sections info rebases binds index) in
         sheet.new ≡ noted_all (used t (decode_protocol va)) sheet.old }
 {
-    let Placed::At(p) = readable(files, segments, va, 72) else {
+    let Ok(p) = readable(files, segments, va, 72) else {
         return;
     };
-    let Word::Value(name) = note_pointer(files, segments, rebases, index, setting, va, 8, sheet)
-    else {
+    let Ok(name) = note_pointer(files, segments, rebases, index, setting, va, 8, sheet) else {
         return;
     };
     if !note_protocol_lists(
@@ -129,7 +128,7 @@ pub fn note_protocol(
     note_field(files, p, 68, 4, sheet);
     let reading = setting.reading;
     note_text(files, segments, name, sheet);
-    let TextAnswer::Found(_name) = read_cstr(files, segments, reading, name) else {
+    let Ok(_name) = read_cstr(files, segments, reading, name) else {
         return;
     };
     note_class_properties(

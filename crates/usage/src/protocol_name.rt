@@ -3,26 +3,26 @@
 ghost use Rattle.std.specs.Prelude.{◌≡◌};
 ghost use Rattle.pointers.specs.Tables.{lent, under};
 ghost use Rattle.reads.specs.Outcome.{is_absent};
-ghost use Rattle.records.specs.Protocol.{protocol_outcome};
 ghost use Rattle.walks.specs.ProtocolNames.{decode_protocol_name, decode_protocol_name_in, decode_name_in};
 ghost use Rattle.ranges.specs.Sheet.{noted_all};
 ghost use Rattle.used.specs.Used.{used};
 ghost use Rattle.usage.specs.Traced.{going, lacks_after};
+ghost use Rattle.reads.specs.Answer.{outcome};
 
 use crate::leaf::{note_slot, note_symbol};
 use crate::protocol::note_protocol;
 use pointers::setting::Setting;
 use ranges::sheet::WORDS;
-use reads::answer::{Missing, Word};
-use records::protocol::{ProtocolAnswer, protocol_at};
+use reads::answer::Missing;
+use records::protocol::{ObjcProtocol, protocol_at};
 
 // The protocol is absent.
-fn protocol_absent(protocol: ProtocolAnswer) -> bool
-    ensures { result ≡ is_absent (protocol_outcome protocol) }
+fn protocol_absent(protocol: Result<ObjcProtocol, Missing>) -> bool
+    ensures { result ≡ is_absent (outcome protocol) }
 {
     match protocol {
-        ProtocolAnswer::Protocol(_) => false,
-        ProtocolAnswer::Missing(m) => match m {
+        Ok(_) => false,
+        Err(m) => match m {
             Missing::Absent(_) => true,
             Missing::Refused(_) => false,
         },
@@ -73,10 +73,10 @@ fn note_protocol_name_in(
         going result sheet.new ≡ lacks_after t (decode_protocol_name_in slot) sheet.old }
 {
     match note_slot(files, segments, rebases, index, setting, slot, sheet) {
-        Word::Value(va) => note_protocol_name(
+        Ok(va) => note_protocol_name(
             files, segments, sections, info, rebases, binds, index, setting, va, sheet,
         ),
-        Word::Missing(m) => match m {
+        Err(m) => match m {
             Missing::Absent(_) => true,
             Missing::Refused(_) => false,
         },

@@ -1,6 +1,5 @@
 // Rows of method, ivar and property lists, noted on a sheet: their reads in the order of their definitions (records/specs/Row.antt).
 ghost use Rattle.std.specs.Prelude.{◌≡◌};
-ghost use Rattle.reads.specs.Answer.{word_outcome};
 ghost use Rattle.reads.specs.Files.{files_of};
 ghost use Rattle.reads.specs.Relative.{relative, signed_in};
 ghost use Rattle.pointers.specs.Tables.{lent, under};
@@ -8,14 +7,15 @@ ghost use Rattle.records.specs.Row.{decode_legacy_method, decode_selector, decod
 ghost use Rattle.ranges.specs.Sheet.{noted_all};
 ghost use Rattle.used.specs.Used.{used};
 ghost use Rattle.usage.specs.Traced.{traced, trace};
+ghost use Rattle.reads.specs.Answer.{outcome};
 
 use crate::leaf::{note_field, note_pointer, note_pointer_or_0, note_slot, note_text};
 use crate::text::note_string;
 use crate::word::{note_pointer_value, note_slot_value};
 use pointers::setting::Setting;
 use ranges::sheet::WORDS;
-use reads::answer::{Word, checked_add, nonzero};
-use reads::place::{Place, Placed, readable};
+use reads::answer::{Missing, checked_add, nonzero};
+use reads::place::{Place, readable};
 use reads::relative::{i32_in, relative_pointer};
 use records::list::RowKind;
 
@@ -35,14 +35,13 @@ fn note_legacy_method(
     ensures { let t = under setting (lent files segments sections info rebases binds index) in
         sheet.new ≡ noted_all (used t (decode_legacy_method va)) sheet.old }
 {
-    let Placed::At(place) = readable(files, segments, va, 24) else {
+    let Ok(place) = readable(files, segments, va, 24) else {
         return;
     };
-    let Word::Value(name) = note_slot(files, segments, rebases, index, setting, va, sheet) else {
+    let Ok(name) = note_slot(files, segments, rebases, index, setting, va, sheet) else {
         return;
     };
-    let Word::Value(types) = note_pointer(files, segments, rebases, index, setting, va, 8, sheet)
-    else {
+    let Ok(types) = note_pointer(files, segments, rebases, index, setting, va, 8, sheet) else {
         return;
     };
     if !note_pointer_or_0(files, segments, rebases, index, setting, va, 16, sheet) {
@@ -75,14 +74,14 @@ fn note_selector(
     field: u64,
     p: Place,
     sheet: &mut [u64; WORDS],
-) -> Word
+) -> Result<u64, Missing>
     ensures { let t = under setting (lent files segments sections info rebases binds index) in
-        traced (word_outcome result) sheet.new ≡ trace t (decode_selector direct field p) sheet.old }
+        traced (outcome result) sheet.new ≡ trace t (decode_selector direct field p) sheet.old }
 {
     note_field(files, p, 0, 4, sheet);
     let target = target_of(files, p, 0, field);
     if direct {
-        return Word::Value(target);
+        return Ok(target);
     }
     note_slot(files, segments, rebases, index, setting, target, sheet)
 }
@@ -125,19 +124,19 @@ fn note_small_method(
     ensures { let t = under setting (lent files segments sections info rebases binds index) in
         sheet.new ≡ noted_all (used t (decode_small_method va direct)) sheet.old }
 {
-    let Placed::At(place) = readable(files, segments, va, 12) else {
+    let Ok(place) = readable(files, segments, va, 12) else {
         return;
     };
     note_field(files, place, 0, 4, sheet);
     note_field(files, place, 4, 4, sheet);
     note_field(files, place, 8, 4, sheet);
-    let Word::Value(types_field) = checked_add(va, 4) else {
+    let Ok(types_field) = checked_add(va, 4) else {
         return;
     };
-    let Word::Value(imp_field) = checked_add(va, 8) else {
+    let Ok(imp_field) = checked_add(va, 8) else {
         return;
     };
-    let Word::Value(name) = note_selector(
+    let Ok(name) = note_selector(
         files, segments, sections, info, rebases, binds, index, setting, direct, va, place, sheet,
     ) else {
         return;
@@ -176,10 +175,10 @@ fn note_offset(
     ensures { let t = under setting (lent files segments sections info rebases binds index) in
         sheet.new ≡ noted_all (used t (decode_offset cell)) sheet.old }
 {
-    let Word::Value(va) = nonzero(cell) else {
+    let Ok(va) = nonzero(cell) else {
         return;
     };
-    let Placed::At(place) = readable(files, segments, va, 4) else {
+    let Ok(place) = readable(files, segments, va, 4) else {
         return;
     };
     note_field(files, place, 0, 4, sheet);
@@ -201,20 +200,17 @@ fn note_ivar(
     ensures { let t = under setting (lent files segments sections info rebases binds index) in
         sheet.new ≡ noted_all (used t (decode_ivar va)) sheet.old }
 {
-    let Placed::At(place) = readable(files, segments, va, 32) else {
+    let Ok(place) = readable(files, segments, va, 32) else {
         return;
     };
-    let Word::Value(cell) = note_slot_value(files, segments, rebases, index, setting, va, sheet)
+    let Ok(cell) = note_slot_value(files, segments, rebases, index, setting, va, sheet) else {
+        return;
+    };
+    let Ok(name) = note_pointer(files, segments, rebases, index, setting, va, 8, sheet) else {
+        return;
+    };
+    let Ok(encoding) = note_pointer_value(files, segments, rebases, index, setting, va, 16, sheet)
     else {
-        return;
-    };
-    let Word::Value(name) = note_pointer(files, segments, rebases, index, setting, va, 8, sheet)
-    else {
-        return;
-    };
-    let Word::Value(encoding) = note_pointer_value(
-        files, segments, rebases, index, setting, va, 16, sheet,
-    ) else {
         return;
     };
     note_field(files, place, 24, 4, sheet);
@@ -244,15 +240,14 @@ fn note_property(
     ensures { let t = under setting (lent files segments sections info rebases binds index) in
         sheet.new ≡ noted_all (used t (decode_property va)) sheet.old }
 {
-    let Placed::At(place) = readable(files, segments, va, 16) else {
+    let Ok(place) = readable(files, segments, va, 16) else {
         return;
     };
-    let Word::Value(name) = note_slot(files, segments, rebases, index, setting, va, sheet) else {
+    let Ok(name) = note_slot(files, segments, rebases, index, setting, va, sheet) else {
         return;
     };
-    let Word::Value(attributes) = note_pointer_value(
-        files, segments, rebases, index, setting, va, 8, sheet,
-    ) else {
+    let Ok(attributes) = note_pointer_value(files, segments, rebases, index, setting, va, 8, sheet)
+    else {
         return;
     };
     if !note_string(files, segments, setting, name, sheet) {

@@ -13,7 +13,7 @@ use crate::list::note_list;
 use crate::row::note_row;
 use pointers::setting::Setting;
 use ranges::sheet::WORDS;
-use records::list::{Entry, Layout, LayoutAnswer, ListKind, first_readable, list_at};
+use records::list::{Layout, ListKind, first_readable, list_at};
 
 // Entry j, which can be read.
 fn note_entry(
@@ -59,13 +59,13 @@ fn note_rows(
     let mut i = 0;
     loop {
         match first_readable(files, segments, h, i) {
-            Entry::At(j) => {
+            Some(j) => {
                 note_entry(
                     files, segments, sections, info, rebases, binds, index, setting, h, j, sheet,
                 );
                 i = j as u32 + 1;
             }
-            Entry::Nothing => {
+            None => {
                 return;
             }
         }
@@ -95,9 +95,9 @@ pub fn note_list_rows(
     match list_at(
         files, segments, sections, info, rebases, binds, index, setting, kind, va,
     ) {
-        LayoutAnswer::List(h) => note_rows(
+        Ok(h) => note_rows(
             files, segments, sections, info, rebases, binds, index, setting, h, sheet,
         ),
-        LayoutAnswer::Missing(_) => {}
+        Err(_) => {}
     }
 }

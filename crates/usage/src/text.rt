@@ -2,25 +2,24 @@
 ghost use Rattle.std.specs.Prelude.{◌≡◌};
 ghost use Rattle.reads.specs.Place.{lent_image};
 ghost use Rattle.reads.specs.Text.{text_in};
-ghost use Rattle.reads.specs.Answer.{text_outcome};
 ghost use Rattle.reads.specs.Breaks.{is_value};
 ghost use Rattle.ranges.specs.Sheet.{noted_all};
 ghost use Rattle.used.specs.Used.{uses_text};
 ghost use Rattle.usage.specs.Traced.{going, going_on};
+ghost use Rattle.reads.specs.Answer.{outcome};
 
 use pointers::setting::Setting;
 use ranges::sheet::{WORDS, note};
-use reads::answer::{Word, nonzero};
-use reads::place::Placed;
+use reads::answer::{Missing, nonzero};
 use reads::segment::vm_to_file_offset_in;
-use reads::text::{TextAnswer, read_cstr_at};
+use reads::text::{Text, read_cstr_at};
 
-fn is_found(text: TextAnswer) -> bool
-    ensures { result ≡ is_value (text_outcome text) }
+fn is_found(text: Result<Text, Missing>) -> bool
+    ensures { result ≡ is_value (outcome text) }
 {
     match text {
-        TextAnswer::Found(_) => true,
-        TextAnswer::Missing(_) => false,
+        Ok(_) => true,
+        Err(_) => false,
     }
 }
 
@@ -37,15 +36,15 @@ pub fn note_string(
 {
     let reading = setting.reading;
     match nonzero(va) {
-        Word::Value(a) => match vm_to_file_offset_in(segments, a) {
-            Placed::At(p) => {
+        Ok(a) => match vm_to_file_offset_in(segments, a) {
+            Ok(p) => {
                 let r = read_cstr_at(files, reading, p);
                 note(sheet, p.file, p.offset, r.read);
                 let text = r.text;
                 is_found(text)
             }
-            Placed::Missing(_) => false,
+            Err(_) => false,
         },
-        Word::Missing(_) => false,
+        Err(_) => false,
     }
 }

@@ -1,6 +1,5 @@
 // Slots that count as 0 where they are absent, noted on a sheet, with the addresses in them.
 ghost use Rattle.std.specs.Prelude.{◌≡◌};
-ghost use Rattle.reads.specs.Answer.{word_outcome};
 ghost use Rattle.reads.specs.Outcome.{or_zero};
 ghost use Rattle.reads.specs.Place.{lent_image};
 ghost use Rattle.reads.specs.Reference.{before};
@@ -8,11 +7,12 @@ ghost use Rattle.pointers.specs.Slot.{resolve, pointer_or0_at};
 ghost use Rattle.ranges.specs.Sheet.{noted_all};
 ghost use Rattle.used.specs.Used.{uses_slot_in, uses_pointer_in};
 ghost use Rattle.usage.specs.Traced.{traced};
+ghost use Rattle.reads.specs.Answer.{outcome};
 
 use crate::leaf::note_slot;
 use pointers::setting::Setting;
 use ranges::sheet::WORDS;
-use reads::answer::{Word, checked_add, or_zero};
+use reads::answer::{Missing, checked_add, or_zero};
 
 // A pointer slot, or 0.
 pub fn note_slot_value(
@@ -23,8 +23,8 @@ pub fn note_slot_value(
     setting: Setting,
     slot: u64,
     sheet: &mut [u64; WORDS],
-) -> Word
-    ensures { traced (word_outcome result) sheet.new
+) -> Result<u64, Missing>
+    ensures { traced (outcome result) sheet.new
         ≡ traced (or_zero (resolve (lent_image files segments) (before rebases) (before index) setting slot))
         (noted_all (uses_slot_in (lent_image files segments) (before rebases) (before index) setting slot) sheet.old) }
 {
@@ -41,13 +41,13 @@ pub fn note_pointer_value(
     va: u64,
     k: u64,
     sheet: &mut [u64; WORDS],
-) -> Word
-    ensures { traced (word_outcome result) sheet.new
+) -> Result<u64, Missing>
+    ensures { traced (outcome result) sheet.new
         ≡ traced (pointer_or0_at (lent_image files segments) (before rebases) (before index) setting va k)
         (noted_all (uses_pointer_in (lent_image files segments) (before rebases) (before index) setting va k) sheet.old) }
 {
     match checked_add(va, k) {
-        Word::Value(slot) => note_slot_value(files, segments, rebases, index, setting, slot, sheet),
-        Word::Missing(m) => Word::Missing(m),
+        Ok(slot) => note_slot_value(files, segments, rebases, index, setting, slot, sheet),
+        Err(m) => Err(m),
     }
 }

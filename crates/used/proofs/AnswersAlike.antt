@@ -7,7 +7,7 @@ use mathlib.Core.List.{List, [], ◌∷◌, flat_map}
 use lib.Dec.{leb}
 use lib.ListN.{length, drop, length-drop}
 use Rattle.reads.specs.Outcome as outcomes
-use Rattle.reads.specs.Outcome.{Outcome, value, absent, number, and_then, because, or_else, or_zero, choose}
+use Rattle.reads.specs.Outcome.{Outcome, value, absent, refused, and_then, because, or_else, or_zero, choose}
 use Rattle.reads.specs.Address as addresses
 use Rattle.reads.specs.Address.{stripped}
 use Rattle.reads.specs.Files.{file_of}
@@ -31,6 +31,7 @@ use Rattle.records.proofs.Asks.{each_left, each_right, asks_decide}
 use Rattle.ranges.specs.Range.{Range, range}
 use Rattle.used.specs.Used.{place_range, uses_field, uses_word, uses_slot_in, uses_slot, uses_pointer_in, uses_pointer, uses_text, name_range, uses_symbol_in, uses_symbol, uses, used}
 use Rattle.used.proofs.SameScans.{scan_same}
+use Rattle.reads.specs.Answer.{outcome, answered}
 
 -- The same tables with other files and another index.
 abbrev pub over : Tables → List (List ℕ) → List ℕ → Tables
@@ -60,13 +61,13 @@ module _ (P : Range → Type 0) where
       → ((a : A) → Each P (us a) → Alike (f a) (g a) (us a) (vs a)) → Alike (and_then o f) (and_then o g) (if_value o us) (if_value o vs)
   then_alike (value a) f g us vs e h = h a e
   then_alike (absent r) f g us vs e h = record { outcome = refl; ranges = refl }
-  then_alike (number k) f g us vs e h = record { outcome = refl; ranges = refl }
+  then_alike (refused k) f g us vs e h = record { outcome = refl; ranges = refl }
 
   else_alike : {A : Type 0} (o d e : Outcome A) (us vs : List Range) → Each P (if_absent o us)
       → (Each P us → Alike d e us vs) → Alike (or_else o d) (or_else o e) (if_absent o us) (if_absent o vs)
   else_alike (value a) d e us vs h k = record { outcome = refl; ranges = refl }
   else_alike (absent r) d e us vs h k = k h
-  else_alike (number n) d e us vs h k = record { outcome = refl; ranges = refl }
+  else_alike (refused n) d e us vs h k = record { outcome = refl; ranges = refl }
 
 -- What is made of alike outcomes is alike.
 made_alike : {A B : Type 0} {o p : Outcome A} {rs ss : List Range} (f : Outcome A → Outcome B) → Alike o p rs ss → Alike (f o) (f p) rs ss
@@ -94,7 +95,7 @@ module _ (t : Tables) (files : List (List ℕ)) (index : List ℕ)
           ≡ and_then (because Unreadable o) (λ p. readable_at (length (file_of files p.file)) p k)
       go (value p) = rw (lengths p.file)
       go (absent r) = refl
-      go (number n) = refl
+      go (refused n) = refl
 
   word_alike : (va : ℕ) → Each Common (uses_word (image_in t) va)
       → Alike (places.word (image_in t) 8 va) (places.word (image_in u) 8 va) (uses_word (image_in t) va) (uses_word (image_in u) va)

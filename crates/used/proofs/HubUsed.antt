@@ -42,7 +42,6 @@ use Rattle.listing.specs.DecodeListing.{decode_protocol_names, decode_events_fro
 use Rattle.listing.specs.PlainListing.{row_list, name_list, Field, ro_fields, row_line, Entry, with_row, without_row, event}
 use Rattle.listing.specs.declared.at.Record.TheVariants as a_record
 use Rattle.listing.specs.declared.line.Line.TheVariants as line
-use Rattle.listing.specs.declared.line.Named.TheVariants as named
 use Rattle.listing.proofs.HubListing.{hub_class_ro, class_line_lem}
 use Rattle.listing.proofs.DecodedListing.{readables_run}
 use Rattle.ranges.specs.Range.{Range, range, lies, covers}
@@ -52,6 +51,7 @@ use Rattle.used.specs.Used.{uses_word, uses_field, uses_slot_in, uses_pointer_in
 use Rattle.used.specs.UsedBy.{used_by, ranges_used}
 use Rattle.used.proofs.ReadableUses.{readables_use}
 use Rattle.used.proofs.UsedParts.{used_done, used_tried, then_uses}
+use Rattle.std.specs.Prelude.{Some}
 
 -- No slot has a rebase.
 no_rebase_lem : (a : ℕ) → rebase hub a ≡ absent NoRecord
@@ -123,7 +123,7 @@ ro_runs = hub_ro_of ∙ hub_ro
 own_uses : used hub (decode_own_lines (a_record.Class hub_class_record)) ≡ range 0 168 22 ∷ (ro_ranges ++ [])
 unfolding decode_own_lines
 own_uses =
-    then_uses hub (decode_named (decode_class_name_of 0x1000 0)) _ {a = named.Text (text_of 0 182 8)}
+    then_uses hub (decode_named (decode_class_name_of 0x1000 0)) _ {a = Some (text_of 0 182 8)}
     (then_uses hub (tried (decode_class_name_of 0x1000 0)) _ {a = given (text_of 0 182 8)} (used_tried hub (decode_class_name_of 0x1000 0) ∙ superclass_uses) (rw hub_superclass refl) (used_done hub _))
     (rw hub_superclass refl)
     (joined_uses (done _) (of_value (decode_ro_of hub_class_record) _) {ys = line.Ro hub_class_ro ∷ []} (used_done hub _) refl

@@ -4,7 +4,7 @@ use mathlib.Core.Path.{◌≡◌, refl, ◌∙◌}
 use mathlib.Core.Bool.{Bool, true, false}
 use mathlib.Core.List.{List, [], ◌∷◌, ◌++◌, flat_map}
 use lib.Dec.{ltb}
-use Rattle.reads.specs.Outcome.{Outcome, value, absent, number, choose}
+use Rattle.reads.specs.Outcome.{Outcome, value, absent, refused, choose}
 use Rattle.reads.specs.declared.place.Place.{Place}
 use Rattle.pointers.specs.Tables.{Tables, image_in}
 use Rattle.records.specs.Asks.{asks, if_value}
@@ -22,7 +22,7 @@ use Rattle.used.proofs.UsedParts.{used_done, used_then, used_when}
 none_of : {A : Type 0} (o : Outcome A) (us : A → List Range) → ((a : A) → us a ≡ []) → if_value o us ≡ []
 none_of (value a) us h = h a
 none_of (absent r) us h = refl
-none_of (number k) us h = refl
+none_of (refused k) us h = refl
 
 none_then : {A B : Type 0} (t : Tables) (d : Decode A) (f : A → Decode B) → used t d ≡ [] → ((a : A) → used t (f a) ≡ []) → used t (then d f) ≡ []
 none_then t d f e h = used_then t d f ∙ rw e (none_of (run t d) (λ a. used t (f a)) h)

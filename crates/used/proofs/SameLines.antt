@@ -18,10 +18,9 @@ use Rattle.listing.specs.declared.at.Record.{Record}
 use Rattle.listing.specs.declared.at.Record.TheVariants as a_record
 use Rattle.listing.specs.declared.line.Line.{Line}
 use Rattle.listing.specs.declared.line.Line.TheVariants as line
-use Rattle.listing.specs.declared.line.Named.{Named}
-use Rattle.listing.specs.declared.line.Named.TheVariants as named
 use Rattle.used.proofs.Yields.{IfGiven, yields_done, yields_then, yields_next, yields_else_first, yields_when, yields_tried}
 use Rattle.used.proofs.SameTexts.{SameText, Gives, SameRow, symbol_gives, ro_of_gives, class_name_of_gives, protocol_gives, category_gives, row_gives}
+use Rattle.std.specs.Prelude.{Option, Some, None}
 
 -- What holds of each of two lists holds of each of both together, and of each of a list made from one.
 each_append : {A : Type 0} (P : A → Type 0) (xs ys : List A) → Each P xs → Each P ys → Each P (xs ++ ys)
@@ -74,9 +73,9 @@ module _ (t : Tables) (others : List (List ℕ)) where
   SameRecord (a_record.Protocol p) = SameText t others p.name
   SameRecord (a_record.Category c) = SameText t others c.name
 
-  abbrev pub SameNamed : Named → Type 0
-  SameNamed (named.Text x) = SameText t others x
-  SameNamed named.Nothing = Unit {0}
+  abbrev pub SameNamed : Option Text → Type 0
+  SameNamed (Some x) = SameText t others x
+  SameNamed None = Unit {0}
 
   abbrev pub SameLine : Line → Type 0
   SameLine (line.Info i) = Unit {0}

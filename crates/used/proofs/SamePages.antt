@@ -3,7 +3,7 @@ use Prim.Native.Nat.{ℕ}
 use mathlib.Core.Path.{◌≡◌, refl, ap, ◌∙◌, subst}
 use mathlib.Core.List.{List, [], ◌∷◌, flat_map}
 use lib.ListN.{length}
-use Rattle.reads.specs.Outcome.{Outcome, value, absent, number, and_then}
+use Rattle.reads.specs.Outcome.{Outcome, value, absent, refused, and_then}
 use Rattle.reads.proofs.Outcomes.{then_came}
 use Rattle.reads.specs.Files.{file_of}
 use Rattle.reads.specs.declared.text.Text.{Text}
@@ -16,8 +16,6 @@ use Rattle.frames.specs.Marks.{met_all}
 use Rattle.listing.specs.PlainListing.{plain_listing}
 use Rattle.listing.specs.declared.line.Line.{Line}
 use Rattle.listing.specs.declared.line.Line.TheVariants as line
-use Rattle.listing.specs.declared.line.Named.{Named}
-use Rattle.listing.specs.declared.line.Named.TheVariants as named
 use Rattle.marking.specs.Marked.{starts_in, marked, marked_lines, marked_listing}
 use Rattle.printing.specs.BundleText.{listing_text}
 use Rattle.printing.specs.LineText.{part_field, text_field, text_fields, named_field, class_text, ro_text, protocol_text, category_text, method_text, ivar_text, property_text, name_text, row_text, fields_text, line_text}
@@ -28,6 +26,7 @@ use Rattle.used.proofs.SameTexts.{SameText, SameRow}
 use Rattle.used.proofs.SameLines.{each_map, SameNamed, SameLine}
 use Rattle.used.proofs.SameListings.{same_lines, same_ranges, same_texts}
 use Rattle.used.proofs.StillGoods.{lengths_same}
+use Rattle.std.specs.Prelude.{Option, Some, None}
 
 module _ (t : Tables) (others : List (List ℕ)) where
   -- A mark changes no text.
@@ -52,9 +51,9 @@ module _ (t : Tables) (others : List (List ℕ)) (lengths : (f : ℕ) → length
   unfolding text_field part_field
   text_printed x h = rw (lengths x.file, h)
 
-  named_printed : (x : Named) → SameNamed t others x → named_field t.files x ≡ named_field others x
-  named_printed (named.Text x) h = text_printed x h
-  named_printed named.Nothing h = refl
+  named_printed : (x : Option Text) → SameNamed t others x → named_field t.files x ≡ named_field others x
+  named_printed (Some x) h = text_printed x h
+  named_printed None h = refl
 
   texts_printed : (x y : Text) → SameText t others x → SameText t others y → text_fields t.files x y ≡ text_fields others x y
   unfolding text_fields
@@ -85,7 +84,7 @@ module _ (t : Tables) (others : List (List ℕ)) (lengths : (f : ℕ) → length
   listing_printed : (o : Outcome (List Line)) → ((xs : List Line) → o ≡ value xs → Each (SameLine t others) xs) → listing_text t.files o ≡ listing_text others o
   listing_printed (value xs) h = lines_printed xs (h xs refl)
   listing_printed (absent r) h = refl
-  listing_printed (number k) h = refl
+  listing_printed (refused k) h = refl
 
 -- The page is still good: its lines, its text, marked or not, and the ranges are the same.
 module _ (t u : Tables) (good : StillGood t u (used_by t)) where

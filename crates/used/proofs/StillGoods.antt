@@ -8,7 +8,7 @@ use native.Mathlib.Omega.{arith}
 use lib.ListN.{length, get_or, drop, length-take, length-drop, get_or-map}
 use lib.Seq.{get_or-take, get_or-drop, ext_get_or}
 use borrow.Author.Tests.{lt-ltb}
-use Rattle.reads.specs.Outcome.{Outcome, value, absent, number, Unrefused, a_value, an_absence, and_then, choose}
+use Rattle.reads.specs.Outcome.{Outcome, value, absent, refused, Unrefused, a_value, an_absence, and_then, choose}
 use Rattle.reads.specs.Files.{file_of}
 use Rattle.reads.specs.Place.{part}
 use Rattle.pointers.specs.Chain.{last_record}
@@ -29,6 +29,8 @@ use Rattle.ranges.proofs.MergedLaws.{ranges_exact}
 use Rattle.used.specs.Used.{used, file_lengths}
 use Rattle.used.specs.StillGood.{SameTables, SameBytes, StillGood}
 use Rattle.used.proofs.AnswersAlike.{over, SamePart, Alike, run_alike}
+use Rattle.reads.specs.declared.answer.Question.{Question}
+use Rattle.reads.specs.declared.answer.Question.TheVariants.{NameInside, NameUtf8, FileLent}
 
 -- Files of equal lengths.
 file_length : (files : List (List ℕ)) (f : ℕ) → get_or (file_lengths files) f 0 ≡ length (file_of files f)
@@ -70,7 +72,7 @@ module _ (files others : List (List ℕ)) (lengths : file_lengths files ≡ file
       parts_same rs (λ f b h i. e f b (ranges_exact (file_lengths files) rs f b ∙ rw (file_length files f, lt-ltb b (length (file_of files f)) h, i) refl))
 
 -- A name that no question refuses is the bind's.
-not_refused : {A : Type 0} {o : Outcome A} {k : ℕ} → Unrefused o → o ≡ number k → ⊥
+not_refused : {A : Type 0} {o : Outcome A} {k : Question} → Unrefused o → o ≡ refused k → ⊥
 not_refused (a_value a) e = let z : ◌≡◌ {A = ℕ} 0 1 = cc in omega arith
 not_refused (an_absence r) e = let z : ◌≡◌ {A = ℕ} 0 1 = cc in omega arith
 
@@ -80,15 +82,15 @@ name_is files binds i h = go (bind_lent files binds i) refl (bind_inside files b
     go : (a : Bool) → bind_lent files binds i ≡ a → (b : Bool) → bind_inside files binds i ≡ b → (c : Bool) → bind_utf8 files binds i ≡ c
         → bind_name files binds i ≡ value (bind_record binds i).name
     go true d true e true f = unfold bind_name question choose in rw (d, e, f)
-    go true d true e false f = absurd (not_refused {k = 14} h (unfold bind_name question choose in rw (d, e, f)))
-    go true d false e c f = absurd (not_refused {k = 7} h (unfold bind_name question choose in rw (d, e)))
-    go false d b e c f = absurd (not_refused {k = 18} h (unfold bind_name question choose in rw d))
+    go true d true e false f = absurd (not_refused {k = NameUtf8} h (unfold bind_name question choose in rw (d, e, f)))
+    go true d false e c f = absurd (not_refused {k = NameInside} h (unfold bind_name question choose in rw (d, e)))
+    go false d b e c f = absurd (not_refused {k = FileLent} h (unfold bind_name question choose in rw d))
 
 names_same : (files others : List (List ℕ)) (binds : List ℕ) (o : Outcome ℕ) → Unrefused (and_then o (λ n. bind_name files binds (n - 1)))
     → Unrefused (and_then o (λ n. bind_name others binds (n - 1))) → and_then o (λ n. bind_name files binds (n - 1)) ≡ and_then o (λ n. bind_name others binds (n - 1))
 names_same files others binds (value n) h g = name_is files binds (n - 1) h ∙ sym (name_is others binds (n - 1) g)
 names_same files others binds (absent r) h g = refl
-names_same files others binds (number k) h g = refl
+names_same files others binds (refused k) h g = refl
 
 -- Over what opening accepted, lookups find the same: a slot's last record.
 module _ (t : Tables) (files : List (List ℕ)) (index : List ℕ) (o : Opened t) (p : Opened (over t files index)) where

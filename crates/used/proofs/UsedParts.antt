@@ -2,7 +2,7 @@
 use mathlib.Core.Path.{◌≡◌, refl, sym, ap, ◌∙◌}
 use mathlib.Core.Bool.{Bool, true, false}
 use mathlib.Core.List.{List, [], ◌∷◌, ◌++◌, flat_map, append_assoc, append-nil}
-use Rattle.reads.specs.Outcome.{Outcome, value, absent, number, choose}
+use Rattle.reads.specs.Outcome.{Outcome, value, absent, refused, choose}
 use Rattle.pointers.specs.Tables.{Tables}
 use Rattle.records.specs.Ask.{Ask}
 use Rattle.records.specs.Asks.{if_value, if_absent, asks}
@@ -20,13 +20,13 @@ module _ (t : Tables) where
   unfolding flat_map
   in_value (value a) f = refl
   in_value (absent r) f = refl
-  in_value (number k) f = refl
+  in_value (refused k) f = refl
 
   in_absent : {A : Type 0} (o : Outcome A) (qs : List Ask) → flat_map (uses t) (if_absent o qs) ≡ if_absent o (flat_map (uses t) qs)
   unfolding flat_map
   in_absent (value a) qs = refl
   in_absent (absent r) qs = refl
-  in_absent (number k) qs = refl
+  in_absent (refused k) qs = refl
 
   in_chosen : (b : Bool) (qs rs : List Ask) → flat_map (uses t) (choose b qs rs) ≡ choose b (flat_map (uses t) qs) (flat_map (uses t) rs)
   unfolding choose

@@ -4,7 +4,7 @@ use mathlib.Core.Bool.{Bool, true, false}
 use mathlib.Core.List.{List, ◌++◌}
 use Prim.Native.Nat.{ℕ}
 use native.Mathlib.Omega.{arith}
-use Rattle.reads.specs.Outcome.{Outcome, value, absent, number, or_else, or_first, because, choose}
+use Rattle.reads.specs.Outcome.{Outcome, value, absent, refused, or_else, or_first, because, choose}
 use Rattle.reads.specs.declared.answer.Reason.{Reason}
 use Rattle.reads.proofs.Outcomes.{then_came}
 use Rattle.pointers.specs.Tables.{Tables}
@@ -14,6 +14,7 @@ use Rattle.records.proofs.Asks.{each_left, each_right}
 use Rattle.ranges.specs.Range.{Range}
 use Rattle.used.specs.Used.{used}
 use Rattle.used.proofs.UsedParts.{used_then, used_else, used_else_first, used_when, used_tried}
+use Rattle.reads.specs.declared.answer.Question.{Question}
 
 -- Of what a trial gives, if it is there.
 abbrev pub IfGiven : {A : Type 0} → (A → Type 0) → Tried A → Type 0
@@ -27,7 +28,7 @@ value_is P {a} {b} e h = let same : a ≡ b = cc in subst P same h
 no_value : {A B : Type 0} {r : Reason} {b : A} → absent r ≡ value b → B
 no_value e = let z : ◌≡◌ {A = ℕ} 0 1 = cc in absurd (omega arith)
 
-no_number : {A B : Type 0} {k : ℕ} {b : A} → number k ≡ value b → B
+no_number : {A B : Type 0} {k : Question} {b : A} → refused k ≡ value b → B
 no_number e = let z : ◌≡◌ {A = ℕ} 0 1 = cc in absurd (omega arith)
 
 module _ (t : Tables) (Q : Range → Type 0) where
@@ -61,7 +62,7 @@ module _ (t : Tables) (Q : Range → Type 0) where
       go : (b : A) (o : Outcome A) → run t d ≡ o → Each Q (used t d) → Each Q (if_absent o (used t e)) → or_else o (run t e) ≡ value b → P b
       go b (value a) s l r q = value_is P q (first.holds l a s)
       go b (absent why) s l r q = second.holds r b q
-      go b (number k) s l r q = no_number q
+      go b (refused k) s l r q = no_number q
 
       given_all : Each Q (used t (else d e)) → (b : A) → run t (else d e) ≡ value b → P b
       given_all each b q =
@@ -74,12 +75,12 @@ module _ (t : Tables) (Q : Range → Type 0) where
       given_anyway : (b : A) (why : Reason) (o : Outcome A) → run t e ≡ o → Each Q (used t e) → because why o ≡ value b → P b
       given_anyway b why (value a) s r q = value_is P q (second.holds r a s)
       given_anyway b why (absent w) s r q = no_value q
-      given_anyway b why (number k) s r q = no_number q
+      given_anyway b why (refused k) s r q = no_number q
 
       go : (b : A) (o : Outcome A) → run t d ≡ o → Each Q (used t d) → Each Q (if_absent o (used t e)) → or_first o (run t e) ≡ value b → P b
       go b (value a) s l r q = value_is P q (first.holds l a s)
       go b (absent why) s l r q = given_anyway b why (run t e) refl r q
-      go b (number k) s l r q = no_number q
+      go b (refused k) s l r q = no_number q
 
       given_all : Each Q (used t (else_first d e)) → (b : A) → run t (else_first d e) ≡ value b → P b
       given_all each b q =
@@ -99,4 +100,4 @@ module _ (t : Tables) (Q : Range → Type 0) where
       go : (b : Tried A) → Each Q (used t (tried d)) → (o : Outcome A) → run t d ≡ o → tried_of o ≡ value b → IfGiven P b
       go b each (value a) s q = value_is (IfGiven P) q (first.holds (subst (Each Q) (used_tried t d) each) a s)
       go b each (absent r) s q = value_is (IfGiven P) q tt
-      go b each (number k) s q = no_number q
+      go b each (refused k) s q = no_number q

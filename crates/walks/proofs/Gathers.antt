@@ -3,7 +3,7 @@ use Prim.Native.Nat.{ℕ}
 use mathlib.Core.Path.{◌≡◌, refl, sym, ap, ◌∙◌}
 use mathlib.Core.List.{List, [], ◌∷◌, ◌++◌, map, append_assoc}
 use native.Mathlib.Omega.{arith}
-use Rattle.reads.specs.Outcome.{Outcome, value, absent, number, and_then, Unrefused, a_value, an_absence}
+use Rattle.reads.specs.Outcome.{Outcome, value, absent, refused, and_then, Unrefused, a_value, an_absence}
 use Rattle.reads.specs.declared.answer.Reason.{Reason}
 use Rattle.walks.specs.Gather.{joined, gather, of_value, present, as_each}
 
@@ -18,24 +18,24 @@ pub record Parts {A : Type 0} (o p : Outcome (List A)) (zs : List A) : Type 0 wh
 pub joined_parts : {A : Type 0} (o p : Outcome (List A)) {zs : List A} → joined o p ≡ value zs → Parts o p zs
 joined_parts (value xs) (value ys) e = record { first = xs; second = ys; of_first = refl; of_second = refl; whole = cc }
 joined_parts (value xs) (absent r) e = let z : ◌≡◌ {A = ℕ} 0 1 = cc in absurd (omega arith)
-joined_parts (value xs) (number k) e = let z : ◌≡◌ {A = ℕ} 0 1 = cc in absurd (omega arith)
+joined_parts (value xs) (refused k) e = let z : ◌≡◌ {A = ℕ} 0 1 = cc in absurd (omega arith)
 joined_parts (absent r) p e = let z : ◌≡◌ {A = ℕ} 0 1 = cc in absurd (omega arith)
-joined_parts (number k) p e = let z : ◌≡◌ {A = ℕ} 0 1 = cc in absurd (omega arith)
+joined_parts (refused k) p e = let z : ◌≡◌ {A = ℕ} 0 1 = cc in absurd (omega arith)
 
 -- Joining groups either way.
 pub joined_joined : {A : Type 0} (o p q : Outcome (List A)) → joined (joined o p) q ≡ joined o (joined p q)
 joined_joined (value xs) (value ys) (value zs) = ap value (append_assoc xs ys zs)
 joined_joined (value xs) (value ys) (absent r) = refl
-joined_joined (value xs) (value ys) (number k) = refl
+joined_joined (value xs) (value ys) (refused k) = refl
 joined_joined (value xs) (absent r) q = refl
-joined_joined (value xs) (number k) q = refl
+joined_joined (value xs) (refused k) q = refl
 joined_joined (absent r) p q = refl
-joined_joined (number k) p q = refl
+joined_joined (refused k) p q = refl
 
 pub joined_none : {A : Type 0} (o : Outcome (List A)) → joined (value []) o ≡ o
 joined_none (value xs) = refl
 joined_none (absent r) = refl
-joined_none (number k) = refl
+joined_none (refused k) = refl
 
 module _ {A B : Type 0} (f : A → Outcome (List B)) where
   pub gather_none : {zs : List B} → gather f [] ≡ value zs → zs ≡ []
@@ -64,13 +64,13 @@ pub data Held {A : Type 0} : Outcome A → List A → Type 0 where
 pub present_held : {A : Type 0} (o : Outcome A) {xs : List A} → present o ≡ value xs → Held o xs
 present_held (value a) {xs} e = let one : xs ≡ a ∷ [] = cc in rw one (held_one a)
 present_held (absent r) {xs} e = let none : xs ≡ [] = cc in rw none (held_none r)
-present_held (number k) e = let z : ◌≡◌ {A = ℕ} 0 1 = cc in absurd (omega arith)
+present_held (refused k) e = let z : ◌≡◌ {A = ℕ} 0 1 = cc in absurd (omega arith)
 
 -- What each was taken of, where that gave a list.
 pub each_came : {A B : Type 0} (f : A → B) (o : Outcome (List A)) {ys : List B} → as_each f o ≡ value ys → (xs : List A) × (o ≡ value xs) × (ys ≡ map f xs)
 each_came f (value xs) e = (xs, refl, cc)
 each_came f (absent r) e = let z : ◌≡◌ {A = ℕ} 0 1 = cc in absurd (omega arith)
-each_came f (number k) e = let z : ◌≡◌ {A = ℕ} 0 1 = cc in absurd (omega arith)
+each_came f (refused k) e = let z : ◌≡◌ {A = ℕ} 0 1 = cc in absurd (omega arith)
 
 -- A value.
 pub data There {A : Type 0} : Outcome A → Type 0 where

@@ -1,14 +1,13 @@
 -- ◆ The listing's image (document 01, "The program's listing") meets what the whole claim asks: its tables are opened, and a run of steps over
 -- its method list, which claims 4,294,967,295 rows, is computed whole from the laws.
 use Prim.Native.Nat.{ℕ, ◌+◌, ◌-◌, ◌≤◌, ◌<◌}
-use mathlib.Core.Option.{some}
 use mathlib.Core.Path.{◌≡◌, refl, ap, ◌∙◌}
 use mathlib.Core.Bool.{true, false}
 use mathlib.Core.List.{List, [], ◌∷◌}
 use native.Mathlib.Omega.{arith}
 use lib.ListN.{length, get_or, replicate, length-replicate, get_or-replicate}
 use borrow.Author.Tests.{le-leb}
-use Rattle.reads.specs.Outcome.{value, absent, number, because, choose, sum64, nonzero, text_of}
+use Rattle.reads.specs.Outcome.{value, absent, refused, because, choose, sum64, nonzero, text_of}
 use Rattle.reads.specs.Breaks.{can_read}
 use Rattle.reads.specs.Files.{file_of, longest}
 use Rattle.reads.specs.Place.{le, readable_at, readable, word, word_in, le_in}
@@ -39,7 +38,6 @@ use Rattle.walks.specs.Walk.{walk_of, row_reached, row_skipped, rows_finished, n
 use Rattle.records.specs.declared.class.ObjcClass.{ObjcClass}
 use Rattle.records.specs.declared.list.ListKind.TheVariants.{Methods}
 use Rattle.records.specs.declared.list.RowKind.TheVariants.{Legacy}
-use Rattle.records.specs.declared.method.Imp.TheVariants.{At}
 use Rattle.records.specs.declared.method.MethodKind.TheVariants as kind
 use Rattle.records.specs.declared.row.Row.{Row}
 use Rattle.records.specs.declared.row.Row.TheVariants as row
@@ -47,6 +45,8 @@ use Rattle.records.proofs.Firsts.{first_of_more}
 use Rattle.records.proofs.HubImage.{counted, bytes, four_files, segments}
 use Rattle.records.proofs.ListCases.{hub_list, hub_image, hub_two}
 use Rattle.walks.proofs.Walk.{opened_unrefused, step_value, whole_claim, settles_each_once, walk_meets_each_readable_once}
+use Rattle.std.specs.Prelude.{Some}
+use Rattle.reads.specs.declared.answer.Question.TheVariants.{IndexLength, ChainOrder, WalkState, NameInside, NameUtf8, FileLent}
 
 -- The class list at 0x10A0, 8 bytes; the other four sections are absent.
 abbrev sections : List ℕ
@@ -55,7 +55,7 @@ sections = 1 ∷ 0x10A0 ∷ 8 ∷ 0 ∷ 0 ∷ 0 ∷ 0 ∷ 0 ∷ 0 ∷ 0 ∷ 0 �
 abbrev pub binds : List ℕ
 binds = 0x1008 ∷ 168 ∷ 22 ∷ 0 ∷ []
 
--- An index of the least number of words that question 8 takes, all the same. Shut, so that none of them is computed.
+-- An index of the least number of words that question IndexLength takes, all the same. Shut, so that none of them is computed.
 unfoldable pub filled : ℕ → List ℕ
 filled w = replicate 8193 w
 
@@ -99,11 +99,11 @@ names_utf8_hub = rw utf8_hub
 
 index_room : (count w : ℕ) → asked_index (tables count (filled w)) ≡ value tt
 unfolding asked_index index_fits filled
-index_room count w = question_yes 8 _ (le-leb 8193 (length (replicate 8193 w)) (rw (length-replicate 8193 w) (omega arith)))
+index_room count w = question_yes IndexLength _ (le-leb 8193 (length (replicate 8193 w)) (rw (length-replicate 8193 w) (omega arith)))
 
 accepted_hub : asked_opening (tables 4294967295 (filled 0)) ≡ value tt
 unfolding asked_opening
-accepted_hub = rw (asked_hub 4294967295 (filled 0), question_yes 18 (bind_files files binds) names_lent_hub, question_yes 7 (names_inside files binds) names_inside_hub, question_yes 14 (names_utf8 files binds) names_utf8_hub, index_room 4294967295 0)
+accepted_hub = rw (asked_hub 4294967295 (filled 0), question_yes FileLent (bind_files files binds) names_lent_hub, question_yes NameInside (names_inside files binds) names_inside_hub, question_yes NameUtf8 (names_utf8 files binds) names_utf8_hub, index_room 4294967295 0)
 
 -- Opening accepts the tables, and `hub` has the index that it leaves.
 pub hub_opened : Opened hub
@@ -140,7 +140,7 @@ unfolding file_of decode_list even_list entry_size method_rows bit nonzero reada
 hub_methods = refl
 
 abbrev pub up : Row
-up = row.Method (method_of (text_of 0 0x94 2) (text_of 0 0x97 1) (At 0x2000) kind.Legacy)
+up = row.Method (method_of (text_of 0 0x94 2) (text_of 0 0x97 1) (Some 0x2000) kind.Legacy)
 
 pub row_0 : row_at hub Legacy 0x1078 ≡ value up
 unfolding file_of decode_row decode_legacy_method legacy_imp readable readable_at lookup rows ends holds placed sum64 stored word stripped le text_in text_from text utf8 judge nonzero choose counted up
@@ -163,11 +163,11 @@ uncounted = tables 0 (filled 0)
 abbrev pub broken : Tables
 broken = tables 4294967295 (filled 7)
 
-refused_8 : (p : ℕ) → refusal unindexed Methods 0x1070 p ≡ number 8
+refused_8 : (p : ℕ) → refusal unindexed Methods 0x1070 p ≡ refused IndexLength
 unfolding refusal asked_lent asked_index index_fits question choose
 refused_8 p = rw (asked_hub 4294967295 [])
 
-refused_10 : refusal uncounted Methods 0x1070 1 ≡ number 10
+refused_10 : refusal uncounted Methods 0x1070 1 ≡ refused WalkState
 unfolding file_of refusal asked_lent decode_list even_list entry_size method_rows bit nonzero readable readable_at lookup rows ends holds placed sum64 word_in le_in le question choose counted
 refused_10 = rw (asked_hub 0 (filled 0), index_room 0 0)
 
@@ -175,23 +175,23 @@ head_7 : (c : ℕ) → c < 8193 → get_or (filled 7) c 0 ≡ 7
 unfolding filled
 head_7 c l = get_or-replicate 8193 c 7 0 l
 
-rebase_9 : (a : ℕ) → rebase broken a ≡ number 9
+rebase_9 : (a : ℕ) → rebase broken a ≡ refused ChainOrder
 unfolding rebase_at follow follow_from choose
 rebase_9 a = rw (head_7 (0 + chain_of a) (omega arith))
 
-slot_9 : (a : ℕ) → slot broken a ≡ number 9
+slot_9 : (a : ℕ) → slot broken a ≡ refused ChainOrder
 unfolding resolve
 slot_9 a = rw (rebase_9 a)
 
-row_9 : row_at broken Legacy 0x1090 ≡ number 9
+row_9 : row_at broken Legacy 0x1090 ≡ refused ChainOrder
 unfolding file_of decode_row decode_legacy_method readable readable_at lookup rows ends holds placed sum64 choose counted
 row_9 = rw (slot_9 0x1090)
 
-found_0 : first_readable hub_image hub_list 0 ≡ some 0
+found_0 : first_readable hub_image hub_list 0 ≡ Some 0
 unfolding file_of first_readable first entry can_read readable readable_at lookup rows ends holds placed sum64 choose counted
 found_0 = first_of_more (entry hub_image hub_list) 1 (4294967295 - 1) 0 0 refl
 
-found_1 : first_readable hub_image hub_list 1 ≡ some 1
+found_1 : first_readable hub_image hub_list 1 ≡ Some 1
 unfolding file_of first_readable first entry can_read readable readable_at lookup rows ends holds placed sum64 choose counted
 found_1 = first_of_more (entry hub_image hub_list) 1 (4294967295 - 1 - 1) 1 1 refl
 
@@ -199,7 +199,7 @@ broken_methods : list_at broken Methods 0x1070 ≡ value hub_list
 unfolding decode_list
 broken_methods = hub_methods
 
-refused_9 : refusal broken Methods 0x1070 1 ≡ number 9
+refused_9 : refusal broken Methods 0x1070 1 ≡ refused ChainOrder
 unfolding refusal asked_lent question choose
 refused_9 = rw (asked_hub 4294967295 (filled 7), index_room 4294967295 7, broken_methods) (rw (found_1, row_9))
 
@@ -217,7 +217,7 @@ last_run : (p : ℕ) → Loans hub Methods 0x1070 (hub ∷ []) p
 last_run p = loan_opened refl loans_end
 
 later_run : Loans hub Methods 0x1070 later 1
-later_run = loan_refused 8 (refused_8 1) (loan_refused 10 refused_10 (loan_refused 9 refused_9 (loan_opened {p = 1} refl (last_run _))))
+later_run = loan_refused IndexLength (refused_8 1) (loan_refused WalkState refused_10 (loan_refused ChainOrder refused_9 (loan_opened {p = 1} refl (last_run _))))
 
 -- The hypothesis of the whole claim: each loan is the opened tables or is refused where the walk stands.
 pub hub_run : Loans hub Methods 0x1070 loans 0
@@ -229,9 +229,9 @@ unrefused p l = opened_unrefused hub hub_opened Methods 0x1070 p (rw hub_methods
 -- Its steps.
 pub hub_told : plain_walk hub Methods 0x1070 loans 0
     ≡ told (value (row_reached up)) 1
-    ∷ told (number 8) 1
-    ∷ told (number 10) 1
-    ∷ told (number 9) 1
+    ∷ told (refused IndexLength) 1
+    ∷ told (refused WalkState) 1
+    ∷ told (refused ChainOrder) 1
     ∷ told (value (row_skipped 1 Unmapped)) 2
     ∷ told (value rows_finished) 4294967295
     ∷ []
@@ -242,9 +242,9 @@ hub_told =
 
 pub hub_steps : steps loans (walk_of reading_new 0x1070 Methods 0)
     ≡ hands (value (row_reached up)) (walk_of reading_new 0x1070 Methods 1)
-    ∷ hands_back (walk_of reading_new 0x1070 Methods 1) 8
-    ∷ hands_back (walk_of reading_new 0x1070 Methods 1) 10
-    ∷ hands_back (walk_of reading_new 0x1070 Methods 1) 9
+    ∷ hands_back (walk_of reading_new 0x1070 Methods 1) IndexLength
+    ∷ hands_back (walk_of reading_new 0x1070 Methods 1) WalkState
+    ∷ hands_back (walk_of reading_new 0x1070 Methods 1) ChainOrder
     ∷ hands (value (row_skipped 1 Unmapped)) (walk_of reading_new 0x1070 Methods 2)
     ∷ hands (value rows_finished) (walk_of reading_new 0x1070 Methods 4294967295)
     ∷ []
@@ -297,7 +297,7 @@ hub_ro_of = refl
 
 pub hub_superclass : superclass_name hub hub_class_record ≡ value (text_of 0 182 8)
 unfolding file_of decode_class_name_of decode_nonzero_class_name decode_bound_name symbol_of bind_at last_among bind_name stripped_in fitting starts sum64 nonzero choose counted
-hub_superclass = rw (opened_follow_bind hub hub_opened 0x1008, question_yes 18 (name_lent files bound) refl, question_yes 7 (name_inside files bound) inside_hub, question_yes 14 (name_utf8 files bound) utf8_hub)
+hub_superclass = rw (opened_follow_bind hub hub_opened 0x1008, question_yes FileLent (name_lent files bound) refl, question_yes NameInside (name_inside files bound) inside_hub, question_yes NameUtf8 (name_utf8 files bound) utf8_hub)
 
 -- Where a class decodes, its name goes before the bind: here were the class its own superclass.
 pub decoded_before_bind : class_name_of hub 0x1000 0x1000 ≡ value (text_of 0 0x90 3)

@@ -10,7 +10,7 @@ use lib.Dec.{eqb}
 use lib.ListN.{length, get_or, drop, set, drop_of_length-le}
 use lib.Seq.{take-suc-set}
 use borrow.Author.Tests.{eqb-true, eqb-false}
-use Rattle.reads.specs.Outcome.{Outcome, value, absent, number, and_then, choose}
+use Rattle.reads.specs.Outcome.{Outcome, value, absent, refused, and_then, choose}
 use Rattle.reads.proofs.Tests.{by_choose}
 use Rattle.pointers.specs.Tables.{Tables}
 use Rattle.walks.specs.Gather.{joined, gather, present}
@@ -23,6 +23,7 @@ use Rattle.walks.proofs.SlotLaws.{ledger_room, Answered, answered_value, answere
 use Rattle.walks.proofs.SectionLaws.{step_by_ledger, highest_at_start}
 use Rattle.walks.proofs.Moves.{highest_kept}
 use Rattle.walks.proofs.PlainWalks.{unseen, unseen_none, once_none, once_met, once_new, slots_from_lem}
+use Rattle.reads.specs.declared.answer.Question.{Question}
 
 -- The words in use at the end, if these are in use and the slots that are left hold such addresses.
 at_end : List ℕ → Outcome (List ℕ) → Outcome (List ℕ)
@@ -37,19 +38,19 @@ module _ (seen : List ℕ) where
   unfolding at_end
   end_met a m (value bs) = rw (once_met seen a bs m)
   end_met a m (absent r) = refl
-  end_met a m (number k) = refl
+  end_met a m (refused k) = refl
 
   end_new : (a : ℕ) → among a seen ≡ false → (left : Outcome (List ℕ)) → at_end (seen ++ (a ∷ [])) left ≡ at_end seen (joined (value (a ∷ [])) left)
   unfolding at_end
   end_new a m (value bs) = rw (once_new seen a bs m, append_assoc seen (a ∷ []) (unseen (seen ++ (a ∷ [])) (once bs)))
   end_new a m (absent r) = refl
-  end_new a m (number k) = refl
+  end_new a m (refused k) = refl
 
   end_dropped : (left : Outcome (List ℕ)) → at_end seen left ≡ at_end seen (joined (value []) left)
   unfolding at_end
   end_dropped (value bs) = refl
   end_dropped (absent r) = refl
-  end_dropped (number k) = refl
+  end_dropped (refused k) = refl
 
 module _ {A : Type 0} (k : Kind A) (t : Tables) where
   abbrev slots : List ℕ
@@ -68,13 +69,13 @@ module _ {A : Type 0} (k : Kind A) (t : Tables) where
     unfinished : {o : Outcome (Step A)} {v : Walk} {m : List ℕ} → (o ≡ value finished → ⊥) → ahead v m ≡ ahead w l → Keeps w l (leaves o v m)
     unfinished n e = record { same = e; done = λ h. absurd (n h) }
 
-    refused : (n : ℕ) → Keeps w l (stays w l n)
-    refused n = unfinished (λ h. let z : ◌≡◌ {A = ℕ} 0 1 = cc in omega arith) refl
+    refusing : (n : Question) → Keeps w l (stays w l n)
+    refusing n = unfinished (λ h. let z : ◌≡◌ {A = ℕ} 0 1 = cc in omega arith) refl
 
     by_record_lem : (after : A → ℕ) (on : ℕ → Walk) (new : List ℕ) → ((n : ℕ) → ahead (on n) new ≡ ahead w l) → (o : Outcome A) → Keeps w l (by_record w l after on new o)
     by_record_lem after on new e (value c) = unfinished (λ h. let z : ◌≡◌ {A = ℕ} 0 1 = cc in omega arith) (e (after c))
     by_record_lem after on new e (absent r) = unfinished (λ h. let z : ◌≡◌ {A = ℕ} 0 1 = cc in omega arith) (e 0)
-    by_record_lem after on new e (number n) = refused n
+    by_record_lem after on new e (refused n) = refusing n
 
     waiting_keeps : Keeps w l (take_waiting k t w l)
     unfolding take_waiting
@@ -110,12 +111,12 @@ module _ {A : Type 0} (k : Kind A) (t : Tables) where
           (λ m. dropped_keeps (rw (slot_more e) (end_met (met_in w l) a m later)))
           (λ m. new_keeps a r e m)
       slot_keeps (absent why) r e = dropped_keeps (rw (slot_more e) (end_dropped (met_in w l) later))
-      slot_keeps (number n) r e = refused n
+      slot_keeps (refused n) r e = refusing n
 
     asked_keeps : {o : Outcome (Unit {0})} → asked_ledger t slots w.slot w.used (length l) ≡ o → Answered o
         → Keeps w l (unless_refused o (stays w l) (choose (eqb w.waiting 0) (take_slot (λ a. among a (met_in w l)) k t w l) (take_waiting k t w l)))
     unfolding take_slot slot_taken
-    asked_keeps e (answered_number n) = refused n
+    asked_keeps e (answered_number n) = refusing n
     asked_keeps e (answered_value y) =
         let room = ledger_room slots t w.slot w.used (length l) e in
         by_choose (Keeps w l)
@@ -143,7 +144,7 @@ module _ {A : Type 0} (k : Kind A) (t : Tables) where
       go : (o : Outcome (List ℕ)) → and_then o (λ bs. value (once bs)) ≡ and_then o (λ bs. value (unseen [] (once bs)))
       go (value bs) = rw (unseen_none (once bs))
       go (absent r) = refl
-      go (number n) = refl
+      go (refused n) = refl
 
   finished_met : (n : ℕ) (l : List ℕ) → Met (left_after (step_of k t) n at_start l) (listed t k.lists)
   finished_met n l e = listed_ahead l ∙ met_from n at_start l (highest_at_start l) e

@@ -9,7 +9,7 @@ use lib.Dec.{eqb}
 use lib.ListN.{length, get_or, take, drop, set, length-set, drop_of_length-le}
 use lib.Seq.{drop-cons, take-suc-set}
 use borrow.Author.Tests.{eq-eqb, ne_eqb, eqb-true, eqb-false}
-use Rattle.reads.specs.Outcome.{Outcome, value, absent, number, and_then, nonzero}
+use Rattle.reads.specs.Outcome.{Outcome, value, absent, refused, and_then, nonzero}
 use Rattle.reads.proofs.Tests.{choose_true, choose_false}
 use Rattle.reads.proofs.Outcomes.{nonzero_zero, nonzero_else, then_came}
 use Rattle.reads.specs.declared.answer.Reason.{Reason}
@@ -149,7 +149,7 @@ module _ {A : Type 0} (k : Kind A) (t : Tables) (yes : asked t ≡ value tt) whe
       go : (d : Outcome A) → present d ≡ of_value d (λ c. joined (value (c ∷ [])) (following c))
       go (value c) = rw (following_none c (z c))
       go (absent why) = refl
-      go (number j) = refl
+      go (refused j) = refl
 
   -- A run of at most so many steps.
   abbrev Runs : ℕ → Walk → List ℕ → List A → Type 0
@@ -224,7 +224,7 @@ module _ {A : Type 0} (k : Kind A) (t : Tables) (yes : asked t ≡ value tt) whe
     decoded_slot a e (absent why) d first rest f on =
         let none : first ≡ [] = cc in
         rw none (more (omega arith) (pass (step_undecoded at used highest 0 l (omega arith) h r refl u a why e d) on))
-    decoded_slot a e (number j) d first rest f on = let z : ◌≡◌ {A = ℕ} 0 1 = cc in absurd (omega arith)
+    decoded_slot a e (refused j) d first rest f on = let z : ◌≡◌ {A = ℕ} 0 1 = cc in absurd (omega arith)
 
     address_slot : (a : ℕ) → address_in t here_slot ≡ value a → (b : Bool) → among a seen ≡ b → Slot (a ∷ bs)
     unfolding records_at
@@ -320,7 +320,7 @@ module _ (t : Tables) (yes : asked t ≡ value tt) where
     next_protocol : (o : Outcome ℕ) → address_in t (get_or slots_there at 0) ≡ o → (ps : List ObjcProtocol) → of_value o (λ p. present (protocol_at t p)) ≡ value ps → Next ps
     next_protocol (value a) e ps f = by_protocol a e refl (present_held (protocol_at t a) f)
     next_protocol (absent why) e ps f = let none : ps ≡ [] = cc in rw none (dropping (protocol_dropped at l (omega arith) u why e) later)
-    next_protocol (number k) e ps f = let z : ◌≡◌ {A = ℕ} 0 1 = cc in absurd (omega arith)
+    next_protocol (refused k) e ps f = let z : ◌≡◌ {A = ℕ} 0 1 = cc in absurd (omega arith)
 
   -- All slots from one on.
   protocol_runs : (n at : ℕ) (l : List ℕ) → at + n ≡ length slots_there → (rs : List ObjcProtocol) → gather protocol_in (drop at slots_there) ≡ value rs

@@ -4,7 +4,7 @@ use mathlib.Core.Path.{◌≡◌, refl}
 use mathlib.Core.List.{List, [], ◌∷◌, ◌++◌}
 use lib.ListN.{length, replicate}
 use borrow.Author.Tests.{le-leb}
-use Rattle.reads.specs.Outcome.{value, absent, number, choose, sum64, nonzero, text_of}
+use Rattle.reads.specs.Outcome.{value, absent, refused, choose, sum64, nonzero, text_of}
 use Rattle.reads.specs.Segment.{rows, ends, holds, placed, lookup}
 use Rattle.reads.specs.Files.{file_of, longest}
 use Rattle.reads.specs.Place.{le, readable_at, readable, word, word_in, le_in}
@@ -27,6 +27,7 @@ use Rattle.walks.specs.Gather.{gather}
 use Rattle.walks.specs.Handed.{answers_of}
 use Rattle.walks.specs.ProtocolNames.{protocol_list_at, decode_protocol_list, has_slot, decode_protocol_name, decode_protocol_name_in, name_in, decode_name_in, walk_at, name_reached, name_passed, names_finished, next_name, slot_names, protocol_names}
 use Rattle.walks.proofs.ProtocolNameWalks.{slots_said_then_finished}
+use Rattle.reads.specs.declared.answer.Question.TheVariants.{ChainOrder}
 
 -- The list at 0x1000 with slots at 0x1008, 0x1010 and 0x1018; a protocol_t of 72 bytes at 0x1020; its name at 0x1068; a symbol's name.
 abbrev names_image : List ℕ
@@ -93,6 +94,6 @@ module _ (before : List ℕ) where
     name_answers = simp names_in_slots at (slots_said_then_finished (names_tables before) opened 0x1000 (record { base = 0x1008; count = 3 }) list_there 1)
 
 -- With an index of which each word is 7 every chain begins above the record count: 9, which is not left out.
-pub names_number : protocol_names (with_index (names_tables []) (replicate 8194 7)) 0x1000 ≡ number 9
+pub names_number : protocol_names (with_index (names_tables []) (replicate 8194 7)) 0x1000 ≡ refused ChainOrder
 unfolding file_of protocol_names gather decode_protocol_list slot_names has_slot decode_name_in decode_protocol_name_in even_list word_in le_in readable lookup rows ends holds placed sum64 readable_at le nonzero resolve rebase_at follow follow_from choose
 names_number = refl

@@ -7,7 +7,7 @@ use mathlib.Core.List.{List, [], ◌∷◌, ◌++◌, map}
 use native.Mathlib.Omega.{arith}
 use lib.ListN.{length, replicate}
 use borrow.Author.Tests.{le-leb}
-use Rattle.reads.specs.Outcome.{Outcome, value, absent, number, Unrefused, a_value, an_absence, sum64, nonzero}
+use Rattle.reads.specs.Outcome.{Outcome, value, absent, refused, Unrefused, a_value, an_absence, sum64, nonzero}
 use Rattle.reads.specs.Place.{readable, word_in}
 use Rattle.reads.specs.declared.text.Text.{Text}
 use Rattle.reads.proofs.Outcomes.{then_came}
@@ -28,6 +28,7 @@ use Rattle.records.proofs.Headers.{even_unrefused}
 use Rattle.records.proofs.Decodes.{unrefused}
 use Rattle.walks.proofs.Gathers.{There, is_there, there_joined, there_of, there_present, there_known}
 use Rattle.walks.proofs.ProtocolLists.{no_slot_from_count}
+use Rattle.reads.specs.declared.answer.Question.TheVariants.{WalkState}
 
 pub protocol_list_unrefused : (t : Tables) (va : ℕ) → Unrefused (protocol_list_at t va)
 unfolding decode_protocol_list
@@ -74,7 +75,7 @@ none_finished (suc n) = rw (none_finished n)
 slot_says : (o : Outcome Text) → of_value (slot_answer o) (λ r. value (name_said r)) ≡ present o
 slot_says (value name) = refl
 slot_says (absent r) = refl
-slot_says (number k) = refl
+slot_says (refused k) = refl
 
 names_of_slots : (os : List (Outcome Text)) (n : ℕ)
     → names_said (map slot_answer os ++ replicate n (value names_finished)) ≡ gather present os
@@ -102,11 +103,11 @@ module _ (t : Tables) (o : Opened t) where
   -- Every question passes.
   pub next_in : (w : ProtocolNameWalk) (l : ProtocolList) → protocol_list_at t w.list ≡ value l → w.cursor ≤ l.count → next_name_under t w ≡ step_in t w l
   unfolding next_name_under over_names from_cursor
-  next_in w l e h = rw (opened_asked t o, e, question_yes 10 _ (le-leb w.cursor l.count h))
+  next_in w l e h = rw (opened_asked t o, e, question_yes WalkState _ (le-leb w.cursor l.count h))
 
   pub next_absent : (w : ProtocolNameWalk) (r : Reason) → protocol_list_at t w.list ≡ absent r → w.cursor ≤ 0 → next_name_under t w ≡ hands (absent r) w
   unfolding next_name_under over_names from_cursor
-  next_absent w r e h = rw (opened_asked t o, e, question_yes 10 _ (le-leb w.cursor 0 h))
+  next_absent w r e h = rw (opened_asked t o, e, question_yes WalkState _ (le-leb w.cursor 0 h))
 
   pub next_unrefused : (w : ProtocolNameWalk) → w.cursor ≤ count_by (λ l. l.count) (protocol_list_at t w.list) → Unrefused (next_name_under t w).answer
   unfolding step_in
@@ -119,7 +120,7 @@ module _ (t : Tables) (o : Opened t) where
           (λ f. rw (named_on w (name_in_unrefused (slot_in l w.cursor))) (answer_unrefused (name_in_unrefused (slot_in l w.cursor))))
           (λ f. a_value names_finished))
       go (absent r) e u = rw (next_absent w r e (rw e at h)) (an_absence r)
-      go (number _) e u = elim u [ ]
+      go (refused _) e u = elim u [ ]
 
   -- The steps over a list that is there.
   module _ (list : ℕ) (l : ProtocolList) (there : protocol_list_at t list ≡ value l) where

@@ -4,7 +4,7 @@ use mathlib.Core.Path.{◌≡◌, refl}
 use mathlib.Core.Bool.{true, false}
 use mathlib.Core.List.{List, [], ◌∷◌, ◌++◌, map}
 use lib.ListN.{replicate}
-use Rattle.reads.specs.Outcome.{value, number, choose, sum64, nonzero}
+use Rattle.reads.specs.Outcome.{value, refused, choose, sum64, nonzero}
 use Rattle.reads.specs.Files.{file_of, longest}
 use Rattle.reads.specs.Place.{le, readable_at, readable, word}
 use Rattle.reads.specs.Segment.{rows, ends, holds, placed, lookup}
@@ -22,6 +22,7 @@ use Rattle.walks.specs.Slots.{slots_from, section_slots, decode_address, among, 
 use Rattle.walks.specs.Sections.{Walk, walk, at_start, found, passed, dropped, finished, Left, leaves, classes, meta_of, take_waiting, take_new, take_slot, step_by, step_of}
 use Rattle.walks.specs.PlainSections.{addresses_in, without, once, listed, with_meta, plain_classes}
 use Rattle.records.specs.declared.class.ObjcClass.{ObjcClass}
+use Rattle.reads.specs.declared.answer.Question.TheVariants.{ChainOrder, WalkState, LedgerLength}
 
 -- 72 bytes at 0x1000: a class whose isa is 0x1008, where 40 bytes can be read too; from 0x1028 on the slots 0x1000, 0, 0x1000, 0x3000.
 abbrev bytes : List ℕ
@@ -85,9 +86,9 @@ by_hand =
 -- Refused, with nothing written: a slot past the last, more words in use than slots taken, a ledger of four words.
 abbrev refusals : List Case
 refusals =
-    case (walk 6 0 0 0) (replicate 5 9) (leaves (number 10) (walk 6 0 0 0) (replicate 5 9))
-    ∷ case (walk 1 2 0 0) (replicate 5 9) (leaves (number 10) (walk 1 2 0 0) (replicate 5 9))
-    ∷ case at_start (replicate 4 9) (leaves (number 11) at_start (replicate 4 9))
+    case (walk 6 0 0 0) (replicate 5 9) (leaves (refused WalkState) (walk 6 0 0 0) (replicate 5 9))
+    ∷ case (walk 1 2 0 0) (replicate 5 9) (leaves (refused WalkState) (walk 1 2 0 0) (replicate 5 9))
+    ∷ case at_start (replicate 4 9) (leaves (refused LedgerLength) at_start (replicate 4 9))
     ∷ []
 
 pub step_cases : map (λ (c : Case). step_of classes example c.walk c.ledger) (taken ++ (by_hand ++ refusals)) ≡ map (λ (c : Case). c.expected) (taken ++ (by_hand ++ refusals))
@@ -99,6 +100,6 @@ unfolding file_of plain_classes listed with_meta addresses_in gather section_slo
 plain_case = refl
 
 -- With an index of which each word is 7 every chain begins above the record count: 9, which is not left out.
-pub plain_number : plain_classes (with_index example (replicate 8192 7)) ≡ number 9
+pub plain_number : plain_classes (with_index example (replicate 8192 7)) ≡ refused ChainOrder
 unfolding plain_classes listed addresses_in gather section_slots slots_from section_at slot_address decode_address resolve rebase_at follow follow_from choose
 plain_number = refl

@@ -5,7 +5,7 @@ use mathlib.Core.Bool.{Bool}
 use mathlib.Core.List.{List}
 use lib.ListN.{length, set}
 use borrow.Author.Tests.{eq-eqb, ne_eqb}
-use Rattle.reads.specs.Outcome.{Outcome, value, absent, number}
+use Rattle.reads.specs.Outcome.{Outcome, value, absent, refused}
 use Rattle.reads.proofs.Tests.{choose_true, choose_false}
 use Rattle.pointers.specs.Tables.{Tables}
 use Rattle.records.specs.Category.{category_at}
@@ -16,20 +16,21 @@ use Rattle.records.specs.declared.protocol.ObjcProtocol.{ObjcProtocol}
 use Rattle.walks.specs.declared.slots.Lists.{Lists}
 use Rattle.walks.specs.declared.slots.Lists.TheVariants.{Categories, Protocols}
 use Rattle.walks.proofs.SlotLaws.{met_by_greatest}
+use Rattle.reads.specs.declared.answer.Question.{Question}
 
 -- A question that refuses the slot refuses the step.
 slot_step : {A : Type 0} (w : Walk) (l : List ℕ) (f : ℕ → Left A) (o : Outcome (Unit {0})) (x : TakenSlot)
     → by_slot w l f (unless_refused o slot_refused x) ≡ unless_refused o (stays w l) (by_slot w l f x)
 slot_step w l f (value u) x = refl
 slot_step w l f (absent r) x = refl
-slot_step w l f (number k) x = refl
+slot_step w l f (refused k) x = refl
 
 module _ {A : Type 0} (k : Kind A) (t : Tables) (w : Walk) (l : List ℕ) where
   pub waiting_on : {x : Left A} → asked_ledger t (slots_in k t) w.slot w.used (length l) ≡ value tt → x ≡ take_waiting k t w l → x ≡ next_waiting k t w l
   unfolding next_waiting
   waiting_on e h = rw e h
 
-  pub waiting_no : {x : Left A} {n : ℕ} → asked_ledger t (slots_in k t) w.slot w.used (length l) ≡ number n → x ≡ stays w l n → x ≡ next_waiting k t w l
+  pub waiting_no : {x : Left A} {n : Question} → asked_ledger t (slots_in k t) w.slot w.used (length l) ≡ refused n → x ≡ stays w l n → x ≡ next_waiting k t w l
   unfolding next_waiting
   waiting_no e h = rw e h
 
@@ -50,7 +51,7 @@ module _ (w : Walk) (l : List ℕ) (h : w.waiting ≡ 0) where
   record_waits_none : {A : Type 0} (on : ℕ → Walk) (new : List ℕ) → (on 0).waiting ≡ 0 → (o : Outcome A) → (by_record w l (λ c. 0) on new o).walk.waiting ≡ 0
   record_waits_none on new e (value a) = e
   record_waits_none on new e (absent r) = e
-  record_waits_none on new e (number k) = h
+  record_waits_none on new e (refused k) = h
 
   slot_waits_none : {A : Type 0} (f : ℕ → Left A) → ((a : ℕ) → (f a).walk.waiting ≡ 0) → (x : TakenSlot) → (by_slot w l f x).walk.waiting ≡ 0
   slot_waits_none f e (address a) = e a

@@ -16,7 +16,7 @@ use Rattle.std.specs.List.Sorted.{IsSearchInRange}
 use Rattle.std.specs.Ordering.{nat_cmp}
 use Rattle.std.specs.Result.{IfOk, is_ok}
 use Rattle.std.specs.declared.cmp.Ordering.TheVariants.{Equal}
-use Rattle.reads.specs.Outcome.{Outcome, value, absent, number, and_then}
+use Rattle.reads.specs.Outcome.{Outcome, value, absent, refused, and_then}
 use Rattle.reads.specs.Relative.{slot_address}
 use Rattle.reads.proofs.Tests.{by_choose, choose_true, choose_false, both_true}
 use Rattle.reads.proofs.Outcomes.{then_came}
@@ -32,6 +32,8 @@ use Rattle.walks.specs.declared.slots.Lists.{Lists}
 use Rattle.walks.specs.declared.slots.Lists.TheVariants.{Classes, Categories, Protocols}
 use Rattle.walks.specs.declared.slots.SlotStep.{SlotStep}
 use Rattle.walks.specs.declared.slots.SlotWalk.{SlotWalk}
+use Rattle.reads.specs.declared.answer.Question.{Question}
+use Rattle.reads.specs.declared.answer.Question.TheVariants.{WalkState, LedgerLength, FileLength, SegmentTable, SectionTable, ImageInfoLength, RebaseTable, BindTable, IndexLength, FileLent}
 
 -- The slots of a section, one by one.
 slots_length : (v k n : ℕ) → length (slots_from v k n) ≡ n
@@ -191,43 +193,43 @@ module _ (slots : List ℕ) where
   module _ (t : Tables) (slot used : ℕ) where
     slot_asked : asked t ≡ value tt → slot ≤ length slots → used ≤ slot → asked_slot t slots slot used ≡ value tt
     unfolding asked_slot
-    slot_asked e h g = rw (e, question_yes 10 _ (slot_fits_lem slot used h g))
+    slot_asked e h g = rw (e, question_yes WalkState _ (slot_fits_lem slot used h g))
 
     pub ledger_asked : asked t ≡ value tt → (words : ℕ) → slot ≤ length slots → used ≤ slot → length slots ≤ words
         → asked_ledger t slots slot used words ≡ value tt
     unfolding asked_ledger
-    ledger_asked e words h g r = rw (slot_asked e h g, question_yes 11 _ (ledger_fits_lem words r))
+    ledger_asked e words h g r = rw (slot_asked e h g, question_yes LedgerLength _ (ledger_fits_lem words r))
 
     -- What they say of a walk.
     pub slot_room : asked_slot t slots slot used ≡ value tt → (slot ≤ length slots) × (used ≤ slot)
     unfolding asked_slot
     slot_room e =
         let a = then_came (asked t) _ tt e in
-        slot_within slot used (question_came 10 _ tt a.2)
+        slot_within slot used (question_came WalkState _ tt a.2)
 
     pub ledger_room : (words : ℕ) → asked_ledger t slots slot used words ≡ value tt → (slot ≤ length slots) × (used ≤ slot) × (length slots ≤ words)
     unfolding asked_ledger ledger_fits
     ledger_room words e =
         let a = then_came (asked_slot t slots slot used) _ tt e in
         let h = slot_room a.1 in
-        (h.0, h.1, leb-true (length slots) words (question_came 11 _ tt a.2))
+        (h.0, h.1, leb-true (length slots) words (question_came LedgerLength _ tt a.2))
 
 -- The questions of a walk with a ledger, by those before.
 module _ (t : Tables) (slots : List ℕ) (slot : ℕ) where
   module _ (used words : ℕ) where
-    pub ask_10 : asked t ≡ value tt → slot_fits slots slot used ≡ false → number 10 ≡ asked_ledger t slots slot used words
+    pub ask_10 : asked t ≡ value tt → slot_fits slots slot used ≡ false → refused WalkState ≡ asked_ledger t slots slot used words
     unfolding asked_ledger asked_slot
-    ask_10 e h = rw (e, question_no 10 _ h)
+    ask_10 e h = rw (e, question_no WalkState _ h)
 
-    pub ask_11 : asked t ≡ value tt → slot_fits slots slot used ≡ true → ledger_fits slots words ≡ false → number 11 ≡ asked_ledger t slots slot used words
+    pub ask_11 : asked t ≡ value tt → slot_fits slots slot used ≡ true → ledger_fits slots words ≡ false → refused LedgerLength ≡ asked_ledger t slots slot used words
     unfolding asked_ledger asked_slot
-    ask_11 e h g = rw (e, question_yes 10 _ h, question_no 11 _ g)
+    ask_11 e h g = rw (e, question_yes WalkState _ h, question_no LedgerLength _ g)
 
     pub ask_yes : asked t ≡ value tt → slot_fits slots slot used ≡ true → ledger_fits slots words ≡ true → value tt ≡ asked_ledger t slots slot used words
     unfolding asked_ledger asked_slot
-    ask_yes e h g = rw (e, question_yes 10 _ h, question_yes 11 _ g)
+    ask_yes e h g = rw (e, question_yes WalkState _ h, question_yes LedgerLength _ g)
 
-    pub ask_no : {k : ℕ} → asked t ≡ number k → number k ≡ asked_ledger t slots slot used words
+    pub ask_no : {k : Question} → asked t ≡ refused k → refused k ≡ asked_ledger t slots slot used words
     unfolding asked_ledger asked_slot
     ask_no e = rw e
 
@@ -244,13 +246,13 @@ module _ (t : Tables) (slots : List ℕ) (slot : ℕ) where
   -- The next slot, by the questions.
   pub next_on : {x : TakenSlot} → asked t ≡ value tt → slot_fits slots slot 0 ≡ true → x ≡ slot_taken t slots slot → x ≡ next_slot t slots slot
   unfolding next_slot asked_slot
-  next_on e h g = rw (e, question_yes 10 _ h) g
+  next_on e h g = rw (e, question_yes WalkState _ h) g
 
-  pub next_10 : asked t ≡ value tt → slot_fits slots slot 0 ≡ false → slot_refused 10 ≡ next_slot t slots slot
+  pub next_10 : asked t ≡ value tt → slot_fits slots slot 0 ≡ false → slot_refused WalkState ≡ next_slot t slots slot
   unfolding next_slot asked_slot
-  next_10 e h = rw (e, question_no 10 _ h)
+  next_10 e h = rw (e, question_no WalkState _ h)
 
-  pub next_no : {k : ℕ} → asked t ≡ number k → slot_refused k ≡ next_slot t slots slot
+  pub next_no : {k : Question} → asked t ≡ refused k → slot_refused k ≡ next_slot t slots slot
   unfolding next_slot asked_slot
   next_no e = rw e
 
@@ -260,16 +262,16 @@ module _ (t : Tables) (slots : List ℕ) (slot : ℕ) where
     unfolding next_new
     new_on e g = rw e g
 
-    pub new_no : {k : ℕ} → asked_ledger t slots slot used (length l) ≡ number k → slot_refused k ≡ next_new t slots slot used highest l
+    pub new_no : {k : Question} → asked_ledger t slots slot used (length l) ≡ refused k → slot_refused k ≡ next_new t slots slot used highest l
     unfolding next_new
     new_no e = rw e
 
 -- No question is absent.
 pub data Answered {A : Type 0} : Outcome A → Type 0 where
   answered_value : (a : A) → Answered (value a)
-  answered_number : (k : ℕ) → Answered (number k)
+  answered_number : (k : Question) → Answered (refused k)
 
-answered_question : (k : ℕ) (b : Bool) → Answered (question k b)
+answered_question : (k : Question) (b : Bool) → Answered (question k b)
 unfolding question
 answered_question k b = by_choose Answered (λ e. answered_value tt) (λ e. answered_number k)
 
@@ -281,10 +283,10 @@ asked_answered : (t : Tables) → Answered (asked t)
 unfolding asked_lent asked_tables asked_index
 asked_answered t =
     answered_then _
-    (answered_then _ (answered_question 1 _) (λ a. answered_then _ (answered_question 2 _) (λ g. answered_then _ (answered_question 18 _)
-    (λ b. answered_then _ (answered_question 3 _) (λ c. answered_then _ (answered_question 4 _) (λ d. answered_then _ (answered_question 5 _)
-    (λ e. answered_question 6 _)))))))
-    (λ f. answered_question 8 _)
+    (answered_then _ (answered_question FileLength _) (λ a. answered_then _ (answered_question SegmentTable _) (λ g. answered_then _ (answered_question FileLent _)
+    (λ b. answered_then _ (answered_question SectionTable _) (λ c. answered_then _ (answered_question ImageInfoLength _) (λ d. answered_then _ (answered_question RebaseTable _)
+    (λ e. answered_question BindTable _)))))))
+    (λ f. answered_question IndexLength _)
 
 asked_never_absent : {o : Outcome (Unit {0})} (r : Reason) → Answered o → absent r ≡ o → ⊥
 asked_never_absent r (answered_value u) e = let z : ◌≡◌ {A = ℕ} 0 1 = cc in omega arith
@@ -296,11 +298,11 @@ no_question_absent t r e = asked_never_absent r (asked_answered t) e
 module _ (t : Tables) (slots : List ℕ) (slot used : ℕ) where
   pub slot_answered : Answered (asked_slot t slots slot used)
   unfolding asked_slot
-  slot_answered = answered_then _ (asked_answered t) (λ a. answered_question 10 _)
+  slot_answered = answered_then _ (asked_answered t) (λ a. answered_question WalkState _)
 
   pub ledger_answered : (words : ℕ) → Answered (asked_ledger t slots slot used words)
   unfolding asked_ledger
-  ledger_answered words = answered_then _ slot_answered (λ a. answered_question 11 _)
+  ledger_answered words = answered_then _ slot_answered (λ a. answered_question LedgerLength _)
 
 -- A slot that comes to an address or is dropped is there, and a ledger that was asked for has a word for it.
 abbrev pub takes : TakenSlot → Bool

@@ -1,8 +1,7 @@
 -- The plain walk over a list (document 01, Lists): fed the opened tables under a setting, which holds the reading (document 02, note 12),
 -- list address and kind, it holds a position, and asks of what a step is lent only whether a question refuses it there under that setting.
-use Rattle.std.specs.Prelude.{ℕ, suc, ◌-◌, ◌≡◌, List, [], ◌∷◌, leb}
-use Rattle.std.proofs.Math.Option.{Option, none, some}
-use Rattle.reads.specs.Outcome.{Outcome, value, absent, number, and_then}
+use Rattle.std.specs.Prelude.{ℕ, suc, ◌-◌, ◌≡◌, List, [], ◌∷◌, leb, Option, None, Some}
+use Rattle.reads.specs.Outcome.{Outcome, value, absent, refused, and_then}
 use Rattle.pointers.specs.Tables.{Tables, image_in, under}
 use Rattle.pointers.specs.declared.setting.Setting.{Setting}
 use Rattle.pointers.specs.Question.{question, asked}
@@ -15,6 +14,8 @@ use Rattle.records.specs.declared.list.Layout.{Layout}
 use Rattle.records.specs.declared.list.ListKind.{ListKind}
 use Rattle.records.specs.declared.row.Row.{Row}
 use Rattle.walks.specs.declared.list_walk.ListWalk.{ListWalk}
+use Rattle.reads.specs.declared.answer.Question.TheVariants.{WalkState}
+use Rattle.reads.specs.declared.answer.Question.{Question}
 
 -- An answer, with the position after it.
 pub record Told : Type 0 where
@@ -24,31 +25,31 @@ pub record Told : Type 0 where
 abbrev pub told : Outcome ReachedRow → ℕ → Told
 told answer position = record { answer = answer; position = position }
 
--- The count of a list, 0 for an absent one (question 10).
+-- The count of a list, 0 for an absent one (question WalkState).
 abbrev pub count_of : Outcome Layout → ℕ
 count_of list = count_by (λ h. h.count) list
 
 -- Whether a lookup refuses: its number.
 abbrev pub refused_by : {A : Type 0} → Outcome A → Outcome (Unit {0})
-refused_by o = unless_refused o number (value tt)
+refused_by o = unless_refused o refused (value tt)
 
 -- Whether a lookup of the row refuses that a step over a list reaches from position p; where it reaches none, or the list is absent, there
 -- is none.
 abbrev pub row_refusal : Tables → Layout → Option ℕ → Outcome (Unit {0})
-row_refusal t h (some j) = refused_by (row_at t h.kind (entry_address h j))
-row_refusal t h none = value tt
+row_refusal t h (Some j) = refused_by (row_at t h.kind (entry_address h j))
+row_refusal t h None = value tt
 
 abbrev pub refusal_from : Tables → Outcome Layout → ℕ → Outcome (Unit {0})
 refusal_from t (value h) p = row_refusal t h (first_readable (image_in t) h p)
 refusal_from t (absent r) p = value tt
-refusal_from t (number k) p = number k
+refusal_from t (refused k) p = refused k
 
 -- The first question that refuses a step which is lent t and stands at p: 1 to 6 and 8; 10, by the count of the lent list; 9, while the row
 -- that it reaches is decoded.
 unfoldable pub refusal : Tables → ListKind → ℕ → ℕ → Outcome (Unit {0})
 refusal t k list p =
     and_then (asked t) (λ _.
-    and_then (question 10 (leb p (count_of (list_at t k list)))) (λ _.
+    and_then (question WalkState (leb p (count_of (list_at t k list)))) (λ _.
     refusal_from t (list_at t k list) p))
 
 -- Entry j is settled: its row, or skipped with its index and reason; the position is one past it.
@@ -68,12 +69,12 @@ left_from t h p = all_from (entry (image_in t) h) (h.count - p) p
 abbrev pub plain_over : Tables → ℕ → Outcome Layout → Told
 plain_over t p (value h) = go_on t h (left_from t h p)
 plain_over t p (absent r) = told (absent r) p
-plain_over t p (number k) = told (number k) p
+plain_over t p (refused k) = told (refused k) p
 
 -- A step of the plain walk: a refused one gives the number and stays.
 unfoldable pub plain_step : Tables → ListKind → ℕ → Tables → ℕ → Told
 plain_step opened k list lent p =
-    unless_refused (refusal (under opened.setting lent) k list p) (λ q. told (number q) p) (plain_over opened p (list_at opened k list))
+    unless_refused (refusal (under opened.setting lent) k list p) (λ q. told (refused q) p) (plain_over opened p (list_at opened k list))
 
 -- The plain walk over a list of loans.
 unfoldable pub plain_walk : Tables → ListKind → ℕ → List Tables → ℕ → List Told
@@ -99,8 +100,8 @@ pub data Loans (opened : Tables) (k : ListKind) (list : ℕ) : List Tables → �
   loans_end : {p : ℕ} → Loans opened k list [] p
   loan_opened : {lent : Tables} {loans : List Tables} {p : ℕ}
       → under opened.setting lent ≡ opened → Loans opened k list loans (plain_step opened k list opened p).position → Loans opened k list (lent ∷ loans) p
-  loan_refused : {lent : Tables} {loans : List Tables} {p : ℕ} (q : ℕ)
-      → refusal (under opened.setting lent) k list p ≡ number q → Loans opened k list loans p → Loans opened k list (lent ∷ loans) p
+  loan_refused : {lent : Tables} {loans : List Tables} {p : ℕ} (q : Question)
+      → refusal (under opened.setting lent) k list p ≡ refused q → Loans opened k list loans p → Loans opened k list (lent ∷ loans) p
 
 -- The entries handed out one by one: a step that is not refused takes the first that is left and settles it; with none left it is finished
 -- at the count. The answer, and what is left after it.
@@ -109,7 +110,7 @@ hand_out t h [] = (told (value rows_finished) h.count, [])
 hand_out t h (e ∷ es) = (settling e (row_at t h.kind (entry_address h e)), es)
 
 abbrev pub hand_step : Tables → Layout → Outcome (Unit {0}) → List ℕ → ℕ → Told × List ℕ
-hand_step t h refused es p = unless_refused refused (λ q. (told (number q) p, es)) (hand_out t h es)
+hand_step t h refusing es p = unless_refused refusing (λ q. (told (refused q) p, es)) (hand_out t h es)
 
 unfoldable pub handed_out : Tables → ListKind → ℕ → Layout → List Tables → List ℕ → ℕ → List Told
 handed_out t k list h [] es p = []

@@ -1,7 +1,6 @@
 -- Protocol names (objc-runtime-new.h, protocol_list_t; document 01, Protocol names and Steps; protocol.rs, protocol_name_iter).
 use Rattle.std.specs.Prelude.{ℕ, zero, suc, ◌+◌, ◌*◌, ◌^◌, min, Bool, ◌&&◌, List, [], ◌∷◌, ltb}
-use Rattle.reads.specs.Outcome.{Outcome, value, absent, number, choose}
-use Rattle.reads.specs.Answer.{missed}
+use Rattle.reads.specs.Outcome.{Outcome, value, absent, refused, choose}
 use Rattle.reads.specs.declared.answer.Reason.{Reason}
 use Rattle.reads.specs.declared.text.Text.{Text}
 use Rattle.pointers.specs.Tables.{Tables, under}
@@ -13,18 +12,12 @@ use Rattle.records.specs.Protocol.{decode_protocol}
 use Rattle.walks.specs.Gather.{gather, of_value, present}
 use Rattle.walks.specs.Handed.{unless_refused, Handed, hands, hands_back, from_cursor}
 use Rattle.walks.specs.declared.protocol_names.ProtocolList.{ProtocolList}
-use Rattle.walks.specs.declared.protocol_names.ProtocolListAnswer.{ProtocolListAnswer}
-use Rattle.walks.specs.declared.protocol_names.ProtocolListAnswer.TheVariants as list
 use Rattle.walks.specs.declared.protocol_names.NameStep.{NameStep}
 use Rattle.walks.specs.declared.protocol_names.NameStep.TheVariants as step
 use Rattle.walks.specs.declared.protocol_names.ProtocolNamesWalked.{ProtocolNamesWalked}
 use Rattle.walks.specs.declared.protocol_names.ProtocolNamesWalked.TheVariants as walked
 use Rattle.walks.specs.declared.protocol_names.ProtocolNameWalk.{ProtocolNameWalk}
 use Rattle.walks.specs.declared.protocol_names.ProtocolNameStepped.{ProtocolNameStepped}
-
-abbrev pub protocol_list_outcome : ProtocolListAnswer → Outcome ProtocolList
-protocol_list_outcome (list.List l) = value l
-protocol_list_outcome (list.Missing m) = missed m
 
 -- protocol_list_t: absent at 0, at an odd address, where its 8 bytes cannot be read and where address + 8 is over 64 bits. The count is a
 -- u64, at most 1,048,576 of it.
@@ -88,7 +81,7 @@ NameLeft = Handed ReachedName ProtocolNameWalk
 abbrev pub slot_answer : Outcome Text → Outcome ReachedName
 slot_answer (value name) = value (name_reached name)
 slot_answer (absent r) = value (name_passed r)
-slot_answer (number k) = number k
+slot_answer (refused k) = refused k
 
 -- The walk is one slot on; a number refuses the step.
 abbrev pub named : ProtocolNameWalk → Outcome Text → NameLeft
@@ -115,7 +108,7 @@ abbrev pub name_answer : NameStep → Outcome ReachedName
 name_answer (step.Name name) = value (name_reached name)
 name_answer (step.Passed r) = value (name_passed r)
 name_answer step.Finished = value names_finished
-name_answer (step.Refused k) = number k
+name_answer (step.Refused k) = refused k
 
 abbrev pub names_answer : ProtocolNamesWalked → Outcome ReachedName
 names_answer (walked.Step s) = name_answer s

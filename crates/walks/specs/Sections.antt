@@ -1,6 +1,6 @@
 -- The walks over the section lists (document 01, Section walk and Steps; class.rs, category.rs, protocol.rs).
 use Rattle.std.specs.Prelude.{ℕ, ◌+◌, max, Bool, true, false, ◌≡◌, List, Result, Ok, Err, eqb, length, take, set}
-use Rattle.reads.specs.Outcome.{Outcome, value, absent, number, choose}
+use Rattle.reads.specs.Outcome.{Outcome, value, absent, refused, choose}
 use Rattle.reads.specs.Answer.{missed}
 use Rattle.reads.specs.declared.answer.Missing.{Missing}
 use Rattle.reads.specs.declared.answer.Reason.{Reason}
@@ -24,6 +24,7 @@ use Rattle.walks.specs.declared.sections.RecordWalk.{RecordWalk}
 use Rattle.walks.specs.declared.sections.RecordStep.{RecordStep}
 use Rattle.walks.specs.declared.sections.RecordStep.TheVariants as step
 use Rattle.walks.specs.declared.sections.RecordStepped.{RecordStepped}
+use Rattle.reads.specs.declared.answer.Question.{Question}
 
 -- A walk's state: the next slot, how many words of the ledger are in use, the highest address met, and the address that waits, 0 for none.
 pub record Walk : Type 0 where
@@ -65,8 +66,8 @@ abbrev pub leaves : {A : Type 0} → Outcome (Step A) → Walk → List ℕ → 
 leaves o w ledger = record { answer = o; walk = w; ledger = ledger }
 
 -- With a number both are as given.
-abbrev pub stays : {A : Type 0} → Walk → List ℕ → ℕ → Left A
-stays w ledger k = leaves (number k) w ledger
+abbrev pub stays : {A : Type 0} → Walk → List ℕ → Question → Left A
+stays w ledger k = leaves (refused k) w ledger
 
 -- What is walked: the lists, the record at an address, the address that waits after it (0 for none), and the record there.
 pub record Kind (A : Type 0) : Type 0 where
@@ -94,7 +95,7 @@ categories = record { lists = Categories; decoded = category_at; after = λ c. 0
 abbrev pub by_record : {A : Type 0} → Walk → List ℕ → (A → ℕ) → (ℕ → Walk) → List ℕ → Outcome A → Left A
 by_record w ledger after on new (value a) = leaves (value (found a)) (on (after a)) new
 by_record w ledger after on new (absent r) = leaves (value (passed r)) (on 0) new
-by_record w ledger after on new (number k) = stays w ledger k
+by_record w ledger after on new (refused k) = stays w ledger k
 
 -- The address in a slot is decoded, a slot may be dropped; with none left the walk has finished.
 abbrev pub by_slot : {A : Type 0} → Walk → List ℕ → (ℕ → Left A) → TakenSlot → Left A
@@ -168,7 +169,7 @@ record_step (step.Record r) = value (found r)
 record_step (step.Passed r) = value (passed r)
 record_step step.Dropped = value dropped
 record_step step.Finished = value finished
-record_step (step.Refused k) = number k
+record_step (step.Refused k) = refused k
 
 -- What is decoded, and what a step leaves, by where the walk stands then.
 abbrev pub given : {R : Type 0} → Result R Missing → Outcome R

@@ -1,6 +1,6 @@
 -- The slots of the section lists, taken one by one (document 01, Section walk, questions 10 and 11): what the section walks share.
 use Rattle.std.specs.Prelude.{ℕ, zero, suc, ◌+◌, ◌^◌, ◌≤◌, ◌<◌, max, Bool, false, ◌&&◌, ◌||◌, List, [], ◌∷◌, ◌++◌, leb, eqb, length, get_or, take}
-use Rattle.reads.specs.Outcome.{Outcome, value, absent, number, and_then, choose}
+use Rattle.reads.specs.Outcome.{Outcome, value, absent, refused, and_then, choose}
 use Rattle.reads.specs.Relative.{slot_address}
 use Rattle.pointers.specs.Tables.{Tables}
 use Rattle.pointers.specs.Question.{question, asked}
@@ -12,6 +12,8 @@ use Rattle.walks.specs.declared.slots.Lists.TheVariants.{Classes, Categories, Pr
 use Rattle.walks.specs.declared.slots.SlotStep.{SlotStep}
 use Rattle.walks.specs.declared.slots.SlotStep.TheVariants as step
 use Rattle.walks.specs.declared.slots.SlotWalk.{SlotWalk}
+use Rattle.reads.specs.declared.answer.Question.TheVariants.{WalkState, LedgerLength}
+use Rattle.reads.specs.declared.answer.Question.{Question}
 
 -- The addresses of n slots from slot k on; those of a section, slots of 8 full bytes at vmaddr + 8k modulo 2^64.
 unfoldable pub slots_from : ℕ → ℕ → ℕ → List ℕ
@@ -56,22 +58,22 @@ ledger_fits slots words = leb (length slots) words
 
 -- The questions of a step: 1 to 6, 8 and 10; with a ledger 11 too.
 unfoldable pub asked_slot : Tables → List ℕ → ℕ → ℕ → Outcome (Unit {0})
-asked_slot t slots slot used = and_then (asked t) (λ _. question 10 (slot_fits slots slot used))
+asked_slot t slots slot used = and_then (asked t) (λ _. question WalkState (slot_fits slots slot used))
 
 unfoldable pub asked_ledger : Tables → List ℕ → ℕ → ℕ → ℕ → Outcome (Unit {0})
-asked_ledger t slots slot used words = and_then (asked_slot t slots slot used) (λ _. question 11 (ledger_fits slots words))
+asked_ledger t slots slot used words = and_then (asked_slot t slots slot used) (λ _. question LedgerLength (ledger_fits slots words))
 
 -- What the next slot comes to: the address in it; it is dropped; no slot is left; or the number of the question that refuses.
 pub data TakenSlot : Type 0 where
   address : ℕ → TakenSlot
   slot_dropped : TakenSlot
   no_slot : TakenSlot
-  slot_refused : ℕ → TakenSlot
+  slot_refused : Question → TakenSlot
 
 abbrev pub taken_by : Outcome ℕ → TakenSlot
 taken_by (value a) = address a
 taken_by (absent r) = slot_dropped
-taken_by (number k) = slot_refused k
+taken_by (refused k) = slot_refused k
 
 -- Slot k.
 unfoldable pub slot_taken : Tables → List ℕ → ℕ → TakenSlot

@@ -1,7 +1,6 @@
 -- List walks (document 01, Lists and Steps): what a step answers, and the walk after it.
-use Rattle.std.specs.Prelude.{ℕ, suc}
-use Rattle.std.proofs.Math.Option.{Option, none, some}
-use Rattle.reads.specs.Outcome.{Outcome, value, absent, number}
+use Rattle.std.specs.Prelude.{ℕ, suc, Option, None, Some}
+use Rattle.reads.specs.Outcome.{Outcome, value, absent, refused}
 use Rattle.reads.specs.declared.answer.Reason.{Reason}
 use Rattle.pointers.specs.Tables.{Tables, image_in, under}
 use Rattle.pointers.specs.Question.{asked}
@@ -42,7 +41,7 @@ RowLeft = Handed ReachedRow ListWalk
 abbrev pub entry_answer : ℕ → Outcome Row → Outcome ReachedRow
 entry_answer j (value r) = value (row_reached r)
 entry_answer j (absent r) = value (row_skipped j r)
-entry_answer j (number k) = number k
+entry_answer j (refused k) = refused k
 
 abbrev pub entry_row : Tables → Layout → ℕ → Outcome ReachedRow
 entry_row t h j = entry_answer j (row_at t h.kind (entry_address h j))
@@ -53,8 +52,8 @@ settles w j row = unless_refused row (hands_back w) (hands (entry_answer j row) 
 
 -- The first readable entry from the cursor on; with none left the walk has finished, at the count.
 abbrev pub searched : Tables → ListWalk → Layout → Option ℕ → RowLeft
-searched t w h (some j) = settles w j (row_at t h.kind (entry_address h j))
-searched t w h none = hands (value rows_finished) (moved w h.count)
+searched t w h (Some j) = settles w j (row_at t h.kind (entry_address h j))
+searched t w h None = hands (value rows_finished) (moved w h.count)
 
 unfoldable pub over_rows : Tables → ListWalk → Outcome Layout → RowLeft
 over_rows t w list = from_cursor w w.cursor (λ h. h.count) (λ h. searched t w h (first_readable (image_in t) h w.cursor)) list
@@ -72,7 +71,7 @@ abbrev pub step_answer : ListStep → Outcome ReachedRow
 step_answer (step.Row r) = value (row_reached r)
 step_answer (step.Skipped j r) = value (row_skipped j r)
 step_answer step.Finished = value rows_finished
-step_answer (step.Refused k) = number k
+step_answer (step.Refused k) = refused k
 
 abbrev pub list_answer : ListWalked → Outcome ReachedRow
 list_answer (walked.Step s) = step_answer s

@@ -8,12 +8,12 @@ ghost use Rattle.walks.specs.Walk.{walk_of, moved, settles, over_rows, next_of, 
 ghost use Rattle.records.specs.List.{list_at, entry_address};
 ghost use Rattle.records.specs.Row.{row_at};
 
-use pointers::question::{Asked, ask};
+use pointers::question::ask;
 use pointers::setting::Setting;
-use reads::answer::{Missing, Reason};
+use reads::answer::{Missing, Question, Reason};
 use reads::text::Reading;
-use records::list::{Entry, Layout, LayoutAnswer, ListKind, first_readable, list_at};
-use records::row::{Row, RowAnswer, row_at};
+use records::list::{Layout, ListKind, first_readable, list_at};
+use records::row::{Row, row_at};
 
 // A walk: list address, kind and cursor, and the setting that it began with.
 #[derive(Clone, Copy)]
@@ -31,7 +31,7 @@ pub enum ListStep {
     Row(Row),
     Skipped(u32, Reason),
     Finished,
-    Refused(u8),
+    Refused(Question),
 }
 
 // A list that is absent has no steps: why it is.
@@ -86,7 +86,7 @@ impl ListWalk {
     }
 
     // The walk as given, with a number.
-    fn refused(self, k: u8) -> ListStepped
+    fn refused(self, k: Question) -> ListStepped
         ensures { row_left result ≡ hands_back self k }
     {
         ListStepped {
@@ -131,8 +131,8 @@ impl ListWalk {
         match row_at(
             files, segments, sections, info, rebases, binds, index, setting, kind, va,
         ) {
-            RowAnswer::Row(row) => self.at(ListStep::Row(row), j as u32 + 1),
-            RowAnswer::Missing(m) => match m {
+            Ok(row) => self.at(ListStep::Row(row), j as u32 + 1),
+            Err(m) => match m {
                 Missing::Absent(why) => self.at(ListStep::Skipped(j as u32, why), j as u32 + 1),
                 Missing::Refused(k) => self.refused(k),
             },
@@ -156,14 +156,12 @@ impl ListWalk {
             row_left result ≡ over_rows t self (value h) }
     {
         if h.count < self.cursor {
-            return self.refused(10);
+            return self.refused(Question::WalkState);
         }
         let cursor = self.cursor;
         match first_readable(files, segments, h, cursor) {
-            Entry::At(j) => self.settle(
-                files, segments, sections, info, rebases, binds, index, h, j,
-            ),
-            Entry::Nothing => self.at(ListStep::Finished, h.count),
+            Some(j) => self.settle(files, segments, sections, info, rebases, binds, index, h, j),
+            None => self.at(ListStep::Finished, h.count),
         }
     }
 
@@ -188,12 +186,10 @@ impl ListWalk {
         match list_at(
             files, segments, sections, info, rebases, binds, index, setting, kind, list,
         ) {
-            LayoutAnswer::List(h) => self.over_list(
-                files, segments, sections, info, rebases, binds, index, h,
-            ),
-            LayoutAnswer::Missing(m) => {
+            Ok(h) => self.over_list(files, segments, sections, info, rebases, binds, index, h),
+            Err(m) => {
                 if 0 < self.cursor {
-                    return self.refused(10);
+                    return self.refused(Question::WalkState);
                 }
                 self.missing(m)
             }
@@ -216,8 +212,8 @@ impl ListWalk {
             row_left result ≡ next_of t self }
     {
         match ask(files, segments, sections, info, rebases, binds, index) {
-            Asked::Yes => self.walked_list(files, segments, sections, info, rebases, binds, index),
-            Asked::Refused(k) => self.refused(k),
+            Ok(()) => self.walked_list(files, segments, sections, info, rebases, binds, index),
+            Err(k) => self.refused(k),
         }
     }
 }

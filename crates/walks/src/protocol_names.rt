@@ -1,18 +1,18 @@
 // Protocol names: the walk over a protocol_list_t (objc-runtime-new.h; protocol.rs, protocol_name_iter).
 ghost use Rattle.std.specs.Prelude.{◌≡◌, ◌+◌, ◌^◌, ◌<◌, min};
-ghost use Rattle.reads.specs.Answer.{missed, text_outcome};
+ghost use Rattle.reads.specs.Answer.{missed, outcome};
 ghost use Rattle.pointers.specs.Tables.{lent, under, reading_new, reading_under};
 ghost use Rattle.walks.specs.Handed.{hands, hands_back};
-ghost use Rattle.walks.specs.ProtocolNames.{protocol_list_outcome, protocol_list_at, has_slot, protocol_name_at, protocol_name_in, name_in, walk_at, named, step_in, over_names, next_name, name_answer, name_left};
+ghost use Rattle.walks.specs.ProtocolNames.{protocol_list_at, has_slot, protocol_name_at, protocol_name_in, name_in, walk_at, named, step_in, over_names, next_name, name_answer, name_left};
 
-use pointers::question::{Asked, ask};
+use pointers::question::ask;
 use pointers::setting::Setting;
 use pointers::slot::{resolve_pointer, symbol_at};
-use reads::answer::{Missing, Reason, Word, checked_add, nonzero};
-use reads::place::{Placed, readable, u64_in};
-use reads::text::{Reading, Text, TextAnswer, text_because};
+use reads::answer::{Missing, Question, Reason, checked_add, nonzero};
+use reads::place::{readable, u64_in};
+use reads::text::{Reading, Text, text_because};
 use records::list::even_list;
-use records::protocol::{ProtocolAnswer, protocol_at};
+use records::protocol::protocol_at;
 
 // A list of protocols: the address of its first slot, and the capped number of slots.
 #[derive(Clone, Copy)]
@@ -26,12 +26,6 @@ impl ProtocolList {
     pub const HEADER_SIZE: u64 = 8;
 
     pub const COUNT: u64 = 0;
-}
-
-#[derive(Clone, Copy)]
-pub enum ProtocolListAnswer {
-    List(ProtocolList),
-    Missing(Missing),
 }
 
 // A walk over the names of a list: its address, the number of slots taken, and the setting that it began with.
@@ -48,7 +42,7 @@ pub enum NameStep {
     Name(Text),
     Passed(Reason),
     Finished,
-    Refused(u8),
+    Refused(Question),
 }
 
 // A step, or the list is absent.
@@ -86,27 +80,27 @@ fn protocol_list_at(
     index: &[u32],
     setting: Setting,
     va: u64,
-) -> ProtocolListAnswer
+) -> Result<ProtocolList, Missing>
     ensures { let t = under setting (lent files segments sections info rebases binds index) in
-        protocol_list_outcome result ≡ protocol_list_at t va }
+        outcome result ≡ protocol_list_at t va }
 {
     match nonzero(va) {
-        Word::Value(_) => {}
-        Word::Missing(m) => return ProtocolListAnswer::Missing(m),
+        Ok(_) => {}
+        Err(m) => return Err(m),
     }
     match even_list(va) {
-        Word::Value(_) => {}
-        Word::Missing(m) => return ProtocolListAnswer::Missing(m),
+        Ok(_) => {}
+        Err(m) => return Err(m),
     }
     let p = match readable(files, segments, va, ProtocolList::HEADER_SIZE) {
-        Placed::At(p) => p,
-        Placed::Missing(m) => return ProtocolListAnswer::Missing(m),
+        Ok(p) => p,
+        Err(m) => return Err(m),
     };
     let base = match checked_add(va, ProtocolList::HEADER_SIZE) {
-        Word::Value(base) => base,
-        Word::Missing(m) => return ProtocolListAnswer::Missing(m),
+        Ok(base) => base,
+        Err(m) => return Err(m),
     };
-    ProtocolListAnswer::List(ProtocolList {
+    Ok(ProtocolList {
         base,
         count: capped(u64_in(files, p, ProtocolList::COUNT)),
     })
@@ -135,22 +129,22 @@ fn protocol_name_at(
     index: &[u32],
     setting: Setting,
     va: u64,
-) -> TextAnswer
+) -> Result<Text, Missing>
     ensures { let t = under setting (lent files segments sections info rebases binds index) in
-        text_outcome result ≡ protocol_name_at t va }
+        outcome result ≡ protocol_name_at t va }
 {
     let proto_va = match nonzero(va) {
-        Word::Value(proto_va) => proto_va,
-        Word::Missing(m) => return TextAnswer::Missing(m),
+        Ok(proto_va) => proto_va,
+        Err(m) => return Err(m),
     };
     match protocol_at(
         files, segments, sections, info, rebases, binds, index, setting, proto_va,
     ) {
-        ProtocolAnswer::Protocol(p) => {
+        Ok(p) => {
             let name = p.name;
-            TextAnswer::Found(name)
+            Ok(name)
         }
-        ProtocolAnswer::Missing(m) => TextAnswer::Missing(m),
+        Err(m) => Err(m),
     }
 }
 
@@ -166,15 +160,15 @@ fn protocol_name_in(
     index: &[u32],
     setting: Setting,
     slot: u64,
-) -> TextAnswer
+) -> Result<Text, Missing>
     ensures { let t = under setting (lent files segments sections info rebases binds index) in
-        text_outcome result ≡ protocol_name_in t slot }
+        outcome result ≡ protocol_name_in t slot }
 {
     match resolve_pointer(files, segments, rebases, index, setting, slot) {
-        Word::Value(va) => protocol_name_at(
+        Ok(va) => protocol_name_at(
             files, segments, sections, info, rebases, binds, index, setting, va,
         ),
-        Word::Missing(m) => TextAnswer::Missing(m),
+        Err(m) => Err(m),
     }
 }
 
@@ -191,20 +185,20 @@ fn name_in(
     index: &[u32],
     setting: Setting,
     slot: u64,
-) -> TextAnswer
+) -> Result<Text, Missing>
     ensures { let t = under setting (lent files segments sections info rebases binds index) in
-        text_outcome result ≡ name_in t slot }
+        outcome result ≡ name_in t slot }
 {
     match protocol_name_in(
         files, segments, sections, info, rebases, binds, index, setting, slot,
     ) {
-        TextAnswer::Found(name) => TextAnswer::Found(name),
-        TextAnswer::Missing(m) => match m {
+        Ok(name) => Ok(name),
+        Err(m) => match m {
             Missing::Absent(why) => text_because(
                 symbol_at(files, rebases, binds, index, slot),
                 why,
             ),
-            Missing::Refused(k) => TextAnswer::Missing(Missing::Refused(k)),
+            Missing::Refused(k) => Err(Missing::Refused(k)),
         },
     }
 }
@@ -243,7 +237,7 @@ impl ProtocolNameWalk {
     }
 
     // The walk as given, with a number.
-    fn refused(self, k: u8) -> ProtocolNameStepped
+    fn refused(self, k: Question) -> ProtocolNameStepped
         ensures { name_left result ≡ hands_back self k }
     {
         ProtocolNameStepped {
@@ -276,13 +270,13 @@ impl ProtocolNameWalk {
     }
 
     // The step of a slot by its name: a slot that gives none is passed.
-    fn named(self, name: TextAnswer) -> ProtocolNameStepped
+    fn named(self, name: Result<Text, Missing>) -> ProtocolNameStepped
         requires { self.cursor + 1 < 2 ^ 64 }
-        ensures { name_left result ≡ named self (text_outcome name) }
+        ensures { name_left result ≡ named self (outcome name) }
     {
         match name {
-            TextAnswer::Found(text) => self.at(NameStep::Name(text), self.cursor + 1),
-            TextAnswer::Missing(m) => match m {
+            Ok(text) => self.at(NameStep::Name(text), self.cursor + 1),
+            Err(m) => match m {
                 Missing::Absent(why) => self.at(NameStep::Passed(why), self.cursor + 1),
                 Missing::Refused(k) => self.refused(k),
             },
@@ -336,15 +330,15 @@ impl ProtocolNameWalk {
         match protocol_list_at(
             files, segments, sections, info, rebases, binds, index, setting, list,
         ) {
-            ProtocolListAnswer::List(list) => {
+            Ok(list) => {
                 if list.count < self.cursor {
-                    return self.refused(10);
+                    return self.refused(Question::WalkState);
                 }
                 self.step_in(files, segments, sections, info, rebases, binds, index, list)
             }
-            ProtocolListAnswer::Missing(m) => {
+            Err(m) => {
                 if 0 < self.cursor {
-                    return self.refused(10);
+                    return self.refused(Question::WalkState);
                 }
                 self.missing(m)
             }
@@ -367,8 +361,8 @@ impl ProtocolNameWalk {
             name_left result ≡ next_name t self }
     {
         match ask(files, segments, sections, info, rebases, binds, index) {
-            Asked::Yes => self.walked_list(files, segments, sections, info, rebases, binds, index),
-            Asked::Refused(k) => self.refused(k),
+            Ok(()) => self.walked_list(files, segments, sections, info, rebases, binds, index),
+            Err(k) => self.refused(k),
         }
     }
 }

@@ -7,12 +7,11 @@ ghost use Rattle.walks.specs.Sections.{Walk, walk, at_start, Left, Kind, classes
 
 use crate::sections::RecordStep;
 use crate::slots::{Lists, SlotStep, SlotWalk, next_slot};
-use pointers::question::Asked;
 use pointers::setting::Setting;
 use reads::answer::Missing;
-use records::category::{CategoryAnswer, ObjcCategory, category_at};
-use records::class::{ClassAnswer, ObjcClass, class_at};
-use records::protocol::{ObjcProtocol, ProtocolAnswer, protocol_at};
+use records::category::{ObjcCategory, category_at};
+use records::class::{ObjcClass, class_at};
+use records::protocol::{ObjcProtocol, protocol_at};
 
 // Where a walk over classes stands: the slots, and the address of the metaclass that waits (0: none).
 #[derive(Clone, Copy)]
@@ -126,8 +125,8 @@ impl Listed for ObjcClass {
         match class_at(
             files, segments, sections, info, rebases, binds, index, setting, va, false,
         ) {
-            ClassAnswer::Class(class) => Ok(class),
-            ClassAnswer::Missing(m) => Err(m),
+            Ok(class) => Ok(class),
+            Err(m) => Err(m),
         }
     }
 
@@ -161,8 +160,8 @@ impl Listed for ObjcCategory {
         match category_at(
             files, segments, sections, info, rebases, binds, index, setting, va,
         ) {
-            CategoryAnswer::Category(category) => Ok(category),
-            CategoryAnswer::Missing(m) => Err(m),
+            Ok(category) => Ok(category),
+            Err(m) => Err(m),
         }
     }
 
@@ -277,15 +276,15 @@ impl ClassSlots {
         match class_at(
             files, segments, sections, info, rebases, binds, index, setting, self.meta, true,
         ) {
-            ClassAnswer::Class(class) => RecordTaken {
+            Ok(class) => RecordTaken {
                 step: RecordStep::Record(class),
                 slots: ClassSlots { slots, meta: 0 },
             },
-            ClassAnswer::Missing(Missing::Absent(why)) => RecordTaken {
+            Err(Missing::Absent(why)) => RecordTaken {
                 step: RecordStep::Passed(why),
                 slots: ClassSlots { slots, meta: 0 },
             },
-            ClassAnswer::Missing(Missing::Refused(k)) => RecordTaken {
+            Err(Missing::Refused(k)) => RecordTaken {
                 step: RecordStep::Refused(k),
                 slots: self,
             },
@@ -313,10 +312,10 @@ impl ClassSlots {
         match self.slots.ask_ledger(
             files, segments, sections, info, rebases, binds, index, setting, lists, len,
         ) {
-            Asked::Yes => self.take_meta(
+            Ok(()) => self.take_meta(
                 files, segments, sections, info, rebases, binds, index, setting,
             ),
-            Asked::Refused(k) => RecordTaken {
+            Err(k) => RecordTaken {
                 step: RecordStep::Refused(k),
                 slots: self,
             },
@@ -439,15 +438,15 @@ impl ProtocolSlots {
         match protocol_at(
             files, segments, sections, info, rebases, binds, index, setting, va,
         ) {
-            ProtocolAnswer::Protocol(protocol) => RecordTaken {
+            Ok(protocol) => RecordTaken {
                 step: RecordStep::Record(protocol),
                 slots,
             },
-            ProtocolAnswer::Missing(Missing::Absent(why)) => RecordTaken {
+            Err(Missing::Absent(why)) => RecordTaken {
                 step: RecordStep::Passed(why),
                 slots,
             },
-            ProtocolAnswer::Missing(Missing::Refused(k)) => RecordTaken {
+            Err(Missing::Refused(k)) => RecordTaken {
                 step: RecordStep::Refused(k),
                 slots: self,
             },

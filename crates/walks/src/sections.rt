@@ -1,12 +1,13 @@
 // Walks over the section lists, one slot a step. A walk says under which reading it began, and each step takes it from there.
-ghost use Rattle.std.specs.Prelude.{◌≡◌};
+ghost use Rattle.std.specs.Prelude.{◌≡◌, []};
 ghost use Rattle.pointers.specs.Tables.{lent, under, reading_new, reading_under};
-ghost use Rattle.walks.specs.Sections.{at_start, class_walk, record_left};
+ghost use Rattle.walks.specs.Sections.{at_start, class_walk, protocol_slots, protocol_step_of, protocol_walk, record_left};
 
 use crate::section_slots::{CategorySlots, ClassSlots, ProtocolSlots, RecordSlots};
 use pointers::setting::Setting;
-use reads::answer::Reason;
+use reads::answer::{Question, Reason};
 use reads::text::Reading;
+use records::protocol::ObjcProtocol;
 
 // A walk: where it stands, and the setting that it began with.
 #[derive(Clone, Copy)]
@@ -29,7 +30,7 @@ pub enum RecordStep<R> {
     Passed(Reason),
     Dropped,
     Finished,
-    Refused(u8),
+    Refused(Question),
 }
 
 // The step with the walk as it is then; with a number it is as given.
@@ -99,5 +100,33 @@ impl RecordWalk<ClassSlots> {
         ensures { result ≡ (class_walk self).used }
     {
         self.slots.slots.used
+    }
+}
+
+impl RecordWalk<ProtocolSlots> {
+    // One step over the protocol list, where no ledger is lent.
+    pub fn next_protocol(
+        self,
+        files: &[&[u8]],
+        segments: &[u64],
+        sections: &[u64],
+        info: &[u8],
+        rebases: &[u64],
+        binds: &[u64],
+        index: &[u32],
+    ) -> RecordStepped<ObjcProtocol, ProtocolSlots>
+        ensures { let t = under self.setting (lent files segments sections info rebases binds index) in
+            (record_left protocol_slots result [] ≡ protocol_step_of t (protocol_walk self) []) × (result.walk.setting ≡ self.setting) }
+    {
+        self.next(
+            files,
+            segments,
+            sections,
+            info,
+            rebases,
+            binds,
+            index,
+            &mut [],
+        )
     }
 }

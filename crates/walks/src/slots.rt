@@ -1,16 +1,15 @@
 // The slots of the section lists, taken one by one: what the section walks share.
 ghost use Rattle.std.specs.Prelude.{◌≡◌, ◌++◌, ◌+◌, ◌^◌, ◌≤◌, ◌<◌, max, length, get_or, take, set};
 ghost use Rattle.reads.specs.Reference.{before};
-ghost use Rattle.reads.specs.Answer.{word_outcome};
 ghost use Rattle.pointers.specs.Tables.{lent, under};
-ghost use Rattle.pointers.specs.Question.{asked_outcome};
 ghost use Rattle.walks.specs.Slots.{section_slots, slots_of, address_in, among, slot_fits, ledger_fits, asked_ledger, slot_taken, met_below, first_met, next_slot, next_new, slot_outcome, slot_walk, Room};
+ghost use Rattle.reads.specs.Answer.{outcome, answered};
 
-use pointers::question::{Asked, ask};
+use pointers::question::ask;
 use pointers::section::ObjcSection;
 use pointers::setting::Setting;
 use pointers::slot::slot_or_0;
-use reads::answer::{Missing, Word, nonzero};
+use reads::answer::{Missing, Question, nonzero};
 use reads::relative::slot_address;
 
 // The lists that are walked: class_list, then nlclslist; cat_list, then nlcat_list; proto_list.
@@ -27,7 +26,7 @@ pub(crate) enum SlotStep {
     Address(u64),
     Dropped,
     Finished,
-    Refused(u8),
+    Refused(Question),
 }
 
 // Where a walk that meets each address once stands: the next slot, the words of the ledger in use, and the highest of them.
@@ -102,13 +101,13 @@ fn address_in(
     index: &[u32],
     setting: Setting,
     slot: u64,
-) -> Word
+) -> Result<u64, Missing>
     ensures { let t = under setting (lent files segments sections info rebases binds index) in
-        word_outcome result ≡ address_in t slot }
+        outcome result ≡ address_in t slot }
 {
     match slot_or_0(files, segments, rebases, index, setting, slot) {
-        Word::Value(va) => nonzero(va),
-        Word::Missing(m) => Word::Missing(m),
+        Ok(va) => nonzero(va),
+        Err(m) => Err(m),
     }
 }
 
@@ -193,8 +192,8 @@ fn take_slot(
     match address_in(
         files, segments, sections, info, rebases, binds, index, setting, at,
     ) {
-        Word::Value(va) => SlotStep::Address(va),
-        Word::Missing(m) => match m {
+        Ok(va) => SlotStep::Address(va),
+        Err(m) => match m {
             Missing::Absent(_) => SlotStep::Dropped,
             Missing::Refused(k) => SlotStep::Refused(k),
         },
@@ -219,15 +218,15 @@ pub(crate) fn next_slot(
         slot_outcome result ≡ next_slot t (slots_of lists (before sections)) slot }
 {
     match ask(files, segments, sections, info, rebases, binds, index) {
-        Asked::Yes => {
+        Ok(()) => {
             if !slot_fits(sections, lists, slot, 0) {
-                return SlotStep::Refused(10);
+                return SlotStep::Refused(Question::WalkState);
             }
             take_slot(
                 files, segments, sections, info, rebases, binds, index, setting, lists, slot,
             )
         }
-        Asked::Refused(k) => SlotStep::Refused(k),
+        Err(k) => SlotStep::Refused(k),
     }
 }
 
@@ -257,21 +256,21 @@ impl SlotWalk {
         setting: Setting,
         lists: Lists,
         words: usize,
-    ) -> Asked
+    ) -> Result<(), Question>
         ensures { let t = under setting (lent files segments sections info rebases binds index) in
-            asked_outcome result ≡ asked_ledger t (slots_of lists (before sections)) self.slot self.used words }
+            answered result ≡ asked_ledger t (slots_of lists (before sections)) self.slot self.used words }
     {
         match ask(files, segments, sections, info, rebases, binds, index) {
-            Asked::Yes => {
+            Ok(()) => {
                 if !slot_fits(sections, lists, self.slot, self.used) {
-                    return Asked::Refused(10);
+                    return Err(Question::WalkState);
                 }
                 if !ledger_fits(sections, lists, words) {
-                    return Asked::Refused(11);
+                    return Err(Question::LedgerLength);
                 }
-                Asked::Yes
+                Ok(())
             }
-            Asked::Refused(k) => Asked::Refused(k),
+            Err(k) => Err(k),
         }
     }
 
@@ -305,14 +304,14 @@ impl SlotWalk {
             lists,
             ledger.len(),
         ) {
-            Asked::Yes => {
+            Ok(()) => {
                 let step = take_slot(
                     files, segments, sections, info, rebases, binds, index, setting, lists,
                     self.slot,
                 );
                 first_met(step, &ledger[..self.used as usize], self.highest)
             }
-            Asked::Refused(k) => SlotStep::Refused(k),
+            Err(k) => SlotStep::Refused(k),
         }
     }
 

@@ -1,10 +1,10 @@
 use mathlib.Core.Path.{sym, ap, ◌∙◌}
 use native.Mathlib.Omega.{arith}
-use Rattle.records.specs.Class.{class_outcome}
 use Rattle.ancestry.specs.Filling.{lent_now}
 use Rattle.ancestry.proofs.Climbs.{climbing_starts, climbing_up, climbing_held, climbing_back, climbing_far, climbing_stopped, limit_room, limit_small}
 use Rattle.ancestry.proofs.class_chain.climb_from.Goals.{then-count-hold, else-count-hold}
 use Rattle.ancestry.proofs.class_chain.climb_from.Goals as goal
+use Rattle.reads.specs.Answer.{outcome}
 
 pub limit_of-most-requires : goal.limit_of-most-requires
 limit_of-most-requires c = let a = c.args in limit_room (lent_now a.files.now a.segments.now a.sections.now a.info.now a.rebases.now a.binds.now a.index.now a.setting) c.requires.0
@@ -12,21 +12,21 @@ limit_of-most-requires c = let a = c.args in limit_room (lent_now a.files.now a.
 pub loop-count-init : goal.loop-count-init
 loop-count-init c = climbing_starts _ _ c.requires.1
 
-pub returns-in-Missing : goal.returns-in-Missing
-returns-in-Missing c =
+pub returns-in-Err : goal.returns-in-Err
+returns-in-Err c =
     c.stopped.ensures
-    ∙ climbing_stopped _ _ _ _ _ c.loop-count.invariant _ (sym c.superclass_at.ensures ∙ ap class_outcome c.in-Missing.is) (omega (arith, c.limit_of-most.ensures))
+    ∙ climbing_stopped _ _ _ _ _ c.loop-count.invariant _ (sym c.superclass_at.ensures ∙ ap outcome c.in-Err.is) (omega (arith, c.limit_of-most.ensures))
 
 pub returns-then-up-held : goal.returns-then-up-held
 returns-then-up-held c =
-    climbing_back _ _ _ _ _ c.loop-count.invariant _ (sym c.superclass_at.ensures ∙ ap class_outcome c.in-Class.is) c.if-up-held.true
+    climbing_back _ _ _ _ _ c.loop-count.invariant _ (sym c.superclass_at.ensures ∙ ap outcome c.in-Ok.is) c.if-up-held.true
 
 pub overflow_mul-hold : goal.overflow_mul-hold
 overflow_mul-hold c = let a = c.args in omega (arith, limit_small (lent_now a.files.now a.segments.now a.sections.now a.info.now a.rebases.now a.binds.now a.index.now a.setting) c.requires.0, c.limit_of-most.ensures)
 
 pub loop-count-preserved : goal.loop-count-preserved
 loop-count-preserved c =
-    let up = climbing_up _ _ _ _ _ c.loop-count.invariant c.in-Class.up (sym c.superclass_at.ensures ∙ ap class_outcome c.in-Class.is) in
+    let up = climbing_up _ _ _ _ _ c.loop-count.invariant c.in-Ok.up (sym c.superclass_at.ensures ∙ ap outcome c.in-Ok.is) in
     elim c.if-count-hold.branch [
       | then-count-hold w ↦ rw w.held-is (climbing_held _ _ _ _ _ up)
       | else-count-hold w ↦ rw w.held-is up

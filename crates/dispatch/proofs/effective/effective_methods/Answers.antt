@@ -1,11 +1,20 @@
+use native.Mathlib.Omega.{arith}
+use Rattle.std.proofs.Common.{rules}
+use Rattle.std.proofs.lemmas.Result.{err_from_is_err_and}
+use Rattle.reads.specs.Files.{files_lent}
+use Rattle.pointers.specs.Tables.{tables_of, under}
 use Rattle.dispatch.proofs.Answers.{call_refused, call_missing, call_class}
 use Rattle.dispatch.proofs.effective.effective_methods.Goals as goal
 
-pub returns-in-Refused : goal.returns-in-Refused
-returns-in-Refused c = call_refused _ _ _ _ c.ask.result c.ask.ensures c.in-Refused.is
+pub returns-in_err-map_err : goal.returns-in_err-map_err
+returns-in_err-map_err c =
+    let t = under c.args.setting (tables_of (files_lent c.args.files.now) c.args.segments.now c.args.sections.now c.args.info.now c.args.rebases.now c.args.binds.now c.args.index.now) in
+    search (rules, call_refused t c.args.side c.args.class c.args.res.now c.ask.result c.ask.ensures)
 
-pub returns-in-Class : goal.returns-in-Class
-returns-in-Class c = call_class _ _ _ _ c.ask.result c.ask.ensures c.in-Yes.is c.class_at.result c.class_at.ensures c.in-Class.is c.effective_of.ensures
+pub returns-in_err-c : goal.returns-in_err-c
+returns-in_err-c c =
+    let p = err_from_is_err_and c.from_residual-in_err-c.result c.from_residual-in_err-c.ensures.1 in
+    rw (p.1, p.2) (call_missing _ _ _ _ c.ask.result c.ask.ensures (grind arith) c.class_at.result c.class_at.ensures _ c.in_err-c.was)
 
-pub returns-in-Missing : goal.returns-in-Missing
-returns-in-Missing c = call_missing _ _ _ _ c.ask.result c.ask.ensures c.in-Yes.is c.class_at.result c.class_at.ensures c.in-Missing.m c.in-Missing.is
+pub returns : goal.returns
+returns c = call_class _ _ _ _ c.ask.result c.ask.ensures (search rules) c.class_at.result c.class_at.ensures c.in_ok-c.was c.effective_of.ensures

@@ -13,11 +13,11 @@ overflow_cast-j c = omega (arith, found_below_count _ _ _ _ c.requires)
 pub overflow_add-j : goal.overflow_add-j
 overflow_add-j c = omega (arith, found_below_count _ _ _ _ c.requires)
 
-pub returns-in-Row : goal.returns-in-Row
-returns-in-Row c = settle_row _ _ _ _ _ c.requires (omega arith) c.at-next.ensures c.appearance_at-answer.ensures c.in-Row.is
+pub returns-in-Ok : goal.returns-in-Ok
+returns-in-Ok c = settle_row _ _ _ _ _ c.requires (omega arith) c.at-next.ensures c.appearance_at-answer.ensures c.in-Ok.is
 
 pub returns-in-Absent : goal.returns-in-Absent
-returns-in-Absent c = settle_passed _ _ _ _ _ c.requires (omega arith) c.at-next.ensures c.appearance_at-answer.ensures c.in-Missing.is c.in-Absent.is
+returns-in-Absent c = settle_passed _ _ _ _ _ c.requires (omega arith) c.at-next.ensures c.appearance_at-answer.ensures c.in-Err.is c.in-Absent.is
 
 pub returns-in-Refused : goal.returns-in-Refused
-returns-in-Refused c = settle_refused _ _ _ _ _ c.requires (omega arith) c.at-next.ensures c.appearance_at-answer.ensures c.in-Missing.is c.in-Refused.is
+returns-in-Refused c = settle_refused _ _ _ _ _ c.requires (omega arith) c.at-next.ensures c.appearance_at-answer.ensures c.in-Err.is c.in-Refused.is

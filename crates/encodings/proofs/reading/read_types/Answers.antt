@@ -30,14 +30,14 @@ put_row-requires c =
     let all : length c.args.text.now ≡ l.i = omega arith in
     rw all (reached_ordered l.invariant)
 
-pub returns-in-Value : goal.returns-in-Value
-returns-in-Value c =
+pub returns-in-Ok : goal.returns-in-Ok
+returns-in-Ok c =
     let l = c.loop-i in
-    let value = c.in-Value in
+    let value = c.in-Ok in
     let all : length c.args.text.now ≡ l.i = omega arith in
     reached_end l.invariant c.loop-i-test.false value.count value.ensures (rw all at c.put_row.ensures)
 
-pub returns-in-Missing-finish : goal.returns-in-Missing-finish
-returns-in-Missing-finish c =
-    let missing = c.in-Missing-finish in
+pub returns-in-Err : goal.returns-in-Err
+returns-in-Err c =
+    let missing = c.in-Err in
     reached_end_missing c.loop-i.invariant c.loop-i-test.false missing.m missing.ensures

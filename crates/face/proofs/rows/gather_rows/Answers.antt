@@ -1,6 +1,6 @@
-use mathlib.Core.Path.{◌≡◌, ◌∙◌}
+use mathlib.Core.Path.{◌∙◌}
 use native.Mathlib.Omega.{arith}
-use Rattle.face.proofs.RowLaws.{gather_start, gather_none, gather_ends, gather_on}
+use Rattle.face.proofs.RowLaws.{gather_start, gather_all, gather_ends, gather_on}
 use Rattle.face.proofs.rows.gather_rows.Goals as goal
 
 pub loop-n-init : goal.loop-n-init
@@ -14,6 +14,4 @@ pub loop-n-preserved : goal.loop-n-preserved
 loop-n-preserved c = rw c.put_row.ensures (gather_on _ _ _ _ _ c.next-turn.ensures (omega arith) c.if-status-ne-FOUND.false ∙ c.loop-n.invariant)
 
 pub returns : goal.returns
-returns c =
-    let past : c.loop-n.n ≡ c.args.room = omega arith in
-    rw c.of.ensures (gather_none _ _ _ _ (omega arith) ∙ (rw past at c.loop-n.invariant))
+returns c = rw c.of.ensures (gather_all _ _ _ _ (omega arith) ∙ c.loop-n.invariant)

@@ -9,12 +9,7 @@ returns-then-not-found c =
     let a = c.args in c.from_opcodes.ensures
     ∙ ap (λ x. settled x a.rebases.now a.binds.now) (laws.not_chained a.file.now _ _ _ c.find-found.ensures c.command_bytes.ensures c.command_count.ensures.0 (not-true _ c.if-not-found.true))
 
-pub returns-in-Tables : goal.returns-in-Tables
-returns-in-Tables c =
-    let a = c.args in (rw c.in-Tables.is at c.build_tables.ensures)
-    ∙ ap (λ x. settled x a.rebases.now a.binds.now) (laws.is_chained a.file.now _ _ _ c.find-found.ensures c.command_bytes.ensures c.command_count.ensures.0 (not-false _ c.if-not-found.false))
-
-pub returns-in-Refused : goal.returns-in-Refused
-returns-in-Refused c =
-    let a = c.args in (rw c.in-Refused.is at c.build_tables.ensures)
+pub returns : goal.returns
+returns c =
+    let a = c.args in c.build_tables.ensures
     ∙ ap (λ x. settled x a.rebases.now a.binds.now) (laws.is_chained a.file.now _ _ _ c.find-found.ensures c.command_bytes.ensures c.command_count.ensures.0 (not-false _ c.if-not-found.false))

@@ -1,4 +1,3 @@
-use native.Mathlib.Omega.{arith}
 use Rattle.filetables.specs.Kind.{carriers}
 use Rattle.filetables.proofs.kind.carriers.Goals as goal
 

@@ -10,7 +10,7 @@ pub returns-then-all : goal.returns-then-all
 returns-then-all c =
     let a = c.args in
     let told : c.all.result ≡ list_all (kind_read a.n a.cmds.now a.count) kinds =
-        all_from_yields_List (kind_read a.n a.cmds.now a.count) c.all.new.self _ c.all.result c.all.ensures.ran (YieldsList-from_slice kinds (cc)) (λ x b q k. search (rules, tests)) in
+    all_from_yields_List (kind_read a.n a.cmds.now a.count) c.all.new.self _ c.all.result c.all.ensures.ran (YieldsList-from_slice kinds (cc)) (λ x b q k. search (rules, tests)) in
     rw (c.carriers.ensures, ← commands_by a.n a.cmds.now a.count, ← told, c.if-all.true)
 
 pub returns-else-all : goal.returns-else-all

@@ -1,4 +1,4 @@
-use Rattle.std.proofs.Common.{ℕ, List, length, ap, ◌∙◌, arith, inl}
+use Rattle.std.proofs.Common.{ℕ, List, length, ap, arith, inl}
 use Rattle.std.proofs.lemmas.Iterator.Consumers.{count_from_yields_List, YieldsList-from_first}
 use Rattle.macho.specs.Commands.{offsets}
 use Rattle.macho.proofs.Commands.{few}

@@ -1,4 +1,3 @@
-use native.Mathlib.Omega.{arith}
 use Rattle.filetables.specs.Kind.{stream_read}
 use Rattle.filetables.proofs.kind.stream_read.Goals as goal
 

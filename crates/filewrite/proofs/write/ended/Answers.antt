@@ -13,4 +13,4 @@ pub returns-in-Ended : goal.returns-in-Ended
 returns-in-Ended c = rw c.in-Ended.is
 
 pub returns-in-Refused : goal.returns-in-Refused
-returns-in-Refused c = rw c.in-Refused.is
+returns-in-Refused c = rw (c.in-Refused.is, c.number.ensures)

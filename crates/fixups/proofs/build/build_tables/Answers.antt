@@ -1,14 +1,16 @@
 use Rattle.std.proofs.Common.{sym, ap, ◌∙◌}
-use Rattle.pointers.specs.Question.{asked_outcome}
 use Rattle.fixups.specs.Fixups.{settled}
 use Rattle.fixups.proofs.Building as laws
 use Rattle.fixups.proofs.build.build_tables.Goals as goal
+use Rattle.reads.specs.Answer.{answered}
+use Rattle.std.proofs.lemmas.Result.{err_from_is_err_and}
 
 pub build_from-requires : goal.build_from-requires
-build_from-requires c = sym c.ask_commands.ensures ∙ ap asked_outcome c.in-Yes.is
+build_from-requires c = sym c.ask_commands.ensures ∙ ap answered c.in_ok-ask_commands.was
 
-pub returns-in-Refused : goal.returns-in-Refused
-returns-in-Refused c =
-    let a = c.args in
-    laws.settled_number c.in-Refused.k a.rebases.now a.binds.now
-    ∙ ap (λ x. settled x a.rebases.now a.binds.now) (laws.found_refused a.file.now c.in-Refused.k (sym (ap asked_outcome c.in-Refused.is) ∙ c.ask_commands.ensures))
+pub returns-in_err-ask_commands : goal.returns-in_err-ask_commands
+returns-in_err-ask_commands c =
+    let a = c.args in let k = c.in_err-ask_commands.field-0.0 in
+    let p = err_from_is_err_and c.from_residual.result c.from_residual.ensures.1 in
+    rw (p.1, p.2) (laws.settled_number k a.rebases.now a.binds.now
+    ∙ ap (λ x. settled x a.rebases.now a.binds.now) (laws.found_refused a.file.now k (sym (ap answered c.in_err-ask_commands.was) ∙ c.ask_commands.ensures)))

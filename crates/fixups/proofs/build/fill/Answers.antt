@@ -1,27 +1,29 @@
 use Rattle.std.proofs.Common.{◌^◌, ◌<◌, length, arith}
 use Rattle.fixups.proofs.Building as laws
 use Rattle.fixups.proofs.build.fill.Goals as goal
+use Rattle.std.proofs.lemmas.Result.{err_from_is_err_and}
 
 pub returns-then-rebases-r : goal.returns-then-rebases-r
 returns-then-rebases-r c =
     let a = c.args in
-    laws.is_5 a.rebases.now a.binds.now (omega arith) (omega arith) _ c.count_records.result c.count_records.ensures _ _ c.in-Counts.is c.if-rebases-r.true
+    laws.is_5 a.rebases.now a.binds.now (omega arith) (omega arith) _ c.count_records.result c.count_records.ensures _ c.in_ok-r.was c.if-rebases-r.true
 
 pub returns-then-binds-b : goal.returns-then-binds-b
 returns-then-binds-b c =
     let a = c.args in
-    laws.is_6 a.rebases.now a.binds.now (omega arith) (omega arith) _ c.count_records.result c.count_records.ensures _ _ c.in-Counts.is c.if-rebases-r.false c.if-binds-b.true
+    laws.is_6 a.rebases.now a.binds.now (omega arith) (omega arith) _ c.count_records.result c.count_records.ensures _ c.in_ok-r.was c.if-rebases-r.false c.if-binds-b.true
 
 -- `room-rebases`: the length of a slice is a word.
-pub returns-else-binds-b : goal.returns-else-binds-b
-returns-else-binds-b c =
+pub returns : goal.returns
+returns c =
     let room-rebases : length c.args.rebases.now < 2 ^ 64 = omega arith in
     let room-binds : length c.args.binds.now < 2 ^ 64 = omega arith in
     let a = c.args in
-    laws.is_filled a.rebases.now a.binds.now (room-rebases) (room-binds) _ c.count_records.result c.count_records.ensures _ _ c.in-Counts.is c.if-rebases-r.false c.if-binds-b.false
+    laws.is_filled a.rebases.now a.binds.now (room-rebases) (room-binds) _ c.count_records.result c.count_records.ensures _ c.in_ok-r.was c.if-rebases-r.false c.if-binds-b.false
     c.walk.result c.walk.new.rebases c.walk.new.binds c.walk.ensures
 
-pub returns-in-Refused : goal.returns-in-Refused
-returns-in-Refused c =
+pub returns-in_err-r : goal.returns-in_err-r
+returns-in_err-r c =
     let a = c.args in
-    laws.refused a.rebases.now a.binds.now (omega arith) (omega arith) _ c.count_records.result c.count_records.ensures _ c.in-Refused.is
+    let p = err_from_is_err_and c.from_residual.result c.from_residual.ensures.1 in
+    rw (p.1, p.2) (laws.refusing a.rebases.now a.binds.now (omega arith) (omega arith) _ c.count_records.result c.count_records.ensures _ c.in_err-r.was)

@@ -1,4 +1,3 @@
-use Rattle.std.proofs.Common.{◌∙◌, arith}
 use Rattle.fixups.proofs.Targets.{target_6, target_0}
 use Rattle.fixups.proofs.chain.rebased.Goals as goal
 

@@ -1,4 +1,3 @@
-use Rattle.std.proofs.Common.{arith}
 use Rattle.fixups.proofs.Names as laws
 use Rattle.fixups.proofs.name.text_at.Goals as goal
 

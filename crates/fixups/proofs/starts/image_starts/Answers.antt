@@ -6,6 +6,7 @@ use Rattle.fixups.specs.Tables.{told, state}
 use Rattle.fixups.proofs.Joining.{then, stops}
 use Rattle.fixups.proofs.Pages as laws
 use Rattle.fixups.proofs.starts.image_starts.Goals as goal
+use Rattle.std.proofs.lemmas.Result.{err_from_is_err_and}
 
 pub returns-then-body-starts : goal.returns-then-body-starts
 returns-then-body-starts c =
@@ -33,17 +34,18 @@ loop-i-preserved c =
     let a = c.args in let l = c.loop-i in let s = state l.rebased l.bound l.rebases l.binds in
     let h = laws.infos_more a.file.now a.body.now a.cmds.now a.f c.u32_from-total.result l.i (c.from-starts.result + 4 + 4 * c.from-next.result) (omega arith) (omega (arith, c.from-starts.ensures, c.from-next.ensures))
     c.u32_from-offset.result l.left l.at c.find-found.result (omega arith) c.u32_from-offset.ensures (finds_by segment_kind a.cmds.now l.left l.at c.find-found.result c.find-found.ensures) in (
-      l.invariant.0 ∙ ap (λ x. told x s) h ∙ then _ _ s c.segment_info.result c.segment_info.new.rebases c.segment_info.new.binds c.segment_info.ensures _ _ c.in-Counts.is,
+      l.invariant.0 ∙ ap (λ x. told x s) h ∙ then _ _ s c.segment_info.result c.segment_info.new.rebases c.segment_info.new.binds c.segment_info.ensures _ c.in_ok-x.was,
       c.segment_info.auto.rebases ∙ l.invariant.1,
       c.segment_info.auto.binds ∙ l.invariant.2,
     )
 
-pub returns-in-Refused : goal.returns-in-Refused
-returns-in-Refused c =
+pub returns-in_err-x : goal.returns-in_err-x
+returns-in_err-x c =
     let a = c.args in let l = c.loop-i in let s = state l.rebased l.bound l.rebases l.binds in
     let h = laws.infos_more a.file.now a.body.now a.cmds.now a.f c.u32_from-total.result l.i (c.from-starts.result + 4 + 4 * c.from-next.result) (omega arith) (omega (arith, c.from-starts.ensures, c.from-next.ensures))
     c.u32_from-offset.result l.left l.at c.find-found.result (omega arith) c.u32_from-offset.ensures (finds_by segment_kind a.cmds.now l.left l.at c.find-found.result c.find-found.ensures) in
-    sym (l.invariant.0 ∙ ap (λ x. told x s) h ∙ stops _ _ s c.segment_info.result c.segment_info.new.rebases c.segment_info.new.binds c.segment_info.ensures _ c.in-Refused.is)
+    let p = err_from_is_err_and c.from_residual.result c.from_residual.ensures.1 in
+    rw (p.1, p.2) (sym (l.invariant.0 ∙ ap (λ x. told x s) h ∙ stops _ _ s c.segment_info.result c.segment_info.new.rebases c.segment_info.new.binds c.segment_info.ensures _ c.in_err-x.was))
 
 pub returns : goal.returns
 returns c =

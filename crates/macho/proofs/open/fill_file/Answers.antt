@@ -20,12 +20,12 @@ write_segments-requires c =
 pub write_sections-requires : goal.write_sections-requires
 write_sections-requires c = let a = c.args in (passed a.file.now (length a.segments.now) (length a.sections.now) c.requires).lent_sections
 
-pub returns-in-Info : goal.returns-in-Info
-returns-in-Info c =
+pub returns-in-Ok : goal.returns-in-Ok
+returns-in-Ok c =
     let a = c.args in
     let r =
     laws.filled a.file.now a.segments.now a.sections.now a.rebases.now a.binds.now a.index.now c.requires _ _ _ _
-    c.command_bytes-cmds.ensures c.command_count-count.ensures.0 c.section_named-section.ensures c.range_of-info.ensures c.open_tables.result c.open_tables.ensures.outcome _ c.in-Info.is
+    c.command_bytes-cmds.ensures c.command_count-count.ensures.0 c.section_named-section.ensures c.range_of-info.ensures c.open_tables.result c.open_tables.ensures.outcome _ c.in-Ok.is
     _ _ _ _ c.segment_count.ensures c.write_segments.ensures c.write_sections.ensures c.open_tables.ensures.contents in
     record {
       outcome = r.0;
@@ -34,12 +34,12 @@ returns-in-Info c =
       index = r.1.1.1;
     }
 
-pub returns-in-Missing : goal.returns-in-Missing
-returns-in-Missing c =
+pub returns-in-Err : goal.returns-in-Err
+returns-in-Err c =
     let a = c.args in
     let r =
-    laws.refused a.file.now a.segments.now a.sections.now a.rebases.now a.binds.now a.index.now c.requires _ _ _ _
-    c.command_bytes-cmds.ensures c.command_count-count.ensures.0 c.section_named-section.ensures c.range_of-info.ensures c.open_tables.result c.open_tables.ensures.outcome _ c.in-Missing.is
+    laws.refusing a.file.now a.segments.now a.sections.now a.rebases.now a.binds.now a.index.now c.requires _ _ _ _
+    c.command_bytes-cmds.ensures c.command_count-count.ensures.0 c.section_named-section.ensures c.range_of-info.ensures c.open_tables.result c.open_tables.ensures.outcome _ c.in-Err.is
     _ c.open_tables.ensures.contents in
     record {
       outcome = r.0;

@@ -1,8 +1,7 @@
-use Prim.Native.Nat.{ℕ, ◌*◌}
+use Prim.Native.Nat.{◌*◌}
 use Rattle.macho.proofs.Tables as laws
-use native.Mathlib.Omega.{arith}
 use mathlib.Core.Path.{◌≡◌}
-use lib.ListN.{take, length-replicate}
+use lib.ListN.{take}
 use Rattle.reads.specs.Segment.{segment_words}
 use Rattle.macho.specs.Commands.{segments_of}
 use Rattle.macho.specs.Segments.{segment_table_of}

@@ -1,16 +1,16 @@
 use mathlib.Core.Path.{sym, ap, ◌∙◌}
-use Rattle.frames.specs.Marks.{frames_outcome}
 use Rattle.marking.proofs.Framing.{opens_framed, opens_refused}
 use Rattle.marking.proofs.framed.open_framed.Goals as goal
+use Rattle.reads.specs.Answer.{outcome, answered}
 
-pub returns-in-Frames : goal.returns-in-Frames
-returns-in-Frames c =
+pub returns-in-Ok : goal.returns-in-Ok
+returns-in-Ok c =
     let opened = c.«open».ensures in
-    let framed = opens_framed _ _ _ (sym c.new.ensures ∙ ap frames_outcome c.in-Frames.is) _ _ _ c.with_frames.ensures (opened.outcome, opened.contents) in
+    let framed = opens_framed _ _ _ (sym c.new.ensures ∙ ap answered c.in-Ok.is) _ _ _ c.with_frames.ensures (opened.outcome, opened.contents) in
     record { outcome = framed.0; contents = framed.1 }
 
-pub returns-in-Refused : goal.returns-in-Refused
-returns-in-Refused c =
+pub returns-in-Err : goal.returns-in-Err
+returns-in-Err c =
     let said = c.ranges_refused.ensures in
-    let refused = opens_refused _ _ _ (sym c.new.ensures ∙ ap frames_outcome c.in-Refused.is) _ _ (said.outcome, said.contents) in
-    record { outcome = refused.0; contents = refused.1 }
+    let refusing = opens_refused _ _ _ (sym c.new.ensures ∙ ap answered c.in-Err.is) _ _ (said.outcome, said.contents) in
+    record { outcome = refusing.0; contents = refusing.1 }

@@ -1,24 +1,23 @@
 use Prim.Native.Nat.{ℕ}
 use mathlib.Core.Path.{sym, ap, ◌∙◌}
 use mathlib.Core.List.{List, ◌++◌}
-use Rattle.reads.specs.Answer.{missed}
+use Rattle.reads.specs.Answer.{missed, outcome}
 use Rattle.reads.specs.Files.{files_lent}
-use Rattle.pointers.specs.ImageInfo.{info_outcome}
 use Rattle.pointers.specs.Tables.{tables_of}
 use Rattle.marking.proofs.Framing.{never_opened, index_untouched, refused_by}
 use Rattle.marking.proofs.framed.ranges_refused.Goals as goal
 
-pub returns-in-Info : goal.returns-in-Info
-returns-in-Info c =
+pub returns-in-Ok : goal.returns-in-Ok
+returns-in-Ok c =
     let a = c.args in
     let t = tables_of (files_lent a.files.now) a.segments.now a.sections.now a.info.now a.rebases.now a.binds.now a.index.now in
-    never_opened t _ (sym (ap info_outcome c.in-Info.is) ∙ c.«open».ensures.outcome)
+    never_opened t _ (sym (ap outcome c.in-Ok.is) ∙ c.«open».ensures.outcome)
 
-pub returns-in-Missing : goal.returns-in-Missing
-returns-in-Missing c =
+pub returns-in-Err : goal.returns-in-Err
+returns-in-Err c =
     let a = c.args in
     let t = tables_of (files_lent a.files.now) a.segments.now a.sections.now a.info.now a.rebases.now a.binds.now a.index.now in
-    let said = sym (ap info_outcome c.in-Missing.is) ∙ c.«open».ensures.outcome in record {
-      outcome = ap missed c.refused_last.ensures ∙ refused_by t c.in-Missing.m _ a.k said c.index_fits-fits.ensures;
+    let said = sym (ap outcome c.in-Err.is) ∙ c.«open».ensures.outcome in record {
+      outcome = ap missed c.refused_last.ensures ∙ refused_by t c.in-Err.m _ a.k said c.index_fits-fits.ensures;
       contents = ap (λ (i : List ℕ). i ++ a.index.now) (c.«open».ensures.contents ∙ index_untouched t);
     }

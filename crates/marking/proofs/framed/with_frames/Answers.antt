@@ -1,8 +1,8 @@
 use Rattle.marking.proofs.Framing.{with_info, with_missing}
 use Rattle.marking.proofs.framed.with_frames.Goals as goal
 
-pub returns-in-Info : goal.returns-in-Info
-returns-in-Info c = with_info _ _ _ c.in-Info.is
+pub returns-in-Ok : goal.returns-in-Ok
+returns-in-Ok c = with_info _ _ _ c.in-Ok.is
 
-pub returns-in-Missing : goal.returns-in-Missing
-returns-in-Missing c = with_missing _ _ _ c.in-Missing.is
+pub returns-in-Err : goal.returns-in-Err
+returns-in-Err c = with_missing _ _ _ c.in-Err.is

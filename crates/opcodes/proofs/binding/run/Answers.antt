@@ -2,6 +2,7 @@ use Rattle.std.proofs.Common.{◌≡◌, ◌+◌, ◌-◌, sym, refl, ◌∙◌,
 use Rattle.fixups.specs.Tables.{part}
 use Rattle.opcodes.proofs.Bindings as laws
 use Rattle.opcodes.proofs.binding.run.Goals as goal
+use Rattle.std.proofs.lemmas.Result.{err_from_is_err_and}
 
 pub loop-init : goal.loop-init
 loop-init c = let e : c.args.count - 0 ≡ c.args.count = omega arith in (rw e, refl)
@@ -10,12 +11,13 @@ pub loop-preserved : goal.loop-preserved
 loop-preserved c =
     let l = c.loop in let a = c.args in
     let e : a.count - (l.counter + 1) ≡ a.count - l.counter - 1 = omega arith in
-    (l.invariant.0 ∙ rw e (laws.run_on a.end (a.count - l.counter) a.stride l.here (part l.records l.binds) (omega arith) c.bound_by.result c.bound_by.ensures _ c.in-At.is c.put_bind-records.result c.put_bind-records.new.table c.put_bind-records.ensures c.further-here.result c.further-here.ensures), c.put_bind-records.auto.table ∙ l.invariant.1)
+    (l.invariant.0 ∙ rw e (laws.run_on a.end (a.count - l.counter) a.stride l.here (part l.records l.binds) (omega arith) c.bound_by.result c.bound_by.ensures _ c.in_ok-x.was c.put_bind-records.result c.put_bind-records.new.table c.put_bind-records.ensures c.further-here.result c.further-here.ensures), c.put_bind-records.auto.table ∙ l.invariant.1)
 
-pub returns-in-Refused : goal.returns-in-Refused
-returns-in-Refused c =
+pub returns-in_err-x : goal.returns-in_err-x
+returns-in_err-x c =
     let l = c.loop in let a = c.args in
-    laws.run_refused a.end (a.count - l.counter) a.stride l.here (part l.records l.binds) (omega arith) c.bound_by.result c.bound_by.ensures _ c.in-Refused.is ∙ sym l.invariant.0
+    let p = err_from_is_err_and c.from_residual.result c.from_residual.ensures.1 in
+    rw (p.1, p.2) (laws.run_refused a.end (a.count - l.counter) a.stride l.here (part l.records l.binds) (omega arith) c.bound_by.result c.bound_by.ensures _ c.in_err-x.was ∙ sym l.invariant.0)
 
 pub returns : goal.returns
 returns c =

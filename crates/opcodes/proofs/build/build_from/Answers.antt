@@ -4,6 +4,7 @@ use Rattle.opcodes.specs.DyldInfo.{earlier}
 use Rattle.opcodes.specs.Binds.{settled}
 use Rattle.opcodes.proofs.Building as laws
 use Rattle.opcodes.proofs.build.build_from.Goals as goal
+use Rattle.reads.specs.declared.answer.Question.TheVariants.{FixupData}
 
 pub returns-then-not-found : goal.returns-then-not-found
 returns-then-not-found c =
@@ -13,7 +14,7 @@ returns-then-not-found c =
 pub returns-then-field32-lt-SIZEOF_DYLD_INFO_COMMAND : goal.returns-then-field32-lt-SIZEOF_DYLD_INFO_COMMAND
 returns-then-field32-lt-SIZEOF_DYLD_INFO_COMMAND c =
     let a = c.args in
-    laws.settled_number 19 a.binds.now ∙ ap (λ x. settled x a.binds.now) (laws.found_short a.file.now c.requires c.command_bytes-cmds.result.now c.command_count-count.result c.command_bytes-cmds.ensures c.command_count-count.ensures.0 c.earlier-found.result (c.earlier-found.ensures ∙ ap₂ earlier c.find-info.ensures c.find-info_only.ensures) (not-false _ c.if-not-found.false) (omega arith))
+    laws.settled_number FixupData a.binds.now ∙ ap (λ x. settled x a.binds.now) (laws.found_short a.file.now c.requires c.command_bytes-cmds.result.now c.command_count-count.result c.command_bytes-cmds.ensures c.command_count-count.ensures.0 c.earlier-found.result (c.earlier-found.ensures ∙ ap₂ earlier c.find-info.ensures c.find-info_only.ensures) (not-false _ c.if-not-found.false) (omega arith))
 
 pub returns : goal.returns
 returns c =

@@ -1,4 +1,4 @@
-use Rattle.std.proofs.Common.{◌-◌, ◌%◌, sym, refl, ◌∙◌, arith}
+use Rattle.std.proofs.Common.{◌-◌, ◌%◌, sym, refl, ◌∙◌}
 use Rattle.opcodes.proofs.Decoding as laws
 use Rattle.opcodes.proofs.opcode.decode.Goals as goal
 

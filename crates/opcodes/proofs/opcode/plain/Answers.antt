@@ -1,4 +1,3 @@
-use Rattle.std.proofs.Common.{arith}
 use Rattle.opcodes.proofs.Decoding as laws
 use Rattle.opcodes.proofs.opcode.plain.Goals as goal
 

@@ -4,18 +4,21 @@ use Rattle.opcodes.specs.Opcodes.{decode}
 use Rattle.opcodes.specs.Binding.{perform}
 use Rattle.opcodes.proofs.Walks as laws
 use Rattle.opcodes.proofs.stream.step.Goals as goal
+use Rattle.std.proofs.lemmas.Result.{err_from_is_err_and}
 
-pub returns-in-On : goal.returns-in-On
-returns-in-On c =
+pub returns : goal.returns
+returns c =
     let a = c.args in
-    laws.step_on (decode a.parts a.place a.b a.rest.now) (part a.n a.binds.now) (λ d. perform a.end a.cmds.now (segments_of a.cmds.now a.count) d.says a.s) c.decode.result _ _ c.decode.ensures c.in-Read.is c.perform.result c.perform.new.binds c.perform.ensures _ _ c.in-On.is
+    laws.step_on (decode a.parts a.place a.b a.rest.now) (part a.n a.binds.now) (λ d. perform a.end a.cmds.now (segments_of a.cmds.now a.count) d.says a.s) c.decode.result _ c.decode.ensures c.in_ok-x.was c.perform.result c.perform.new.binds c.perform.ensures _ c.in_ok-t.was
 
-pub returns-in-Refused-perform : goal.returns-in-Refused-perform
-returns-in-Refused-perform c =
+pub returns-in_err-t : goal.returns-in_err-t
+returns-in_err-t c =
     let a = c.args in
-    laws.step_not (decode a.parts a.place a.b a.rest.now) (part a.n a.binds.now) (λ d. perform a.end a.cmds.now (segments_of a.cmds.now a.count) d.says a.s) c.decode.result _ _ c.decode.ensures c.in-Read.is c.perform.result c.perform.new.binds c.perform.ensures _ c.in-Refused-perform.is
+    let p = err_from_is_err_and c.from_residual-in_err-t.result c.from_residual-in_err-t.ensures.1 in
+    rw (p.1, p.2) (laws.step_not (decode a.parts a.place a.b a.rest.now) (part a.n a.binds.now) (λ d. perform a.end a.cmds.now (segments_of a.cmds.now a.count) d.says a.s) c.decode.result _ c.decode.ensures c.in_ok-x.was c.perform.result c.perform.new.binds c.perform.ensures _ c.in_err-t.was)
 
-pub returns-in-Refused : goal.returns-in-Refused
-returns-in-Refused c =
+pub returns-in_err-x : goal.returns-in_err-x
+returns-in_err-x c =
     let a = c.args in
-    laws.step_refused (decode a.parts a.place a.b a.rest.now) (part a.n a.binds.now) (λ d. perform a.end a.cmds.now (segments_of a.cmds.now a.count) d.says a.s) c.decode.result _ c.decode.ensures c.in-Refused.is
+    let p = err_from_is_err_and c.from_residual.result c.from_residual.ensures.1 in
+    rw (p.1, p.2) (laws.step_refused (decode a.parts a.place a.b a.rest.now) (part a.n a.binds.now) (λ d. perform a.end a.cmds.now (segments_of a.cmds.now a.count) d.says a.s) c.decode.result _ c.decode.ensures c.in_err-x.was)

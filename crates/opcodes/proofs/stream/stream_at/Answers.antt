@@ -1,4 +1,4 @@
-use Rattle.std.proofs.Common.{ap, ◌∙◌, arith}
+use Rattle.std.proofs.Common.{ap, ◌∙◌}
 use Rattle.fixups.specs.Tables.{part}
 use Rattle.opcodes.specs.Tables.{told}
 use Rattle.macho.specs.Commands.{segments_of}

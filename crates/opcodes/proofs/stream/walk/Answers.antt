@@ -6,6 +6,7 @@ use Rattle.opcodes.specs.Tables.{told}
 use Rattle.opcodes.specs.declared.binding.State.{State}
 use Rattle.opcodes.proofs.Walks as laws
 use Rattle.opcodes.proofs.stream.walk.Goals as goal
+use Rattle.std.proofs.lemmas.Result.{err_from_is_err_and}
 
 pub loop-i-init : goal.loop-i-init
 loop-i-init c =
@@ -13,33 +14,34 @@ loop-i-init c =
     (ap₂ (λ (k : ℕ) (s : State). told (walk a.end a.cmds.now (segments_of a.cmds.now a.count) a.parts k a.body.now 0 s) (part a.n a.binds.now)) (omega arith) (sym c.unset-s.ensures), refl)
 
 -- `operands-fit`: the operands of an opcode lie in the stream.
-pub overflow_add-i-in-On : goal.overflow_add-i-in-On
-overflow_add-i-in-On c =
-    let operands-fit : c.loop-i.i + 1 + c.in-On.size ≤ length c.args.body.now = let l = c.loop-i in let a = c.args in
-    laws.walk_size a.end a.cmds.now (segments_of a.cmds.now a.count) a.parts a.at a.body.now l.i l.s (part l.records l.binds) (omega arith) c.step.result c.step.new.binds c.step.ensures _ _ _ c.in-On.is in
+pub overflow_add-i-in-loop-i : goal.overflow_add-i-in-loop-i
+overflow_add-i-in-loop-i c =
+    let operands-fit : c.loop-i.i + 1 + c.in_ok-t.size ≤ length c.args.body.now = let l = c.loop-i in let a = c.args in
+    laws.walk_size a.end a.cmds.now (segments_of a.cmds.now a.count) a.parts a.at a.body.now l.i l.s (part l.records l.binds) (omega arith) c.step.result c.step.new.binds c.step.ensures _ c.in_ok-t.was in
     omega (arith, operands-fit)
 
-pub overflow_add-i-in-On-2 : goal.overflow_add-i-in-On-2
-overflow_add-i-in-On-2 c =
-    let operands-fit : c.loop-i.i + 1 + c.in-On.size ≤ length c.args.body.now = let l = c.loop-i in let a = c.args in
-    laws.walk_size a.end a.cmds.now (segments_of a.cmds.now a.count) a.parts a.at a.body.now l.i l.s (part l.records l.binds) (omega arith) c.step.result c.step.new.binds c.step.ensures _ _ _ c.in-On.is in
+pub overflow_add-i-in-loop-i-2 : goal.overflow_add-i-in-loop-i-2
+overflow_add-i-in-loop-i-2 c =
+    let operands-fit : c.loop-i.i + 1 + c.in_ok-t.size ≤ length c.args.body.now = let l = c.loop-i in let a = c.args in
+    laws.walk_size a.end a.cmds.now (segments_of a.cmds.now a.count) a.parts a.at a.body.now l.i l.s (part l.records l.binds) (omega arith) c.step.result c.step.new.binds c.step.ensures _ c.in_ok-t.was in
     omega (arith, operands-fit)
 
 pub loop-i-smaller : goal.loop-i-smaller
 loop-i-smaller c =
-    let operands-fit : c.loop-i.i + 1 + c.in-On.size ≤ length c.args.body.now = let l = c.loop-i in let a = c.args in
-    laws.walk_size a.end a.cmds.now (segments_of a.cmds.now a.count) a.parts a.at a.body.now l.i l.s (part l.records l.binds) (omega arith) c.step.result c.step.new.binds c.step.ensures _ _ _ c.in-On.is in
+    let operands-fit : c.loop-i.i + 1 + c.in_ok-t.size ≤ length c.args.body.now = let l = c.loop-i in let a = c.args in
+    laws.walk_size a.end a.cmds.now (segments_of a.cmds.now a.count) a.parts a.at a.body.now l.i l.s (part l.records l.binds) (omega arith) c.step.result c.step.new.binds c.step.ensures _ c.in_ok-t.was in
     omega (arith, operands-fit)
 
 pub loop-i-preserved : goal.loop-i-preserved
 loop-i-preserved c =
     let l = c.loop-i in let a = c.args in
-    (l.invariant.0 ∙ laws.walk_on a.end a.cmds.now (segments_of a.cmds.now a.count) a.parts a.at a.body.now l.i l.s (part l.records l.binds) (omega arith) c.step.result c.step.new.binds c.step.ensures _ _ _ c.in-On.is, c.step.auto.binds ∙ l.invariant.1)
+    (l.invariant.0 ∙ laws.walk_on a.end a.cmds.now (segments_of a.cmds.now a.count) a.parts a.at a.body.now l.i l.s (part l.records l.binds) (omega arith) c.step.result c.step.new.binds c.step.ensures _ c.in_ok-t.was, c.step.auto.binds ∙ l.invariant.1)
 
-pub returns-in-Refused : goal.returns-in-Refused
-returns-in-Refused c =
+pub returns-in_err-t : goal.returns-in_err-t
+returns-in_err-t c =
     let l = c.loop-i in let a = c.args in
-    laws.walk_refused a.end a.cmds.now (segments_of a.cmds.now a.count) a.parts a.at a.body.now l.i l.s (part l.records l.binds) (omega arith) c.step.result c.step.new.binds c.step.ensures _ c.in-Refused.is ∙ sym l.invariant.0
+    let p = err_from_is_err_and c.from_residual.result c.from_residual.ensures.1 in
+    rw (p.1, p.2) (laws.walk_refused a.end a.cmds.now (segments_of a.cmds.now a.count) a.parts a.at a.body.now l.i l.s (part l.records l.binds) (omega arith) c.step.result c.step.new.binds c.step.ensures _ c.in_err-t.was ∙ sym l.invariant.0)
 
 pub returns : goal.returns
 returns c =

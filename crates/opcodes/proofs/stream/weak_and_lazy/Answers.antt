@@ -1,17 +1,19 @@
-use Rattle.std.proofs.Common.{true, false, ◌∙◌, arith}
+use Rattle.std.proofs.Common.{true, false, ◌∙◌}
 use Rattle.macho.specs.Commands.{segments_of}
 use Rattle.fixups.specs.Tables.{part}
 use Rattle.opcodes.specs.DyldInfo.{weak_bind_off, lazy_bind_off}
 use Rattle.opcodes.specs.Streams.{stream_at}
 use Rattle.opcodes.proofs.Walks as laws
 use Rattle.opcodes.proofs.stream.weak_and_lazy.Goals as goal
+use Rattle.std.proofs.lemmas.Result.{err_from_is_err_and}
 
-pub returns-in-Count : goal.returns-in-Count
-returns-in-Count c =
+pub returns : goal.returns
+returns c =
     let a = c.args in
-    c.stream_at-in-Count.ensures ∙ laws.then (stream_at a.file.now a.cmds.now (segments_of a.cmds.now a.count) a.command weak_bind_off false) (stream_at a.file.now a.cmds.now (segments_of a.cmds.now a.count) a.command lazy_bind_off true) (part a.n a.binds.now) c.stream_at.result c.stream_at.new.binds c.stream_at.ensures _ c.in-Count.is
+    c.stream_at-2.ensures ∙ laws.then (stream_at a.file.now a.cmds.now (segments_of a.cmds.now a.count) a.command weak_bind_off false) (stream_at a.file.now a.cmds.now (segments_of a.cmds.now a.count) a.command lazy_bind_off true) (part a.n a.binds.now) c.stream_at.result c.stream_at.new.binds c.stream_at.ensures _ c.in_ok-m.was
 
-pub returns-in-Refused : goal.returns-in-Refused
-returns-in-Refused c =
+pub returns-in_err-m : goal.returns-in_err-m
+returns-in_err-m c =
     let a = c.args in
-    laws.stops (stream_at a.file.now a.cmds.now (segments_of a.cmds.now a.count) a.command weak_bind_off false) (stream_at a.file.now a.cmds.now (segments_of a.cmds.now a.count) a.command lazy_bind_off true) (part a.n a.binds.now) c.stream_at.result c.stream_at.new.binds c.stream_at.ensures _ c.in-Refused.is
+    let p = err_from_is_err_and c.from_residual.result c.from_residual.ensures.1 in
+    rw (p.1, p.2) (laws.stops (stream_at a.file.now a.cmds.now (segments_of a.cmds.now a.count) a.command weak_bind_off false) (stream_at a.file.now a.cmds.now (segments_of a.cmds.now a.count) a.command lazy_bind_off true) (part a.n a.binds.now) c.stream_at.result c.stream_at.new.binds c.stream_at.ensures _ c.in_err-m.was)

@@ -8,26 +8,26 @@ use borrow.Author.Rules.{rules}
 use Rattle.printing.proofs.bundle.piece_bytes.Goals as goal
 
 pub piece_counted-requires : goal.piece_counted-requires
-piece_counted-requires c = record { accepted = measured _ _ _ c.measure.ensures c.in-Counts.is; in_bounds = search rules; in_bounds_2 = search rules }
+piece_counted-requires c = record { accepted = measured _ _ _ c.measure.ensures c.in-Ok.is; in_bounds = search rules; in_bounds_2 = search rules }
 
 pub fill-requires : goal.fill-requires
 unfolding files_lent longest
 fill-requires c = omega arith
 
-pub returns-in-Counts : goal.returns-in-Counts
-returns-in-Counts c =
+pub returns-in-Ok : goal.returns-in-Ok
+returns-in-Ok c =
     let both = piece_same _ _ _ _ _ _ _
     (ap (λ o. tables_by c.args.bytes.now o c.args.words.now c.args.index.now)
-    (sym (counted_is _ c.measure.result c.measure.ensures _ c.in-Counts.is)))
+    (sym (counted_is _ c.measure.result c.measure.ensures _ c.in-Ok.is)))
     (c.piece_counted.ensures.piece, c.piece_counted.ensures.rest) in
     record { piece = both.0; rest = both.1 }
 
-pub returns-in-Missing : goal.returns-in-Missing
+pub returns-in-Err : goal.returns-in-Err
 unfolding files_lent
-returns-in-Missing c =
+returns-in-Err c =
     let both = piece_same _ _ _ _ _ _ _
-    (no_tables c.args.bytes.now c.in-Missing.field-0 _
-    (uncounted_is _ c.measure.result c.measure.ensures _ c.in-Missing.is)
+    (no_tables c.args.bytes.now c.in-Err.field-0 _
+    (uncounted_is _ c.measure.result c.measure.ensures _ c.in-Err.is)
     c.args.words.now c.args.index.now)
     (c.fill.ensures.piece, c.fill.ensures.rest) in
     record { piece = both.0; rest = both.1 }

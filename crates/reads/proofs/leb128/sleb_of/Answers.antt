@@ -4,15 +4,15 @@ use Rattle.reads.proofs.leb128.sleb_of.Goals as goal
 
 pub returns-then-m-ge9223372036854775808 : goal.returns-then-m-ge9223372036854775808
 unfolding negative
-returns-then-m-ge9223372036854775808 c = sleb_over _ _ c.magnitude.ensures _ c.in-Value.is c.if-m-ge9223372036854775808.true
+returns-then-m-ge9223372036854775808 c = sleb_over _ _ c.magnitude.ensures _ c.in-Ok.is c.if-m-ge9223372036854775808.true
 
 pub returns-else-m-ge9223372036854775808 : goal.returns-else-m-ge9223372036854775808
 unfolding negative
 returns-else-m-ge9223372036854775808 c =
     rw (code_by_sign _ _ _ c.by_sign-value.ensures c.if-m-ge9223372036854775808.false)
-    (sleb_fits _ _ c.magnitude.ensures _ c.in-Value.is
+    (sleb_fits _ _ c.magnitude.ensures _ c.in-Ok.is
     c.if-m-ge9223372036854775808.false)
 
-pub returns-in-Missing : goal.returns-in-Missing
+pub returns-in-Err : goal.returns-in-Err
 unfolding negative
-returns-in-Missing c = sleb_missing _ _ c.magnitude.ensures _ c.in-Missing.is
+returns-in-Err c = sleb_missing _ _ c.magnitude.ensures _ c.in-Err.is

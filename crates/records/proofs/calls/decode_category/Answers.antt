@@ -1,10 +1,10 @@
 use mathlib.Core.Path.{refl}
-use Rattle.pointers.specs.Question.{asked_outcome}
 use Rattle.reads.proofs.Outcomes.{on_number, on_value}
 use Rattle.records.proofs.calls.decode_category.Goals as goal
+use Rattle.reads.specs.Answer.{answered}
 
-pub returns-in-Yes : goal.returns-in-Yes
-returns-in-Yes c = on_value asked_outcome _ c.ask.ensures c.in-Yes.is refl c.category_at.ensures
+pub returns-in-Ok : goal.returns-in-Ok
+returns-in-Ok c = on_value answered _ c.ask.ensures c.in-Ok.is refl c.category_at.ensures
 
-pub returns-in-Refused : goal.returns-in-Refused
-returns-in-Refused c = on_number asked_outcome _ c.ask.ensures c.in-Refused.is refl
+pub returns-in-Err : goal.returns-in-Err
+returns-in-Err c = on_number answered _ c.ask.ensures c.in-Err.is refl

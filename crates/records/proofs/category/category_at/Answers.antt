@@ -1,13 +1,13 @@
 use mathlib.Core.Path.{refl}
 use Rattle.records.specs.Category.{decode_category}
-use Rattle.pointers.specs.ImageInfo.{info_outcome}
 use Rattle.reads.proofs.Outcomes.{on_missing, on_value}
 use Rattle.records.proofs.category.category_at.Goals as goal
+use Rattle.reads.specs.Answer.{outcome}
 
-pub returns-in-Info : goal.returns-in-Info
+pub returns-in-Ok : goal.returns-in-Ok
 unfolding decode_category
-returns-in-Info c = on_value info_outcome _ c.parse.ensures c.in-Info.is refl (rw (← c.has_category_class_properties-wide.ensures) c.category_of.ensures)
+returns-in-Ok c = on_value outcome _ c.parse.ensures c.in-Ok.is refl (rw (← c.has_category_class_properties-wide.ensures) c.category_of.ensures)
 
-pub returns-in-Missing : goal.returns-in-Missing
+pub returns-in-Err : goal.returns-in-Err
 unfolding decode_category
-returns-in-Missing c = on_missing info_outcome _ c.in-Missing.m c.parse.ensures c.in-Missing.is refl
+returns-in-Err c = on_missing outcome _ c.in-Err.m c.parse.ensures c.in-Err.is refl

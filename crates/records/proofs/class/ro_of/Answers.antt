@@ -1,13 +1,13 @@
 use mathlib.Core.Path.{refl}
 use Rattle.records.specs.Class.{decode_ro_of}
-use Rattle.reads.specs.Answer.{word_outcome}
 use Rattle.reads.proofs.Outcomes.{on_missing, on_value}
 use Rattle.records.proofs.class.ro_of.Goals as goal
+use Rattle.reads.specs.Answer.{outcome}
 
-pub returns-in-Value : goal.returns-in-Value
+pub returns-in-Ok : goal.returns-in-Ok
 unfolding decode_ro_of
-returns-in-Value c = on_value word_outcome _ c.pick.ensures c.in-Value.is refl c.class_ro_at.ensures
+returns-in-Ok c = on_value outcome _ c.pick.ensures c.in-Ok.is refl c.class_ro_at.ensures
 
-pub returns-in-Missing : goal.returns-in-Missing
+pub returns-in-Err : goal.returns-in-Err
 unfolding decode_ro_of
-returns-in-Missing c = on_missing word_outcome _ c.in-Missing.m c.pick.ensures c.in-Missing.is refl
+returns-in-Err c = on_missing outcome _ c.in-Err.m c.pick.ensures c.in-Err.is refl

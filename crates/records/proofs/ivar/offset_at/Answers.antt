@@ -1,23 +1,22 @@
 use mathlib.Core.Path.{refl, ap, ◌∙◌}
-use Rattle.reads.specs.Answer.{word_outcome, place_outcome}
 use Rattle.reads.specs.Outcome.{Outcome, value, or_else}
 use Rattle.reads.proofs.Outcomes.{on_value, on_missing}
 use Rattle.records.specs.Row.{decode_offset}
-use Rattle.records.specs.declared.ivar.IvarOffset.{IvarOffset}
-use Rattle.records.specs.declared.ivar.IvarOffset.TheVariants as offset
 use Rattle.records.proofs.ivar.offset_at.Goals as goal
+use Rattle.std.specs.Prelude.{ℕ, Option, Some, None}
+use Rattle.reads.specs.Answer.{outcome}
 
-abbrev or_nothing : Outcome IvarOffset → Outcome IvarOffset
-or_nothing o = or_else o (value offset.Nothing)
+abbrev or_nothing : Outcome (Option ℕ) → Outcome (Option ℕ)
+or_nothing o = or_else o (value None)
 
-pub returns-in-At : goal.returns-in-At
+pub returns-in-Ok-readable : goal.returns-in-Ok-readable
 unfolding decode_offset
-returns-in-At c = ap or_nothing (on_value word_outcome _ c.nonzero.ensures c.in-Value.is refl (on_value place_outcome _ c.readable.ensures c.in-At.is refl (ap (λ n. value (offset.At n)) c.u32_in.ensures)))
+returns-in-Ok-readable c = ap or_nothing (on_value outcome _ c.nonzero.ensures c.in-Ok.is refl (on_value outcome _ c.readable.ensures c.in-Ok-readable.is refl (ap (λ n. value (Some n)) c.u32_in.ensures)))
 
-pub returns-in-Missing-readable : goal.returns-in-Missing-readable
+pub returns-in-Err-readable : goal.returns-in-Err-readable
 unfolding decode_offset
-returns-in-Missing-readable c = c.or_none.ensures ∙ ap or_nothing (on_value word_outcome _ c.nonzero.ensures c.in-Value.is refl (on_missing place_outcome _ c.in-Missing-readable.m c.readable.ensures c.in-Missing-readable.is refl))
+returns-in-Err-readable c = c.or_none.ensures ∙ ap or_nothing (on_value outcome _ c.nonzero.ensures c.in-Ok.is refl (on_missing outcome _ c.in-Err-readable.m c.readable.ensures c.in-Err-readable.is refl))
 
-pub returns-in-Missing : goal.returns-in-Missing
+pub returns-in-Err : goal.returns-in-Err
 unfolding decode_offset
-returns-in-Missing c = c.or_none-in-Missing.ensures ∙ ap or_nothing (on_missing word_outcome _ c.in-Missing.m c.nonzero.ensures c.in-Missing.is refl)
+returns-in-Err c = c.or_none-in-Err.ensures ∙ ap or_nothing (on_missing outcome _ c.in-Err.m c.nonzero.ensures c.in-Err.is refl)

@@ -24,13 +24,13 @@ pub returns-then-size-eq0 : goal.returns-then-size-eq0
 returns-then-size-eq0 c = laws.search_flat _ _ _ (omega arith) (cc) (search rules)
 
 pub overflow_sub-gap : goal.overflow_sub-gap
-overflow_sub-gap c = omega (arith, next_break_above _ _ _ (sym c.next_break.ensures ∙ c.in-At.is))
+overflow_sub-gap c = omega (arith, next_break_above _ _ _ (sym c.next_break.ensures ∙ c.in-Some.is))
 
 pub overflow_sub-gap-2 : goal.overflow_sub-gap-2
-overflow_sub-gap-2 c = omega (arith, next_break_above _ _ _ (sym c.next_break.ensures ∙ c.in-At.is))
+overflow_sub-gap-2 c = omega (arith, next_break_above _ _ _ (sym c.next_break.ensures ∙ c.in-Some.is))
 
 pub returns-then-count-i-2 : goal.returns-then-count-i-2
-returns-then-count-i-2 c = laws.jump_out _ _ _ (omega arith) (cc) (search rules) c.in-At.b (cc) (search rules)
+returns-then-count-i-2 c = laws.jump_out _ _ _ (omega arith) (cc) (search rules) c.in-Some.b (cc) (search rules)
 
 pub returns : goal.returns
-returns c = (laws.jump_same _ _ _ (omega arith) (cc) (search rules) c.in-At.b (cc) (search rules), laws.jump_fewer _ _ _ (omega arith) (cc) (search rules) c.in-At.b (cc))
+returns c = (laws.jump_same _ _ _ (omega arith) (cc) (search rules) c.in-Some.b (cc) (search rules), laws.jump_fewer _ _ _ (omega arith) (cc) (search rules) c.in-Some.b (cc))

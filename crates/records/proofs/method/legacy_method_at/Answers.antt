@@ -1,5 +1,4 @@
 use mathlib.Core.Path.{◌≡◌, sym, ap, ◌∙◌}
-use Rattle.reads.specs.Answer.{place_outcome, text_outcome, word_outcome}
 use Rattle.pointers.specs.Tables.{Tables, tables_of, under}
 use Rattle.records.specs.Decode.{Decode, run}
 use Rattle.records.proofs.Stages.{rest, past, stops}
@@ -13,109 +12,110 @@ use Rattle.reads.proofs.Spots.{spot_place_readable}
 use Rattle.records.specs.Near.{Near}
 use Rattle.records.proofs.NearFields.{near_placed}
 use Rattle.records.proofs.method.legacy_method_at.Goals as goal
+use Rattle.reads.specs.Answer.{outcome}
 
-pub returns-in-Missing : goal.returns-in-Missing
+pub returns-in-Err : goal.returns-in-Err
 unfolding decode_legacy_method
-returns-in-Missing c =
+returns-in-Err c =
     let tables : Tables = under c.args.setting (tables_of (files_lent c.args.files.now) c.args.segments.now c.args.sections.now c.args.info.now c.args.rebases.now c.args.binds.now c.args.index.now) in
     let whole : Decode Method = decode_legacy_method c.args.va in
-    stops (tables) (whole) c.in-Missing.m (sym (spot_place_readable _ _ _ (omega arith) _ c.readable_spot-s.ensures) ∙ sym c.spot_place.ensures ∙ ap place_outcome c.in-Missing.is)
+    stops (tables) (whole) c.in-Err.m (sym (spot_place_readable _ _ _ (omega arith) _ c.readable_spot-s.ensures) ∙ sym c.spot_place.ensures ∙ ap outcome c.in-Err.is)
 
 pub first_slot-requires : goal.first_slot-requires
 first_slot-requires c =
-    let near : (reach : ℕ) → reach ≤ 24 → Near (image_of (files_lent c.args.files.now) c.args.segments.now) c.args.va c.readable_spot-s.result reach = (λ reach h. near_placed _ _ _ reach _ c.readable_spot-s.ensures (sym c.spot_place.ensures ∙ ap place_outcome c.in-At.is) h) in
+    let near : (reach : ℕ) → reach ≤ 24 → Near (image_of (files_lent c.args.files.now) c.args.segments.now) c.args.va c.readable_spot-s.result reach = (λ reach h. near_placed _ _ _ reach _ c.readable_spot-s.ensures (sym c.spot_place.ensures ∙ ap outcome c.in-Ok.is) h) in
     near _ (omega arith)
 
-pub returns-in-Missing-first_slot : goal.returns-in-Missing-first_slot
+pub returns-in-Err-first_slot : goal.returns-in-Err-first_slot
 unfolding decode_legacy_method
-returns-in-Missing-first_slot c =
+returns-in-Err-first_slot c =
     let tables : Tables = under c.args.setting (tables_of (files_lent c.args.files.now) c.args.segments.now c.args.sections.now c.args.info.now c.args.rebases.now c.args.binds.now c.args.index.now) in
     let whole : Decode Method = decode_legacy_method c.args.va in
-    let rest-1 : Decode Method = rest (whole) c.in-At.p in
-    let reach-1 : run (tables) (whole) ≡ run (tables) (rest-1) = past (tables) (whole) c.in-At.p (sym (spot_place_readable _ _ _ (omega arith) _ c.readable_spot-s.ensures) ∙ sym c.spot_place.ensures ∙ ap place_outcome c.in-At.is) in
-    stops (tables) (rest-1) c.in-Missing-first_slot.m (sym c.first_slot.ensures ∙ ap word_outcome c.in-Missing-first_slot.is) ∙ sym (reach-1)
+    let rest-1 : Decode Method = rest (whole) c.in-Ok.p in
+    let reach-1 : run (tables) (whole) ≡ run (tables) (rest-1) = past (tables) (whole) c.in-Ok.p (sym (spot_place_readable _ _ _ (omega arith) _ c.readable_spot-s.ensures) ∙ sym c.spot_place.ensures ∙ ap outcome c.in-Ok.is) in
+    stops (tables) (rest-1) c.in-Err-first_slot.m (sym c.first_slot.ensures ∙ ap outcome c.in-Err-first_slot.is) ∙ sym (reach-1)
 
 pub field-requires : goal.field-requires
 field-requires c =
-    let near : (reach : ℕ) → reach ≤ 24 → Near (image_of (files_lent c.args.files.now) c.args.segments.now) c.args.va c.readable_spot-s.result reach = (λ reach h. near_placed _ _ _ reach _ c.readable_spot-s.ensures (sym c.spot_place.ensures ∙ ap place_outcome c.in-At.is) h) in
+    let near : (reach : ℕ) → reach ≤ 24 → Near (image_of (files_lent c.args.files.now) c.args.segments.now) c.args.va c.readable_spot-s.result reach = (λ reach h. near_placed _ _ _ reach _ c.readable_spot-s.ensures (sym c.spot_place.ensures ∙ ap outcome c.in-Ok.is) h) in
     near _ (omega arith)
 
-pub returns-in-Missing-field : goal.returns-in-Missing-field
+pub returns-in-Err-field : goal.returns-in-Err-field
 unfolding decode_legacy_method
-returns-in-Missing-field c =
+returns-in-Err-field c =
     let tables : Tables = under c.args.setting (tables_of (files_lent c.args.files.now) c.args.segments.now c.args.sections.now c.args.info.now c.args.rebases.now c.args.binds.now c.args.index.now) in
     let whole : Decode Method = decode_legacy_method c.args.va in
-    let rest-1 : Decode Method = rest (whole) c.in-At.p in
-    let rest-2 : Decode Method = rest (rest-1) c.in-Value.name_va in
-    let reach-1 : run (tables) (whole) ≡ run (tables) (rest-1) = past (tables) (whole) c.in-At.p (sym (spot_place_readable _ _ _ (omega arith) _ c.readable_spot-s.ensures) ∙ sym c.spot_place.ensures ∙ ap place_outcome c.in-At.is) in
-    let reach-2 : run (tables) (whole) ≡ run (tables) (rest-2) = reach-1 ∙ past (tables) (rest-1) c.in-Value.name_va (sym c.first_slot.ensures ∙ ap word_outcome c.in-Value.is) in
-    stops (tables) (rest-2) c.in-Missing-field.m (sym c.field.ensures ∙ ap word_outcome c.in-Missing-field.is) ∙ sym (reach-2)
+    let rest-1 : Decode Method = rest (whole) c.in-Ok.p in
+    let rest-2 : Decode Method = rest (rest-1) c.in-Ok-first_slot.name_va in
+    let reach-1 : run (tables) (whole) ≡ run (tables) (rest-1) = past (tables) (whole) c.in-Ok.p (sym (spot_place_readable _ _ _ (omega arith) _ c.readable_spot-s.ensures) ∙ sym c.spot_place.ensures ∙ ap outcome c.in-Ok.is) in
+    let reach-2 : run (tables) (whole) ≡ run (tables) (rest-2) = reach-1 ∙ past (tables) (rest-1) c.in-Ok-first_slot.name_va (sym c.first_slot.ensures ∙ ap outcome c.in-Ok-first_slot.is) in
+    stops (tables) (rest-2) c.in-Err-field.m (sym c.field.ensures ∙ ap outcome c.in-Err-field.is) ∙ sym (reach-2)
 
 pub field_or_0-requires : goal.field_or_0-requires
 field_or_0-requires c =
-    let near : (reach : ℕ) → reach ≤ 24 → Near (image_of (files_lent c.args.files.now) c.args.segments.now) c.args.va c.readable_spot-s.result reach = (λ reach h. near_placed _ _ _ reach _ c.readable_spot-s.ensures (sym c.spot_place.ensures ∙ ap place_outcome c.in-At.is) h) in
+    let near : (reach : ℕ) → reach ≤ 24 → Near (image_of (files_lent c.args.files.now) c.args.segments.now) c.args.va c.readable_spot-s.result reach = (λ reach h. near_placed _ _ _ reach _ c.readable_spot-s.ensures (sym c.spot_place.ensures ∙ ap outcome c.in-Ok.is) h) in
     near _ (omega arith)
 
-pub returns-in-Missing-field_or_0 : goal.returns-in-Missing-field_or_0
+pub returns-in-Err-field_or_0 : goal.returns-in-Err-field_or_0
 unfolding decode_legacy_method
-returns-in-Missing-field_or_0 c =
+returns-in-Err-field_or_0 c =
     let tables : Tables = under c.args.setting (tables_of (files_lent c.args.files.now) c.args.segments.now c.args.sections.now c.args.info.now c.args.rebases.now c.args.binds.now c.args.index.now) in
     let whole : Decode Method = decode_legacy_method c.args.va in
-    let rest-1 : Decode Method = rest (whole) c.in-At.p in
-    let rest-2 : Decode Method = rest (rest-1) c.in-Value.name_va in
-    let rest-3 : Decode Method = rest (rest-2) c.in-Value-field.types_va in
-    let reach-1 : run (tables) (whole) ≡ run (tables) (rest-1) = past (tables) (whole) c.in-At.p (sym (spot_place_readable _ _ _ (omega arith) _ c.readable_spot-s.ensures) ∙ sym c.spot_place.ensures ∙ ap place_outcome c.in-At.is) in
-    let reach-2 : run (tables) (whole) ≡ run (tables) (rest-2) = reach-1 ∙ past (tables) (rest-1) c.in-Value.name_va (sym c.first_slot.ensures ∙ ap word_outcome c.in-Value.is) in
-    let reach-3 : run (tables) (whole) ≡ run (tables) (rest-3) = reach-2 ∙ past (tables) (rest-2) c.in-Value-field.types_va (sym c.field.ensures ∙ ap word_outcome c.in-Value-field.is) in
-    stops (tables) (rest-3) c.in-Missing-field_or_0.m (sym c.field_or_0.ensures ∙ ap word_outcome c.in-Missing-field_or_0.is) ∙ sym (reach-3)
+    let rest-1 : Decode Method = rest (whole) c.in-Ok.p in
+    let rest-2 : Decode Method = rest (rest-1) c.in-Ok-first_slot.name_va in
+    let rest-3 : Decode Method = rest (rest-2) c.in-Ok-field.types_va in
+    let reach-1 : run (tables) (whole) ≡ run (tables) (rest-1) = past (tables) (whole) c.in-Ok.p (sym (spot_place_readable _ _ _ (omega arith) _ c.readable_spot-s.ensures) ∙ sym c.spot_place.ensures ∙ ap outcome c.in-Ok.is) in
+    let reach-2 : run (tables) (whole) ≡ run (tables) (rest-2) = reach-1 ∙ past (tables) (rest-1) c.in-Ok-first_slot.name_va (sym c.first_slot.ensures ∙ ap outcome c.in-Ok-first_slot.is) in
+    let reach-3 : run (tables) (whole) ≡ run (tables) (rest-3) = reach-2 ∙ past (tables) (rest-2) c.in-Ok-field.types_va (sym c.field.ensures ∙ ap outcome c.in-Ok-field.is) in
+    stops (tables) (rest-3) c.in-Err-field_or_0.m (sym c.field_or_0.ensures ∙ ap outcome c.in-Err-field_or_0.is) ∙ sym (reach-3)
 
-pub returns-in-Missing-read_cstr : goal.returns-in-Missing-read_cstr
+pub returns-in-Err-read_cstr : goal.returns-in-Err-read_cstr
 unfolding decode_legacy_method
-returns-in-Missing-read_cstr c =
+returns-in-Err-read_cstr c =
     let tables : Tables = under c.args.setting (tables_of (files_lent c.args.files.now) c.args.segments.now c.args.sections.now c.args.info.now c.args.rebases.now c.args.binds.now c.args.index.now) in
     let whole : Decode Method = decode_legacy_method c.args.va in
-    let rest-1 : Decode Method = rest (whole) c.in-At.p in
-    let rest-2 : Decode Method = rest (rest-1) c.in-Value.name_va in
-    let rest-3 : Decode Method = rest (rest-2) c.in-Value-field.types_va in
-    let rest-4 : Decode Method = rest (rest-3) c.in-Value-field_or_0.imp_va in
-    let reach-1 : run (tables) (whole) ≡ run (tables) (rest-1) = past (tables) (whole) c.in-At.p (sym (spot_place_readable _ _ _ (omega arith) _ c.readable_spot-s.ensures) ∙ sym c.spot_place.ensures ∙ ap place_outcome c.in-At.is) in
-    let reach-2 : run (tables) (whole) ≡ run (tables) (rest-2) = reach-1 ∙ past (tables) (rest-1) c.in-Value.name_va (sym c.first_slot.ensures ∙ ap word_outcome c.in-Value.is) in
-    let reach-3 : run (tables) (whole) ≡ run (tables) (rest-3) = reach-2 ∙ past (tables) (rest-2) c.in-Value-field.types_va (sym c.field.ensures ∙ ap word_outcome c.in-Value-field.is) in
-    let reach-4 : run (tables) (whole) ≡ run (tables) (rest-4) = reach-3 ∙ past (tables) (rest-3) c.in-Value-field_or_0.imp_va (sym c.field_or_0.ensures ∙ ap word_outcome c.in-Value-field_or_0.is) in
-    stops (tables) (rest-4) c.in-Missing-read_cstr.m (sym c.read_cstr.ensures ∙ ap text_outcome c.in-Missing-read_cstr.is) ∙ sym (reach-4)
+    let rest-1 : Decode Method = rest (whole) c.in-Ok.p in
+    let rest-2 : Decode Method = rest (rest-1) c.in-Ok-first_slot.name_va in
+    let rest-3 : Decode Method = rest (rest-2) c.in-Ok-field.types_va in
+    let rest-4 : Decode Method = rest (rest-3) c.in-Ok-field_or_0.imp_va in
+    let reach-1 : run (tables) (whole) ≡ run (tables) (rest-1) = past (tables) (whole) c.in-Ok.p (sym (spot_place_readable _ _ _ (omega arith) _ c.readable_spot-s.ensures) ∙ sym c.spot_place.ensures ∙ ap outcome c.in-Ok.is) in
+    let reach-2 : run (tables) (whole) ≡ run (tables) (rest-2) = reach-1 ∙ past (tables) (rest-1) c.in-Ok-first_slot.name_va (sym c.first_slot.ensures ∙ ap outcome c.in-Ok-first_slot.is) in
+    let reach-3 : run (tables) (whole) ≡ run (tables) (rest-3) = reach-2 ∙ past (tables) (rest-2) c.in-Ok-field.types_va (sym c.field.ensures ∙ ap outcome c.in-Ok-field.is) in
+    let reach-4 : run (tables) (whole) ≡ run (tables) (rest-4) = reach-3 ∙ past (tables) (rest-3) c.in-Ok-field_or_0.imp_va (sym c.field_or_0.ensures ∙ ap outcome c.in-Ok-field_or_0.is) in
+    stops (tables) (rest-4) c.in-Err-read_cstr.m (sym c.read_cstr.ensures ∙ ap outcome c.in-Err-read_cstr.is) ∙ sym (reach-4)
 
-pub returns-in-Missing-read_cstr_or_empty : goal.returns-in-Missing-read_cstr_or_empty
+pub returns-in-Err-read_cstr_or_empty : goal.returns-in-Err-read_cstr_or_empty
 unfolding decode_legacy_method
-returns-in-Missing-read_cstr_or_empty c =
+returns-in-Err-read_cstr_or_empty c =
     let tables : Tables = under c.args.setting (tables_of (files_lent c.args.files.now) c.args.segments.now c.args.sections.now c.args.info.now c.args.rebases.now c.args.binds.now c.args.index.now) in
     let whole : Decode Method = decode_legacy_method c.args.va in
-    let rest-1 : Decode Method = rest (whole) c.in-At.p in
-    let rest-2 : Decode Method = rest (rest-1) c.in-Value.name_va in
-    let rest-3 : Decode Method = rest (rest-2) c.in-Value-field.types_va in
-    let rest-4 : Decode Method = rest (rest-3) c.in-Value-field_or_0.imp_va in
-    let rest-5 : Decode Method = rest (rest-4) c.in-Found.selector in
-    let reach-1 : run (tables) (whole) ≡ run (tables) (rest-1) = past (tables) (whole) c.in-At.p (sym (spot_place_readable _ _ _ (omega arith) _ c.readable_spot-s.ensures) ∙ sym c.spot_place.ensures ∙ ap place_outcome c.in-At.is) in
-    let reach-2 : run (tables) (whole) ≡ run (tables) (rest-2) = reach-1 ∙ past (tables) (rest-1) c.in-Value.name_va (sym c.first_slot.ensures ∙ ap word_outcome c.in-Value.is) in
-    let reach-3 : run (tables) (whole) ≡ run (tables) (rest-3) = reach-2 ∙ past (tables) (rest-2) c.in-Value-field.types_va (sym c.field.ensures ∙ ap word_outcome c.in-Value-field.is) in
-    let reach-4 : run (tables) (whole) ≡ run (tables) (rest-4) = reach-3 ∙ past (tables) (rest-3) c.in-Value-field_or_0.imp_va (sym c.field_or_0.ensures ∙ ap word_outcome c.in-Value-field_or_0.is) in
-    let reach-5 : run (tables) (whole) ≡ run (tables) (rest-5) = reach-4 ∙ past (tables) (rest-4) c.in-Found.selector (sym c.read_cstr.ensures ∙ ap text_outcome c.in-Found.is) in
-    stops (tables) (rest-5) c.in-Missing-read_cstr_or_empty.m (sym c.read_cstr_or_empty.ensures ∙ ap text_outcome c.in-Missing-read_cstr_or_empty.is) ∙ sym (reach-5)
+    let rest-1 : Decode Method = rest (whole) c.in-Ok.p in
+    let rest-2 : Decode Method = rest (rest-1) c.in-Ok-first_slot.name_va in
+    let rest-3 : Decode Method = rest (rest-2) c.in-Ok-field.types_va in
+    let rest-4 : Decode Method = rest (rest-3) c.in-Ok-field_or_0.imp_va in
+    let rest-5 : Decode Method = rest (rest-4) c.in-Ok-read_cstr.selector in
+    let reach-1 : run (tables) (whole) ≡ run (tables) (rest-1) = past (tables) (whole) c.in-Ok.p (sym (spot_place_readable _ _ _ (omega arith) _ c.readable_spot-s.ensures) ∙ sym c.spot_place.ensures ∙ ap outcome c.in-Ok.is) in
+    let reach-2 : run (tables) (whole) ≡ run (tables) (rest-2) = reach-1 ∙ past (tables) (rest-1) c.in-Ok-first_slot.name_va (sym c.first_slot.ensures ∙ ap outcome c.in-Ok-first_slot.is) in
+    let reach-3 : run (tables) (whole) ≡ run (tables) (rest-3) = reach-2 ∙ past (tables) (rest-2) c.in-Ok-field.types_va (sym c.field.ensures ∙ ap outcome c.in-Ok-field.is) in
+    let reach-4 : run (tables) (whole) ≡ run (tables) (rest-4) = reach-3 ∙ past (tables) (rest-3) c.in-Ok-field_or_0.imp_va (sym c.field_or_0.ensures ∙ ap outcome c.in-Ok-field_or_0.is) in
+    let reach-5 : run (tables) (whole) ≡ run (tables) (rest-5) = reach-4 ∙ past (tables) (rest-4) c.in-Ok-read_cstr.selector (sym c.read_cstr.ensures ∙ ap outcome c.in-Ok-read_cstr.is) in
+    stops (tables) (rest-5) c.in-Err-read_cstr_or_empty.m (sym c.read_cstr_or_empty.ensures ∙ ap outcome c.in-Err-read_cstr_or_empty.is) ∙ sym (reach-5)
 
 pub returns : goal.returns
 unfolding decode_legacy_method
 returns c =
     let tables : Tables = under c.args.setting (tables_of (files_lent c.args.files.now) c.args.segments.now c.args.sections.now c.args.info.now c.args.rebases.now c.args.binds.now c.args.index.now) in
     let whole : Decode Method = decode_legacy_method c.args.va in
-    let rest-1 : Decode Method = rest (whole) c.in-At.p in
-    let rest-2 : Decode Method = rest (rest-1) c.in-Value.name_va in
-    let rest-3 : Decode Method = rest (rest-2) c.in-Value-field.types_va in
-    let rest-4 : Decode Method = rest (rest-3) c.in-Value-field_or_0.imp_va in
-    let rest-5 : Decode Method = rest (rest-4) c.in-Found.selector in
-    let reach-1 : run (tables) (whole) ≡ run (tables) (rest-1) = past (tables) (whole) c.in-At.p (sym (spot_place_readable _ _ _ (omega arith) _ c.readable_spot-s.ensures) ∙ sym c.spot_place.ensures ∙ ap place_outcome c.in-At.is) in
-    let reach-2 : run (tables) (whole) ≡ run (tables) (rest-2) = reach-1 ∙ past (tables) (rest-1) c.in-Value.name_va (sym c.first_slot.ensures ∙ ap word_outcome c.in-Value.is) in
-    let reach-3 : run (tables) (whole) ≡ run (tables) (rest-3) = reach-2 ∙ past (tables) (rest-2) c.in-Value-field.types_va (sym c.field.ensures ∙ ap word_outcome c.in-Value-field.is) in
-    let reach-4 : run (tables) (whole) ≡ run (tables) (rest-4) = reach-3 ∙ past (tables) (rest-3) c.in-Value-field_or_0.imp_va (sym c.field_or_0.ensures ∙ ap word_outcome c.in-Value-field_or_0.is) in
-    let reach-5 : run (tables) (whole) ≡ run (tables) (rest-5) = reach-4 ∙ past (tables) (rest-4) c.in-Found.selector (sym c.read_cstr.ensures ∙ ap text_outcome c.in-Found.is) in
-    let rest-6 : Decode Method = rest (rest-5) c.in-Found-read_cstr_or_empty.types in
-    let reach-6 : run (tables) (whole) ≡ run (tables) (rest-6) = reach-5 ∙ past (tables) (rest-5) c.in-Found-read_cstr_or_empty.types (sym c.read_cstr_or_empty.ensures ∙ ap text_outcome c.in-Found-read_cstr_or_empty.is) in
+    let rest-1 : Decode Method = rest (whole) c.in-Ok.p in
+    let rest-2 : Decode Method = rest (rest-1) c.in-Ok-first_slot.name_va in
+    let rest-3 : Decode Method = rest (rest-2) c.in-Ok-field.types_va in
+    let rest-4 : Decode Method = rest (rest-3) c.in-Ok-field_or_0.imp_va in
+    let rest-5 : Decode Method = rest (rest-4) c.in-Ok-read_cstr.selector in
+    let reach-1 : run (tables) (whole) ≡ run (tables) (rest-1) = past (tables) (whole) c.in-Ok.p (sym (spot_place_readable _ _ _ (omega arith) _ c.readable_spot-s.ensures) ∙ sym c.spot_place.ensures ∙ ap outcome c.in-Ok.is) in
+    let reach-2 : run (tables) (whole) ≡ run (tables) (rest-2) = reach-1 ∙ past (tables) (rest-1) c.in-Ok-first_slot.name_va (sym c.first_slot.ensures ∙ ap outcome c.in-Ok-first_slot.is) in
+    let reach-3 : run (tables) (whole) ≡ run (tables) (rest-3) = reach-2 ∙ past (tables) (rest-2) c.in-Ok-field.types_va (sym c.field.ensures ∙ ap outcome c.in-Ok-field.is) in
+    let reach-4 : run (tables) (whole) ≡ run (tables) (rest-4) = reach-3 ∙ past (tables) (rest-3) c.in-Ok-field_or_0.imp_va (sym c.field_or_0.ensures ∙ ap outcome c.in-Ok-field_or_0.is) in
+    let reach-5 : run (tables) (whole) ≡ run (tables) (rest-5) = reach-4 ∙ past (tables) (rest-4) c.in-Ok-read_cstr.selector (sym c.read_cstr.ensures ∙ ap outcome c.in-Ok-read_cstr.is) in
+    let rest-6 : Decode Method = rest (rest-5) c.in-Ok-read_cstr_or_empty.types in
+    let reach-6 : run (tables) (whole) ≡ run (tables) (rest-6) = reach-5 ∙ past (tables) (rest-5) c.in-Ok-read_cstr_or_empty.types (sym c.read_cstr_or_empty.ensures ∙ ap outcome c.in-Ok-read_cstr_or_empty.is) in
     (rw c.legacy_imp.ensures) ∙ sym (reach-6)

@@ -1,10 +1,11 @@
 use mathlib.Core.Path.{refl}
 use Rattle.reads.proofs.Outcomes.{on_missing}
-use Rattle.records.specs.Row.{property_outcome, property_row}
+use Rattle.records.specs.Row.{property_row}
 use Rattle.records.proofs.row.property_row.Goals as goal
+use Rattle.reads.specs.Answer.{outcome}
 
-pub returns-in-Row : goal.returns-in-Row
-returns-in-Row c = rw c.in-Row.is
+pub returns-in-Ok : goal.returns-in-Ok
+returns-in-Ok c = rw c.in-Ok.is
 
-pub returns-in-Missing : goal.returns-in-Missing
-returns-in-Missing c = on_missing property_outcome property_row c.in-Missing.m refl c.in-Missing.is refl
+pub returns-in-Err : goal.returns-in-Err
+returns-in-Err c = on_missing outcome property_row c.in-Err.m refl c.in-Err.is refl

@@ -1,5 +1,4 @@
 use Rattle.universal.proofs.Tables as laws
-use native.Mathlib.Omega.{arith}
 use mathlib.Core.Path.{◌∙◌}
 use Rattle.universal.proofs.fat.arch_at.Goals as goal
 

@@ -1,13 +1,13 @@
 use mathlib.Core.Path.{refl}
-use Rattle.reads.specs.Answer.{word_outcome}
 use Rattle.reads.proofs.Outcomes.{on_value, on_missing}
 use Rattle.records.specs.Ask.{picked_in}
 use Rattle.usage.proofs.class_name.picked_at.Goals as goal
+use Rattle.reads.specs.Answer.{outcome}
 
-pub returns-in-Value : goal.returns-in-Value
+pub returns-in-Ok : goal.returns-in-Ok
 unfolding picked_in
-returns-in-Value c = on_value word_outcome _ c.read_u64.ensures c.in-Value.is refl c.pick.ensures
+returns-in-Ok c = on_value outcome _ c.read_u64.ensures c.in-Ok.is refl c.pick.ensures
 
-pub returns-in-Missing : goal.returns-in-Missing
+pub returns-in-Err : goal.returns-in-Err
 unfolding picked_in
-returns-in-Missing c = on_missing word_outcome _ c.in-Missing.m c.read_u64.ensures c.in-Missing.is refl
+returns-in-Err c = on_missing outcome _ c.in-Err.m c.read_u64.ensures c.in-Err.is refl

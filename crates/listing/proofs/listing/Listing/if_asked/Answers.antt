@@ -1,7 +1,7 @@
 use Rattle.listing.proofs.listing.Listing.if_asked.Goals as goal
 
-pub returns-in-Yes : goal.returns-in-Yes
-returns-in-Yes c = λ l. rw (← c.ask.ensures, c.in-Yes.is)
+pub returns-in-Ok : goal.returns-in-Ok
+returns-in-Ok c = λ l. rw (← c.ask.ensures, c.in-Ok.is)
 
-pub returns-in-Refused : goal.returns-in-Refused
-returns-in-Refused c = λ l. rw (← c.ask.ensures, c.in-Refused.is) (c.refused.ensures l)
+pub returns-in-Err : goal.returns-in-Err
+returns-in-Err c = λ l. rw (← c.ask.ensures, c.in-Err.is) (c.refused.ensures l)

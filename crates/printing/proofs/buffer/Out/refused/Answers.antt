@@ -4,4 +4,4 @@ use Rattle.printing.proofs.buffer.Out.refused.Goals as goal
 
 pub returns : goal.returns
 unfolding refused_text
-returns c = puts_then c.bytes.ensures (puts_then c.decimal.ensures c.byte.ensures)
+returns c = rw (← c.number.ensures) (puts_then c.bytes.ensures (puts_then c.decimal.ensures c.byte.ensures))

@@ -1,18 +1,18 @@
 use Rattle.records.proofs.Readables.{found_below_count}
 use mathlib.Core.Path.{refl}
-use Rattle.records.specs.Search.{entry_of}
 use Rattle.walks.specs.Walk.{over_rows}
-use Rattle.walks.proofs.Steps.{found_fits, outcome_told, list_on}
+use Rattle.walks.proofs.Steps.{found_fits, list_on}
 use borrow.Author.Rules.{rules}
 use Rattle.walks.proofs.list_walk.ListWalk.over_list.Goals as goal
+use mathlib.Core.Path.{sym, ◌∙◌}
 
 pub settle-requires : goal.settle-requires
-settle-requires c = let e = outcome_told entry_of c.first_readable.ensures c.in-At.is in (found_below_count _ _ _ _ e, found_fits _ _ _ _ e)
+settle-requires c = let e = sym c.first_readable.ensures ∙ c.in-Some.is in (found_below_count _ _ _ _ e, found_fits _ _ _ _ e)
 
-pub returns-in-At : goal.returns-in-At
+pub returns-in-Some : goal.returns-in-Some
 unfolding over_rows
-returns-in-At c = list_on _ _ _ _ _ refl (search rules) (rw (outcome_told entry_of c.first_readable.ensures c.in-At.is) c.settle.ensures)
+returns-in-Some c = list_on _ _ _ _ _ refl (search rules) (rw (sym c.first_readable.ensures ∙ c.in-Some.is) c.settle.ensures)
 
-pub returns-in-Nothing : goal.returns-in-Nothing
+pub returns-in-None : goal.returns-in-None
 unfolding over_rows
-returns-in-Nothing c = list_on _ _ _ _ _ refl (search rules) (rw (outcome_told entry_of c.first_readable.ensures c.in-Nothing.is) c.at.ensures)
+returns-in-None c = list_on _ _ _ _ _ refl (search rules) (rw (sym c.first_readable.ensures ∙ c.in-None.is) c.at.ensures)

@@ -1,9 +1,0 @@
-use mathlib.Core.Path.{◌∙◌}
-use Rattle.face.proofs.Told.{says_missed, words_missed}
-use Rattle.face.proofs.decoding.NameToldFromTextAnswer.from.Goals as goal
-
-pub returns-in-Found : goal.returns-in-Found
-returns-in-Found c = rw (c.in-Found.is, c.found.ensures, c.from.ensures)
-
-pub returns-in-Missing : goal.returns-in-Missing
-returns-in-Missing c = c.none.ensures ∙ rw (c.in-Missing.is, says_missed, words_missed, c.from-in-Missing.ensures)
