@@ -18,6 +18,7 @@ use reads::answer::Missing;
 use reads::text::Text;
 
 // The class at an address.
+#[tactic(auto, using(reads::proofs::Outcomes::missed_then))]
 pub fn decode_class(
     files: &[&[u8]],
     segments: &[u64],
@@ -33,15 +34,14 @@ pub fn decode_class(
     ensures { let t = under setting (lent files segments sections info rebases binds index) in
         outcome result ≡ guarded t (class_at t va is_meta) }
 {
-    match ask(files, segments, sections, info, rebases, binds, index) {
-        Ok(()) => class_at(
-            files, segments, sections, info, rebases, binds, index, setting, va, is_meta,
-        ),
-        Err(k) => Err(Missing::Refused(k)),
-    }
+    ask(files, segments, sections, info, rebases, binds, index).map_err(Missing::Refused)?;
+    class_at(
+        files, segments, sections, info, rebases, binds, index, setting, va, is_meta,
+    )
 }
 
 // The class_ro_t at an address.
+#[tactic(auto, using(reads::proofs::Outcomes::missed_then))]
 pub fn decode_class_ro(
     files: &[&[u8]],
     segments: &[u64],
@@ -56,15 +56,14 @@ pub fn decode_class_ro(
     ensures { let t = under setting (lent files segments sections info rebases binds index) in
         outcome result ≡ guarded t (class_ro_at t va) }
 {
-    match ask(files, segments, sections, info, rebases, binds, index) {
-        Ok(()) => class_ro_at(
-            files, segments, sections, info, rebases, binds, index, setting, va,
-        ),
-        Err(k) => Err(Missing::Refused(k)),
-    }
+    ask(files, segments, sections, info, rebases, binds, index).map_err(Missing::Refused)?;
+    class_ro_at(
+        files, segments, sections, info, rebases, binds, index, setting, va,
+    )
 }
 
 // The name of the class at an address.
+#[tactic(auto, using(reads::proofs::Outcomes::missed_then))]
 pub fn decode_class_name(
     files: &[&[u8]],
     segments: &[u64],
@@ -79,16 +78,15 @@ pub fn decode_class_name(
     ensures { let t = under setting (lent files segments sections info rebases binds index) in
         outcome result ≡ guarded t (class_name_at t va) }
 {
-    match ask(files, segments, sections, info, rebases, binds, index) {
-        Ok(()) => class_name_at(
-            files, segments, sections, info, rebases, binds, index, setting, va,
-        ),
-        Err(k) => Err(Missing::Refused(k)),
-    }
+    ask(files, segments, sections, info, rebases, binds, index).map_err(Missing::Refused)?;
+    class_name_at(
+        files, segments, sections, info, rebases, binds, index, setting, va,
+    )
 }
 
 impl ObjcClass {
     // The superclass's name: decoded, or by the bind at +8.
+    #[tactic(auto, using(reads::proofs::Outcomes::missed_then))]
     pub fn superclass_name(
         self,
         files: &[&[u8]],
@@ -103,24 +101,23 @@ impl ObjcClass {
         ensures { let t = under setting (lent files segments sections info rebases binds index) in
             outcome result ≡ guarded t (superclass_name t self) }
     {
-        match ask(files, segments, sections, info, rebases, binds, index) {
-            Ok(()) => class_name_of(
-                files,
-                segments,
-                sections,
-                info,
-                rebases,
-                binds,
-                index,
-                setting,
-                self.address,
-                self.superclass_address,
-            ),
-            Err(k) => Err(Missing::Refused(k)),
-        }
+        ask(files, segments, sections, info, rebases, binds, index).map_err(Missing::Refused)?;
+        class_name_of(
+            files,
+            segments,
+            sections,
+            info,
+            rebases,
+            binds,
+            index,
+            setting,
+            self.address,
+            self.superclass_address,
+        )
     }
 
     // The class_ro_t, picked again from the bits.
+    #[tactic(auto, using(reads::proofs::Outcomes::missed_then))]
     pub fn ro(
         self,
         files: &[&[u8]],
@@ -135,16 +132,15 @@ impl ObjcClass {
         ensures { let t = under setting (lent files segments sections info rebases binds index) in
             outcome result ≡ guarded t (ro_of t self) }
     {
-        match ask(files, segments, sections, info, rebases, binds, index) {
-            Ok(()) => ro_of(
-                files, segments, sections, info, rebases, binds, index, setting, self,
-            ),
-            Err(k) => Err(Missing::Refused(k)),
-        }
+        ask(files, segments, sections, info, rebases, binds, index).map_err(Missing::Refused)?;
+        ro_of(
+            files, segments, sections, info, rebases, binds, index, setting, self,
+        )
     }
 }
 
 // The protocol at an address.
+#[tactic(auto, using(reads::proofs::Outcomes::missed_then))]
 pub fn decode_protocol(
     files: &[&[u8]],
     segments: &[u64],
@@ -159,15 +155,14 @@ pub fn decode_protocol(
     ensures { let t = under setting (lent files segments sections info rebases binds index) in
         outcome result ≡ guarded t (protocol_at t va) }
 {
-    match ask(files, segments, sections, info, rebases, binds, index) {
-        Ok(()) => protocol_at(
-            files, segments, sections, info, rebases, binds, index, setting, va,
-        ),
-        Err(k) => Err(Missing::Refused(k)),
-    }
+    ask(files, segments, sections, info, rebases, binds, index).map_err(Missing::Refused)?;
+    protocol_at(
+        files, segments, sections, info, rebases, binds, index, setting, va,
+    )
 }
 
 // The category at an address.
+#[tactic(auto, using(reads::proofs::Outcomes::missed_then))]
 pub fn decode_category(
     files: &[&[u8]],
     segments: &[u64],
@@ -182,16 +177,15 @@ pub fn decode_category(
     ensures { let t = under setting (lent files segments sections info rebases binds index) in
         outcome result ≡ guarded t (category_at t va) }
 {
-    match ask(files, segments, sections, info, rebases, binds, index) {
-        Ok(()) => category_at(
-            files, segments, sections, info, rebases, binds, index, setting, va,
-        ),
-        Err(k) => Err(Missing::Refused(k)),
-    }
+    ask(files, segments, sections, info, rebases, binds, index).map_err(Missing::Refused)?;
+    category_at(
+        files, segments, sections, info, rebases, binds, index, setting, va,
+    )
 }
 
 impl ObjcCategory {
     // The host class's name: decoded, or by the bind at +8.
+    #[tactic(auto, using(reads::proofs::Outcomes::missed_then))]
     pub fn class_name(
         self,
         files: &[&[u8]],
@@ -206,20 +200,18 @@ impl ObjcCategory {
         ensures { let t = under setting (lent files segments sections info rebases binds index) in
             outcome result ≡ guarded t (category_class_name t self) }
     {
-        match ask(files, segments, sections, info, rebases, binds, index) {
-            Ok(()) => class_name_of(
-                files,
-                segments,
-                sections,
-                info,
-                rebases,
-                binds,
-                index,
-                setting,
-                self.address,
-                self.class_address,
-            ),
-            Err(k) => Err(Missing::Refused(k)),
-        }
+        ask(files, segments, sections, info, rebases, binds, index).map_err(Missing::Refused)?;
+        class_name_of(
+            files,
+            segments,
+            sections,
+            info,
+            rebases,
+            binds,
+            index,
+            setting,
+            self.address,
+            self.class_address,
+        )
     }
 }

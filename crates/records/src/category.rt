@@ -97,6 +97,7 @@ fn category_properties_at(
 }
 
 // The lists of a category_t but its class properties; each or 0.
+#[tactic(auto, using(reads::proofs::Outcomes::missed_then), unfolding(crate::specs::Category::decode_category_lists))]
 fn category_lists_at(
     files: &[&[u8]],
     segments: &[u64],
@@ -111,7 +112,7 @@ fn category_lists_at(
     ensures { let t = under setting (lent files segments sections info rebases binds index) in
         outcome result ≡ category_lists_at t va }
 {
-    let instance_methods = match pointer_or_0(
+    let instance_methods = pointer_or_0(
         files,
         segments,
         rebases,
@@ -119,27 +120,10 @@ fn category_lists_at(
         setting,
         va,
         INSTANCE_METHODS,
-    ) {
-        Ok(instance_methods) => instance_methods,
-        Err(m) => return Err(m),
-    };
-    let class_methods = match pointer_or_0(
-        files,
-        segments,
-        rebases,
-        index,
-        setting,
-        va,
-        CLASS_METHODS,
-    ) {
-        Ok(class_methods) => class_methods,
-        Err(m) => return Err(m),
-    };
-    let protocols = match pointer_or_0(files, segments, rebases, index, setting, va, PROTOCOLS) {
-        Ok(protocols) => protocols,
-        Err(m) => return Err(m),
-    };
-    let instance_properties = match pointer_or_0(
+    )?;
+    let class_methods = pointer_or_0(files, segments, rebases, index, setting, va, CLASS_METHODS)?;
+    let protocols = pointer_or_0(files, segments, rebases, index, setting, va, PROTOCOLS)?;
+    let instance_properties = pointer_or_0(
         files,
         segments,
         rebases,
@@ -147,10 +131,7 @@ fn category_lists_at(
         setting,
         va,
         INSTANCE_PROPERTIES,
-    ) {
-        Ok(instance_properties) => instance_properties,
-        Err(m) => return Err(m),
-    };
+    )?;
     Ok(CategoryLists {
         instance_methods,
         class_methods,
@@ -160,6 +141,7 @@ fn category_lists_at(
 }
 
 // category_t, its fields in the order of category.rs, the name's text last.
+#[tactic(auto, using(reads::proofs::Outcomes::missed_then), unfolding(crate::specs::Category::decode_category_of))]
 fn category_of(
     files: &[&[u8]],
     segments: &[u64],
@@ -175,35 +157,17 @@ fn category_of(
     ensures { let t = under setting (lent files segments sections info rebases binds index) in
         outcome result ≡ category_of t va wide }
 {
-    let _p = match whole_category(files, segments, va, wide) {
-        Ok(p) => p,
-        Err(m) => return Err(m),
-    };
-    let name_va = match resolve_pointer(files, segments, rebases, index, setting, va) {
-        Ok(name_va) => name_va,
-        Err(m) => return Err(m),
-    };
-    let class_address = match pointer_or_0(files, segments, rebases, index, setting, va, CLS) {
-        Ok(class_address) => class_address,
-        Err(m) => return Err(m),
-    };
-    let lists = match category_lists_at(
+    whole_category(files, segments, va, wide)?;
+    let name_va = resolve_pointer(files, segments, rebases, index, setting, va)?;
+    let class_address = pointer_or_0(files, segments, rebases, index, setting, va, CLS)?;
+    let lists = category_lists_at(
         files, segments, sections, info, rebases, binds, index, setting, va,
-    ) {
-        Ok(lists) => lists,
-        Err(m) => return Err(m),
-    };
-    let class_properties = match category_properties_at(
+    )?;
+    let class_properties = category_properties_at(
         files, segments, sections, info, rebases, binds, index, setting, va, wide,
-    ) {
-        Ok(class_properties) => class_properties,
-        Err(m) => return Err(m),
-    };
+    )?;
     let reading = setting.reading;
-    let name = match read_cstr(files, segments, reading, name_va) {
-        Ok(name) => name,
-        Err(m) => return Err(m),
-    };
+    let name = read_cstr(files, segments, reading, name_va)?;
     Ok(ObjcCategory {
         address: va,
         name,
@@ -217,6 +181,7 @@ fn category_of(
 }
 
 // The category at an address, by bit 6 of the image info's flags.
+#[tactic(auto, using(reads::proofs::Outcomes::missed_then), unfolding(crate::specs::Category::decode_category))]
 pub fn category_at(
     files: &[&[u8]],
     segments: &[u64],
@@ -231,13 +196,9 @@ pub fn category_at(
     ensures { let t = under setting (lent files segments sections info rebases binds index) in
         outcome result ≡ category_at t va }
 {
-    match ImageInfo::parse(info) {
-        Ok(i) => {
-            let wide = i.has_category_class_properties();
-            category_of(
-                files, segments, sections, info, rebases, binds, index, setting, va, wide,
-            )
-        }
-        Err(m) => Err(m),
-    }
+    let image_info = ImageInfo::parse(info)?;
+    let wide = image_info.has_category_class_properties();
+    category_of(
+        files, segments, sections, info, rebases, binds, index, setting, va, wide,
+    )
 }

@@ -128,6 +128,7 @@ fn data_or_0(
 }
 
 // class_t: both field addresses are tested before the first lookup.
+#[tactic(auto, using(reads::proofs::Outcomes::missed_then), unfolding(crate::specs::Class::decode_class))]
 pub fn class_at(
     files: &[&[u8]],
     segments: &[u64],
@@ -143,36 +144,15 @@ pub fn class_at(
     ensures { let t = under setting (lent files segments sections info rebases binds index) in
         outcome result ≡ class_at t va is_meta }
 {
-    let _p = match readable(files, segments, va, ObjcClass::SIZE) {
-        Ok(p) => p,
-        Err(m) => return Err(m),
-    };
-    let super_slot = match checked_add(va, ObjcClass::SUPERCLASS) {
-        Ok(super_slot) => super_slot,
-        Err(m) => return Err(m),
-    };
-    let bits_slot = match checked_add(va, ObjcClass::BITS) {
-        Ok(bits_slot) => bits_slot,
-        Err(m) => return Err(m),
-    };
-    let isa = match slot_or_0(files, segments, rebases, index, setting, va) {
-        Ok(isa) => isa,
-        Err(m) => return Err(m),
-    };
-    let superclass = match slot_or_0(files, segments, rebases, index, setting, super_slot) {
-        Ok(superclass) => superclass,
-        Err(m) => return Err(m),
-    };
-    let raw = match read_u64(files, segments, bits_slot) {
-        Ok(raw) => raw,
-        Err(m) => return Err(m),
-    };
-    let target = match data_or_0(
+    readable(files, segments, va, ObjcClass::SIZE)?;
+    let super_slot = checked_add(va, ObjcClass::SUPERCLASS)?;
+    let bits_slot = checked_add(va, ObjcClass::BITS)?;
+    let isa = slot_or_0(files, segments, rebases, index, setting, va)?;
+    let superclass = slot_or_0(files, segments, rebases, index, setting, super_slot)?;
+    let raw = read_u64(files, segments, bits_slot)?;
+    let target = data_or_0(
         files, segments, sections, info, rebases, binds, index, setting, bits_slot, raw,
-    ) {
-        Ok(target) => target,
-        Err(m) => return Err(m),
-    };
+    )?;
     Ok(ObjcClass {
         address: va,
         isa,
@@ -328,6 +308,7 @@ pub fn class_ro_at(
 }
 
 // The class_ro_t of a class: picked again from its bits.
+#[tactic(auto, using(reads::proofs::Outcomes::missed_then), unfolding(crate::specs::Class::decode_ro_of))]
 pub fn ro_of(
     files: &[&[u8]],
     segments: &[u64],
@@ -342,12 +323,10 @@ pub fn ro_of(
     ensures { let t = under setting (lent files segments sections info rebases binds index) in
         outcome result ≡ ro_of t class }
 {
-    match Address::pick(segments, class.bits) {
-        Ok(va) => class_ro_at(
-            files, segments, sections, info, rebases, binds, index, setting, va,
-        ),
-        Err(m) => Err(m),
-    }
+    let va = Address::pick(segments, class.bits)?;
+    class_ro_at(
+        files, segments, sections, info, rebases, binds, index, setting, va,
+    )
 }
 
 // The class_ro_t of the bits word in a slot: a rebase target is not picked from.
@@ -373,16 +352,16 @@ fn ro_data_at(
 }
 
 // The pick of the word in a slot.
+#[tactic(auto, using(reads::proofs::Outcomes::missed_then), unfolding(crate::specs::Ask::picked_in))]
 fn picked_at(files: &[&[u8]], segments: &[u64], slot: u64) -> Result<u64, Missing>
     ensures { outcome result ≡ picked_in (lent_image files segments) slot }
 {
-    match read_u64(files, segments, slot) {
-        Ok(raw) => Address::pick(segments, raw),
-        Err(m) => Err(m),
-    }
+    let raw = read_u64(files, segments, slot)?;
+    Address::pick(segments, raw)
 }
 
 // The name of the class at an address, by its class_ro_t's name slot alone.
+#[tactic(auto, using(reads::proofs::Outcomes::missed_then), unfolding(crate::specs::Class::decode_class_name))]
 pub fn class_name_at(
     files: &[&[u8]],
     segments: &[u64],
@@ -397,29 +376,18 @@ pub fn class_name_at(
     ensures { let t = under setting (lent files segments sections info rebases binds index) in
         outcome result ≡ class_name_at t va }
 {
-    let _p = match readable(files, segments, va, ObjcClass::SIZE) {
-        Ok(p) => p,
-        Err(m) => return Err(m),
-    };
-    let bits_slot = match checked_add(va, ObjcClass::BITS) {
-        Ok(bits_slot) => bits_slot,
-        Err(m) => return Err(m),
-    };
-    let ro_va = match ro_data_at(
+    readable(files, segments, va, ObjcClass::SIZE)?;
+    let bits_slot = checked_add(va, ObjcClass::BITS)?;
+    let ro_va = ro_data_at(
         files, segments, sections, info, rebases, binds, index, setting, bits_slot,
-    ) {
-        Ok(ro_va) => ro_va,
-        Err(m) => return Err(m),
-    };
-    let name_va = match pointer(files, segments, rebases, index, setting, ro_va, NAME) {
-        Ok(name_va) => name_va,
-        Err(m) => return Err(m),
-    };
+    )?;
+    let name_va = pointer(files, segments, rebases, index, setting, ro_va, NAME)?;
     let reading = setting.reading;
     read_cstr(files, segments, reading, name_va)
 }
 
 // The bind of the slot at +8, where both class_t.superclass and category_t.cls stand, less its prefix.
+#[tactic(auto, using(reads::proofs::Outcomes::missed_then), unfolding(crate::specs::Class::decode_bound_name))]
 fn bound_name(
     files: &[&[u8]],
     segments: &[u64],
@@ -434,13 +402,12 @@ fn bound_name(
     ensures { let t = under setting (lent files segments sections info rebases binds index) in
         outcome result ≡ bound_name t address }
 {
-    match checked_add(address, ObjcClass::SUPERCLASS) {
-        Ok(slot) => symbol_at(files, rebases, binds, index, slot),
-        Err(m) => Err(m),
-    }
+    let slot = checked_add(address, ObjcClass::SUPERCLASS)?;
+    symbol_at(files, rebases, binds, index, slot)
 }
 
 // The decoded name of a class that is not 0.
+#[tactic(auto, using(reads::proofs::Outcomes::missed_then), unfolding(crate::specs::Class::decode_nonzero_class_name))]
 fn decoded_name(
     files: &[&[u8]],
     segments: &[u64],
@@ -455,12 +422,10 @@ fn decoded_name(
     ensures { let t = under setting (lent files segments sections info rebases binds index) in
         outcome result ≡ decoded_name t class_va }
 {
-    match nonzero(class_va) {
-        Ok(va) => class_name_at(
-            files, segments, sections, info, rebases, binds, index, setting, va,
-        ),
-        Err(m) => Err(m),
-    }
+    let va = nonzero(class_va)?;
+    class_name_at(
+        files, segments, sections, info, rebases, binds, index, setting, va,
+    )
 }
 
 // The name of the class in the slot at +8 of a record: a class that decodes goes before the bind, and where both are absent its

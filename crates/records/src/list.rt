@@ -151,6 +151,7 @@ fn list_address(kind: ListKind, va: u64) -> Result<u64, Missing>
 }
 
 // The list at an address: an 8-byte header of entry size and count, then the entries.
+#[tactic(auto, using(reads::proofs::Outcomes::missed_then), unfolding(crate::specs::List::decode_list))]
 pub fn list_at(
     files: &[&[u8]],
     segments: &[u64],
@@ -166,29 +167,14 @@ pub fn list_at(
     ensures { let t = under setting (lent files segments sections info rebases binds index) in
         outcome result ≡ list_at t kind va }
 {
-    match nonzero(va) {
-        Ok(_) => {}
-        Err(m) => return Err(m),
-    }
-    match list_address(kind, va) {
-        Ok(_) => {}
-        Err(m) => return Err(m),
-    }
-    let p = match readable(files, segments, va, Layout::HEADER_SIZE) {
-        Ok(p) => p,
-        Err(m) => return Err(m),
-    };
+    nonzero(va)?;
+    list_address(kind, va)?;
+    let p = readable(files, segments, va, Layout::HEADER_SIZE)?;
     let w = u32_in(files, p, Layout::ENTSIZE_AND_FLAGS);
     let rows = rows_of(kind, w);
     let size = size_of(kind, w);
-    match entry_size(least(rows), size) {
-        Ok(_) => {}
-        Err(m) => return Err(m),
-    }
-    let base = match checked_add(va, Layout::HEADER_SIZE) {
-        Ok(base) => base,
-        Err(m) => return Err(m),
-    };
+    entry_size(least(rows), size)?;
+    let base = checked_add(va, Layout::HEADER_SIZE)?;
     Ok(Layout {
         base,
         size,

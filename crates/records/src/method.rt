@@ -207,6 +207,7 @@ fn types_at(
 }
 
 // method_t::small: both field addresses are tested before the first lookup.
+#[tactic(auto, using(reads::proofs::Outcomes::missed_then), unfolding(crate::specs::Row::decode_small_method))]
 pub(crate) fn small_method_at(
     files: &[&[u8]],
     segments: &[u64],
@@ -222,30 +223,15 @@ pub(crate) fn small_method_at(
     ensures { let t = under setting (lent files segments sections info rebases binds index) in
         outcome result ≡ small_method_at t va direct }
 {
-    let p = match readable(files, segments, va, Method::SMALL_SIZE) {
-        Ok(p) => p,
-        Err(m) => return Err(m),
-    };
-    let types_field = match checked_add(va, Method::SMALL_TYPES) {
-        Ok(types_field) => types_field,
-        Err(m) => return Err(m),
-    };
-    let imp_field = match checked_add(va, Method::SMALL_IMP) {
-        Ok(imp_field) => imp_field,
-        Err(m) => return Err(m),
-    };
-    let name_va = match selector_at(
+    let p = readable(files, segments, va, Method::SMALL_SIZE)?;
+    let types_field = checked_add(va, Method::SMALL_TYPES)?;
+    let imp_field = checked_add(va, Method::SMALL_IMP)?;
+    let name_va = selector_at(
         files, segments, sections, info, rebases, binds, index, setting, direct, va, p,
-    ) {
-        Ok(name_va) => name_va,
-        Err(m) => return Err(m),
-    };
+    )?;
     let reading = setting.reading;
-    let selector = match read_cstr(files, segments, reading, name_va) {
-        Ok(selector) => selector,
-        Err(m) => return Err(m),
-    };
-    let types = match types_at(
+    let selector = read_cstr(files, segments, reading, name_va)?;
+    let types = types_at(
         files,
         segments,
         sections,
@@ -256,10 +242,7 @@ pub(crate) fn small_method_at(
         setting,
         types_field,
         p,
-    ) {
-        Ok(types) => types,
-        Err(m) => return Err(m),
-    };
+    )?;
     Ok(Method {
         selector,
         types,

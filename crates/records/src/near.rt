@@ -46,6 +46,7 @@ pub(crate) fn first_slot_or_0(
 }
 
 // The pointer in the field at va + k.
+#[tactic(auto, using(reads::proofs::Outcomes::missed_then), unfolding(pointers::specs::Slot::pointer_at))]
 pub(crate) fn field(
     files: &[&[u8]],
     segments: &[u64],
@@ -59,13 +60,12 @@ pub(crate) fn field(
     requires { Near (image_of (files_lent files.now) segments.now) va s (k + 8) }
     ensures { outcome result ≡ pointer_at (lent_image files segments) (before rebases) (before index) setting va k }
 {
-    match checked_add(va, k) {
-        Ok(slot) => resolve_near(files, segments, rebases, index, setting, s, k, slot),
-        Err(m) => Err(m),
-    }
+    let slot = checked_add(va, k)?;
+    resolve_near(files, segments, rebases, index, setting, s, k, slot)
 }
 
 // The same, an absent slot counting as 0.
+#[tactic(auto, using(reads::proofs::Outcomes::missed_then), unfolding(pointers::specs::Slot::pointer_or0_at))]
 pub(crate) fn field_or_0(
     files: &[&[u8]],
     segments: &[u64],
@@ -79,8 +79,6 @@ pub(crate) fn field_or_0(
     requires { Near (image_of (files_lent files.now) segments.now) va s (k + 8) }
     ensures { outcome result ≡ pointer_or0_at (lent_image files segments) (before rebases) (before index) setting va k }
 {
-    match checked_add(va, k) {
-        Ok(slot) => or_zero(resolve_near(files, segments, rebases, index, setting, s, k, slot)),
-        Err(m) => Err(m),
-    }
+    let slot = checked_add(va, k)?;
+    or_zero(resolve_near(files, segments, rebases, index, setting, s, k, slot))
 }

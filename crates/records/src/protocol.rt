@@ -66,6 +66,7 @@ struct ProtocolLists {
 }
 
 // _classProperties: its 8 bytes must be readable, even where a rebase fills the slot; or 0.
+#[tactic(auto, using(reads::proofs::Outcomes::missed_then), unfolding(crate::specs::Protocol::decode_trailing))]
 fn trailing_at(
     files: &[&[u8]],
     segments: &[u64],
@@ -80,14 +81,8 @@ fn trailing_at(
     ensures { let t = under setting (lent files segments sections info rebases binds index) in
         outcome result ≡ trailing_at t va }
 {
-    let slot = match checked_add(va, CLASS_PROPERTIES) {
-        Ok(slot) => slot,
-        Err(m) => return Err(m),
-    };
-    let _p = match readable(files, segments, slot, 8) {
-        Ok(p) => p,
-        Err(m) => return Err(m),
-    };
+    let slot = checked_add(va, CLASS_PROPERTIES)?;
+    readable(files, segments, slot, 8)?;
     slot_or_0(files, segments, rebases, index, setting, slot)
 }
 
@@ -116,6 +111,7 @@ fn class_properties_at(
 }
 
 // The lists of a protocol_t but its class properties; each or 0.
+#[tactic(auto, using(reads::proofs::Outcomes::missed_then), unfolding(crate::specs::Protocol::decode_protocol_lists))]
 fn protocol_lists_at(
     files: &[&[u8]],
     segments: &[u64],
@@ -130,11 +126,8 @@ fn protocol_lists_at(
     ensures { let t = under setting (lent files segments sections info rebases binds index) in
         outcome result ≡ protocol_lists_at t va }
 {
-    let protocols = match pointer_or_0(files, segments, rebases, index, setting, va, PROTOCOLS) {
-        Ok(protocols) => protocols,
-        Err(m) => return Err(m),
-    };
-    let instance_methods = match pointer_or_0(
+    let protocols = pointer_or_0(files, segments, rebases, index, setting, va, PROTOCOLS)?;
+    let instance_methods = pointer_or_0(
         files,
         segments,
         rebases,
@@ -142,23 +135,9 @@ fn protocol_lists_at(
         setting,
         va,
         INSTANCE_METHODS,
-    ) {
-        Ok(instance_methods) => instance_methods,
-        Err(m) => return Err(m),
-    };
-    let class_methods = match pointer_or_0(
-        files,
-        segments,
-        rebases,
-        index,
-        setting,
-        va,
-        CLASS_METHODS,
-    ) {
-        Ok(class_methods) => class_methods,
-        Err(m) => return Err(m),
-    };
-    let optional_instance_methods = match pointer_or_0(
+    )?;
+    let class_methods = pointer_or_0(files, segments, rebases, index, setting, va, CLASS_METHODS)?;
+    let optional_instance_methods = pointer_or_0(
         files,
         segments,
         rebases,
@@ -166,11 +145,8 @@ fn protocol_lists_at(
         setting,
         va,
         OPTIONAL_INSTANCE_METHODS,
-    ) {
-        Ok(optional_instance_methods) => optional_instance_methods,
-        Err(m) => return Err(m),
-    };
-    let optional_class_methods = match pointer_or_0(
+    )?;
+    let optional_class_methods = pointer_or_0(
         files,
         segments,
         rebases,
@@ -178,11 +154,8 @@ fn protocol_lists_at(
         setting,
         va,
         OPTIONAL_CLASS_METHODS,
-    ) {
-        Ok(optional_class_methods) => optional_class_methods,
-        Err(m) => return Err(m),
-    };
-    let instance_properties = match pointer_or_0(
+    )?;
+    let instance_properties = pointer_or_0(
         files,
         segments,
         rebases,
@@ -190,10 +163,7 @@ fn protocol_lists_at(
         setting,
         va,
         INSTANCE_PROPERTIES,
-    ) {
-        Ok(instance_properties) => instance_properties,
-        Err(m) => return Err(m),
-    };
+    )?;
     Ok(ProtocolLists {
         protocols,
         instance_methods,
@@ -205,6 +175,7 @@ fn protocol_lists_at(
 }
 
 // protocol_t: the name's text is read before _classProperties.
+#[tactic(auto, using(reads::proofs::Outcomes::missed_then), unfolding(crate::specs::Protocol::decode_protocol))]
 pub fn protocol_at(
     files: &[&[u8]],
     segments: &[u64],
@@ -219,31 +190,16 @@ pub fn protocol_at(
     ensures { let t = under setting (lent files segments sections info rebases binds index) in
         outcome result ≡ protocol_at t va }
 {
-    let p = match readable(files, segments, va, ObjcProtocol::SIZE) {
-        Ok(p) => p,
-        Err(m) => return Err(m),
-    };
-    let name_va = match pointer(files, segments, rebases, index, setting, va, MANGLED_NAME) {
-        Ok(name_va) => name_va,
-        Err(m) => return Err(m),
-    };
-    let lists = match protocol_lists_at(
+    let p = readable(files, segments, va, ObjcProtocol::SIZE)?;
+    let name_va = pointer(files, segments, rebases, index, setting, va, MANGLED_NAME)?;
+    let lists = protocol_lists_at(
         files, segments, sections, info, rebases, binds, index, setting, va,
-    ) {
-        Ok(lists) => lists,
-        Err(m) => return Err(m),
-    };
+    )?;
     let reading = setting.reading;
-    let name = match read_cstr(files, segments, reading, name_va) {
-        Ok(name) => name,
-        Err(m) => return Err(m),
-    };
-    let class_properties = match class_properties_at(
+    let name = read_cstr(files, segments, reading, name_va)?;
+    let class_properties = class_properties_at(
         files, segments, sections, info, rebases, binds, index, setting, va, p,
-    ) {
-        Ok(class_properties) => class_properties,
-        Err(m) => return Err(m),
-    };
+    )?;
     Ok(ObjcProtocol {
         address: va,
         name,

@@ -19,31 +19,28 @@ pub enum Row {
     Property(Property),
 }
 
+#[tactic(auto, using(reads::proofs::Outcomes::missed_then))]
 fn method_row(a: Result<Method, Missing>) -> Result<Row, Missing>
     ensures { outcome result ≡ and_then (outcome a) method_row }
 {
-    match a {
-        Ok(m) => Ok(Row::Method(m)),
-        Err(m) => Err(m),
-    }
+    let m = a?;
+    Ok(Row::Method(m))
 }
 
+#[tactic(auto, using(reads::proofs::Outcomes::missed_then))]
 fn ivar_row(a: Result<Ivar, Missing>) -> Result<Row, Missing>
     ensures { outcome result ≡ and_then (outcome a) ivar_row }
 {
-    match a {
-        Ok(i) => Ok(Row::Ivar(i)),
-        Err(m) => Err(m),
-    }
+    let i = a?;
+    Ok(Row::Ivar(i))
 }
 
+#[tactic(auto, using(reads::proofs::Outcomes::missed_then))]
 fn property_row(a: Result<Property, Missing>) -> Result<Row, Missing>
     ensures { outcome result ≡ and_then (outcome a) property_row }
 {
-    match a {
-        Ok(p) => Ok(Row::Property(p)),
-        Err(m) => Err(m),
-    }
+    let p = a?;
+    Ok(Row::Property(p))
 }
 
 // The row at an entry's address, by what the entries are.
