@@ -1,5 +1,5 @@
 -- What the code keeps of a state of the machine, and what its functions promise each other.
-use Rattle.std.specs.Prelude.{ℕ, zero, suc, ◌+◌, ◌-◌, ◌*◌, ◌/◌, ◌%◌, ◌≤◌, ◌≡◌, Bool, false, List, [], ◌∷◌, eqb, ltb, length, get_or}
+use Rattle.std.specs.Prelude.{ℕ, zero, suc, ◌+◌, ◌-◌, ◌*◌, ◌/◌, ◌%◌, ◌≤◌, ◌≡◌, Bool, false, List, [], ◌∷◌, eqb, ltb, length, get_or, Result, Ok, Err}
 use Prim.Native.Char.{code}
 use Rattle.std.proofs.lemmas.List.Edits.{sets}
 use Rattle.reads.specs.Answer.{missed}
@@ -12,8 +12,7 @@ use Rattle.encodings.specs.declared.bytes.Class.TheVariants.{Basic, Qualifier, O
 use Rattle.encodings.specs.declared.parser.Mode.{Mode}
 use Rattle.encodings.specs.declared.parser.Mode.TheVariants as mode
 use Rattle.encodings.specs.declared.parser.Parser.{Parser}
-use Rattle.encodings.specs.declared.parser.Next.{Next}
-use Rattle.encodings.specs.declared.parser.Next.TheVariants as next
+use Rattle.reads.specs.declared.answer.Missing.{Missing}
 
 -- Of a state: what was read last, the open levels, the outermost types before this one, where it starts, and where its frame
 -- offset does (0: it has none).
@@ -35,9 +34,9 @@ levels_of p = levels_in p.depth p.levels
 abbrev pub kept_in : Mode → Parser → Kept
 kept_in m p = kept m (levels_of p) p.types p.start p.offset
 
-abbrev pub step_outcome : Next → Outcome Kept
-step_outcome (next.On m p) = value (kept_in m p)
-step_outcome (next.Missing m) = missed m
+abbrev pub step_outcome : Result (Mode × Parser) Missing → Outcome Kept
+step_outcome (Ok m_p) = value (kept_in m_p.0 m_p.1)
+step_outcome (Err m) = missed m
 
 -- Below, ls are the levels, k the types before, s and o where this type and its offset start, b is the byte and i where it stands.
 

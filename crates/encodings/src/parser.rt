@@ -49,13 +49,6 @@ pub struct Parser {
     pub offset: usize,
 }
 
-// What a byte leads to: the text goes on, or is absent or refused.
-#[derive(Clone, Copy)]
-pub enum Next {
-    On(Mode, Parser),
-    Missing(Missing),
-}
-
 // The kinds of levels, and what closes each: a pointer ends with the type that it points to. Numbers and no enum: two bits of `levels`
 // hold one.
 const POINTER: u64 = 0;
@@ -83,30 +76,30 @@ pub fn first() -> Parser
 }
 
 // The text is outside the grammar.
-fn outside() -> Next
+fn outside() -> Result<(Mode, Parser), Missing>
     ensures { step_outcome result ≡ outside }
 {
-    Next::Missing(Missing::Absent(Reason::Malformed))
+    Err(Missing::Absent(Reason::Malformed))
 }
 
 // One level more, of a kind.
-fn open(p: Parser, kind: u64, mode: Mode) -> Next
+fn open(p: Parser, kind: u64, mode: Mode) -> Result<(Mode, Parser), Missing>
     requires { kind < 4 }
     ensures { step_outcome result ≡ opened (get_or closers kind 0) mode (levels_of p) p.types p.start p.offset }
 {
     if p.depth >= 32 {
-        return Next::Missing(Missing::Refused(Question::Depth));
+        return Err(Missing::Refused(Question::Depth));
     }
     let q = Parser {
         depth: p.depth + 1,
         levels: p.levels % 0x4000_0000_0000_0000 * 4 + kind,
         ..p
     };
-    Next::On(mode, q)
+    Ok((mode, q))
 }
 
 // The innermost level is closed.
-fn close(p: Parser) -> Next
+fn close(p: Parser) -> Result<(Mode, Parser), Missing>
     requires { 0 < p.depth }
     ensures { step_outcome result ≡ value (kept Mode.Ended (below (levels_of p)) p.types p.start p.offset) }
 {
@@ -115,7 +108,7 @@ fn close(p: Parser) -> Next
         levels: p.levels / 4,
         ..p
     };
-    Next::On(Mode::Ended, q)
+    Ok((Mode::Ended, q))
 }
 
 // Whether the byte closes the innermost level.
@@ -135,6 +128,7 @@ fn below_pointers(p: Parser) -> Parser
 {
     let mut depth = p.depth;
     let mut levels = p.levels;
+    // Not a `for`: it goes on while a pointer is innermost.
     while 0 < depth && levels % 4 == POINTER {
         depth -= 1;
         levels /= 4;
@@ -143,14 +137,14 @@ fn below_pointers(p: Parser) -> Parser
 }
 
 // A type begins.
-fn begin(p: Parser, byte: u8) -> Next
+fn begin(p: Parser, byte: u8) -> Result<(Mode, Parser), Missing>
     ensures { step_outcome result ≡ begun (levels_of p) p.types p.start p.offset (class_of byte) }
 {
     match class_of(byte) {
-        Class::Basic => Next::On(Mode::Ended, p),
-        Class::Qualifier => Next::On(Mode::Wanted, p),
-        Class::Object => Next::On(Mode::AtSign, p),
-        Class::BitField => Next::On(Mode::Sizing, p),
+        Class::Basic => Ok((Mode::Ended, p)),
+        Class::Qualifier => Ok((Mode::Wanted, p)),
+        Class::Object => Ok((Mode::AtSign, p)),
+        Class::BitField => Ok((Mode::Sizing, p)),
         Class::Pointer => open(p, POINTER, Mode::Wanted),
         Class::Array => open(p, ARRAY, Mode::Counting),
         Class::Structure => open(p, STRUCTURE, Mode::Naming),
@@ -161,7 +155,7 @@ fn begin(p: Parser, byte: u8) -> Next
 
 // The next outermost type begins, at `at`.
 #[tactic(auto, unfolding(crate::specs::Parser::levels_in))]
-fn next_type(p: Parser, byte: u8, at: usize) -> Next
+fn next_type(p: Parser, byte: u8, at: usize) -> Result<(Mode, Parser), Missing>
     requires { p.types < 2 ^ 63 }
     ensures { step_outcome result ≡ begun [] (p.types + 1) at 0 (class_of byte) }
 {
@@ -177,7 +171,7 @@ fn next_type(p: Parser, byte: u8, at: usize) -> Next
 
 // After an outermost type: its frame offset, or the next type.
 #[tactic(auto, using(crate::proofs::Choices::choices), unfolding(crate::specs::Parser::levels_in))]
-fn between(p: Parser, byte: u8, at: usize) -> Next
+fn between(p: Parser, byte: u8, at: usize) -> Result<(Mode, Parser), Missing>
     requires { p.types < 2 ^ 63 }
     ensures { step_outcome result ≡ followed [] p.types p.start p.offset byte at }
 {
@@ -188,14 +182,14 @@ fn between(p: Parser, byte: u8, at: usize) -> Next
             offset: at,
             ..p
         };
-        return Next::On(Mode::Offset, q);
+        return Ok((Mode::Offset, q));
     }
     next_type(p, byte, at)
 }
 
 // After a type in an array, a structure or a union.
 #[tactic(auto, using(crate::proofs::Choices::choices))]
-fn inside(p: Parser, byte: u8) -> Next
+fn inside(p: Parser, byte: u8) -> Result<(Mode, Parser), Missing>
     requires { 0 < p.depth }
     ensures { step_outcome result ≡ inside (levels_of p) p.types p.start p.offset byte }
 {
@@ -209,7 +203,7 @@ fn inside(p: Parser, byte: u8) -> Next
 }
 
 // After a type.
-fn after(p: Parser, byte: u8, at: usize) -> Next
+fn after(p: Parser, byte: u8, at: usize) -> Result<(Mode, Parser), Missing>
     requires { p.types < 2 ^ 63 }
     ensures { step_outcome result ≡ step_as Mode.Ended p byte at }
 {
@@ -221,26 +215,31 @@ fn after(p: Parser, byte: u8, at: usize) -> Next
 }
 
 // A digit goes on in `mode`; what another byte leads to, `other` says.
-fn digit_or<F: FnOnce() -> Next>(p: Parser, byte: u8, mode: Mode, other: F) -> Next
+fn digit_or<F: FnOnce() -> Result<(Mode, Parser), Missing>>(
+    p: Parser,
+    byte: u8,
+    mode: Mode,
+    other: F,
+) -> Result<(Mode, Parser), Missing>
     requires { F.IsAlwaysCallable other }
     ensures digit { OnTrue (digit_byte byte) (step_outcome result ≡ value (kept_in mode p)) }
     ensures other { OnFalse (digit_byte byte) (F.post other result) }
 {
     if is_digit(byte) {
-        return Next::On(mode, p);
+        return Ok((mode, p));
     }
     other()
 }
 
 // In a name: a byte more, its `=`, or the closing bracket.
-fn in_naming(p: Parser, byte: u8) -> Next
+fn in_naming(p: Parser, byte: u8) -> Result<(Mode, Parser), Missing>
     ensures { step_outcome result ≡ step_as Mode.Naming p byte 0 }
 {
     if in_name(byte) {
-        return Next::On(Mode::Naming, p);
+        return Ok((Mode::Naming, p));
     }
     if byte == b'=' {
-        return Next::On(Mode::Named, p);
+        return Ok((Mode::Named, p));
     }
     if closes(p, byte) {
         return close(p);
@@ -250,7 +249,7 @@ fn in_naming(p: Parser, byte: u8) -> Next
 
 // After a name's `=`: the closing bracket, or the first type inside.
 #[tactic(auto, using(crate::proofs::Choices::choices))]
-fn in_named(p: Parser, byte: u8) -> Next
+fn in_named(p: Parser, byte: u8) -> Result<(Mode, Parser), Missing>
     ensures { step_outcome result ≡ step_as Mode.Named p byte 0 }
 {
     if closes(p, byte) {
@@ -261,29 +260,29 @@ fn in_named(p: Parser, byte: u8) -> Next
 
 // In a quoted class: a byte more, or the closing quote.
 #[tactic(auto, using(crate::proofs::Choices::choices))]
-fn in_quoting(p: Parser, byte: u8) -> Next
+fn in_quoting(p: Parser, byte: u8) -> Result<(Mode, Parser), Missing>
     ensures { step_outcome result ≡ step_as Mode.Quoting p byte 0 }
 {
     if in_quotes(byte) {
-        return Next::On(Mode::Quoting, p);
+        return Ok((Mode::Quoting, p));
     }
-    Next::On(Mode::Ended, p)
+    Ok((Mode::Ended, p))
 }
 
 // After `@`: a quoted class, or what comes after a type.
 #[tactic(auto, using(crate::proofs::Choices::choices))]
-fn at_sign(p: Parser, byte: u8, at: usize) -> Next
+fn at_sign(p: Parser, byte: u8, at: usize) -> Result<(Mode, Parser), Missing>
     requires { p.types < 2 ^ 63 }
     ensures { step_outcome result ≡ step_as Mode.AtSign p byte at }
 {
     if in_quotes(byte) {
         return after(p, byte, at);
     }
-    Next::On(Mode::Quoting, p)
+    Ok((Mode::Quoting, p))
 }
 
 // The byte at `at` is read.
-pub fn step(mode: Mode, p: Parser, byte: u8, at: usize) -> Next
+pub fn step(mode: Mode, p: Parser, byte: u8, at: usize) -> Result<(Mode, Parser), Missing>
     requires { p.types < 2 ^ 63 }
     ensures { step_outcome result ≡ step_as mode p byte at }
 {

@@ -4,7 +4,7 @@ ghost use Rattle.reads.specs.Reference.{before};
 ghost use Rattle.encodings.specs.Parser.{type_end, Ordered, RowPut, Turned, Read};
 ghost use Rattle.reads.specs.Answer.{outcome};
 
-use crate::parser::{Mode, Next, Parser, finish, first, step};
+use crate::parser::{Mode, Parser, finish, first, step};
 use reads::answer::Missing;
 
 // Where a type ends: at its frame offset, or where both end.
@@ -54,22 +54,12 @@ pub fn read_types(text: &[u8], buffer: &mut [u64]) -> Result<u64, Missing>
     let mut mode = Mode::Wanted;
     let mut p = first();
     for (i, byte) in text.iter().enumerate() {
-        match step(mode, p, *byte, i) {
-            Next::On(next_mode, next) => {
-                put_before(p, next, i, buffer);
-                mode = next_mode;
-                p = next;
-            }
-            Next::Missing(m) => {
-                return Err(m);
-            }
-        }
+        let (next_mode, next) = step(mode, p, *byte, i)?;
+        put_before(p, next, i, buffer);
+        mode = next_mode;
+        p = next;
     }
-    match finish(mode, p) {
-        Ok(count) => {
-            put_row(p, text.len(), buffer);
-            Ok(count)
-        }
-        Err(m) => Err(m),
-    }
+    let count = finish(mode, p)?;
+    put_row(p, text.len(), buffer);
+    Ok(count)
 }

@@ -1,3 +1,4 @@
+use Rattle.std.proofs.lemmas.Result.{err_from_is_err_and}
 use mathlib.Core.Path.{◌≡◌}
 use native.Mathlib.Omega.{arith}
 use lib.ListN.{length}
@@ -13,12 +14,9 @@ step-requires c = reached_types c.loop-i.invariant (omega (arith, c.loop-i.invar
 pub put_before-requires : goal.put_before-requires
 put_before-requires c = reached_ordered c.loop-i.invariant
 
-pub returns-in-Missing : goal.returns-in-Missing
-returns-in-Missing c = reached_missing c.loop-i.invariant c.loop-i-test.true c.in-Missing.m c.in-Missing.ensures
-
 pub loop-i-preserved : goal.loop-i-preserved
 loop-i-preserved c =
-    let on = c.in-On in
+    let on = c.in_ok-next_mode in
     reached_next c.loop-i.invariant c.loop-i-test.true on.next_mode on.next on.ensures c.put_before.ensures
 
 pub finish-requires : goal.finish-requires
@@ -30,14 +28,21 @@ put_row-requires c =
     let all : length c.args.text.now ≡ l.i = omega arith in
     rw all (reached_ordered l.invariant)
 
-pub returns-in-Ok : goal.returns-in-Ok
-returns-in-Ok c =
+pub returns-in_err-next_mode : goal.returns-in_err-next_mode
+returns-in_err-next_mode c =
+    let p = err_from_is_err_and c.from_residual.result c.from_residual.ensures.1 in
+    let e = c.in_err-next_mode in
+    rw (p.1, p.2) (reached_missing c.loop-i.invariant c.loop-i-test.true e.field-0.0 e.ensures)
+
+pub returns-in_err-count : goal.returns-in_err-count
+returns-in_err-count c =
+    let p = err_from_is_err_and c.from_residual-in_err-count.result c.from_residual-in_err-count.ensures.1 in
+    let e = c.in_err-count in
+    rw (p.1, p.2) (reached_end_missing c.loop-i.invariant c.loop-i-test.false e.field-0.0 e.ensures)
+
+pub returns : goal.returns
+returns c =
     let l = c.loop-i in
-    let value = c.in-Ok in
+    let value = c.in_ok-count in
     let all : length c.args.text.now ≡ l.i = omega arith in
     reached_end l.invariant c.loop-i-test.false value.count value.ensures (rw all at c.put_row.ensures)
-
-pub returns-in-Err : goal.returns-in-Err
-returns-in-Err c =
-    let missing = c.in-Err in
-    reached_end_missing c.loop-i.invariant c.loop-i-test.false missing.m missing.ensures
