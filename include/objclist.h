@@ -20,7 +20,7 @@ struct objclist_bytes {
 
 // What every call lends, alike: the files (the first four count); segments, 5 words each; sections, 15 words; the payload of
 // __objc_imageinfo; rebases, 2 words each; binds, 4 words each; and the index, 8,192 words and one for each rebase and bind, as
-// objclist_open left it. README, "What it reads", says what the words are.
+// objclist_open left it. README, "Bundles", says what the words are.
 #define OBJCLIST_IMAGE                                                                                                                   \
     const struct objclist_bytes *files, size_t files_len, const uint64_t *segments, size_t segments_len, const uint64_t *sections,      \
         size_t sections_len, const uint8_t *info, size_t info_len, const uint64_t *rebases, size_t rebases_len, const uint64_t *binds,  \

@@ -4,6 +4,7 @@
 enums     enums of the shape of Result or Option: one variant that is absent, missing, nothing or a refusal, and one other; with more
           than one other they are listed as steps
 refusals  a question's number written as a number
+handed    matches that only hand an error on
 twins     functions of one crate whose bodies (of six lines or more) are the same but for names and numbers
 loops     while and loop; index: those that move an index by one
 lent      functions with three or more of the parameters that are lent together
@@ -45,6 +46,8 @@ for name, text in files(r'^crates/[a-z_]+/src/.*\.rt$'):
             found['enums' if len(variants) == 2 else 'steps'].append(f'{crate}::{m.group(1)}')
     for m in re.finditer(r'\b(?:[Rr]efused|Err)\((\d+)\)', code):
         found['refusals'].append(f'{name}: {m.group(0)}')
+    for m in re.finditer(r'Err\((m|k)\) => (?:return )?Err\(\1\)', code):
+        found['handed'].append(f'{name}: {m.group(0)}')
     for m in re.finditer(r'^[ ]*(while\b[^\n]*|loop) \{\n(.*?)^', code, re.M | re.S):
         found['loops'].append(f'{name}: {m.group(1)}')
     for m in re.finditer(r'^([ ]*)(while\b[^\n]*|loop) \{\n(.*?)^\1\}', code, re.M | re.S):
@@ -70,7 +73,7 @@ lines = count = 0
 for name, text in files(r'/proofs/.*/Answers\.antt$'):
     lines += text.count('\n')
     count += 1
-for key in ('enums', 'steps', 'refusals', 'twins', 'loops', 'index', 'lent', 'tests', 'codes'):
+for key in ('enums', 'steps', 'refusals', 'handed', 'twins', 'loops', 'index', 'lent', 'tests', 'codes'):
     print(f'{key:9} {len(found[key])}')
     if verbose:
         for place in found[key]:

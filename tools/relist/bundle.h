@@ -1,4 +1,4 @@
-// A bundle's parts (README.md, "What it reads"), as the calls of include/objclist.h are lent them.
+// A bundle's parts (README.md, "Bundles"), as the calls of include/objclist.h are lent them.
 #ifndef BUNDLE_H
 #define BUNDLE_H
 #include "../../include/objclist.h"

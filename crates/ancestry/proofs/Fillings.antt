@@ -7,8 +7,9 @@ use native.Mathlib.Numerals.{add-one}
 use lib.ListN.{length, get_or, drop, drop_of_length-le}
 use borrow.Rule.Slice.PartMut.{put_mid}
 use lib.Seq.{drop-cons, drop-drop, sets, length-sets, sets-eq}
+use Rattle.std.specs.Prelude.{Result, Ok, Err}
 use Rattle.reads.specs.Outcome.{Outcome, value, absent, refused, and_then}
-use Rattle.reads.specs.Answer.{missed}
+use Rattle.reads.specs.Answer.{missed, outcome}
 use Rattle.reads.specs.declared.answer.Missing.{Missing}
 use Rattle.reads.specs.declared.answer.Missing.TheVariants.{Absent, Refused}
 use Rattle.reads.proofs.Outcomes.{then_came}
@@ -117,8 +118,9 @@ module _ (one : ℕ → Outcome Ancestry) (addresses out₀ : List ℕ) where
           }
 
       -- One that does not decode has no record; none is refused.
-      pub filling_missing : (m : Missing) → one a ≡ missed m → Filling one addresses out₀ (i + 1) at out
-      filling_missing m e = go m (rw e at taken)
+      pub filling_missing : (r : Result Ancestry Missing) → outcome r ≡ one a → ((x : Ancestry) → r ≡ Ok x → ⊥) → Filling one addresses out₀ (i + 1) at out
+      filling_missing (Ok x) e n = absurd (n x refl)
+      filling_missing (Err m) e n = go m (rw (← e) at taken)
         where
           kept : (o : Outcome (List Ancestry)) → and_then o (λ ys. value ([] ++ ys)) ≡ value w.rest → o ≡ value w.rest
           kept (value ys) f = f

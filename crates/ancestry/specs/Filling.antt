@@ -1,22 +1,14 @@
 -- How the result buffer is filled (note 9): what private functions promise each other.
 use Rattle.std.specs.Prelude.{ℕ, ◌+◌, ◌*◌, ◌/◌, ◌≤◌, ◌≡◌, Bool, false, List, length}
 use Rattle.std.proofs.lemmas.List.Edits.{sets}
-use Rattle.std.specs.Borrow.{Bor}
 use Rattle.reads.specs.Outcome.{Outcome, value, and_then, choose}
-use Rattle.reads.specs.Files.{files_lent}
-use Rattle.pointers.specs.Tables.{Tables, tables_of, under}
-use Rattle.pointers.specs.declared.setting.Setting.{Setting}
+use Rattle.pointers.specs.Tables.{Tables}
 use Rattle.pointers.specs.Question.{asked}
 use Rattle.records.specs.Class.{class_at}
 use Rattle.walks.specs.Gather.{gather, present}
 use Rattle.ancestry.specs.Rebases.{chains_fall}
 use Rattle.ancestry.specs.Ancestry.{ancestry_of, words_of}
 use Rattle.ancestry.specs.declared.class_chain.Ancestry.{Ancestry}
-
--- All that is lent, as a `requires` and an invariant name it.
-abbrev pub lent_now : List (Bor (List ℕ)) → List ℕ → List ℕ → List ℕ → List ℕ → List ℕ → List ℕ → Setting → Tables
-lent_now files segments sections info rebases binds index setting =
-    under setting (tables_of (files_lent files) segments sections info rebases binds index)
 
 -- What addresses are told, each alone, in their order, whatever tells it; those that are told nothing have no record.
 abbrev pub through : (ℕ → Outcome Ancestry) → List ℕ → Outcome (List Ancestry)

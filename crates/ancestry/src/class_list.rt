@@ -3,10 +3,10 @@ ghost use Rattle.std.specs.Prelude.{◌≡◌, ◌+◌, ◌<◌, ◌≤◌, ◌^
 ghost use Rattle.reads.specs.Outcome.{value, and_then};
 ghost use Rattle.reads.specs.Reference.{before};
 ghost use Rattle.pointers.specs.Question.{asked};
-ghost use Rattle.pointers.specs.Tables.{lent, under};
+ghost use Rattle.pointers.specs.Tables.{under};
 ghost use Rattle.walks.specs.Gather.{present};
 ghost use Rattle.ancestry.specs.Ancestry.{ancestries, written, written_by, ancestries_left};
-ghost use Rattle.ancestry.specs.Filling.{lent_now, through, unfollowed_of, told_of, tally, put, Fits, Counted};
+ghost use Rattle.ancestry.specs.Filling.{through, unfollowed_of, told_of, tally, put, Fits, Counted};
 ghost use Rattle.reads.specs.Answer.{outcome, answered};
 
 use crate::class_chain::{Ancestry, ancestry_at};
@@ -14,6 +14,7 @@ use crate::following::follow_all;
 use crate::rebases::chains_fall;
 use pointers::question::ask;
 use pointers::setting::Setting;
+use pointers::tables::Tables;
 use reads::answer::{Missing, Question};
 use records::class::class_at;
 
@@ -23,33 +24,19 @@ fn counted(one: Result<Ancestry, Missing>, count: u64) -> Result<u64, Question>
     ensures { answered result ≡ and_then (present (outcome one)) (λ xs. value (count + length xs)) }
 {
     match one {
-        Ok(_a) => Ok(count + 1),
-        Err(m) => match m {
-            Missing::Absent(_) => Ok(count),
-            Missing::Refused(k) => Err(k),
-        },
+        Ok(_) => Ok(count + 1),
+        Err(Missing::Absent(_)) => Ok(count),
+        Err(Missing::Refused(k)) => Err(k),
     }
 }
 
 // A class that decodes, as a row before its chain is followed.
 #[tactic(auto, using(reads::proofs::Outcomes::missed_then), unfolding(crate::specs::Filling::unfollowed_of))]
-fn unfollowed_at(
-    files: &[&[u8]],
-    segments: &[u64],
-    sections: &[u64],
-    info: &[u8],
-    rebases: &[u64],
-    binds: &[u64],
-    index: &[u32],
-    setting: Setting,
-    va: u64,
-) -> Result<Ancestry, Missing>
-    ensures { let t = under setting (lent files segments sections info rebases binds index) in
+fn unfollowed_at(tables: &Tables, setting: Setting, va: u64) -> Result<Ancestry, Missing>
+    ensures { let t = under setting tables.now in
         outcome result ≡ unfollowed_of t va }
 {
-    class_at(
-        files, segments, sections, info, rebases, binds, index, setting, va, false,
-    )?;
+    class_at(tables, setting, va, false)?;
     Ok(Ancestry {
         count: 0,
         last: 0,
@@ -58,62 +45,41 @@ fn unfollowed_at(
 }
 
 // What is written first of a class: a row to follow, or its record.
-fn told_at(
-    files: &[&[u8]],
-    segments: &[u64],
-    sections: &[u64],
-    info: &[u8],
-    rebases: &[u64],
-    binds: &[u64],
-    index: &[u32],
-    setting: Setting,
-    together: bool,
-    va: u64,
-) -> Result<Ancestry, Missing>
-    requires { let t = lent_now files.now segments.now sections.now info.now rebases.now binds.now index.now setting in
+#[tactic(auto, unfolding(crate::specs::Filling::told_of, reads::specs::Outcome::choose))]
+fn told_at(tables: &Tables, setting: Setting, together: bool, va: u64) -> Result<Ancestry, Missing>
+    requires { let t = under setting tables.now in
         asked t ≡ value tt }
-    ensures { let t = under setting (lent files segments sections info rebases binds index) in
+    ensures { let t = under setting tables.now in
         outcome result ≡ told_of t together va }
 {
     if together {
-        return unfollowed_at(
-            files, segments, sections, info, rebases, binds, index, setting, va,
-        );
+        return unfollowed_at(tables, setting, va);
     }
-    ancestry_at(
-        files, segments, sections, info, rebases, binds, index, setting, va,
-    )
+    ancestry_at(tables, setting, va)
 }
 
 // How many of the classes have a record. All are told, so that a lookup that is refused is met before anything is written.
 fn count_all(
-    files: &[&[u8]],
-    segments: &[u64],
-    sections: &[u64],
-    info: &[u8],
-    rebases: &[u64],
-    binds: &[u64],
-    index: &[u32],
+    tables: &Tables,
     setting: Setting,
     together: bool,
     classes: &[u64],
 ) -> Result<u64, Question>
-    requires { let t = lent_now files.now segments.now sections.now info.now rebases.now binds.now index.now setting in
+    requires { let t = under setting tables.now in
         asked t ≡ value tt }
-    ensures { let t = under setting (lent files segments sections info rebases binds index) in
+    ensures { let t = under setting tables.now in
         answered result ≡ tally (told_of t together) 0 (before classes) }
 {
     let mut count = 0;
     for va in classes {
-        let one = told_at(
-            files, segments, sections, info, rebases, binds, index, setting, together, *va,
-        );
+        let one = told_at(tables, setting, together, *va);
         count = counted(one, count)?;
     }
     Ok(count)
 }
 
 // The three words of a record.
+#[tactic(auto, using(crate::proofs::Fillings::put_words))]
 fn put_record(res: &mut [u64], at: usize, a: Ancestry)
     requires { at + 3 ≤ length res.old }
     ensures { res.new ≡ put res.old at a }
@@ -122,109 +88,61 @@ fn put_record(res: &mut [u64], at: usize, a: Ancestry)
 }
 
 // What the classes are told, in their order.
-fn write_all(
-    files: &[&[u8]],
-    segments: &[u64],
-    sections: &[u64],
-    info: &[u8],
-    rebases: &[u64],
-    binds: &[u64],
-    index: &[u32],
-    setting: Setting,
-    together: bool,
-    classes: &[u64],
-    res: &mut [u64],
-)
-    requires { let t = lent_now files.now segments.now sections.now info.now rebases.now binds.now index.now setting in
+fn write_all(tables: &Tables, setting: Setting, together: bool, classes: &[u64], res: &mut [u64])
+    requires { let t = under setting tables.now in
         (asked t ≡ value tt) × Fits (told_of t together) classes.now res.old }
-    ensures { let t = under setting (lent files segments sections info rebases binds index) in
+    ensures { let t = under setting tables.now in
         res.new ≡ (written_by (through (told_of t together) (before classes)) res.old).result }
 {
     let mut at = 0;
     for va in classes {
-        let one = told_at(
-            files, segments, sections, info, rebases, binds, index, setting, together, *va,
-        );
-        match one {
-            Ok(a) => {
-                put_record(res, at, a);
-                at += 3;
-            }
-            Err(_) => {}
+        if let Ok(a) = told_at(tables, setting, together, *va) {
+            put_record(res, at, a);
+            at += 3;
         }
     }
 }
 
 // The records: rows that are followed together, or each class alone.
 fn fill(
-    files: &[&[u8]],
-    segments: &[u64],
-    sections: &[u64],
-    info: &[u8],
-    rebases: &[u64],
-    binds: &[u64],
-    index: &[u32],
+    tables: &Tables,
     setting: Setting,
     together: bool,
     count: u64,
     classes: &[u64],
     res: &mut [u64],
 )
-    requires { let t = lent_now files.now segments.now sections.now info.now rebases.now binds.now index.now setting in
+    requires { let t = under setting tables.now in
         Counted t together count classes.now res.old }
-    ensures { let t = under setting (lent files segments sections info rebases binds index) in
+    ensures { let t = under setting tables.now in
         res.new ≡ (written_by (ancestries t (before classes)) res.old).result }
 {
-    write_all(
-        files, segments, sections, info, rebases, binds, index, setting, together, classes, res,
-    );
+    write_all(tables, setting, together, classes, res);
     if !together {
         return;
     }
-    follow_all(
-        files,
-        segments,
-        sections,
-        info,
-        rebases,
-        binds,
-        index,
-        setting,
-        count as usize,
-        res,
-    );
+    follow_all(tables, setting, count as usize, res);
 }
 
 // The same after 1 to 6 and 8: all are counted before 21 is asked, and 21 before the first write. Where no lookup can be refused, the
 // result buffer is the room in which all chains are followed together.
 fn write_asked(
-    files: &[&[u8]],
-    segments: &[u64],
-    sections: &[u64],
-    info: &[u8],
-    rebases: &[u64],
-    binds: &[u64],
-    index: &[u32],
+    tables: &Tables,
     setting: Setting,
     classes: &[u64],
     res: &mut [u64],
 ) -> Result<u64, Question>
-    requires { let t = lent_now files.now segments.now sections.now info.now rebases.now binds.now index.now setting in
+    requires { let t = under setting tables.now in
         asked t ≡ value tt }
-    ensures { let t = under setting (lent files segments sections info rebases binds index) in
+    ensures { let t = under setting tables.now in
         written (answered result) res.new ≡ ancestries_left t (before classes) res.old }
 {
-    let together = chains_fall(rebases, index);
-    let count = count_all(
-        files, segments, sections, info, rebases, binds, index, setting, together, classes,
-    )?;
+    let together = chains_fall(tables);
+    let count = count_all(tables, setting, together, classes)?;
     if ((res.len() / 3) as u64) < count {
         return Err(Question::AncestryRoom);
     }
-    fill(
-        files, segments, sections, info, rebases, binds, index, setting, together, count, classes,
-        res,
-    );
+    fill(tables, setting, together, count, classes, res);
     Ok(count)
 }
 
@@ -232,22 +150,14 @@ fn write_asked(
 // decodes has no record. Answers how many there are. For all classes of C lines lend the words in use of the ledger of a finished class
 // walk.
 pub fn ancestries(
-    files: &[&[u8]],
-    segments: &[u64],
-    sections: &[u64],
-    info: &[u8],
-    rebases: &[u64],
-    binds: &[u64],
-    index: &[u32],
+    tables: &Tables,
     setting: Setting,
     classes: &[u64],
     res: &mut [u64],
 ) -> Result<u64, Question>
-    ensures { let t = under setting (lent files segments sections info rebases binds index) in
+    ensures { let t = under setting tables.now in
         written (answered result) res.new ≡ ancestries_left t (before classes) res.old }
 {
-    ask(files, segments, sections, info, rebases, binds, index)?;
-    write_asked(
-        files, segments, sections, info, rebases, binds, index, setting, classes, res,
-    )
+    ask(tables)?;
+    write_asked(tables, setting, classes, res)
 }

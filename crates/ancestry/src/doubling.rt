@@ -40,6 +40,7 @@ pub(crate) fn put_state(out: &mut [u64], i: usize, s: State)
 }
 
 // A class that was followed `count` classes up, to the one at `address`, goes on from what is known of that one.
+#[tactic(auto, using(std::proofs::lemmas::Bool::Decides::nat_tests), unfolding(crate::specs::Doubling::joined_of, reads::specs::Outcome::choose))]
 fn joined(limit: u64, count: u64, address: u64, next: State) -> State
     requires { (count < 2 ^ 62) × (next.count < 2 ^ 62) }
     ensures { result ≡ joined_of limit count address next }
@@ -65,6 +66,7 @@ fn joined(limit: u64, count: u64, address: u64, next: State) -> State
 }
 
 // The chain of the class in row i is followed on from where the class that it has come to was followed to.
+#[tactic(auto, using(crate::proofs::Rounds::state_mark, crate::proofs::Rounds::jump_stays, crate::proofs::Rounds::jump_past, crate::proofs::Rounds::jump_puts, crate::proofs::Rounds::joined_small, crate::proofs::Rounds::joined_marked))]
 fn jump(limit: u64, listed: usize, out: &mut [u64], i: usize)
     requires { (i < listed) × (listed * 3 ≤ length out.old) × (limit ≤ 2 ^ 40) }
     ensures { out.new ≡ jumped_at listed limit out.old i }
@@ -83,6 +85,7 @@ fn jump(limit: u64, listed: usize, out: &mut [u64], i: usize)
 }
 
 // One round: every chain is followed at least twice as far.
+#[tactic(auto, using(crate::proofs::Rounds::jumped_more, crate::proofs::Rounds::jumped_none))]
 fn jump_all(limit: u64, listed: usize, out: &mut [u64])
     requires { (listed * 3 ≤ length out.old) × (limit ≤ 2 ^ 40) }
     ensures { out.new ≡ jumped_to listed limit out.old listed }
@@ -108,6 +111,7 @@ pub(crate) fn follow(limit: u64, listed: usize, out: &mut [u64])
 }
 
 // The record of the class in row i, once its chain is followed.
+#[tactic(auto, unfolding(crate::specs::Doubling::finished_at))]
 fn finish(out: &mut [u64], i: usize)
     requires { i * 3 + 2 < length out.old }
     ensures { out.new ≡ finished_at out.old i }
@@ -117,6 +121,7 @@ fn finish(out: &mut [u64], i: usize)
     out[i * 3 + 2] = first % 4;
 }
 
+#[tactic(auto, using(crate::proofs::Rounds::finished_more, crate::proofs::Rounds::finished_none))]
 pub(crate) fn finish_all(listed: usize, out: &mut [u64])
     requires { listed * 3 ≤ length out.old }
     ensures { out.new ≡ finished_to out.old listed }

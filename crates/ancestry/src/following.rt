@@ -5,9 +5,8 @@ ghost use mathlib.Core.List.{◌++◌, flat_map};
 ghost use Rattle.reads.specs.Outcome.{value};
 ghost use Rattle.reads.specs.Reference.{before};
 ghost use Rattle.pointers.specs.Question.{asked};
-ghost use Rattle.pointers.specs.Tables.{lent, under};
+ghost use Rattle.pointers.specs.Tables.{under};
 ghost use Rattle.ancestry.specs.Ancestry.{words_of};
-ghost use Rattle.ancestry.specs.Filling.{lent_now};
 ghost use Rattle.ancestry.specs.Rebases.{chains_fall};
 ghost use Rattle.ancestry.specs.Doubling.{node_at, ended_state, Row, Following};
 ghost use Rattle.ancestry.specs.Following.{ground_of, First, Ready, Unfollowed};
@@ -15,9 +14,11 @@ ghost use Rattle.ancestry.specs.Following.{ground_of, First, Ready, Unfollowed};
 use crate::class_chain::{last_at, limit_of, superclass_at};
 use crate::doubling::{LOOPING, State, finish_all, follow, put_state};
 use pointers::setting::Setting;
+use pointers::tables::Tables;
 use records::class::{ObjcClass, class_at};
 
 // The rows, three words each.
+#[tactic(auto, using(crate::proofs::RowWords::take_chunks))]
 fn rows_of(res: &[u64], listed: usize) -> &[[u64; 3]]
     requires { listed * 3 ≤ length res.now }
     ensures { result.now ≡ first_chunks 3 listed (before res) }
@@ -59,13 +60,7 @@ fn ended_state(count: u64, top: u64) -> State
 // What is known of the class in row i after a walk up from it to the next class that has a row. The loop is that of `climb_from`, which
 // looks for no row: one function for both would need a closure and a type for four ends, and be no shorter.
 fn first_from(
-    files: &[&[u8]],
-    segments: &[u64],
-    sections: &[u64],
-    info: &[u8],
-    rebases: &[u64],
-    binds: &[u64],
-    index: &[u32],
+    tables: &Tables,
     setting: Setting,
     res: &[u64],
     listed: usize,
@@ -73,19 +68,17 @@ fn first_from(
     class: ObjcClass,
     i: usize,
 ) -> State
-    requires { let t = lent_now files.now segments.now sections.now info.now rebases.now binds.now index.now setting in
+    requires { let t = under setting tables.now in
         First t res.now listed i class }
-    ensures { let t = under setting (lent files segments sections info rebases binds index) in
+    ensures { let t = under setting tables.now in
         Row (ground_of t (before res) listed) 1 i result }
 {
-    let most = limit_of(files, segments);
+    let most = limit_of(tables);
     let mut at = class;
     let mut held = class.address;
     let mut hold = 1;
     for count in 0..most {
-        let up = match superclass_at(
-            files, segments, sections, info, rebases, binds, index, setting, at,
-        ) {
+        let up = match superclass_at(tables, setting, at) {
             Ok(up) => up,
             Err(m) => return ended_state(count, at.address),
         };
@@ -112,94 +105,47 @@ fn first_from(
 
 // The same, from the address in the row.
 fn first(
-    files: &[&[u8]],
-    segments: &[u64],
-    sections: &[u64],
-    info: &[u8],
-    rebases: &[u64],
-    binds: &[u64],
-    index: &[u32],
+    tables: &Tables,
     setting: Setting,
     res: &[u64],
     listed: usize,
     sorted: bool,
     i: usize,
 ) -> State
-    requires { let t = lent_now files.now segments.now sections.now info.now rebases.now binds.now index.now setting in
+    requires { let t = under setting tables.now in
         Ready t res.now listed i }
-    ensures { let t = under setting (lent files segments sections info rebases binds index) in
+    ensures { let t = under setting tables.now in
         Row (ground_of t (before res) listed) 1 i result }
 {
-    match class_at(
-        files,
-        segments,
-        sections,
-        info,
-        rebases,
-        binds,
-        index,
-        setting,
-        res[i * 3 + 2],
-        false,
-    ) {
-        Ok(class) => first_from(
-            files, segments, sections, info, rebases, binds, index, setting, res, listed, sorted,
-            class, i,
-        ),
+    match class_at(tables, setting, res[i * 3 + 2], false) {
+        Ok(class) => first_from(tables, setting, res, listed, sorted, class, i),
         Err(_) => LOOPING,
     }
 }
 
 // Every chain is followed to the next class that has a row.
-fn first_all(
-    files: &[&[u8]],
-    segments: &[u64],
-    sections: &[u64],
-    info: &[u8],
-    rebases: &[u64],
-    binds: &[u64],
-    index: &[u32],
-    setting: Setting,
-    listed: usize,
-    sorted: bool,
-    res: &mut [u64],
-)
-    requires { let t = lent_now files.now segments.now sections.now info.now rebases.now binds.now index.now setting in
-        (asked t ≡ value tt) × (chains_fall rebases.now index.now ≡ true) × Unfollowed t listed res.old }
-    ensures { let t = under setting (lent files segments sections info rebases binds index) in
+fn first_all(tables: &Tables, setting: Setting, listed: usize, sorted: bool, res: &mut [u64])
+    requires { let t = under setting tables.now in
+        (asked t ≡ value tt) × (chains_fall tables.now.rebases tables.now.index ≡ true) × Unfollowed t listed res.old }
+    ensures { let t = under setting tables.now in
         Following (ground_of t res.old listed) 1 res.old res.new }
 {
     for i in 0..listed {
-        let s = first(
-            files, segments, sections, info, rebases, binds, index, setting, res, listed, sorted, i,
-        );
+        let s = first(tables, setting, res, listed, sorted, i);
         put_state(res, i, s);
     }
 }
 
 // Every chain is followed to its end, or as far as can be, and the rows become the records.
-pub(crate) fn follow_all(
-    files: &[&[u8]],
-    segments: &[u64],
-    sections: &[u64],
-    info: &[u8],
-    rebases: &[u64],
-    binds: &[u64],
-    index: &[u32],
-    setting: Setting,
-    listed: usize,
-    res: &mut [u64],
-)
-    requires { let t = lent_now files.now segments.now sections.now info.now rebases.now binds.now index.now setting in
-        (asked t ≡ value tt) × (chains_fall rebases.now index.now ≡ true) × Unfollowed t listed res.old }
-    ensures { let t = under setting (lent files segments sections info rebases binds index) in
+pub(crate) fn follow_all(tables: &Tables, setting: Setting, listed: usize, res: &mut [u64])
+    requires { let t = under setting tables.now in
+        (asked t ≡ value tt) × (chains_fall tables.now.rebases tables.now.index ≡ true) × Unfollowed t listed res.old }
+    ensures { let t = under setting tables.now in
         ((s : Unfollowed t listed res.old) → res.new ≡ flat_map words_of s.told ++ drop (listed * 3) res.old) }
 {
-    let most = limit_of(files, segments);
+    let most = limit_of(tables);
     let sorted = ascending(res, listed);
-    first_all(
-        files, segments, sections, info, rebases, binds, index, setting, listed, sorted, res,
-    );
+    first_all(tables, setting, listed, sorted, res);
     follow(most, listed, res);
     finish_all(listed, res);
 }

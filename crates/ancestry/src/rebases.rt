@@ -7,6 +7,7 @@ ghost use Rattle.ancestry.specs.Rebases.{heads_fall, nexts_fall, chains_fall};
 
 use pointers::index::HEADS;
 use pointers::table::Rebase;
+use pointers::tables::Tables;
 use reads::address::Address;
 
 // Each head is at most the record count.
@@ -32,10 +33,12 @@ fn nexts_fall(index: &[u32], count: usize) -> bool
 }
 
 // No lookup of a rebase can be refused.
-pub(crate) fn chains_fall(rebases: &[u64], index: &[u32]) -> bool
-    requires { 2 * chains + records rebase_words rebases.now ≤ length index.now }
-    ensures { result ≡ chains_fall (before rebases) (before index) }
+#[tactic(auto, unfolding(crate::specs::Rebases::chains_fall))]
+pub(crate) fn chains_fall(tables: &Tables) -> bool
+    requires { 2 * chains + records rebase_words tables.now.rebases ≤ length tables.now.index }
+    ensures { result ≡ chains_fall tables.now.rebases tables.now.index }
 {
-    let count = rebases.len() / Rebase::WORDS;
+    let count = tables.rebases().len() / Rebase::WORDS;
+    let index = tables.index();
     heads_fall(index, count) && nexts_fall(index, count)
 }

@@ -1,27 +1,29 @@
 -- What comes back and what the lent buffer holds, where items of a text are handed out, by the questions that are asked.
 use Prim.Native.Nat.{ℕ, ◌*◌, ◌≤◌}
+use native.Mathlib.Omega.{arith}
 use mathlib.Core.Path.{◌≡◌, refl, ap, sym, ◌∙◌}
-use mathlib.Core.Bool.{Bool, true, false, not}
+use mathlib.Core.Bool.{Bool, true, false}
 use mathlib.Core.List.{List}
 use lib.ListN.{length}
-use borrow.Author.Tests.{leb-true, not-true, not-false}
-use Rattle.reads.specs.Outcome.{Outcome, value, absent, refused}
-use Rattle.reads.specs.Utf8.{verdict}
-use Rattle.reads.specs.declared.answer.Reason.TheVariants.{NotUtf8}
-use Rattle.reads.specs.declared.text.Verdict.{Verdict}
-use Rattle.reads.specs.declared.text.Verdict.TheVariants.{Good, Bad}
-use Rattle.pointers.specs.Open.{left_by}
-use Rattle.pointers.proofs.Questions.{question_yes, question_no}
-use Rattle.attributes.specs.Attributes.{items, type_among, attributes, items_fit, handed_out, filled}
-use Rattle.attributes.specs.Property.{declared}
-use Rattle.attributes.specs.Pass.{chosen}
-use Rattle.attributes.specs.declared.pass.Which.{Which}
-use Rattle.attributes.specs.declared.pass.Which.TheVariants.{All, Unknown}
-use Rattle.attributes.specs.declared.items.Value.{Value}
-use Rattle.attributes.specs.declared.property.Declared.{Declared}
-use Rattle.attributes.proofs.AttributeItems.{chosen_all, chosen_unknown}
-use Rattle.attributes.specs.declared.items.Item.{Item}
+use borrow.Author.Tests.{leb-true}
+use Rattle.std.specs.Prelude.{Result, Ok, Err}
+use Rattle.reads.specs.Answer.{missed, outcome}
+use Rattle.reads.specs.Outcome.{Outcome, value, refused, and_then, choose}
+use Rattle.reads.specs.Utf8.{Verdict, verdict}
+use Rattle.reads.specs.declared.answer.Missing.{Missing}
+use Rattle.reads.specs.declared.answer.Missing.TheVariants.{Absent, Refused}
 use Rattle.reads.specs.declared.answer.Question.TheVariants.{ItemRoom}
+use Rattle.reads.proofs.Outcomes.{missed_then}
+use Rattle.pointers.specs.Open.{left_by}
+use Rattle.pointers.specs.Question.{question}
+use Rattle.pointers.proofs.Questions.{question_yes}
+use Rattle.attributes.specs.Attributes.{items, type_among, attributes, if_utf8, items_fit, handed_out, filled}
+use Rattle.attributes.specs.Pass.{chosen}
+use Rattle.attributes.specs.declared.items.Item.{Item}
+use Rattle.attributes.specs.declared.items.Value.{Value}
+use Rattle.attributes.specs.declared.pass.Which.{Which}
+use Rattle.attributes.specs.declared.pass.Which.TheVariants.{All}
+use Rattle.attributes.proofs.AttributeItems.{chosen_all}
 
 -- `o` comes back and the buffer holds `now`, where `is` are handed out with `a`.
 abbrev pub Handed : {A : Type 0} → List ℕ → List ℕ → List Item → A → Outcome A → List ℕ → Type 0
@@ -29,50 +31,73 @@ Handed text buffer is a o now =
     (o ≡ handed_out text is (length buffer) a) × (now ≡ left_by (handed_out text is (length buffer) a) (filled is buffer) buffer)
 
 module _ {A : Type 0} (text : List ℕ) (is : List Item) (a : A) where
-  pub handed_absent : (room k : ℕ) → verdict text ≡ Bad k → handed_out text is room a ≡ absent (NotUtf8 k)
-  unfolding handed_out
-  handed_absent room k u = rw u
-
-  module _ (room : ℕ) (u : verdict text ≡ Good) where
-    pub handed_number : items_fit (length is) room ≡ false → handed_out text is room a ≡ refused ItemRoom
-    unfolding handed_out
-    handed_number f = rw (u, question_no ItemRoom _ f)
-
+  module _ (room : ℕ) (u : verdict text ≡ Ok tt) where
     pub handed_value : items_fit (length is) room ≡ true → handed_out text is room a ≡ value a
     unfolding handed_out
     handed_value f = rw (u, question_yes ItemRoom _ f)
 
--- The code's tests: v is its answer on UTF-8, `count` what it counted, `fits` its answer on question ItemRoom.
+-- Where a value comes back, the text is UTF-8 and the items fit.
+pub record Gave {A : Type 0} (text : List ℕ) (is : List Item) (room : ℕ) (a b : A) : Type 0 where
+  pub utf8 : verdict text ≡ Ok tt
+  pub fits : items_fit (length is) room ≡ true
+  pub same : a ≡ b
+
+pub gave : {A : Type 0} (text : List ℕ) (is : List Item) (room : ℕ) (a b : A) → handed_out text is room a ≡ value b → Gave text is room a b
+unfolding handed_out question choose
+gave {A} text is room a b e = go (verdict text) refl (items_fit (length is) room) refl e
+  where
+    go : (v : Verdict) → verdict text ≡ v → (t : Bool) → items_fit (length is) room ≡ t
+        → if_utf8 v (and_then (choose t (value tt) (refused ItemRoom)) (λ (_ : Unit {0}). value a)) ≡ value b → Gave text is room a b
+    go (Ok x) u true f q = record { utf8 = u; fits = f; same = unfold choose in cc }
+    go (Ok x) u false f q = unfold choose in (let z : ◌≡◌ {A = ℕ} 0 1 = cc in absurd (omega arith))
+    go (Err k) u t f q = let z : ◌≡◌ {A = ℕ} 0 1 = cc in absurd (omega arith)
+
+-- What comes back with one value decides what comes back with another.
+handed_again : {A B : Type 0} (text : List ℕ) (is : List Item) (room : ℕ) (a : A) (b : B)
+    → handed_out text is room a ≡ and_then (handed_out text is room b) (λ (_ : B). value a)
+unfolding handed_out question
+handed_again {A} {B} text is room a b = go (verdict text) (items_fit (length is) room)
+  where
+    go : (v : Verdict) (t : Bool)
+        → if_utf8 v (and_then (choose t (value tt) (refused ItemRoom)) (λ (_ : Unit {0}). value a))
+        ≡ and_then (if_utf8 v (and_then (choose t (value tt) (refused ItemRoom)) (λ (_ : Unit {0}). value b))) (λ (_ : B). value a)
+    go (Ok x) true = unfold choose in refl
+    go (Ok x) false = unfold choose in refl
+    go (Err k) t = refl
+
+left_missing : (A : Type 0) (m : Missing) (new old : List ℕ) → left_by (missed {A = A} m) new old ≡ old
+left_missing A (Absent r) new old = refl
+left_missing A (Refused k) new old = refl
+
+-- The code's tests: w is its count of the items that are handed out, where the text is UTF-8 and they fit.
 module _ {A : Type 0} (text buffer : List ℕ) (which : Which) {is : List Item} (same : chosen which (items text) ≡ is) (a : A)
-    {v : Verdict} (g : v ≡ verdict text) where
-  pub tested_absent : (k : ℕ) → v ≡ Bad k → Handed text buffer is a (absent (NotUtf8 k)) buffer
-  tested_absent k h = rw (handed_absent text is a (length buffer) k (sym g ∙ h)) (refl, refl)
+    (w : Result ℕ Missing) (g : outcome w ≡ handed_out text (chosen which (items text)) (length buffer) (length (chosen which (items text)))) where
+  again : handed_out text is (length buffer) a ≡ and_then (outcome w) (λ (_ : ℕ). value a)
+  again = rw (g, same) (handed_again text is (length buffer) a (length is))
 
-  module _ {count : ℕ} (n : count ≡ length (chosen which (items text))) {fits : Bool} (f : fits ≡ items_fit count (length buffer)) where
-    asked : items_fit (length is) (length buffer) ≡ fits
-    asked = rw (← same) (sym (f ∙ ap (λ (k : ℕ). items_fit k (length buffer)) n))
+  pub counted_missing : (m : Missing) → w ≡ Err m → Handed text buffer is a (missed m) buffer
+  counted_missing m h =
+      let e : handed_out text is (length buffer) a ≡ missed m = again ∙ rw h (sym (missed_then m (λ (_ : ℕ). value a))) in
+      rw e (refl, sym (left_missing A m (filled is buffer) buffer))
 
-    pub tested_room : not fits ≡ false → 3 * length (chosen which (items text)) ≤ length buffer
+  module _ (n : ℕ) (h : w ≡ Ok n) where
+    came : Gave text (chosen which (items text)) (length buffer) (length (chosen which (items text))) n
+    came = gave text (chosen which (items text)) (length buffer) (length (chosen which (items text))) n (sym g ∙ rw h)
+
+    pub counted : n ≡ length (chosen which (items text))
+    counted = sym came.same
+
+    pub counted_room : 3 * length (chosen which (items text)) ≤ length buffer
     unfolding items_fit
-    tested_room h = rw same (leb-true (3 * length is) (length buffer) (asked ∙ not-false fits h))
+    counted_room = leb-true (3 * length (chosen which (items text))) (length buffer) came.fits
 
-    module _ (u : v ≡ Good) where
-      pub tested_number : not fits ≡ true → Handed text buffer is a (refused ItemRoom) buffer
-      tested_number h = rw (handed_number text is a (length buffer) (sym g ∙ u) (asked ∙ not-true fits h)) (refl, refl)
+    pub counted_value : {now : List ℕ} → now ≡ filled (chosen which (items text)) buffer → {b : A} → b ≡ a → Handed text buffer is a (value b) now
+    counted_value v e =
+        let o : handed_out text is (length buffer) a ≡ value a = again ∙ rw h in
+        rw o (ap value e, v ∙ ap (λ (l : List Item). filled l buffer) same)
 
-      pub tested_value : not fits ≡ false → {now : List ℕ} → now ≡ filled (chosen which (items text)) buffer
-          → {b : A} → b ≡ a → Handed text buffer is a (value b) now
-      tested_value h w e =
-          rw (handed_value text is a (length buffer) (sym g ∙ u) (asked ∙ not-false fits h))
-          (ap value e, w ∙ ap (λ (l : List Item). filled l buffer) same)
-
--- What the two calls count, and what parsing hands back.
-module _ (text : List ℕ) where
-  pub attributes_made : {count : ℕ} {type : Value} → count ≡ length (chosen All (items text)) → type ≡ type_among (items text)
-      → record { count = count; type_encoding = type } ≡ attributes text
-  unfolding attributes
-  attributes_made n t = rw (n, t, chosen_all (items text))
-
-  pub declared_count : {d : Declared} → d ≡ declared text → d.unknown_count ≡ length (chosen Unknown (items text))
-  unfolding declared
-  declared_count e = ap (λ (d : Declared). d.unknown_count) e ∙ rw (chosen_unknown (items text))
+-- What parsing hands back.
+pub attributes_made : (text : List ℕ) {count : ℕ} {type : Value} → count ≡ length (chosen All (items text)) → type ≡ type_among (items text)
+    → record { count = count; type_encoding = type } ≡ attributes text
+unfolding attributes
+attributes_made text n t = rw (n, t, chosen_all (items text))

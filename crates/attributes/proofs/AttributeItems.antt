@@ -5,6 +5,7 @@ use mathlib.Core.Bool.{Bool, true, false, not, ◌&&◌}
 use mathlib.Core.List.{List, [], ◌∷◌}
 use native.Mathlib.Omega.{arith}
 use native.Mathlib.Numerals.{add-one}
+use Rattle.std.specs.Option.{unwrap_or}
 use Rattle.std.proofs.Common.{Option, Some, cond}
 use Rattle.std.specs.List.{find}
 use lib.Dec.{eqb, ltb, leb}
@@ -111,16 +112,12 @@ value_found letter least (i ∷ is) = go (eqb i.key letter && leb least i.value.
     go false e = unfold choose in e
 
 -- The type is the first T value of one byte or more.
-abbrev pub or_nowhere : Option Value → Value
-or_nowhere (Some v) = v
-or_nowhere None = value_of 0 0
-
-pub type_first : (is : List Item) → or_nowhere (first_value 0x54 1 is) ≡ type_among is
+pub type_first : (is : List Item) → unwrap_or (first_value 0x54 1 is) (value_of 0 0) ≡ type_among is
 unfolding first_value type_among is_type
 type_first [] = refl
 type_first (i ∷ is) = go (eqb i.key 0x54 && ltb 0 i.value.len) (type_first is)
   where
-    go : (t : Bool) → or_nowhere (first_value 0x54 1 is) ≡ type_among is
-        → or_nowhere (choose t (Some i.value) (first_value 0x54 1 is)) ≡ choose t i.value (type_among is)
+    go : (t : Bool) → unwrap_or (first_value 0x54 1 is) (value_of 0 0) ≡ type_among is
+        → unwrap_or (choose t (Some i.value) (first_value 0x54 1 is)) (value_of 0 0) ≡ choose t i.value (type_among is)
     go true e = unfold choose in refl
     go false e = unfold choose in e

@@ -9,40 +9,23 @@ use lib.Dec.{leb}
 use lib.ListN.{length, get_or, take, drop, length-map}
 use lib.Seq.{get_or-drop, take_at}
 use borrow.Author.Tests.{leb-true, le-leb}
+use Rattle.std.specs.Prelude.{Ok}
 use Rattle.reads.specs.Outcome.{value, refused, and_then, choose}
 use Rattle.reads.specs.Utf8.{verdict}
-use Rattle.reads.specs.declared.text.Verdict.{Verdict}
-use Rattle.reads.specs.declared.text.Verdict.TheVariants.{Good, Bad}
 use Rattle.reads.proofs.Tests.{by_choose}
 use Rattle.pointers.specs.Question.{question}
-use Rattle.attributes.specs.Attributes.{value_length, item_of, items_from, items, items_fit, if_utf8, handed_out, words, filled}
+use Rattle.attributes.specs.Attributes.{value_length, item_of, items_from, items, items_fit, words, filled}
 use Rattle.attributes.specs.Property.{unknowns, declared, declared_of, unknown_left}
 use Rattle.attributes.specs.Written.{Declaration, part_of, declaration_in, declaration, written, items_in, written_text, written_of, written_left}
 use Rattle.attributes.specs.RoundTrip.{Writable, decoded_as, written_by, Rewritten, DecodesTo}
 use Rattle.attributes.specs.declared.items.Item.{Item}
 use Rattle.attributes.specs.declared.property.Declared.{Declared}
-use Rattle.attributes.proofs.AttributeAnswers.{handed_value}
+use Rattle.attributes.proofs.AttributeAnswers.{Gave, gave, handed_value}
 use Rattle.attributes.proofs.WrittenAnswers.{value_left}
 use Rattle.attributes.proofs.RoundTrip.{text_round_trip}
 use Rattle.attributes.proofs.Utf8Cuts.{accepts_bytes}
 use Rattle.attributes.proofs.WrittenUtf8.{good_accepts, written_utf8}
 use Rattle.reads.specs.declared.answer.Question.TheVariants.{ItemRoom}
-
--- Where a value comes back, the text is UTF-8 and the items fit.
-pub record Gave {A : Type 0} (text : List ℕ) (is : List Item) (room : ℕ) (a b : A) : Type 0 where
-  pub utf8 : verdict text ≡ Good
-  pub fits : items_fit (length is) room ≡ true
-  pub same : a ≡ b
-
-gave : {A : Type 0} (text : List ℕ) (is : List Item) (room : ℕ) (a b : A) → handed_out text is room a ≡ value b → Gave text is room a b
-unfolding handed_out question choose
-gave {A} text is room a b e = go (verdict text) refl (items_fit (length is) room) refl e
-  where
-    go : (v : Verdict) → verdict text ≡ v → (t : Bool) → items_fit (length is) room ≡ t
-        → if_utf8 v (and_then (choose t (value tt) (refused ItemRoom)) (λ (_ : Unit {0}). value a)) ≡ value b → Gave text is room a b
-    go Good u true f q = record { utf8 = u; fits = f; same = unfold choose in cc }
-    go Good u false f q = unfold choose in (let z : ◌≡◌ {A = ℕ} 0 1 = cc in absurd (omega arith))
-    go (Bad k) u t f q = let z : ◌≡◌ {A = ℕ} 0 1 = cc in absurd (omega arith)
 
 -- Keys are bytes, so rows say the items whose words they are.
 abbrev Bytes : List Item → Type 0
@@ -72,7 +55,7 @@ rows_said (i ∷ is) rest b =
     rw (byte, rows_said is rest b.1)
 
 -- What decoding left in the buffer, over the text, is the property that the text declares.
-module _ (text buffer : List ℕ) (good : verdict text ≡ Good) (fits : items_fit (length (unknowns (items text))) (length buffer) ≡ true) where
+module _ (text buffer : List ℕ) (good : verdict text ≡ Ok tt) (fits : items_fit (length (unknowns (items text))) (length buffer) ≡ true) where
   declared_value : declared_of text (length buffer) ≡ value (declared text)
   unfolding declared_of
   declared_value = handed_value text (unknowns (items text)) (declared text) (length buffer) good fits

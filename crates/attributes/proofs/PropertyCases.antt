@@ -5,14 +5,13 @@ use mathlib.Core.List.{[], ◌∷◌}
 use Rattle.reads.specs.Outcome.{value, absent, refused, choose}
 use Rattle.reads.specs.Utf8.{judge, verdict}
 use Rattle.reads.specs.declared.answer.Reason.TheVariants.{NotUtf8}
-use Rattle.reads.specs.declared.text.Verdict.TheVariants.{Bad}
 use Rattle.pointers.specs.Question.{question}
 use Rattle.pointers.specs.Symbol.{ascii}
 use Rattle.attributes.specs.Attributes.{handed_out, quotes, splits, first, value_length, value_of, item_of, items_from, items, items_fit, words, filled}
 use Rattle.attributes.specs.Property.{among, unknowns, first_value, declared, declared_of, unknown_left}
 use Rattle.attributes.specs.Written.{bytes_of, declaration_in, declaration, given, in_order, following, joined, written, items_in, written_text, written_of, written_left}
 use Rattle.attributes.specs.declared.property.Declared.{Declared}
-use Rattle.std.specs.Prelude.{Option, Some, None}
+use Rattle.std.specs.Prelude.{Option, Some, None, Err}
 use Rattle.attributes.specs.declared.items.Value.{Value}
 use Rattle.reads.specs.declared.answer.Question.TheVariants.{ItemRoom}
 
@@ -159,6 +158,6 @@ high_letter : written (declaration (0xC3 ∷ 0xA9 ∷ [])) ≡ 0xC3 ∷ []
 unfolding written in_order given joined following declaration declaration_in bytes_of declared first_value unknowns among items items_from item_of value_length first splits quotes choose
 high_letter = refl
 
-high_letter_lost : verdict (0xC3 ∷ []) ≡ Bad 1
+high_letter_lost : verdict (0xC3 ∷ []) ≡ Err 1
 unfolding judge choose
 high_letter_lost = refl

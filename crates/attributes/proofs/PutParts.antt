@@ -6,7 +6,7 @@ use mathlib.Core.Logic.{◌⊎◌, inl, inr}
 use native.Mathlib.Omega.{arith}
 use native.Mathlib.Numerals.{add-one}
 use lib.ListN.{length, take}
-use lib.Seq.{take-suc, take_all}
+use lib.Seq.{take-suc}
 use Rattle.attributes.specs.Property.{letters}
 use Rattle.attributes.specs.Written.{Part, bytes_given, part_of, front_letters, back_letters, front_of, declaration_in, given, in_order, joined, written, items_in, written_text}
 use Rattle.attributes.specs.Puts.{Put, comma_at, behind, item_at}
@@ -113,10 +113,6 @@ module _ (text : List ℕ) (count : ℕ) (rows : List ℕ) {start : ℕ} {old : 
       let is = items_in count rows in
       let one : take (k + 1) is ≡ take k is ++ (i ∷ []) = rw (add-one, e, item_in_row count k rows i h) (take-suc is k i h) in
       rw (one, map-append) (put_parts (map (part_of text) (take k is)) (part_of text i ∷ []) small begun r p)
-
-  pub rowed_end : (k : ℕ) {at : ℕ} {out : List ℕ} → length (items_in count rows) ≤ k → Rowed text (items_in count rows) start old k at out
-      → Put (behind start (map (part_of text) (items_in count rows))) start old at out
-  rowed_end k h r = rw (take_all k (items_in count rows) h) at r
 
 -- The front letters, the rows and V.
 pub put_in_order : (text : List ℕ) (d : Declared) (rows : List ℕ) {front back to : ℕ} {out one two left : List ℕ} → length out < 2 ^ 63

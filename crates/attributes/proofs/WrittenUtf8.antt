@@ -8,9 +8,7 @@ use lib.Dec.{eqb}
 use lib.ListN.{length}
 use borrow.Author.Tests.{eqb-true}
 use Rattle.reads.specs.Outcome.{choose}
-use Rattle.reads.specs.Utf8.{verdict, is_good, utf8}
-use Rattle.reads.specs.declared.text.Verdict.{Verdict}
-use Rattle.reads.specs.declared.text.Verdict.TheVariants.{Good, Bad}
+use Rattle.reads.specs.Utf8.{Verdict, verdict, is_good, utf8}
 use Rattle.reads.proofs.Tests.{by_choose}
 use Rattle.reads.proofs.Grammar.{accepts, utf8_accepts}
 use Rattle.attributes.specs.Written.{Part, Declaration, front_letters, back_letters, declaration, given, in_order, following, joined, written}
@@ -20,7 +18,7 @@ use Rattle.attributes.proofs.Gathers.{first_part, first_parts, unknown_parts, ga
 use Rattle.attributes.proofs.RoundTrip.{each_both, ascii_in_order}
 use Rattle.attributes.proofs.Utf8Cuts.{accepts_ascii, accepts_both, parts_utf8}
 use Rattle.reads.proofs.Options.{none_not_some, some_same}
-use Rattle.std.specs.Prelude.{Option, None, Some}
+use Rattle.std.specs.Prelude.{Option, None, Some, Ok, Err}
 
 -- What is gathered from parts consists of these parts.
 module _ (P : Part → Type 0) where
@@ -78,20 +76,20 @@ accepts_joined (p ∷ ps) a u =
     accepts_ascii p.key (p.value ++ following ps) a.0
     ∙ accepts_both [] p.value (following ps) (u.0 a.0) (accepts_following ps a.1 u.1)
 
-accepts_good : (s : List ℕ) → accepts [] s ≡ true → verdict s ≡ Good
+accepts_good : (s : List ℕ) → accepts [] s ≡ true → verdict s ≡ Ok tt
 unfolding utf8
 accepts_good s e = go (verdict s) (utf8_accepts s ∙ e)
   where
-    go : (v : Verdict) → is_good v ≡ true → v ≡ Good
-    go Good f = refl
-    go (Bad k) f = absurd (false≢true f)
+    go : (v : Verdict) → is_good v ≡ true → v ≡ Ok tt
+    go (Ok u) f = refl
+    go (Err k) f = absurd (false≢true f)
 
-pub good_accepts : (s : List ℕ) → verdict s ≡ Good → accepts [] s ≡ true
+pub good_accepts : (s : List ℕ) → verdict s ≡ Ok tt → accepts [] s ≡ true
 unfolding utf8
 good_accepts s g = sym (utf8_accepts s) ∙ ap is_good g
 
-pub written_utf8 : (text : List ℕ) → verdict text ≡ Good → Each (λ p. p.key < 0x80) (declaration text).unknown
-    → verdict (written (declaration text)) ≡ Good
+pub written_utf8 : (text : List ℕ) → verdict text ≡ Ok tt → Each (λ p. p.key < 0x80) (declaration text).unknown
+    → verdict (written (declaration text)) ≡ Ok tt
 unfolding written
 written_utf8 text g a =
     let d = declaration text in

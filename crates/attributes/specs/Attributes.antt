@@ -1,11 +1,9 @@
 -- The attribute string of a property (document 01, Attributes; property.rs, parse_attributes): items, each a key byte and a
 -- value, that commas outside double quotes end.
-use Rattle.std.specs.Prelude.{ℕ, zero, suc, ◌+◌, ◌*◌, ◌%◌, Bool, ◌&&◌, List, [], ◌∷◌, ◌++◌, leb, ltb, eqb, length, get_or, take, drop}
+use Rattle.std.specs.Prelude.{ℕ, zero, suc, ◌+◌, ◌*◌, ◌%◌, Bool, ◌&&◌, List, [], ◌∷◌, ◌++◌, leb, ltb, eqb, length, get_or, take, drop, Ok, Err}
 use Rattle.reads.specs.Outcome.{Outcome, value, absent, and_then, choose}
-use Rattle.reads.specs.Utf8.{verdict}
+use Rattle.reads.specs.Utf8.{Verdict, verdict}
 use Rattle.reads.specs.declared.answer.Reason.TheVariants.{NotUtf8}
-use Rattle.reads.specs.declared.text.Verdict.{Verdict}
-use Rattle.reads.specs.declared.text.Verdict.TheVariants.{Good, Bad}
 use Rattle.pointers.specs.Open.{left_by}
 use Rattle.pointers.specs.Question.{question}
 use Rattle.attributes.specs.declared.items.Attributes.{Attributes}
@@ -70,8 +68,8 @@ unfoldable pub items_fit : ℕ → ℕ → Bool
 items_fit count room = leb (3 * count) room
 
 abbrev pub if_utf8 : {A : Type 0} → Verdict → Outcome A → Outcome A
-if_utf8 Good o = o
-if_utf8 (Bad k) o = absent (NotUtf8 k)
+if_utf8 (Ok u) o = o
+if_utf8 (Err k) o = absent (NotUtf8 k)
 
 -- What comes back where items of a text are handed out into a buffer of `room` words: absent unless UTF-8, then question ItemRoom.
 unfoldable pub handed_out : {A : Type 0} → List ℕ → List Item → ℕ → A → Outcome A

@@ -4,9 +4,8 @@ ghost use Rattle.reads.specs.Reference.{before};
 ghost use Rattle.attributes.specs.Attributes.{items, type_among, attributes_of, items_left};
 ghost use Rattle.reads.specs.Answer.{outcome};
 
-use crate::pass::{Which, count_items, first_value, items_fit, write_items};
-use reads::answer::{Missing, Question, Reason};
-use reads::text::{Verdict, utf8_verdict};
+use crate::pass::{Which, count_fitting, first_value, write_items};
+use reads::answer::Missing;
 
 // A value: the part of the text from `start`, `len` bytes long.
 #[derive(Clone, Copy)]
@@ -30,13 +29,11 @@ pub struct Attributes {
 }
 
 // The first T value that is not empty.
+#[tactic(auto, using(crate::proofs::AttributeItems::type_first))]
 fn type_encoding(text: &[u8]) -> Value
     ensures { result ≡ type_among (items (before text)) }
 {
-    match first_value(text, b'T', 1) {
-        Some(value) => value,
-        None => Value { start: 0, len: 0 },
-    }
+    first_value(text, b'T', 1).unwrap_or(Value { start: 0, len: 0 })
 }
 
 // The items of a text, three words each, into the lent buffer.
@@ -44,16 +41,7 @@ pub fn parse_attributes(text: &[u8], buffer: &mut [u64]) -> Result<Attributes, M
     ensures outcome { outcome result ≡ attributes_of (before text) (length buffer.old) }
     ensures contents { buffer.new ≡ items_left (before text) buffer.old }
 {
-    match utf8_verdict(text) {
-        Verdict::Good => {}
-        Verdict::Bad(k) => {
-            return Err(Missing::Absent(Reason::NotUtf8(k)));
-        }
-    }
-    let count = count_items(text, Which::All);
-    if !items_fit(count, buffer.len()) {
-        return Err(Missing::Refused(Question::ItemRoom));
-    }
+    let count = count_fitting(text, Which::All, buffer.len())?;
     write_items(text, Which::All, buffer);
     Ok(Attributes {
         count,

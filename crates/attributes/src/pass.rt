@@ -2,11 +2,14 @@
 ghost use Rattle.std.specs.Prelude.{◌≡◌, not, ◌+◌, ◌*◌, ◌-◌, ◌≤◌, length, drop};
 ghost use Rattle.std.specs.Iterator.{YieldsFirst, item_count};
 ghost use Rattle.reads.specs.Reference.{before};
-ghost use Rattle.attributes.specs.Attributes.{value_length, item_of, items, items_fit, filled};
+ghost use Rattle.attributes.specs.Attributes.{value_length, item_of, items, items_fit, handed_out, filled};
+ghost use Rattle.reads.specs.Answer.{outcome};
 ghost use Rattle.attributes.specs.Property.{letters, among, first_value};
 ghost use Rattle.attributes.specs.Pass.{items_left_of, wanted, chosen};
 
 use crate::items::{Item, Value};
+use reads::answer::{Missing, Question, Reason};
+use reads::text::utf8_verdict;
 
 // The letters of Apple's list, in the order in which they are written: T, the flags, G, S, t, and V after the unknown letters.
 pub const LETTERS: [u8; 12] = *b"TRC&NDWPGStV";
@@ -44,6 +47,7 @@ fn value_end(text: &[u8], start: usize) -> usize
 }
 
 // The item of a key byte whose value runs from `start` to `end`.
+#[tactic(auto, using(std::proofs::lemmas::Bool::Decides::nat_tests), unfolding(crate::specs::Attributes::item_of, reads::specs::Outcome::choose))]
 fn item_of(key: u8, start: usize, end: usize) -> Item
     requires { start ≤ end }
     ensures { result ≡ item_of key start (end - start) }
@@ -75,6 +79,7 @@ impl<'a> Iterator for Items<'a> {
 }
 
 // All items of a text.
+#[tactic(auto, using(crate::proofs::AttributeItems::items_start))]
 pub fn items_of(text: &[u8]) -> Items<'_>
     ensures { items_left_of result ≡ items (before text) }
 {
@@ -82,6 +87,7 @@ pub fn items_of(text: &[u8]) -> Items<'_>
 }
 
 // A letter is none of Apple's list.
+#[tactic(auto, unfolding(crate::specs::Property::among))]
 fn is_unknown(letter: u8) -> bool
     ensures { result ≡ not (among letters letter) }
 {
@@ -99,6 +105,7 @@ fn wanted(which: Which, letter: u8) -> bool
 }
 
 // How many items are handed out.
+#[tactic(auto, using(crate::proofs::AttributeItems::items_few))]
 pub fn count_items(text: &[u8], which: Which) -> u64
     ensures { result ≡ length (chosen which (items (before text))) }
 {
@@ -108,10 +115,24 @@ pub fn count_items(text: &[u8], which: Which) -> u64
 }
 
 // 12: do the items fit?
+#[tactic(auto, using(reads::proofs::Tests::le_same, std::proofs::lemmas::Bool::Decides::nat_tests), unfolding(crate::specs::Attributes::items_fit))]
 pub fn items_fit(count: u64, room: usize) -> bool
     ensures { result ≡ items_fit count room }
 {
     count <= (room / 3) as u64
+}
+
+// The count of the items that are handed out, where the text is UTF-8 and they fit a buffer of `room` words.
+#[tactic(auto, unfolding(crate::specs::Attributes::handed_out), using(pointers::proofs::Questions::in_order))]
+pub(crate) fn count_fitting(text: &[u8], which: Which, room: usize) -> Result<u64, Missing>
+    ensures { let is = chosen which (items (before text)) in outcome result ≡ handed_out (before text) is room (length is) }
+{
+    utf8_verdict(text).map_err(|k| Missing::Absent(Reason::NotUtf8(k)))?;
+    let count = count_items(text, which);
+    if !items_fit(count, room) {
+        return Err(Missing::Refused(Question::ItemRoom));
+    }
+    Ok(count)
 }
 
 // Writes three words for each item that is handed out.
@@ -132,8 +153,6 @@ pub fn write_items(text: &[u8], which: Which, buffer: &mut [u64])
 pub fn first_value(text: &[u8], letter: u8, least: u64) -> Option<Value>
     ensures { result ≡ first_value letter least (items (before text)) }
 {
-    match items_of(text).find(|item| item.key == letter && least <= item.value.len) {
-        Some(item) => Some(item.value),
-        None => None,
-    }
+    let item = items_of(text).find(|item| item.key == letter && least <= item.value.len)?;
+    Some(item.value)
 }

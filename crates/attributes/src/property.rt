@@ -1,13 +1,13 @@
 // The property that an attribute string declares, by the letters of Apple's "Declared Properties".
 ghost use Rattle.std.specs.Prelude.{◌≡◌, length};
 ghost use Rattle.reads.specs.Reference.{before};
-ghost use Rattle.attributes.specs.Property.{declared, declared_of, unknown_left};
+ghost use Rattle.attributes.specs.Attributes.{items};
+ghost use Rattle.attributes.specs.Property.{unknowns, declared, declared_of, unknown_left};
 ghost use Rattle.reads.specs.Answer.{outcome};
 
 use crate::items::Value;
-use crate::pass::{Which, count_items, first_value, items_fit, write_items};
-use reads::answer::{Missing, Question, Reason};
-use reads::text::{Verdict, utf8_verdict};
+use crate::pass::{Which, count_fitting, first_value, write_items};
+use reads::answer::Missing;
 
 // A declared property: the first value of each letter, and how many items have other letters.
 #[derive(Clone, Copy)]
@@ -39,8 +39,10 @@ pub struct Declared {
     pub unknown_count: u64,
 }
 
-// The property that a text declares.
-fn declared_by(text: &[u8]) -> Declared
+// The property that a text declares, which has so many items of unknown letters.
+#[tactic(auto, unfolding(crate::specs::Property::declared))]
+fn declared_by(text: &[u8], unknown_count: u64) -> Declared
+    requires { unknown_count ≡ length (unknowns (items text.now)) }
     ensures { result ≡ declared (before text) }
 {
     Declared {
@@ -56,7 +58,7 @@ fn declared_by(text: &[u8]) -> Declared
         setter: first_value(text, b'S', 0),
         old_type_encoding: first_value(text, b't', 0),
         variable: first_value(text, b'V', 0),
-        unknown_count: count_items(text, Which::Unknown),
+        unknown_count,
     }
 }
 
@@ -65,16 +67,7 @@ pub fn decode_attributes(text: &[u8], buffer: &mut [u64]) -> Result<Declared, Mi
     ensures outcome { outcome result ≡ declared_of (before text) (length buffer.old) }
     ensures contents { buffer.new ≡ unknown_left (before text) buffer.old }
 {
-    match utf8_verdict(text) {
-        Verdict::Good => {}
-        Verdict::Bad(k) => {
-            return Err(Missing::Absent(Reason::NotUtf8(k)));
-        }
-    }
-    let declared = declared_by(text);
-    if !items_fit(declared.unknown_count, buffer.len()) {
-        return Err(Missing::Refused(Question::ItemRoom));
-    }
+    let unknown_count = count_fitting(text, Which::Unknown, buffer.len())?;
     write_items(text, Which::Unknown, buffer);
-    Ok(declared)
+    Ok(declared_by(text, unknown_count))
 }

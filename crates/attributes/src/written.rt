@@ -11,6 +11,7 @@ use crate::property::Declared;
 use reads::answer::{Missing, Question};
 
 // The bytes that the text has of a value.
+#[tactic(auto, using(crate::proofs::Puts::bytes_cut))]
 fn inside(text: &[u8], value: Value) -> &[u8]
     ensures { result.now ≡ bytes_of (before text) value }
 {
@@ -21,6 +22,7 @@ fn inside(text: &[u8], value: Value) -> &[u8]
 }
 
 // Puts bytes at `at`, if they fit. The answer of this and what follows is where the next byte goes, 2^64 - 1 at most.
+#[tactic(auto, using(crate::proofs::Puts::put_not, crate::proofs::Puts::put_there))]
 fn put(bytes: &[u8], out: &mut [u8], at: usize) -> usize
     ensures { Put (before bytes) at out.old result out.new }
 {
@@ -32,6 +34,7 @@ fn put(bytes: &[u8], out: &mut [u8], at: usize) -> usize
 }
 
 // Puts a comma at `at`, but none in front of the first item.
+#[tactic(auto, using(crate::proofs::Puts::no_comma, crate::proofs::Puts::comma))]
 fn put_comma(out: &mut [u8], at: usize) -> usize
     ensures { Put (comma_at at) at out.old result out.new }
 {
@@ -112,6 +115,7 @@ fn item_in(rows: &[u64], k: usize) -> Item
 }
 
 // The lesser of a count and of the whole rows.
+#[tactic(auto, using(crate::proofs::Rows::length_items_in))]
 fn rows_in(rows: &[u64], count: u64) -> usize
     ensures { result ≡ length (items_in count (before rows)) }
 {

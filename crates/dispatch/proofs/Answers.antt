@@ -1,7 +1,7 @@
 -- The call's answer and the result buffer that it leaves, by the questions that it asks.
 use Prim.Native.Nat.{ℕ, ◌-◌, ◌*◌, ◌/◌, ◌≤◌}
 use mathlib.Core.Path.{◌≡◌, refl, ap, sym, subst, ◌∙◌}
-use mathlib.Core.Bool.{false}
+use mathlib.Core.Bool.{Bool, true, false}
 use mathlib.Core.List.{List}
 use native.Mathlib.Omega.{arith}
 use lib.ListN.{length}
@@ -18,10 +18,6 @@ use Rattle.records.specs.Class.{class_at}
 use Rattle.records.specs.declared.category.ObjcCategory.{ObjcCategory}
 use Rattle.records.specs.declared.class.ObjcClass.{ObjcClass}
 use Rattle.walks.specs.PlainSections.{plain_categories}
-use Rattle.dispatch.specs.declared.effective.Survey.{Survey}
-use Rattle.dispatch.specs.declared.effective.Survey.TheVariants as survey
-use Rattle.dispatch.specs.declared.effective.Fit.{Fit}
-use Rattle.dispatch.specs.declared.effective.Fit.TheVariants as fit
 use Rattle.dispatch.specs.declared.sources.Side.{Side}
 use Rattle.dispatch.specs.declared.rows.Position.{Position}
 use Rattle.dispatch.specs.Sources.{own_source}
@@ -29,7 +25,7 @@ use Rattle.dispatch.specs.Appearances.{Rows, appearances}
 use Rattle.dispatch.specs.SlotSources.{slot_rows, slot_total, slot_appearances, settled}
 use Rattle.dispatch.specs.Dispatch.{firsts, effective_of, effective_among, effective, Left, leaves, left}
 use Rattle.dispatch.specs.Position.{ahead, EnteredAt}
-use Rattle.dispatch.specs.Written.{few_firsts, Surveyed, RoomFor, WroteAll}
+use Rattle.dispatch.specs.Written.{few_firsts, few_rows, Surveyed, RoomFor, WroteAll}
 use Rattle.dispatch.proofs.Asking.{settled_value, settled_number}
 use Rattle.dispatch.proofs.Matches.{left_same}
 use Rattle.dispatch.proofs.Places.{appearances_ordered, slots_ordered}
@@ -50,11 +46,11 @@ left_number : (k : Question) (result : List ℕ) → leaves (refused k) result �
 unfolding left
 left_number k result = refl
 
-module _ (files : List (List ℕ)) (rs : Rows) (result : List ℕ) {a : Fit} (w : RoomFor files rs (length result / 4) a) where
-  told_by : {b : Fit} → a ≡ b → RoomFor files rs (length result / 4) b
-  told_by e = subst (λ (x : Fit). RoomFor files rs (length result / 4) x) e w
+module _ (files : List (List ℕ)) (rs : Rows) (result : List ℕ) {a : Result Bool Question} (w : RoomFor files rs (length result / 4) a) where
+  told_by : {b : Result Bool Question} → a ≡ b → RoomFor files rs (length result / 4) b
+  told_by e = subst (λ (x : Result Bool Question). RoomFor files rs (length result / 4) x) e w
 
-  pub from_refused : {k : Question} → a ≡ fit.Refused k → leaves (refused k) result ≡ left (effective_among files rs) result
+  pub from_refused : {k : Question} → a ≡ Err k → leaves (refused k) result ≡ left (effective_among files rs) result
   unfolding effective_among
   from_refused {k} g = rw (told_by g).told (left_number k result)
 
@@ -62,14 +58,14 @@ module _ (files : List (List ℕ)) (rs : Rows) (result : List ℕ) {a : Fit} (w 
   unfolding effective_among
   found e = rw e
 
-  pub from_short : a ≡ fit.Short → leaves (refused SelectorRoom) result ≡ left (effective_among files rs) result
+  pub from_short : a ≡ Ok false → leaves (refused SelectorRoom) result ≡ left (effective_among files rs) result
   unfolding few_firsts left
   from_short g =
       let l = leb-false (length (firsts files rs.rows rs.rows)) (length result / 4) (told_by g).told.1 in
       rw (found (told_by g).told.0)
       (sym (choose_false _ _ (lt-leb (4 * length (effective_of files rs.rows)) (length result) (omega (arith, length_effective files rs.rows)))))
 
-  module _ (g : a ≡ fit.Enough) where
+  module _ (g : a ≡ Ok true) where
     pub from_room : 4 * length (firsts files rs.rows rs.rows) ≤ length result
     unfolding few_firsts
     from_room = let l = leb-true (length (firsts files rs.rows rs.rows)) (length result / 4) (told_by g).told.1 in omega arith
@@ -81,12 +77,23 @@ module _ (files : List (List ℕ)) (rs : Rows) (result : List ℕ) {a : Fit} (w 
         (sym (choose_true _ _ (le-leb (4 * length (effective_of files rs.rows)) (length result) (omega (arith, from_room, length_effective files rs.rows)))))
 
 -- 22, once all rows are reached.
-module _ (files : List (List ℕ)) (rs : Rows) (room : ℕ) {a : Survey} (w : Surveyed rs room a) where
-  found_by : {b : Survey} → a ≡ b → Surveyed rs room b
-  found_by e = subst (λ (x : Survey). Surveyed rs room x) e w
+module _ (files : List (List ℕ)) (rs : Rows) (room : ℕ) {a : Result Bool Question} (w : Surveyed rs room a) where
+  found_by : {b : Result Bool Question} → a ≡ b → Surveyed rs room b
+  found_by e = subst (λ (x : Result Bool Question). Surveyed rs room x) e w
 
-  pub room_fits : a ≡ survey.Fits → RoomFor files rs room fit.Enough
+  pub room_fits : a ≡ Ok true → RoomFor files rs room (Ok true)
   room_fits g = let f = (found_by g).found in record { told = (f.0, sym (rows_suffice files rs.rows room (sym f.1) refl)) }
+
+  pub room_counted : a ≡ Ok false → {b : Bool} → b ≡ few_firsts files rs.rows rs.rows room → RoomFor files rs room (Ok b)
+  room_counted g f = record { told = ((found_by g).found, sym f) }
+
+  pub room_refused : {k : Question} → a ≡ Err k → RoomFor files rs room (Err k)
+  room_refused g = record { told = (found_by g).found }
+
+-- A pass that came to the end.
+pub surveyed_by : (rs : Rows) (room : ℕ) (few : Bool) → rs.end ≡ value tt → (few ≡ true → few_rows rs.rows room ≡ true) → Surveyed rs room (Ok few)
+surveyed_by rs room true e f = record { found = (e, f refl) }
+surveyed_by rs room false e f = record { found = e }
 
 -- The rows from the first entry of the class's own list on are all.
 module _ (t : Tables) (s : Side) (c : ObjcClass) (a : Result Source Missing) (o : outcome a ≡ own_source t s c) {r : (Result Position Question)}

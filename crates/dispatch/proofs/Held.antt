@@ -1,22 +1,16 @@
--- The addresses in the slots of the categories, and the category in a slot that takes part.
+-- The addresses in the slots of the categories.
 use Prim.Native.Nat.{ℕ, zero, suc, ◌+◌, ◌<◌, ◌≤◌}
 use mathlib.Core.Path.{◌≡◌, refl, sym, ap, ◌∙◌}
-use mathlib.Core.Bool.{Bool, true, false}
+use mathlib.Core.Bool.{true, false}
 use mathlib.Core.List.{List, [], ◌∷◌}
 use native.Mathlib.Omega.{arith}
 use lib.ListN.{length, get_or, take}
-use borrow.Author.Tests.{eq-eqb, ne_eqb}
-use Rattle.reads.specs.Outcome.{Outcome, value, absent}
-use Rattle.reads.specs.declared.answer.Reason.TheVariants.{NoRecord}
-use Rattle.reads.proofs.Tests.{choose_true, choose_false}
+use Rattle.reads.specs.Outcome.{Outcome}
 use Rattle.pointers.specs.Tables.{Tables}
-use Rattle.records.specs.declared.category.ObjcCategory.{ObjcCategory}
 use Rattle.walks.specs.Slots.{address_in, among}
 use Rattle.walks.proofs.SlotLaws.{among_other, among_word}
-use Rattle.dispatch.specs.declared.sources.Side.{Side}
-use Rattle.dispatch.specs.Sources.{source_of, methods_on}
 use Rattle.reads.specs.Text.{or_none}
-use Rattle.dispatch.specs.SlotSources.{category_slots, listed_at, held_in, held, held_before, taking, slot_total}
+use Rattle.dispatch.specs.SlotSources.{category_slots, listed_at, held_in, held, held_before, slot_total}
 
 held_length : (t : Tables) (slots : List ℕ) → length (held_in t slots) ≡ length slots
 unfolding held_in
@@ -54,20 +48,3 @@ module _ (t : Tables) where
   pub held_nowhere : (k va i : ℕ) → i ≡ k → among va (take i (held t)) ≡ false → false ≡ held_before t k va
   unfolding held_before
   held_nowhere k va i e h = sym (ap (λ (j : ℕ). among va (take j (held t))) (sym e) ∙ h)
-
--- A category takes part if its class address is the class and no earlier slot holds it.
-module _ (t : Tables) (s : Side) (class k va : ℕ) (c : ObjcCategory) where
-  pub taking_other : (c.class_address ≡ class → ⊥) → absent NoRecord ≡ taking t s class k va c
-  unfolding taking
-  taking_other n = sym (choose_false _ _ (ne_eqb c.class_address class n))
-
-  module _ (h : c.class_address ≡ class) {b : Bool} (e : b ≡ held_before t k va) where
-    pub taking_met : b ≡ true → absent NoRecord ≡ taking t s class k va c
-    unfolding taking
-    taking_met g = sym (choose_true _ _ (eq-eqb c.class_address class h) ∙ choose_true _ _ (sym e ∙ g))
-
-    pub taking_new : b ≡ false → {list : ℕ} → list ≡ methods_on s c → value (source_of c.address list) ≡ taking t s class k va c
-    unfolding taking
-    taking_new g m =
-        ap (λ (l : ℕ). value (source_of c.address l)) m
-        ∙ sym (choose_true _ _ (eq-eqb c.class_address class h) ∙ choose_false _ _ (sym e ∙ g))

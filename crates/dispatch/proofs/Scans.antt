@@ -15,11 +15,11 @@ use Rattle.dispatch.specs.declared.rows.Appearance.{Appearance}
 use Rattle.dispatch.specs.declared.effective.Counted.{Counted}
 use Rattle.dispatch.specs.declared.effective.Counted.TheVariants as counted
 use Rattle.dispatch.specs.declared.rows.Position.{Position}
-use Rattle.dispatch.specs.declared.rows.Next.{Next}
-use Rattle.dispatch.specs.declared.rows.Next.TheVariants as next
-use Rattle.dispatch.specs.Appearances.{Rows, ended, also}
+use Rattle.std.specs.Prelude.{Option, None, Some, Result, Ok}
+use Rattle.reads.specs.declared.answer.Question.{Question}
+use Rattle.dispatch.specs.Appearances.{Rows, also}
 use Rattle.dispatch.specs.Dispatch.{same_selector, comes_before, has_earlier, firsts, standing_for, effective_of, words, filled}
-use Rattle.dispatch.specs.Position.{ahead, NextFrom}
+use Rattle.dispatch.specs.Position.{ahead, NextFrom, ReachedFrom}
 use Rattle.dispatch.specs.Claims.{In, bytes_of, Ordered, ordered_next}
 use Rattle.dispatch.specs.Table.{marks, note, note_all, Holds, Noted, Origins, Named}
 use Rattle.dispatch.specs.Written.{few_rows, few_firsts, CountedAll, Tabled, WroteAll}
@@ -154,50 +154,61 @@ module _ (files : List (List ℕ)) (all : List Appearance) (old : List ℕ) wher
             ∙ ap (λ (i : ℕ). words (effective_of files all) ++ drop (4 * i) old) (sym many);
       }
 
-module _ {t : Tables} {s : Side} {class : ℕ} {p q : Position} {r : Next} (h : NextFrom t s class p q r) where
-  was : {x : Next} → r ≡ x → NextFrom t s class p q x
-  was e = subst (λ (x : Next). NextFrom t s class p q x) e h
+-- The end, and the rows that were read.
+module _ {t : Tables} {s : Side} {class : ℕ} {p q : Position} {r : Result (Option Appearance) Question} (h : NextFrom t s class p q r) where
+  came : {x : Result (Option Appearance) Question} → r ≡ x → NextFrom t s class p q x
+  came e = subst (λ (x : Result (Option Appearance) Question). NextFrom t s class p q x) e h
+
+  pub next_reached : {o : Option Appearance} → r ≡ Ok o → ReachedFrom t s class p q o
+  next_reached {o} g = go o (came g)
+    where
+      go : (o : Option Appearance) → NextFrom t s class p q (Ok o) → ReachedFrom t s class p q o
+      go (Some b) w = record { reaches = w.comes }
+      go None w = record { reaches = ap (λ (l : Rows). l.rows) w.comes }
+
+  module _ {e : Outcome (Unit {0})} (i : (ahead t s class p).end ≡ e) where
+    pub end_row : {b : Appearance} → r ≡ Ok (Some b) → (ahead t s class q).end ≡ e
+    end_row g = ap (λ (l : Rows). l.end) (sym (came g).comes.0) ∙ i
+
+    pub end_end : {o : Option Appearance} → r ≡ Ok o → ((b : Appearance) → o ≡ Some b → ⊥) → value tt ≡ e
+    end_end {o} g n = go o (came g) n ∙ i
+      where
+        go : (o : Option Appearance) → NextFrom t s class p q (Ok o) → ((b : Appearance) → o ≡ Some b → ⊥) → value tt ≡ (ahead t s class p).end
+        go (Some b) w n = absurd (n b refl)
+        go None w n = ap (λ (l : Rows). l.end) (sym w.comes)
+
+module _ {t : Tables} {s : Side} {class : ℕ} {p q : Position} {r : Option Appearance} (h : ReachedFrom t s class p q r) where
+  was : {x : Option Appearance} → r ≡ x → ReachedFrom t s class p q x
+  was e = subst (λ (x : Option Appearance). ReachedFrom t s class p q x) e h
 
   -- The rows after a row come after it.
-  rows_after : {b : Appearance} → r ≡ next.Row b → (x : Appearance) → In x (ahead t s class q).rows → comes_before b x ≡ true
-  rows_after g = first_before (subst (λ (l : Rows). Ordered l.rows) (was g).comes.0 (ahead_ordered t s class p))
+  rows_after : {b : Appearance} → r ≡ Some b → (x : Appearance) → In x (ahead t s class q).rows → comes_before b x ≡ true
+  rows_after g = first_before (subst (λ (l : Rows). Ordered l.rows) (was g).reaches.0 (ahead_ordered t s class p))
     where
       first_before : {b : Appearance} {more : List Appearance} → Ordered (b ∷ more) → (x : Appearance) → In x more → comes_before b x ≡ true
       first_before (ordered_next f o) = f
 
   -- No row is left, at the end or where a lookup is refused.
-  none_left : ((b : Appearance) → r ≡ next.Row b → ⊥) → (ahead t s class p).rows ≡ []
+  none_left : ((b : Appearance) → r ≡ Some b → ⊥) → (ahead t s class p).rows ≡ []
   none_left n = go r h n
     where
-      go : (x : Next) → NextFrom t s class p q x → ((b : Appearance) → x ≡ next.Row b → ⊥) → (ahead t s class p).rows ≡ []
-      go (next.Row b) w n = absurd (n b refl)
-      go next.End w n = ap (λ (l : Rows). l.rows) w.comes
-      go (next.Refused k) w n = ap (λ (l : Rows). l.rows) w.comes
+      go : (x : Option Appearance) → ReachedFrom t s class p q x → ((b : Appearance) → x ≡ Some b → ⊥) → (ahead t s class p).rows ≡ []
+      go (Some b) w n = absurd (n b refl)
+      go None w n = w.reaches
 
   -- Whatever is made of the rows ahead.
   module _ {X : Type 0} (f : Rows → X) {e : X} (i : f (ahead t s class p) ≡ e) where
-    by_row : {b : Appearance} → r ≡ next.Row b → f (also b (ahead t s class q)) ≡ e
-    by_row g = ap f (sym (was g).comes.0) ∙ i
-
-    by_end : r ≡ next.End → f ended ≡ e
-    by_end g = ap f (sym (was g).comes) ∙ i
-
-  -- The end.
-  module _ {e : Outcome (Unit {0})} (i : (ahead t s class p).end ≡ e) where
-    pub end_row : {b : Appearance} → r ≡ next.Row b → (ahead t s class q).end ≡ e
-    end_row g = by_row (λ l. l.end) i g
-
-    pub end_end : r ≡ next.End → value tt ≡ e
-    end_end g = by_end (λ l. l.end) i g
+    by_row : {b : Appearance} → r ≡ Some b → f (also b (ahead t s class q)) ≡ e
+    by_row g = ap f (sym (was g).reaches.0) ∙ i
 
   -- An earlier row with a's selector.
   module _ (files : List (List ℕ)) (a : Appearance) {e : Bool} (i : has_earlier files a (ahead t s class p).rows ≡ e) where
-    pub earlier_stop : {b : Appearance} {y : Bool} → r ≡ next.Row b → y ≡ comes_before b a → not y ≡ true → false ≡ e
+    pub earlier_stop : {b : Appearance} {y : Bool} → r ≡ Some b → y ≡ comes_before b a → not y ≡ true → false ≡ e
     earlier_stop {b} g u v =
         sym (past_place files a b (ahead t s class q).rows (ahead_ordered t s class q)
         (rows_after g) (sym u ∙ not-true _ v)) ∙ by_row (λ l. has_earlier files a l.rows) i g
 
-    module _ {b : Appearance} {y z : Bool} (g : r ≡ next.Row b) (u : y ≡ comes_before b a) (v : not y ≡ false) (m : z ≡ same_selector files a.selector b.selector) where
+    module _ {b : Appearance} {y z : Bool} (g : r ≡ Some b) (u : y ≡ comes_before b a) (v : not y ≡ false) (m : z ≡ same_selector files a.selector b.selector) where
       both : (comes_before b a && same_selector files a.selector b.selector) ≡ z
       both = rw (sym u ∙ not-false _ v) (sym m)
 
@@ -209,45 +220,45 @@ module _ {t : Tables} {s : Side} {class : ℕ} {p q : Position} {r : Next} (h : 
       unfolding has_earlier
       earlier_row n = or_next _ _ (both ∙ n) (by_row (λ l. has_earlier files a l.rows) i g)
 
-    pub earlier_none : ((b : Appearance) → r ≡ next.Row b → ⊥) → false ≡ e
+    pub earlier_none : ((b : Appearance) → r ≡ Some b → ⊥) → false ≡ e
     unfolding has_earlier
     earlier_none n = rw (none_left n) at i
 
   -- The rows counted.
   module _ (room : ℕ) {e : Bool} (i : few_rows (ahead t s class p).rows room ≡ e) where
-    pub rows_row : {b : Appearance} → r ≡ next.Row b → (room ≡ 0 → ⊥) → few_rows (ahead t s class q).rows (room - 1) ≡ e
+    pub rows_row : {b : Appearance} → r ≡ Some b → (room ≡ 0 → ⊥) → few_rows (ahead t s class q).rows (room - 1) ≡ e
     unfolding few_rows
     rows_row g n =
         let m = length (ahead t s class q).rows in
         le_same m (room - 1) (suc m) room (λ a. omega (arith, n)) (λ a. omega (arith, n)) ∙ by_row (λ l. few_rows l.rows room) i g
 
-    pub rows_end : r ≡ next.End → true ≡ e
+    pub rows_end : ((b : Appearance) → r ≡ Some b → ⊥) → true ≡ e
     unfolding few_rows
-    rows_end g = sym (le-leb 0 room (omega arith)) ∙ by_end (λ l. few_rows l.rows room) i g
+    rows_end g = sym (le-leb 0 room (omega arith)) ∙ rw (none_left g) at i
 
   -- Question 22.
   module _ (files : List (List ℕ)) (all : List Appearance) (room : ℕ) {e : Bool} (i : few_firsts files all (ahead t s class p).rows room ≡ e) where
-    pub fit_seen : {b : Appearance} {y : Bool} → r ≡ next.Row b → y ≡ has_earlier files b all → y ≡ true
+    pub fit_seen : {b : Appearance} {y : Bool} → r ≡ Some b → y ≡ has_earlier files b all → y ≡ true
         → few_firsts files all (ahead t s class q).rows room ≡ e
     unfolding few_firsts
     fit_seen g u v = ap (λ l. leb (length l) room) (sym (first_seen files all _ _ (sym u ∙ v))) ∙ by_row (λ l. few_firsts files all l.rows room) i g
 
-    fit_new : {b : Appearance} {y : Bool} → r ≡ next.Row b → y ≡ has_earlier files b all → y ≡ false
+    fit_new : {b : Appearance} {y : Bool} → r ≡ Some b → y ≡ has_earlier files b all → y ≡ false
         → leb (suc (length (firsts files all (ahead t s class q).rows))) room ≡ e
     unfolding few_firsts
     fit_new g u v = ap (λ l. leb (length l) room) (sym (first_new files all _ _ (sym u ∙ v))) ∙ by_row (λ l. few_firsts files all l.rows room) i g
 
-    pub fit_none : {b : Appearance} {y : Bool} → r ≡ next.Row b → y ≡ has_earlier files b all → y ≡ false → room ≡ 0 → false ≡ e
+    pub fit_none : {b : Appearance} {y : Bool} → r ≡ Some b → y ≡ has_earlier files b all → y ≡ false → room ≡ 0 → false ≡ e
     fit_none g u v z = sym (lt-leb _ room (omega arith)) ∙ fit_new g u v
 
-    pub fit_row : {b : Appearance} {y : Bool} → r ≡ next.Row b → y ≡ has_earlier files b all → y ≡ false → (room ≡ 0 → ⊥)
+    pub fit_row : {b : Appearance} {y : Bool} → r ≡ Some b → y ≡ has_earlier files b all → y ≡ false → (room ≡ 0 → ⊥)
         → few_firsts files all (ahead t s class q).rows (room - 1) ≡ e
     unfolding few_firsts
     fit_row g u v n =
         let m = length (firsts files all (ahead t s class q).rows) in
         le_same m (room - 1) (suc m) room (λ a. omega (arith, n)) (λ a. omega (arith, n)) ∙ fit_new g u v
 
-    pub fit_all : ((b : Appearance) → r ≡ next.Row b → ⊥) → true ≡ e
+    pub fit_all : ((b : Appearance) → r ≡ Some b → ⊥) → true ≡ e
     unfolding firsts few_firsts
     fit_all n = sym (le-leb 0 room (omega arith)) ∙ rw (none_left n) at i
 
@@ -257,11 +268,11 @@ module _ {t : Tables} {s : Side} {class : ℕ} {p q : Position} {r : Next} (h : 
     by : {l : Rows} → ahead t s class p ≡ l → Noting files all old l.rows count result
     by e = subst (λ (l : Rows). Noting files all old l.rows count result) e w
 
-    pub noting_row : 4 * length (firsts files all all) ≤ length old → {b : Appearance} {n : ℕ} {after : List ℕ} → r ≡ next.Row b → Noted files result count b n after
+    pub noting_row : 4 * length (firsts files all all) ≤ length old → {b : Appearance} {n : ℕ} {after : List ℕ} → r ≡ Some b → Noted files result count b n after
         → Noting files all old (ahead t s class q).rows n after
     unfolding note_all
     noting_row room {b} g d =
-        let v = by (was g).comes.0 in
+        let v = by (was g).reaches.0 in
         record {
           table = note files b v.table;
           holds = d.holds old v.table v.holds
@@ -271,11 +282,11 @@ module _ {t : Tables} {s : Side} {class : ℕ} {p q : Position} {r : Next} (h : 
           same = d.same ∙ v.same;
         }
 
-    pub counting_row : count < length result / 4 → {b : Appearance} {n : ℕ} {after : List ℕ} → r ≡ next.Row b → Noted files result count b n after
+    pub counting_row : count < length result / 4 → {b : Appearance} {n : ℕ} {after : List ℕ} → r ≡ Some b → Noted files result count b n after
         → Noting files all old (ahead t s class q).rows n after
     unfolding note_all
     counting_row l {b} g d =
-        let v = by (was g).comes.0 in
+        let v = by (was g).reaches.0 in
         record {
           table = note files b v.table;
           holds = d.holds old v.table v.holds (omega (arith, note_few files b v.table, v.holds.many, v.same)) v.same;
@@ -283,5 +294,5 @@ module _ {t : Tables} {s : Side} {class : ℕ} {p q : Position} {r : Next} (h : 
           same = d.same ∙ v.same;
         }
 
-    pub noting_all : ((b : Appearance) → r ≡ next.Row b → ⊥) → Noting files all old [] count result
+    pub noting_all : ((b : Appearance) → r ≡ Some b → ⊥) → Noting files all old [] count result
     noting_all n = subst (λ (l : List Appearance). Noting files all old l count result) (none_left n) w

@@ -3,16 +3,12 @@ use Prim.Native.Nat.{ℕ, suc, ◌+◌, ◌-◌, ◌^◌, ◌<◌, ◌≤◌}
 use mathlib.Core.Path.{◌≡◌, refl, ap, sym, subst, ◌∙◌}
 use native.Mathlib.Numerals.{add-one}
 use native.Mathlib.Omega.{arith}
-use Rattle.reads.specs.Outcome.{Outcome, value, absent, and_then}
+use Rattle.reads.specs.Outcome.{Outcome, value, absent}
 use Rattle.reads.specs.declared.answer.Missing.{Missing}
-use Rattle.reads.specs.declared.answer.Reason.{Reason}
-use Rattle.reads.specs.declared.answer.Missing.TheVariants.{Absent, Refused}
 use Rattle.pointers.specs.Tables.{Tables, image_in}
-use Rattle.records.specs.List.{list_at, entry_address}
-use Rattle.records.specs.Row.{row_at}
+use Rattle.records.specs.List.{list_at}
 use Rattle.records.specs.Search.{all_from, first_readable}
 use Rattle.records.specs.declared.list.Layout.{Layout}
-use Rattle.records.specs.declared.row.Row.{Row}
 use Rattle.records.specs.declared.list.ListKind.TheVariants.{Methods}
 use Rattle.records.proofs.Readables.{rest_of_some, rest_of_none, rest_from_0, found}
 use Rattle.dispatch.specs.declared.sources.Side.{Side}
@@ -21,10 +17,13 @@ use Rattle.dispatch.specs.declared.rows.Appearance.{Appearance}
 use Rattle.dispatch.specs.declared.rows.Position.{Position}
 use Rattle.dispatch.specs.declared.rows.Step.TheVariants as step
 use Rattle.dispatch.specs.SlotSources.{slot_source, slot_rows, slot_total}
-use Rattle.dispatch.specs.Appearances.{Rows, adding, appearing, appearance, entry_rows, list_rows, source_rows}
-use Rattle.dispatch.specs.Position.{moved_to, nowhere, in_list, ahead, weight, EnteredAt, SteppedFrom}
-use Rattle.std.specs.Prelude.{Result, Ok, Err, None, Some}
-use Rattle.reads.specs.Answer.{outcome}
+use Rattle.dispatch.specs.Appearances.{Rows, adding, appearance, entry_rows, list_rows, source_rows}
+use Rattle.dispatch.specs.Asking.{optional}
+use Rattle.dispatch.proofs.Asking.{there_is, none_is, refused_is}
+use Rattle.dispatch.specs.Position.{moved_to, nowhere, in_list, ahead, weight, EnteredAt, SteppedFrom, NextFrom, ReachedFrom}
+use Rattle.std.specs.Result.{result_unwrap_or}
+use Rattle.std.specs.Prelude.{Option, None, Some, Result, Ok, Err}
+use Rattle.reads.specs.Answer.{outcome, answered}
 use Rattle.reads.specs.declared.answer.Question.{Question}
 
 -- Entering source n.
@@ -36,27 +35,27 @@ module _ (t : Tables) (n : ℕ) where
   empty : (o : Outcome Source) → ((rest : Rows) → source_rows t n o rest ≡ rest) → {p : Position} → p ≡ nowhere n → EnteredAt t n o (Ok p)
   empty o f e = record { came = (ap (λ (q : Position). q.source) e, λ rest. f rest ∙ sym (ap (λ (q : Position). in_list t q rest) e ∙ nothing_in rest)) }
 
-  module _ (s : Source) {a : (Result Layout Missing)} (e : outcome a ≡ list_at t Methods s.list) where
-    pub enter_there : {h : Layout} → a ≡ Ok h → EnteredAt t n (value s) (Ok (record { source = n; origin = s.origin; list = h; entry = 0 }))
+  module _ (s : Source) {a : Result (Option Layout) Question} (e : answered a ≡ optional (list_at t Methods s.list)) where
+    pub enter_there : {h : Layout} → a ≡ Ok (Some h) → EnteredAt t n (value s) (Ok (record { source = n; origin = s.origin; list = h; entry = 0 }))
     unfolding source_rows list_rows in_list
-    enter_there {h} g = record { came = (refl, λ rest. rw (← e, g, rest_from_0 (image_in t) h)) }
+    enter_there {h} g = record { came = (refl, λ rest. rw (there_is (list_at t Methods s.list) (sym e ∙ ap answered g), rest_from_0 (image_in t) h)) }
 
-    pub enter_no_list : {m : Missing} {why : Reason} {p : Position} → a ≡ Err m → m ≡ Absent why → p ≡ nowhere n → EnteredAt t n (value s) (Ok p)
+    pub enter_no_list : {p : Position} → a ≡ Ok None → p ≡ nowhere n → EnteredAt t n (value s) (Ok p)
     unfolding source_rows list_rows
-    enter_no_list g h = empty (value s) (λ rest. rw (← e, g, h))
+    enter_no_list g h = let q = none_is (list_at t Methods s.list) (sym e ∙ ap answered g) in empty (value s) (λ rest. rw q.1) h
 
-    pub enter_list_refused : {m : Missing} {k : Question} → a ≡ Err m → m ≡ Refused k → EnteredAt t n (value s) (Err k)
+    pub enter_list_refused : {k : Question} → a ≡ Err k → EnteredAt t n (value s) (Err k)
     unfolding source_rows list_rows
-    enter_list_refused g h = record { came = λ rest. rw (← e, g, h) }
+    enter_list_refused g = record { came = λ rest. rw (refused_is (list_at t Methods s.list) (sym e ∙ ap answered g)) }
 
-  module _ {a : (Result Source Missing)} where
-    pub enter_absent : {m : Missing} {why : Reason} {p : Position} → a ≡ Err m → m ≡ Absent why → p ≡ nowhere n → EnteredAt t n (outcome a) (Ok p)
+  module _ (o : Outcome Source) {a : Result (Option Source) Question} (e : answered a ≡ optional o) where
+    pub enter_absent : {p : Position} → a ≡ Ok None → p ≡ nowhere n → EnteredAt t n o (Ok p)
     unfolding source_rows
-    enter_absent {why = why} g h e = rw (g, h) (empty (absent why) (λ rest. refl) e)
+    enter_absent g h = let q = none_is o (sym e ∙ ap answered g) in rw q.1 (empty (absent q.0) (λ rest. refl) h)
 
-    pub enter_refused : {m : Missing} {k : Question} → a ≡ Err m → m ≡ Refused k → EnteredAt t n (outcome a) (Err k)
+    pub enter_refused : {k : Question} → a ≡ Err k → EnteredAt t n o (Err k)
     unfolding source_rows
-    enter_refused g h = rw (g, h) (record { came = λ rest. refl })
+    enter_refused g = rw (refused_is o (sym e ∙ ap answered g)) (record { came = λ rest. refl })
 
 -- What was entered, and what a step gave, by the case that the code found.
 pub was_entered : {t : Tables} {n : ℕ} {o : Outcome Source} {r q : (Result Position Question)} → EnteredAt t n o r → r ≡ q → EnteredAt t n o q
@@ -80,15 +79,16 @@ module _ (t : Tables) (s : Side) (class : ℕ) (p : Position) where
       light : weight t next < weight t p
       light = rw moved (lighter h)
 
-      module _ {a : (Result Appearance Missing)} (r : outcome a ≡ appearance t p.source p.origin p.list j) where
-        pub settle_row : {row : Appearance} → a ≡ Ok row → SteppedFrom t s class p (step.Row (record { row = row; next = next }))
-        settle_row g = record { went = (rw (next_entry, ← r, g, moved), light) }
+      module _ {a : Result (Option Appearance) Question} (r : answered a ≡ optional (appearance t p.source p.origin p.list j)) where
+        pub settle_row : {row : Appearance} → a ≡ Ok (Some row) → SteppedFrom t s class p (Ok (step.Row (record { row = row; next = next })))
+        settle_row g = record { went = (rw (next_entry, there_is (appearance t p.source p.origin p.list j) (sym r ∙ ap answered g), moved), light) }
 
-        pub settle_passed : {m : Missing} {why : Reason} → a ≡ Err m → m ≡ Absent why → SteppedFrom t s class p (step.Passed next)
-        settle_passed g q = record { went = (rw (next_entry, ← r, g, q, moved), light) }
+        pub settle_passed : a ≡ Ok None → SteppedFrom t s class p (Ok (step.Passed next))
+        settle_passed g = let q = none_is (appearance t p.source p.origin p.list j) (sym r ∙ ap answered g) in record { went = (rw (next_entry, q.1, moved), light) }
 
-        pub settle_refused : {m : Missing} {k : Question} → a ≡ Err m → m ≡ Refused k → SteppedFrom t s class p (step.Refused k)
-        settle_refused g q = record { went = rw (next_entry, ← r, g, q) }
+    pub settle_refused : {a : Result (Option Appearance) Question} → answered a ≡ optional (appearance t p.source p.origin p.list j) → {k : Question} → a ≡ Err k
+        → SteppedFrom t s class p (Err k)
+    settle_refused r g = record { went = rw (next_entry, refused_is (appearance t p.source p.origin p.list j) (sym r ∙ ap answered g)) }
 
   -- No entry is left.
   module _ (e : first_readable (image_in t) p.list p.entry ≡ None) where
@@ -96,7 +96,7 @@ module _ (t : Tables) (s : Side) (class : ℕ) (p : Position) where
     unfolding ahead in_list entry_rows
     next_list = rw (rest_of_none (image_in t) p.list p.entry e)
 
-    pub next_end : slot_total t ≤ p.source → SteppedFrom t s class p step.End
+    pub next_end : slot_total t ≤ p.source → SteppedFrom t s class p (Ok step.End)
     unfolding slot_rows
     next_end h = let z : slot_total t - p.source ≡ 0 = omega arith in record { went = next_list ∙ rw z }
 
@@ -108,19 +108,20 @@ module _ (t : Tables) (s : Side) (class : ℕ) (p : Position) where
 
       module _ (a : Result Source Missing) (o : outcome a ≡ slot_source t s class p.source) {r : (Result Position Question)}
           (f : EnteredAt t (p.source + 1) (outcome a) r) where
-        pub next_entered : p.entry < 2 ^ 32 → {q : Position} → r ≡ Ok q → SteppedFrom t s class p (step.Passed q)
+        pub next_entered : p.entry < 2 ^ 32 → {q : Position} → r ≡ Ok q → SteppedFrom t s class p (Ok (step.Passed q))
         unfolding ahead weight
         next_entered b {q} g =
             let d = (was_entered f g).came in
             record { went = (rw (next_slot, ← o) (d.1 _ ∙ rw d.0), omega (arith, d.0)) }
 
-        pub next_refused : {k : Question} → r ≡ Err k → SteppedFrom t s class p (step.Refused k)
+        pub next_refused : {k : Question} → r ≡ Err k → SteppedFrom t s class p (Err k)
         next_refused {k} g =
             let d = (was_entered f g).came in
             record { went = rw (next_slot, ← o) (d _) }
 
--- The row of an entry.
-pub appearance_of : (t : Tables) (n origin : ℕ) (h : Layout) (j : ℕ) (r : Result Appearance Missing) (a : Result Row Missing)
-    → outcome r ≡ and_then (outcome a) (appearing n origin j) → outcome a ≡ row_at t h.kind (entry_address h j) → outcome r ≡ appearance t n origin h j
-unfolding appearance
-appearance_of t n origin h j r a e g = e ∙ ap (λ o. and_then o (appearing n origin j)) g
+-- A row of what was read.
+pub reached_by : (t : Tables) (s : Side) (class : ℕ) (p q : Position) (r : Result (Option Appearance) Question) → NextFrom t s class p q r
+    → ReachedFrom t s class p q (result_unwrap_or r None)
+reached_by t s class p q (Ok (Some row)) w = record { reaches = w.comes }
+reached_by t s class p q (Ok None) w = record { reaches = ap (λ (l : Rows). l.rows) w.comes }
+reached_by t s class p q (Err k) w = record { reaches = ap (λ (l : Rows). l.rows) w.comes }

@@ -1,5 +1,5 @@
 -- A position among the rows that take part: what lies ahead of it, and what a step from it gives.
-use Rattle.std.specs.Prelude.{ℕ, ◌+◌, ◌-◌, ◌*◌, ◌^◌, ◌<◌, ◌≡◌, Result, Ok, Err}
+use Rattle.std.specs.Prelude.{ℕ, [], ◌+◌, ◌-◌, ◌*◌, ◌^◌, ◌<◌, ◌≡◌, Option, None, Some, Result, Ok, Err}
 use Rattle.reads.specs.Outcome.{Outcome}
 use Rattle.pointers.specs.Tables.{Tables, image_in}
 use Rattle.records.specs.List.{entry}
@@ -7,9 +7,8 @@ use Rattle.records.specs.Search.{all_from}
 use Rattle.records.specs.declared.list.RowKind.TheVariants as kinds
 use Rattle.dispatch.specs.declared.sources.Side.{Side}
 use Rattle.dispatch.specs.declared.sources.Source.{Source}
+use Rattle.dispatch.specs.declared.rows.Appearance.{Appearance}
 use Rattle.dispatch.specs.declared.rows.Position.{Position}
-use Rattle.dispatch.specs.declared.rows.Next.{Next}
-use Rattle.dispatch.specs.declared.rows.Next.TheVariants as next
 use Rattle.dispatch.specs.declared.rows.Step.{Step}
 use Rattle.dispatch.specs.declared.rows.Step.TheVariants as step
 use Rattle.dispatch.specs.Appearances.{Rows, ended, refusing, also, entry_rows, source_rows}
@@ -44,21 +43,29 @@ Came t n o (Err k) = (rest : Rows) → source_rows t n o rest ≡ refusing k
 pub record EnteredAt (t : Tables) (n : ℕ) (o : Outcome Source) (r : Result Position Question) : Type 0 where
   pub came : Came t n o r
 
--- What a step gives: the next row and the position after it, or a position with the same rows ahead, or the end.
-abbrev pub Went : Tables → Side → ℕ → Position → Step → Type 0
-Went t s class p (step.Row r) = (ahead t s class p ≡ also r.row (ahead t s class r.next)) × (weight t r.next < weight t p)
-Went t s class p (step.Passed q) = (ahead t s class p ≡ ahead t s class q) × (weight t q < weight t p)
-Went t s class p step.End = ahead t s class p ≡ ended
-Went t s class p (step.Refused k) = ahead t s class p ≡ refusing k
+-- What a step gives: the next row and the position after it, or a position with the same rows ahead, or the end; or the question that refuses.
+abbrev pub Went : Tables → Side → ℕ → Position → Result Step Question → Type 0
+Went t s class p (Ok (step.Row r)) = (ahead t s class p ≡ also r.row (ahead t s class r.next)) × (weight t r.next < weight t p)
+Went t s class p (Ok (step.Passed q)) = (ahead t s class p ≡ ahead t s class q) × (weight t q < weight t p)
+Went t s class p (Ok step.End) = ahead t s class p ≡ ended
+Went t s class p (Err k) = ahead t s class p ≡ refusing k
 
-pub record SteppedFrom (t : Tables) (s : Side) (class : ℕ) (p : Position) (r : Step) : Type 0 where
+pub record SteppedFrom (t : Tables) (s : Side) (class : ℕ) (p : Position) (r : Result Step Question) : Type 0 where
   pub went : Went t s class p r
 
--- What the next row gives: it, and the position after it; or the end.
-abbrev pub Comes : Tables → Side → ℕ → Position → Position → Next → Type 0
-Comes t s class p q (next.Row row) = (ahead t s class p ≡ also row (ahead t s class q)) × (weight t q < weight t p)
-Comes t s class p q next.End = ahead t s class p ≡ ended
-Comes t s class p q (next.Refused k) = ahead t s class p ≡ refusing k
+-- What the next row gives: it, and the position after it; or the end; or the question that refuses.
+abbrev pub Comes : Tables → Side → ℕ → Position → Position → Result (Option Appearance) Question → Type 0
+Comes t s class p q (Ok (Some row)) = (ahead t s class p ≡ also row (ahead t s class q)) × (weight t q < weight t p)
+Comes t s class p q (Ok None) = ahead t s class p ≡ ended
+Comes t s class p q (Err k) = ahead t s class p ≡ refusing k
 
-pub record NextFrom (t : Tables) (s : Side) (class : ℕ) (p q : Position) (r : Next) : Type 0 where
+pub record NextFrom (t : Tables) (s : Side) (class : ℕ) (p q : Position) (r : Result (Option Appearance) Question) : Type 0 where
   pub comes : Comes t s class p q r
+
+-- What can be reached next: a row, and the position after it; at the end, and where a question refuses, there is none.
+abbrev pub Reaches : Tables → Side → ℕ → Position → Position → Option Appearance → Type 0
+Reaches t s class p q (Some row) = (ahead t s class p ≡ also row (ahead t s class q)) × (weight t q < weight t p)
+Reaches t s class p q None = (ahead t s class p).rows ≡ []
+
+pub record ReachedFrom (t : Tables) (s : Side) (class : ℕ) (p q : Position) (r : Option Appearance) : Type 0 where
+  pub reaches : Reaches t s class p q r

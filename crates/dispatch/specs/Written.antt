@@ -1,13 +1,10 @@
 -- What the passes over the rows say: the end, the count, the room, and what is written.
-use Rattle.std.specs.Prelude.{ℕ, ◌*◌, ◌≤◌, ◌≡◌, Bool, true, false, List, leb, length}
+use Rattle.std.specs.Prelude.{ℕ, ◌*◌, ◌≤◌, ◌≡◌, Bool, true, false, List, leb, length, Result, Ok, Err}
 use Rattle.dispatch.specs.declared.rows.Appearance.{Appearance}
 use Rattle.dispatch.specs.declared.effective.Counted.{Counted}
 use Rattle.dispatch.specs.declared.effective.Counted.TheVariants as counted
 use Rattle.reads.specs.Outcome.{value, refused}
-use Rattle.dispatch.specs.declared.effective.Survey.{Survey}
-use Rattle.dispatch.specs.declared.effective.Survey.TheVariants as survey
-use Rattle.dispatch.specs.declared.effective.Fit.{Fit}
-use Rattle.dispatch.specs.declared.effective.Fit.TheVariants as fit
+use Rattle.reads.specs.declared.answer.Question.{Question}
 use Rattle.dispatch.specs.Appearances.{Rows}
 use Rattle.dispatch.specs.Dispatch.{firsts, effective_of, filled}
 use Rattle.dispatch.specs.Table.{Holds}
@@ -20,22 +17,21 @@ few_firsts files all rows room = leb (length (firsts files all rows)) room
 unfoldable pub few_rows : List Appearance → ℕ → Bool
 few_rows rows room = leb (length rows) room
 
--- What a pass to the end says.
-abbrev pub Surveys : Rows → ℕ → Survey → Type 0
-Surveys rs room survey.Fits = (rs.end ≡ value tt) × (few_rows rs.rows room ≡ true)
-Surveys rs room survey.More = rs.end ≡ value tt
-Surveys rs room (survey.Refused k) = rs.end ≡ refused k
+-- What a pass to the end says: that the rows are at most so many, or may be more; or the question that refuses.
+abbrev pub Surveys : Rows → ℕ → Result Bool Question → Type 0
+Surveys rs room (Ok true) = (rs.end ≡ value tt) × (few_rows rs.rows room ≡ true)
+Surveys rs room (Ok false) = rs.end ≡ value tt
+Surveys rs room (Err k) = rs.end ≡ refused k
 
-pub record Surveyed (rs : Rows) (room : ℕ) (r : Survey) : Type 0 where
+pub record Surveyed (rs : Rows) (room : ℕ) (r : Result Bool Question) : Type 0 where
   pub found : Surveys rs room r
 
 -- What is said of the room for the selectors.
-abbrev pub Rooms : List (List ℕ) → Rows → ℕ → Fit → Type 0
-Rooms files rs room fit.Enough = (rs.end ≡ value tt) × (few_firsts files rs.rows rs.rows room ≡ true)
-Rooms files rs room fit.Short = (rs.end ≡ value tt) × (few_firsts files rs.rows rs.rows room ≡ false)
-Rooms files rs room (fit.Refused k) = rs.end ≡ refused k
+abbrev pub Rooms : List (List ℕ) → Rows → ℕ → Result Bool Question → Type 0
+Rooms files rs room (Ok enough) = (rs.end ≡ value tt) × (few_firsts files rs.rows rs.rows room ≡ enough)
+Rooms files rs room (Err k) = rs.end ≡ refused k
 
-pub record RoomFor (files : List (List ℕ)) (rs : Rows) (room : ℕ) (r : Fit) : Type 0 where
+pub record RoomFor (files : List (List ℕ)) (rs : Rows) (room : ℕ) (r : Result Bool Question) : Type 0 where
   pub told : Rooms files rs room r
 
 -- What a count of the selectors says.

@@ -2,133 +2,71 @@
 ghost use Rattle.std.specs.Prelude.{◌≡◌, ℕ};
 ghost use Rattle.reads.specs.Reference.{before};
 ghost use Rattle.reads.specs.Outcome.{Outcome};
-ghost use Rattle.pointers.specs.Tables.{lent, under};
+ghost use Rattle.pointers.specs.Tables.{under};
 ghost use Rattle.walks.specs.Gather.{of_value, present};
 ghost use Rattle.walks.specs.PlainSections.{plain_categories};
 ghost use Rattle.records.specs.Category.{category_at};
 ghost use Rattle.dispatch.specs.SlotSources.{category_slots, listed_at, settled};
-ghost use Rattle.dispatch.specs.Asking.{each_settled, AnswersAt};
-ghost use Rattle.reads.specs.Answer.{answered};
+ghost use Rattle.dispatch.specs.Asking.{optional, each_settled, AnswersAt};
+ghost use Rattle.reads.specs.Answer.{outcome, answered};
 
-use crate::slots::{listed_at, slot_count};
+use crate::slots::listed_at;
 use pointers::setting::Setting;
+use pointers::tables::Tables;
 use reads::answer::{Missing, Question};
 use records::category::category_at;
+use walks::slots::{Lists, slot_count};
+
+// What is there, nothing where it is absent.
+pub(crate) fn present<T>(found: Result<T, Missing>) -> Result<Option<T>, Question>
+    ensures { answered result ≡ optional (outcome found) }
+{
+    match found {
+        Ok(a) => Ok(Some(a)),
+        Err(Missing::Absent(_)) => Ok(None),
+        Err(Missing::Refused(k)) => Err(k),
+    }
+}
 
 // The slot's lookup.
-fn ask_slot(
-    files: &[&[u8]],
-    segments: &[u64],
-    sections: &[u64],
-    info: &[u8],
-    rebases: &[u64],
-    binds: &[u64],
-    index: &[u32],
-    setting: Setting,
-    k: u64,
-) -> Result<(), Question>
-    ensures { let t = under setting (lent files segments sections info rebases binds index) in
+fn ask_slot(tables: &Tables, setting: Setting, k: u64) -> Result<(), Question>
+    ensures { let t = under setting tables.now in
         answered result ≡ settled (present (listed_at t k)) }
 {
-    match listed_at(
-        files, segments, sections, info, rebases, binds, index, setting, k,
-    ) {
-        Ok(_) => Ok(()),
-        Err(m) => match m {
-            Missing::Absent(_) => Ok(()),
-            Missing::Refused(n) => Err(n),
-        },
-    }
+    present(listed_at(tables, setting, k))?;
+    Ok(())
 }
 
-// The lookups of the category at an address.
-fn ask_record(
-    files: &[&[u8]],
-    segments: &[u64],
-    sections: &[u64],
-    info: &[u8],
-    rebases: &[u64],
-    binds: &[u64],
-    index: &[u32],
-    setting: Setting,
-    va: u64,
-) -> Result<(), Question>
-    ensures { let t = under setting (lent files segments sections info rebases binds index) in
-        answered result ≡ settled (present (category_at t va)) }
-{
-    match category_at(
-        files, segments, sections, info, rebases, binds, index, setting, va,
-    ) {
-        Ok(_) => Ok(()),
-        Err(m) => match m {
-            Missing::Absent(_) => Ok(()),
-            Missing::Refused(n) => Err(n),
-        },
-    }
-}
-
-// Those of the category in a slot.
-fn ask_listed(
-    files: &[&[u8]],
-    segments: &[u64],
-    sections: &[u64],
-    info: &[u8],
-    rebases: &[u64],
-    binds: &[u64],
-    index: &[u32],
-    setting: Setting,
-    k: u64,
-) -> Result<(), Question>
-    ensures { let t = under setting (lent files segments sections info rebases binds index) in
+// The lookups of the category in a slot.
+fn ask_listed(tables: &Tables, setting: Setting, k: u64) -> Result<(), Question>
+    ensures { let t = under setting tables.now in
         answered result ≡ settled (of_value (listed_at t k) (λ va. present (category_at t va))) }
 {
-    match listed_at(
-        files, segments, sections, info, rebases, binds, index, setting, k,
-    ) {
-        Ok(va) => ask_record(
-            files, segments, sections, info, rebases, binds, index, setting, va,
-        ),
-        Err(m) => match m {
-            Missing::Absent(_) => Ok(()),
-            Missing::Refused(n) => Err(n),
-        },
+    if let Some(va) = present(listed_at(tables, setting, k))? {
+        present(category_at(tables, setting, va))?;
     }
+    Ok(())
 }
 
 // Asks at each slot, up to the first that refuses.
+#[tactic(auto, using(crate::proofs::Asking::each_next, crate::proofs::Asking::each_end))]
 fn ask_each<F: Fn(u64) -> Result<(), Question>>(sections: &[u64], ask: F) -> Result<(), Question>
     requires { F.IsAlwaysCallable ask }
     ensures { (s : ℕ → Outcome (Unit {0})) → AnswersAt (F.post ask) s (category_slots (before sections))
         → answered result ≡ each_settled s (category_slots (before sections)) }
 {
-    for k in 0..slot_count(sections) {
+    for k in 0..slot_count(sections, Lists::Categories) {
         ask(k)?;
     }
     Ok(())
 }
 
 // Whether the categories are listed, or the first question that refuses.
-pub(crate) fn ask_categories(
-    files: &[&[u8]],
-    segments: &[u64],
-    sections: &[u64],
-    info: &[u8],
-    rebases: &[u64],
-    binds: &[u64],
-    index: &[u32],
-    setting: Setting,
-) -> Result<(), Question>
-    ensures { let t = under setting (lent files segments sections info rebases binds index) in
+pub(crate) fn ask_categories(tables: &Tables, setting: Setting) -> Result<(), Question>
+    ensures { let t = under setting tables.now in
         answered result ≡ settled (plain_categories t) }
 {
-    ask_each(sections, |k| {
-        ask_slot(
-            files, segments, sections, info, rebases, binds, index, setting, k,
-        )
-    })?;
-    ask_each(sections, |k| {
-        ask_listed(
-            files, segments, sections, info, rebases, binds, index, setting, k,
-        )
-    })
+    let sections = tables.sections();
+    ask_each(sections, |k| { ask_slot(tables, setting, k) })?;
+    ask_each(sections, |k| { ask_listed(tables, setting, k) })
 }

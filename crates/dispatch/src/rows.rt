@@ -1,22 +1,22 @@
 // The rows of the lists that take part, one by one, in the order in which they appear.
 ghost use Rattle.std.specs.Prelude.{◌≡◌, ◌<◌, ◌^◌, None, Some};
-ghost use Rattle.reads.specs.Outcome.{value, and_then};
-ghost use Rattle.reads.specs.Files.{files_lent};
-ghost use Rattle.reads.specs.Place.{image_of};
-ghost use Rattle.pointers.specs.Tables.{lent, under};
+ghost use Rattle.reads.specs.Outcome.{value};
+ghost use Rattle.pointers.specs.Tables.{under, image_in};
 ghost use Rattle.records.specs.Search.{first_readable};
 ghost use Rattle.records.specs.List.{entry_address};
-ghost use Rattle.dispatch.specs.Appearances.{appearing, appearance};
-ghost use Rattle.dispatch.specs.Position.{EnteredAt, SteppedFrom, NextFrom, moved_to, nowhere};
+ghost use Rattle.dispatch.specs.Appearances.{appearance};
+ghost use Rattle.dispatch.specs.Position.{EnteredAt, SteppedFrom, NextFrom, ReachedFrom, moved_to, nowhere};
 ghost use Rattle.reads.specs.Answer.{outcome};
 
-use crate::slots::slot_count;
-use crate::sources::{Side, Source, slot_source};
+use crate::asks::present;
+use crate::sources::{MethodsOf, Source, slot_source};
 use pointers::setting::Setting;
+use pointers::tables::Tables;
 use reads::answer::{Missing, Question, Reason};
 use reads::text::Text;
 use records::list::{Layout, ListKind, RowKind, first_readable, list_at};
 use records::row::{Row, row_at};
+use walks::slots::{Lists, slot_count};
 
 // A row as it appears: its selector, the numbers of its source and of its entry, and the address of the record that its list
 // came from.
@@ -44,21 +44,12 @@ pub struct Reached {
     pub next: Position,
 }
 
-// A step gives the next row, or nothing from what it took, or there was nothing left; or the question that refuses.
+// A step gives the next row, or nothing from what it took, or there was nothing left.
 #[derive(Clone, Copy)]
 pub enum Step {
     Row(Reached),
     Passed(Position),
     End,
-    Refused(Question),
-}
-
-// The next row, or the end; or the question that refuses.
-#[derive(Clone, Copy)]
-pub enum Next {
-    Row(Appearance),
-    End,
-    Refused(Question),
 }
 
 impl Position {
@@ -89,255 +80,135 @@ fn no_rows(source: u64) -> Position
 
 // The first entry of a list.
 fn enter_list(
-    files: &[&[u8]],
-    segments: &[u64],
-    sections: &[u64],
-    info: &[u8],
-    rebases: &[u64],
-    binds: &[u64],
-    index: &[u32],
+    tables: &Tables,
     setting: Setting,
     number: u64,
     source: Source,
 ) -> Result<Position, Question>
-    ensures { let t = under setting (lent files segments sections info rebases binds index) in
+    ensures { let t = under setting tables.now in
         EnteredAt t number (value source) result }
 {
-    match list_at(
-        files,
-        segments,
-        sections,
-        info,
-        rebases,
-        binds,
-        index,
-        setting,
-        ListKind::Methods,
-        source.list,
-    ) {
-        Ok(list) => Ok(Position {
+    match present(list_at(tables, setting, ListKind::Methods, source.list))? {
+        Some(list) => Ok(Position {
             source: number,
             origin: source.origin,
             list,
             entry: 0,
         }),
-        Err(m) => match m {
-            Missing::Absent(_) => Ok(no_rows(number)),
-            Missing::Refused(k) => Err(k),
-        },
+        None => Ok(no_rows(number)),
     }
 }
 
 // The first entry of the source of this number; one that is absent has no rows.
 pub(crate) fn enter(
-    files: &[&[u8]],
-    segments: &[u64],
-    sections: &[u64],
-    info: &[u8],
-    rebases: &[u64],
-    binds: &[u64],
-    index: &[u32],
+    tables: &Tables,
     setting: Setting,
     number: u64,
     source: Result<Source, Missing>,
 ) -> Result<Position, Question>
-    ensures { let t = under setting (lent files segments sections info rebases binds index) in
+    ensures { let t = under setting tables.now in
         EnteredAt t number (outcome source) result }
 {
-    match source {
-        Ok(source) => enter_list(
-            files, segments, sections, info, rebases, binds, index, setting, number, source,
-        ),
-        Err(m) => match m {
-            Missing::Absent(_) => Ok(no_rows(number)),
-            Missing::Refused(k) => Err(k),
-        },
+    match present(source)? {
+        Some(source) => enter_list(tables, setting, number, source),
+        None => Ok(no_rows(number)),
     }
 }
 
-// A row of a method list, by what was read.
-fn appearing(
-    source: u64,
-    origin: u64,
-    j: u64,
-    answer: Result<Row, Missing>,
-) -> Result<Appearance, Missing>
-    ensures { outcome result ≡ and_then (outcome answer) (appearing source origin j) }
-{
-    match answer? {
-        Row::Method(m) => {
-            let selector = m.selector;
-            Ok(Appearance {
-                selector,
-                source,
-                entry: j,
-                origin,
-            })
-        }
-        Row::Ivar(_) => Err(Missing::Absent(Reason::NoRecord)),
-        Row::Property(_) => Err(Missing::Absent(Reason::NoRecord)),
-    }
-}
-
-// The row of entry j.
+// The row of entry j; a method list has no other rows.
+#[tactic(auto, using(reads::proofs::Outcomes::missed_then), unfolding(crate::specs::Appearances::appearance))]
 fn appearance_at(
-    files: &[&[u8]],
-    segments: &[u64],
-    sections: &[u64],
-    info: &[u8],
-    rebases: &[u64],
-    binds: &[u64],
-    index: &[u32],
+    tables: &Tables,
     setting: Setting,
     p: Position,
     j: u64,
 ) -> Result<Appearance, Missing>
     requires { (j < 2 ^ 32) × (entry_address p.list j < 2 ^ 64) }
-    ensures { let t = under setting (lent files segments sections info rebases binds index) in
+    ensures { let t = under setting tables.now in
         outcome result ≡ appearance t p.source p.origin p.list j }
 {
-    let h = p.list;
-    let kind = h.kind;
-    let va = h.base + j * (h.size as u64);
-    let answer = row_at(
-        files, segments, sections, info, rebases, binds, index, setting, kind, va,
-    );
-    appearing(p.source, p.origin, j, answer)
+    let va = p.list.base + j * (p.list.size as u64);
+    match row_at(tables, setting, p.list.kind, va)? {
+        Row::Method(m) => Ok(Appearance {
+            selector: m.selector,
+            source: p.source,
+            entry: j,
+            origin: p.origin,
+        }),
+        Row::Ivar(_) | Row::Property(_) => Err(Missing::Absent(Reason::NoRecord)),
+    }
 }
 
 // Settles entry j, the next that can be read.
-fn settle(
-    files: &[&[u8]],
-    segments: &[u64],
-    sections: &[u64],
-    info: &[u8],
-    rebases: &[u64],
-    binds: &[u64],
-    index: &[u32],
-    setting: Setting,
-    side: Side,
-    class: u64,
-    p: Position,
-    j: u64,
-) -> Step
-    requires { first_readable (image_of (files_lent files.now) segments.now) p.list p.entry ≡ Some j }
-    ensures { let t = under setting (lent files segments sections info rebases binds index) in
-        SteppedFrom t side class p result }
+fn settle(tables: &Tables, of: MethodsOf, p: Position, j: u64) -> Result<Step, Question>
+    requires { first_readable (image_in tables.now) p.list p.entry ≡ Some j }
+    ensures { let t = under of.setting tables.now in
+        SteppedFrom t of.side of.class p result }
 {
-    let answer = appearance_at(
-        files, segments, sections, info, rebases, binds, index, setting, p, j,
-    );
+    let found = present(appearance_at(tables, of.setting, p, j))?;
     let next = p.at(j as u32 + 1);
-    match answer {
-        Ok(row) => Step::Row(Reached { row, next }),
-        Err(m) => match m {
-            Missing::Absent(_) => Step::Passed(next),
-            Missing::Refused(k) => Step::Refused(k),
-        },
+    match found {
+        Some(row) => Ok(Step::Row(Reached { row, next })),
+        None => Ok(Step::Passed(next)),
     }
 }
 
 // Goes on to the next slot.
-fn next_source(
-    files: &[&[u8]],
-    segments: &[u64],
-    sections: &[u64],
-    info: &[u8],
-    rebases: &[u64],
-    binds: &[u64],
-    index: &[u32],
-    setting: Setting,
-    side: Side,
-    class: u64,
-    p: Position,
-) -> Step
-    requires { first_readable (image_of (files_lent files.now) segments.now) p.list p.entry ≡ None }
-    ensures { let t = under setting (lent files segments sections info rebases binds index) in
-        SteppedFrom t side class p result }
+#[tactic(auto, using(crate::proofs::Walks::next_end, crate::proofs::Walks::next_refused))]
+fn next_source(tables: &Tables, of: MethodsOf, p: Position) -> Result<Step, Question>
+    requires { first_readable (image_in tables.now) p.list p.entry ≡ None }
+    ensures { let t = under of.setting tables.now in
+        SteppedFrom t of.side of.class p result }
 {
     let k = p.source;
-    if slot_count(sections) <= k {
-        return Step::End;
+    if slot_count(tables.sections(), Lists::Categories) <= k {
+        return Ok(Step::End);
     }
-    let source = slot_source(
-        files, segments, sections, info, rebases, binds, index, setting, side, class, k,
-    );
-    match enter(
-        files,
-        segments,
-        sections,
-        info,
-        rebases,
-        binds,
-        index,
-        setting,
-        k + 1,
-        source,
-    ) {
-        Ok(q) => Step::Passed(q),
-        Err(n) => Step::Refused(n),
-    }
+    let source = slot_source(tables, of, k);
+    let q = enter(tables, of.setting, k + 1, source)?;
+    Ok(Step::Passed(q))
 }
 
 // A step: the next entry that can be read, or the next slot.
-fn step_from(
-    files: &[&[u8]],
-    segments: &[u64],
-    sections: &[u64],
-    info: &[u8],
-    rebases: &[u64],
-    binds: &[u64],
-    index: &[u32],
-    setting: Setting,
-    side: Side,
-    class: u64,
-    p: Position,
-) -> Step
-    ensures { let t = under setting (lent files segments sections info rebases binds index) in
-        SteppedFrom t side class p result }
+fn step_from(tables: &Tables, of: MethodsOf, p: Position) -> Result<Step, Question>
+    ensures { let t = under of.setting tables.now in
+        SteppedFrom t of.side of.class p result }
 {
-    let h = p.list;
-    let entry = p.entry;
-    match first_readable(files, segments, h, entry) {
-        Some(j) => settle(
-            files, segments, sections, info, rebases, binds, index, setting, side, class, p, j,
-        ),
-        None => next_source(
-            files, segments, sections, info, rebases, binds, index, setting, side, class, p,
-        ),
+    match first_readable(tables.image(), p.list, p.entry) {
+        Some(j) => settle(tables, of, p, j),
+        None => next_source(tables, of, p),
     }
 }
 
-// The next row; p stands after it then.
+// The next row, `None` at the end; p stands after it then.
 pub(crate) fn next_row(
-    files: &[&[u8]],
-    segments: &[u64],
-    sections: &[u64],
-    info: &[u8],
-    rebases: &[u64],
-    binds: &[u64],
-    index: &[u32],
-    setting: Setting,
-    side: Side,
-    class: u64,
+    tables: &Tables,
+    of: MethodsOf,
     p: &mut Position,
-) -> Next
-    ensures { let t = under setting (lent files segments sections info rebases binds index) in
-        NextFrom t side class p.old p.new result }
+) -> Result<Option<Appearance>, Question>
+    ensures { let t = under of.setting tables.now in
+        NextFrom t of.side of.class p.old p.new result }
 {
+    // Not a `for`: a step that gives no row goes on from where it came to, until one says that it is done.
     loop {
-        match step_from(
-            files, segments, sections, info, rebases, binds, index, setting, side, class, *p,
-        ) {
+        match step_from(tables, of, *p)? {
             Step::Row(r) => {
                 *p = r.next;
-                return Next::Row(r.row);
+                return Ok(Some(r.row));
             }
             Step::Passed(q) => {
                 *p = q;
             }
-            Step::End => return Next::End,
-            Step::Refused(k) => return Next::Refused(k),
+            Step::End => return Ok(None),
         }
     }
+}
+
+// The row that can be reached next: where a question refuses there is none.
+#[tactic(auto, using(crate::proofs::Walks::reached_by))]
+pub(crate) fn reach_row(tables: &Tables, of: MethodsOf, p: &mut Position) -> Option<Appearance>
+    ensures { let t = under of.setting tables.now in
+        ReachedFrom t of.side of.class p.old p.new result }
+{
+    next_row(tables, of, p).unwrap_or(None)
 }

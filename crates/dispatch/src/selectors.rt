@@ -31,6 +31,7 @@ fn selector_bytes<'a>(files: &[&'a [u8]], s: Text) -> &'a [u8]
 }
 
 // Equal byte strings, wherever they stand.
+#[tactic(auto, using(crate::proofs::Bytes::bytes_same), unfolding(crate::specs::Dispatch::same_selector))]
 pub(crate) fn same_selector(files: &[&[u8]], s: Text, u: Text) -> bool
     ensures { result ≡ same_selector (files_of files) s u }
 {
@@ -38,6 +39,7 @@ pub(crate) fn same_selector(files: &[&[u8]], s: Text, u: Text) -> bool
 }
 
 // b stands before a.
+#[tactic(auto, using(crate::proofs::Bytes::places_ordered))]
 pub(crate) fn comes_before(b: Appearance, a: Appearance) -> bool
     ensures { result ≡ comes_before b a }
 {

@@ -1,6 +1,6 @@
 // The lists that take part: the class's or metaclass's own, and those of the categories of the class.
 ghost use Rattle.std.specs.Prelude.{◌≡◌, ◌≤◌, length};
-ghost use Rattle.pointers.specs.Tables.{lent, under};
+ghost use Rattle.pointers.specs.Tables.{under};
 ghost use Rattle.walks.specs.Sections.{meta_of};
 ghost use Rattle.dispatch.specs.Sources.{list_of, metaclass_of, own_source, methods_on};
 ghost use Rattle.dispatch.specs.SlotSources.{category_slots, taking, slot_source};
@@ -8,6 +8,7 @@ ghost use Rattle.reads.specs.Answer.{outcome};
 
 use crate::slots::{held_before, listed_at};
 use pointers::setting::Setting;
+use pointers::tables::Tables;
 use reads::answer::{Missing, Reason, nonzero};
 use records::category::{ObjcCategory, category_at};
 use records::class::{ObjcClass, class_at, ro_of};
@@ -19,6 +20,14 @@ pub enum Side {
     Class,
 }
 
+// Whose methods are gone over: those of the class at an address, on one side.
+#[derive(Clone, Copy)]
+pub(crate) struct MethodsOf {
+    pub setting: Setting,
+    pub side: Side,
+    pub class: u64,
+}
+
 // A method list, and the address of the record that names it.
 #[derive(Clone, Copy)]
 pub struct Source {
@@ -28,23 +37,11 @@ pub struct Source {
 
 // The method list of a class's class_ro_t.
 #[tactic(auto, using(reads::proofs::Outcomes::missed_then), unfolding(crate::specs::Sources::list_of))]
-fn list_of(
-    files: &[&[u8]],
-    segments: &[u64],
-    sections: &[u64],
-    info: &[u8],
-    rebases: &[u64],
-    binds: &[u64],
-    index: &[u32],
-    setting: Setting,
-    class: ObjcClass,
-) -> Result<Source, Missing>
-    ensures { let t = under setting (lent files segments sections info rebases binds index) in
+fn list_of(tables: &Tables, setting: Setting, class: ObjcClass) -> Result<Source, Missing>
+    ensures { let t = under setting tables.now in
         outcome result ≡ list_of t class }
 {
-    let ro = ro_of(
-        files, segments, sections, info, rebases, binds, index, setting, class,
-    )?;
+    let ro = ro_of(tables, setting, class)?;
     Ok(Source {
         origin: class.address,
         list: ro.methods,
@@ -52,6 +49,7 @@ fn list_of(
 }
 
 // The address of the metaclass: isa, 0 where it is the class itself.
+#[tactic(auto, using(std::proofs::lemmas::Bool::Decides::nat_tests), unfolding(walks::specs::Sections::meta_of, reads::specs::Outcome::choose))]
 fn meta_of(class: ObjcClass) -> u64
     ensures { result ≡ meta_of class }
 {
@@ -63,59 +61,36 @@ fn meta_of(class: ObjcClass) -> u64
 
 // The metaclass, if isa is neither 0 nor the class and decodes.
 #[tactic(auto, using(reads::proofs::Outcomes::missed_then), unfolding(crate::specs::Sources::metaclass_of))]
-fn metaclass_of(
-    files: &[&[u8]],
-    segments: &[u64],
-    sections: &[u64],
-    info: &[u8],
-    rebases: &[u64],
-    binds: &[u64],
-    index: &[u32],
-    setting: Setting,
-    class: ObjcClass,
-) -> Result<ObjcClass, Missing>
-    ensures { let t = under setting (lent files segments sections info rebases binds index) in
+fn metaclass_of(tables: &Tables, setting: Setting, class: ObjcClass) -> Result<ObjcClass, Missing>
+    ensures { let t = under setting tables.now in
         outcome result ≡ metaclass_of t class }
 {
     let va = nonzero(meta_of(class))?;
-    class_at(
-        files, segments, sections, info, rebases, binds, index, setting, va, true,
-    )
+    class_at(tables, setting, va, true)
 }
 
 // The class's own list: of class methods it is the metaclass's.
 #[tactic(auto, using(reads::proofs::Outcomes::missed_then), unfolding(crate::specs::Sources::own_source))]
 pub(crate) fn own_source(
-    files: &[&[u8]],
-    segments: &[u64],
-    sections: &[u64],
-    info: &[u8],
-    rebases: &[u64],
-    binds: &[u64],
-    index: &[u32],
+    tables: &Tables,
     setting: Setting,
     side: Side,
     class: ObjcClass,
 ) -> Result<Source, Missing>
-    ensures { let t = under setting (lent files segments sections info rebases binds index) in
+    ensures { let t = under setting tables.now in
         outcome result ≡ own_source t side class }
 {
     match side {
-        Side::Instance => list_of(
-            files, segments, sections, info, rebases, binds, index, setting, class,
-        ),
+        Side::Instance => list_of(tables, setting, class),
         Side::Class => {
-            let metaclass = metaclass_of(
-                files, segments, sections, info, rebases, binds, index, setting, class,
-            )?;
-            list_of(
-                files, segments, sections, info, rebases, binds, index, setting, metaclass,
-            )
+            let metaclass = metaclass_of(tables, setting, class)?;
+            list_of(tables, setting, metaclass)
         }
     }
 }
 
 // A category's list on one side.
+#[tactic(auto, unfolding(crate::specs::Sources::methods_on))]
 fn methods_on(side: Side, category: ObjcCategory) -> u64
     ensures { result ≡ methods_on side category }
 {
@@ -126,67 +101,38 @@ fn methods_on(side: Side, category: ObjcCategory) -> u64
 }
 
 // The list of a category, if its class address is the class and no slot before k holds it.
+#[tactic(auto, using(std::proofs::lemmas::Bool::Decides::nat_tests), unfolding(crate::specs::SlotSources::taking, reads::specs::Outcome::choose))]
 fn taking(
-    files: &[&[u8]],
-    segments: &[u64],
-    sections: &[u64],
-    info: &[u8],
-    rebases: &[u64],
-    binds: &[u64],
-    index: &[u32],
-    setting: Setting,
-    side: Side,
-    class: u64,
+    tables: &Tables,
+    of: MethodsOf,
     k: u64,
     va: u64,
     category: ObjcCategory,
 ) -> Result<Source, Missing>
-    requires { k ≤ length (category_slots sections.now) }
-    ensures { let t = under setting (lent files segments sections info rebases binds index) in
-        outcome result ≡ taking t side class k va category }
+    requires { k ≤ length (category_slots tables.now.sections) }
+    ensures { let t = under of.setting tables.now in
+        outcome result ≡ taking t of.side of.class k va category }
 {
-    if category.class_address != class {
+    if category.class_address != of.class {
         return Err(Missing::Absent(Reason::NoRecord));
     }
-    if held_before(
-        files, segments, sections, info, rebases, binds, index, setting, k, va,
-    ) {
+    if held_before(tables, of.setting, k, va) {
         return Err(Missing::Absent(Reason::NoRecord));
     }
-    let list = methods_on(side, category);
     Ok(Source {
         origin: category.address,
-        list,
+        list: methods_on(of.side, category),
     })
 }
 
 // The list of the category in slot k, if it takes part.
 #[tactic(auto, using(reads::proofs::Outcomes::missed_then), unfolding(crate::specs::SlotSources::slot_source))]
-pub(crate) fn slot_source(
-    files: &[&[u8]],
-    segments: &[u64],
-    sections: &[u64],
-    info: &[u8],
-    rebases: &[u64],
-    binds: &[u64],
-    index: &[u32],
-    setting: Setting,
-    side: Side,
-    class: u64,
-    k: u64,
-) -> Result<Source, Missing>
-    requires { k ≤ length (category_slots sections.now) }
-    ensures { let t = under setting (lent files segments sections info rebases binds index) in
-        outcome result ≡ slot_source t side class k }
+pub(crate) fn slot_source(tables: &Tables, of: MethodsOf, k: u64) -> Result<Source, Missing>
+    requires { k ≤ length (category_slots tables.now.sections) }
+    ensures { let t = under of.setting tables.now in
+        outcome result ≡ slot_source t of.side of.class k }
 {
-    let va = listed_at(
-        files, segments, sections, info, rebases, binds, index, setting, k,
-    )?;
-    let category = category_at(
-        files, segments, sections, info, rebases, binds, index, setting, va,
-    )?;
-    taking(
-        files, segments, sections, info, rebases, binds, index, setting, side, class, k, va,
-        category,
-    )
+    let va = listed_at(tables, of.setting, k)?;
+    let category = category_at(tables, of.setting, va)?;
+    taking(tables, of, k, va, category)
 }

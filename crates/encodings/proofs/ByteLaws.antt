@@ -1,36 +1,17 @@
--- Laws of bytes: the keys of a `match`, what begins a type, and what does not.
+-- Laws of bytes: what begins a type, and what does not.
 use Prim.Native.Nat.{ℕ}
 use Prim.Native.Char.{code}
 use mathlib.Core.Path.{◌≡◌, refl, ap, sym, subst, ◌∙◌}
 use mathlib.Core.Bool.{Bool, true, false, not, ◌&&◌, ◌||◌, true≢false, false≢true}
-use mathlib.Core.Logic.{inl, inr}
 use mathlib.Core.List.{List, [], ◌∷◌}
-use types.Run.{OneOf}
 use borrow.Author.Tests.{eqb-true, ne_eqb, not-true}
 use lib.Dec.{eqb}
 use Rattle.pointers.specs.Symbol.{ascii}
 use Rattle.reads.proofs.Tests.{by_choose, choose_true, choose_false, both_true}
-use Rattle.encodings.specs.Grammar.{codes, qualifiers, Composite, structure, union, opener, closer, among, digit_byte, name_byte, quoted_byte}
+use Rattle.encodings.specs.Grammar.{codes, qualifiers, Composite, structure, union, opener, closer, among, digit_byte, quoted_byte}
 use Rattle.encodings.specs.Machine.{class_of}
 use Rattle.encodings.specs.declared.bytes.Class.{Class}
 use Rattle.encodings.specs.declared.bytes.Class.TheVariants.{Basic, Qualifier, Object, BitField, Pointer, Array, Structure, Union, Other}
-
--- What holds of every key holds of a byte that is one of them.
-abbrev pub Every : (ℕ → Type 0) → List ℕ → Type 0
-Every P [] = Unit {0}
-Every P (k ∷ ks) = P k × Every P ks
-
-pub by_key : (P : ℕ → Type 0) (ks : List ℕ) (x : ℕ) → Every P ks → OneOf ks x → P x
-by_key P [] x a h = absurd h
-by_key P (k ∷ []) x a h = subst P (sym h) a.0
-by_key P (k ∷ j ∷ ks) x a (inl e) = subst P (sym e) a.0
-by_key P (k ∷ j ∷ ks) x a (inr r) = by_key P (j ∷ ks) x a.1 r
-
-pub no_key : (ks : List ℕ) (x : ℕ) → (OneOf ks x → ⊥) → among ks x ≡ false
-unfolding among
-no_key [] x n = refl
-no_key (k ∷ []) x n = rw (ne_eqb x k n)
-no_key (k ∷ j ∷ ks) x n = rw (ne_eqb x k (λ e. n (inl e))) (no_key (j ∷ ks) x (λ r. n (inr r)))
 
 -- A test that every byte of a list passes.
 abbrev pub covered : (ℕ → Bool) → List ℕ → Bool
@@ -48,13 +29,6 @@ among_passes test (j ∷ js) x c e = go (eqb x j) refl e (λ h. among_passes tes
     go : (t : Bool) → eqb x j ≡ t → (t || among js x) ≡ true → (among js x ≡ true → test x ≡ true) → test x ≡ true
     go true q h f = ap test (eqb-true x j q) ∙ both.0
     go false q h f = f h
-
-pub fails_among : (test : ℕ → Bool) (js : List ℕ) (x : ℕ) → covered test js ≡ true → test x ≡ false → among js x ≡ false
-fails_among test js x c f = go (among js x) refl
-  where
-    go : (t : Bool) → among js x ≡ t → t ≡ false
-    go true e = absurd (true≢false (sym (among_passes test js x c e) ∙ f))
-    go false e = refl
 
 -- What a byte of each class is.
 abbrev pub Begins : ℕ → Class → Type 0
@@ -87,30 +61,6 @@ pub class_qualifier : (b : ℕ) → among qualifiers b ≡ true → class_of b �
 unfolding class_of among
 class_qualifier b h =
     choose_false _ _ (not-true _ (among_passes (λ j. not (among codes j)) qualifiers b refl h)) ∙ choose_true _ _ h
-
--- A byte that is no key of `class_of` begins nothing.
-module _ (one two three four : List ℕ) (b : ℕ) where
-  pub class_other : covered (λ j. among one j || among two j) codes ≡ true → covered (λ j. among three j || among four j) qualifiers ≡ true
-      → (OneOf one b → ⊥) → (OneOf two b → ⊥) → (OneOf three b → ⊥) → (OneOf four b → ⊥)
-      → (b ≡ code "@" → ⊥) → (b ≡ code "b" → ⊥) → (b ≡ code "^" → ⊥) → (b ≡ code "[" → ⊥) → (b ≡ code "{" → ⊥) → (b ≡ code "(" → ⊥)
-      → Other ≡ class_of b
-  unfolding class_of
-  class_other c q n₁ n₂ n₃ n₄ o f p a s u =
-      sym
-      (choose_false _ _ (fails_among (λ j. among one j || among two j) codes b c (rw (no_key one b n₁, no_key two b n₂)))
-      ∙ choose_false _ _ (fails_among (λ j. among three j || among four j) qualifiers b q (rw (no_key three b n₃, no_key four b n₄)))
-      ∙ choose_false _ _ (ne_eqb b _ o)
-      ∙ choose_false _ _ (ne_eqb b _ f)
-      ∙ choose_false _ _ (ne_eqb b _ p)
-      ∙ choose_false _ _ (ne_eqb b _ a)
-      ∙ choose_false _ _ (ne_eqb b _ s)
-      ∙ choose_false _ _ (ne_eqb b _ u))
-
-pub name_other : (one two : List ℕ) (b : ℕ) → covered (λ j. among one j || among two j) (ascii "\"()=[]{}") ≡ true
-    → (OneOf one b → ⊥) → (OneOf two b → ⊥) → true ≡ name_byte b
-unfolding name_byte
-name_other one two b c m n =
-    ap not (sym (fails_among (λ j. among one j || among two j) (ascii "\"()=[]{}") b c (rw (no_key one b m, no_key two b n))))
 
 -- What no digit is, no quote and no closing byte: every byte that begins a type.
 unfoldable pub start_byte : ℕ → Bool

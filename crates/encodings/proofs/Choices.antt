@@ -1,7 +1,6 @@
 -- Laws of choices by a test.
 use mathlib.Core.Path.{◌≡◌, refl, sym, ◌∙◌}
 use mathlib.Core.Bool.{Bool, true, false}
-use Rattle.std.specs.Bool.{OnTrue}
 use Rattle.reads.specs.Outcome.{choose}
 use Rattle.reads.proofs.Tests.{choose_true, choose_false}
 
@@ -12,12 +11,6 @@ module _ {A : Type 0} {r t : Bool} {z : A} (x y : A) where
 
   pub passed : r ≡ t → r ≡ false → z ≡ y → z ≡ choose t x y
   passed e h q = q ∙ sym (choose_false x y (sym e ∙ h))
-
--- The same, where a function says what it returns by the test.
-pub chosen_by : {A : Type 0} {t : Bool} {z : A} (x y : A) → OnTrue t (z ≡ x) → (t ≡ false → z ≡ y) → z ≡ choose t x y
-unfolding choose
-chosen_by {t = true} x y p q = p
-chosen_by {t = false} x y p q = q refl
 
 pub ruleset choices = (chosen, passed)
 

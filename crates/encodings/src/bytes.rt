@@ -17,14 +17,14 @@ pub enum Class {
     Other,
 }
 
+#[tactic(auto, using(std::proofs::lemmas::Bool::Decides::nat_tests), unfolding(crate::specs::Machine::class_of, crate::specs::Grammar::among, reads::specs::Outcome::choose))]
 pub fn class_of(byte: u8) -> Class
     ensures { result ≡ class_of byte }
 {
     match byte {
         b'c' | b'i' | b's' | b'l' | b'q' | b'C' | b'I' | b'S' | b'L' | b'Q' => Class::Basic,
         b'f' | b'd' | b'B' | b'v' | b'*' | b'#' | b':' | b'?' => Class::Basic,
-        b'r' | b'n' | b'N' | b'R' | b'V' => Class::Qualifier,
-        b'o' | b'O' => Class::Qualifier,
+        b'r' | b'n' | b'N' | b'o' | b'O' | b'R' | b'V' => Class::Qualifier,
         b'@' => Class::Object,
         b'b' => Class::BitField,
         b'^' => Class::Pointer,
@@ -35,6 +35,7 @@ pub fn class_of(byte: u8) -> Class
     }
 }
 
+#[tactic(auto, unfolding(crate::specs::Grammar::digit_byte))]
 pub fn is_digit(byte: u8) -> bool
     ensures { result ≡ digit_byte byte }
 {
@@ -42,17 +43,15 @@ pub fn is_digit(byte: u8) -> bool
 }
 
 // A name holds no `=`, `"` or any of `[]{}()`.
+#[tactic(auto, using(std::proofs::lemmas::Bool::Decides::nat_tests), unfolding(crate::specs::Grammar::name_byte, crate::specs::Grammar::among))]
 pub fn in_name(byte: u8) -> bool
     ensures { result ≡ name_byte byte }
 {
-    match byte {
-        b'=' | b'"' | b'[' | b'{' | b'(' => false,
-        b']' | b'}' | b')' => false,
-        _ => true,
-    }
+    !matches!(byte, b'=' | b'"' | b'[' | b'{' | b'(' | b']' | b'}' | b')')
 }
 
 // A quoted class holds no `"`.
+#[tactic(auto, unfolding(crate::specs::Grammar::quoted_byte))]
 pub fn in_quotes(byte: u8) -> bool
     ensures { result ≡ quoted_byte byte }
 {

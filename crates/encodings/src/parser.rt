@@ -1,8 +1,6 @@
 // A parser of type encodings: what it keeps of the text before, and a step for each byte.
 ghost use Rattle.std.specs.Prelude.{◌≡◌, [], ◌+◌, ◌^◌, ◌<◌, get_or};
-ghost use Rattle.std.specs.Bool.{OnTrue, OnFalse};
 ghost use Rattle.reads.specs.Outcome.{value};
-ghost use Rattle.encodings.specs.Grammar.{digit_byte};
 ghost use Rattle.encodings.specs.Machine.{outside, class_of};
 ghost use Rattle.encodings.specs.Parser.{closers, levels_of, kept, kept_in, step_outcome, opened, begun, below_pointers, closes, below, inside, followed, step_as, end_of, finish_as};
 ghost use Rattle.reads.specs.Answer.{outcome};
@@ -83,6 +81,7 @@ fn outside() -> Result<(Mode, Parser), Missing>
 }
 
 // One level more, of a kind.
+#[tactic(auto, using(std::proofs::lemmas::Bool::Decides::nat_tests, crate::proofs::Levels::levels_push, crate::proofs::Levels::levels_length), unfolding(reads::specs::Outcome::choose))]
 fn open(p: Parser, kind: u64, mode: Mode) -> Result<(Mode, Parser), Missing>
     requires { kind < 4 }
     ensures { step_outcome result ≡ opened (get_or closers kind 0) mode (levels_of p) p.types p.start p.offset }
@@ -99,6 +98,7 @@ fn open(p: Parser, kind: u64, mode: Mode) -> Result<(Mode, Parser), Missing>
 }
 
 // The innermost level is closed.
+#[tactic(auto, using(crate::proofs::Levels::levels_below))]
 fn close(p: Parser) -> Result<(Mode, Parser), Missing>
     requires { 0 < p.depth }
     ensures { step_outcome result ≡ value (kept Mode.Ended (below (levels_of p)) p.types p.start p.offset) }
@@ -112,6 +112,7 @@ fn close(p: Parser) -> Result<(Mode, Parser), Missing>
 }
 
 // Whether the byte closes the innermost level.
+#[tactic(auto, using(crate::proofs::Levels::closes_none, crate::proofs::Levels::closes_top))]
 fn closes(p: Parser, byte: u8) -> bool
     ensures { result ≡ closes (levels_of p) byte }
 {
@@ -123,6 +124,7 @@ fn closes(p: Parser, byte: u8) -> bool
 }
 
 // The pointers that are innermost end with the type that ended.
+#[tactic(auto, using(crate::proofs::Levels::pointer_top, crate::proofs::Levels::other_top, crate::proofs::Levels::none_below))]
 fn below_pointers(p: Parser) -> Parser
     ensures { kept_in Mode.Ended result ≡ kept Mode.Ended (below_pointers (levels_of p)) p.types p.start p.offset }
 {
@@ -137,6 +139,7 @@ fn below_pointers(p: Parser) -> Parser
 }
 
 // A type begins.
+#[tactic(auto, using(crate::proofs::Steps::begin_of))]
 fn begin(p: Parser, byte: u8) -> Result<(Mode, Parser), Missing>
     ensures { step_outcome result ≡ begun (levels_of p) p.types p.start p.offset (class_of byte) }
 {
@@ -153,7 +156,7 @@ fn begin(p: Parser, byte: u8) -> Result<(Mode, Parser), Missing>
     }
 }
 
-// The next outermost type begins, at `at`.
+// The next outermost type begins, at `at`. A byte and its place stay two arguments: most functions here take the byte alone.
 #[tactic(auto, unfolding(crate::specs::Parser::levels_in))]
 fn next_type(p: Parser, byte: u8, at: usize) -> Result<(Mode, Parser), Missing>
     requires { p.types < 2 ^ 63 }
@@ -203,6 +206,7 @@ fn inside(p: Parser, byte: u8) -> Result<(Mode, Parser), Missing>
 }
 
 // After a type.
+#[tactic(auto, using(crate::proofs::Steps::kept_types, crate::proofs::Steps::followed_outer, crate::proofs::Steps::followed_inner))]
 fn after(p: Parser, byte: u8, at: usize) -> Result<(Mode, Parser), Missing>
     requires { p.types < 2 ^ 63 }
     ensures { step_outcome result ≡ step_as Mode.Ended p byte at }
@@ -214,24 +218,8 @@ fn after(p: Parser, byte: u8, at: usize) -> Result<(Mode, Parser), Missing>
     inside(q, byte)
 }
 
-// A digit goes on in `mode`; what another byte leads to, `other` says.
-fn digit_or<F: FnOnce() -> Result<(Mode, Parser), Missing>>(
-    p: Parser,
-    byte: u8,
-    mode: Mode,
-    other: F,
-) -> Result<(Mode, Parser), Missing>
-    requires { F.IsAlwaysCallable other }
-    ensures digit { OnTrue (digit_byte byte) (step_outcome result ≡ value (kept_in mode p)) }
-    ensures other { OnFalse (digit_byte byte) (F.post other result) }
-{
-    if is_digit(byte) {
-        return Ok((mode, p));
-    }
-    other()
-}
-
 // In a name: a byte more, its `=`, or the closing bracket.
+#[tactic(auto, using(std::proofs::lemmas::Bool::Decides::nat_tests, crate::proofs::Levels::closes_open), unfolding(reads::specs::Outcome::choose))]
 fn in_naming(p: Parser, byte: u8) -> Result<(Mode, Parser), Missing>
     ensures { step_outcome result ≡ step_as Mode.Naming p byte 0 }
 {
@@ -248,7 +236,7 @@ fn in_naming(p: Parser, byte: u8) -> Result<(Mode, Parser), Missing>
 }
 
 // After a name's `=`: the closing bracket, or the first type inside.
-#[tactic(auto, using(crate::proofs::Choices::choices))]
+#[tactic(auto, using(crate::proofs::Choices::choices, crate::proofs::Levels::closes_open))]
 fn in_named(p: Parser, byte: u8) -> Result<(Mode, Parser), Missing>
     ensures { step_outcome result ≡ step_as Mode.Named p byte 0 }
 {
@@ -258,46 +246,26 @@ fn in_named(p: Parser, byte: u8) -> Result<(Mode, Parser), Missing>
     begin(p, byte)
 }
 
-// In a quoted class: a byte more, or the closing quote.
-#[tactic(auto, using(crate::proofs::Choices::choices))]
-fn in_quoting(p: Parser, byte: u8) -> Result<(Mode, Parser), Missing>
-    ensures { step_outcome result ≡ step_as Mode.Quoting p byte 0 }
-{
-    if in_quotes(byte) {
-        return Ok((Mode::Quoting, p));
-    }
-    Ok((Mode::Ended, p))
-}
-
-// After `@`: a quoted class, or what comes after a type.
-#[tactic(auto, using(crate::proofs::Choices::choices))]
-fn at_sign(p: Parser, byte: u8, at: usize) -> Result<(Mode, Parser), Missing>
-    requires { p.types < 2 ^ 63 }
-    ensures { step_outcome result ≡ step_as Mode.AtSign p byte at }
-{
-    if in_quotes(byte) {
-        return after(p, byte, at);
-    }
-    Ok((Mode::Quoting, p))
-}
-
 // The byte at `at` is read.
+#[tactic(auto, using(crate::proofs::Steps::step_in, crate::proofs::Choices::choices))]
 pub fn step(mode: Mode, p: Parser, byte: u8, at: usize) -> Result<(Mode, Parser), Missing>
     requires { p.types < 2 ^ 63 }
     ensures { step_outcome result ≡ step_as mode p byte at }
 {
     match mode {
-        Mode::Wanted => begin(p, byte),
-        Mode::Counting => digit_or(p, byte, Mode::Counted, outside),
-        Mode::Counted => digit_or(p, byte, Mode::Counted, || begin(p, byte)),
+        Mode::Counting | Mode::Counted if is_digit(byte) => Ok((Mode::Counted, p)),
+        Mode::Sizing | Mode::Sized if is_digit(byte) => Ok((Mode::Sized, p)),
+        Mode::Offset if is_digit(byte) => Ok((Mode::Offset, p)),
+        Mode::Quoting if !in_quotes(byte) => Ok((Mode::Ended, p)),
+        Mode::AtSign if in_quotes(byte) => after(p, byte, at),
+        Mode::Quoting | Mode::AtSign => Ok((Mode::Quoting, p)),
+        Mode::Wanted | Mode::Counted => begin(p, byte),
+        Mode::Counting | Mode::Sizing => outside(),
+        // Not guards: the bytes of a name take a third longer with them.
         Mode::Naming => in_naming(p, byte),
         Mode::Named => in_named(p, byte),
-        Mode::Quoting => in_quoting(p, byte),
-        Mode::Sizing => digit_or(p, byte, Mode::Sized, outside),
-        Mode::Sized => digit_or(p, byte, Mode::Sized, || after(p, byte, at)),
-        Mode::AtSign => at_sign(p, byte, at),
-        Mode::Ended => after(p, byte, at),
-        Mode::Offset => digit_or(p, byte, Mode::Offset, || next_type(p, byte, at)),
+        Mode::Sized | Mode::Ended => after(p, byte, at),
+        Mode::Offset => next_type(p, byte, at),
     }
 }
 
@@ -309,6 +277,7 @@ fn malformed() -> Result<u64, Missing>
 }
 
 // The text ends after a type: at the outermost level, or outside the grammar.
+#[tactic(auto, using(crate::proofs::Steps::kept_types, crate::proofs::Steps::end_outer, crate::proofs::Steps::end_inner))]
 fn end(p: Parser) -> Result<u64, Missing>
     requires { p.types < 2 ^ 63 }
     ensures { outcome result ≡ end_of (below_pointers (levels_of p)) p.types }

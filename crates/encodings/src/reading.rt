@@ -8,6 +8,7 @@ use crate::parser::{Mode, Parser, finish, first, step};
 use reads::answer::Missing;
 
 // Where a type ends: at its frame offset, or where both end.
+#[tactic(auto, using(std::proofs::lemmas::Bool::Decides::nat_tests), unfolding(reads::specs::Outcome::choose))]
 fn type_end(offset: usize, end: usize) -> usize
     ensures { result ≡ type_end offset end }
 {
@@ -18,6 +19,7 @@ fn type_end(offset: usize, end: usize) -> usize
 }
 
 // Puts the words of a parser's type, which ends at `end`, if they fit.
+#[tactic(auto, using(crate::proofs::Rows::row_put))]
 fn put_row(p: Parser, end: usize, buffer: &mut [u64])
     requires { Ordered p.start p.offset end }
     ensures { RowPut p.types p.start p.offset end buffer.old buffer.new }
@@ -48,6 +50,7 @@ fn put_before(p: Parser, next: Parser, at: usize, buffer: &mut [u64])
 }
 
 // How many outermost types a text has; the words of those that fit are put into the buffer. It stops at the byte that decides.
+#[tactic(auto, using(crate::proofs::Reached::reached_first, crate::proofs::Reached::reached_next))]
 pub fn read_types(text: &[u8], buffer: &mut [u64]) -> Result<u64, Missing>
     ensures { Read (before text) buffer.old (outcome result) buffer.new }
 {

@@ -8,6 +8,7 @@ use crate::reading::read_types;
 use reads::answer::{Missing, Question};
 
 // 12: do the words fit?
+#[tactic(auto, using(std::proofs::lemmas::Bool::Decides::nat_tests), unfolding(crate::specs::Words::words_fit))]
 fn words_fit(count: u64, room: usize) -> bool
     ensures { result ≡ words_fit count room }
 {
@@ -20,14 +21,10 @@ pub fn type_words(text: &[u8], buffer: &mut [u64]) -> Result<u64, Missing>
     ensures outcome { outcome result ≡ types_of (before text) (length buffer.old) }
     ensures contents { buffer.new ≡ types_left (before text) buffer.old }
 {
-    match read_types(text, &mut buffer[0..0]) {
-        Ok(count) => {
-            if !words_fit(count, buffer.len()) {
-                return Err(Missing::Refused(Question::ItemRoom));
-            }
-            let _ = read_types(text, buffer);
-            Ok(count)
-        }
-        Err(m) => Err(m),
+    let count = read_types(text, &mut buffer[0..0])?;
+    if !words_fit(count, buffer.len()) {
+        return Err(Missing::Refused(Question::ItemRoom));
     }
+    let _ = read_types(text, buffer);
+    Ok(count)
 }

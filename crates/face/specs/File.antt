@@ -1,21 +1,21 @@
 -- The answers over a file as structs of numbers, for C. A status is 0 for a value, 1 for a number that refuses, 2 for absent.
-use Rattle.std.specs.Prelude.{ℕ, ◌+◌, ◌*◌, ◌/◌}
+use Rattle.std.specs.Prelude.{ℕ, ◌+◌, ◌*◌, ◌/◌, Option, None, Some, Result, Ok, Err}
 use Rattle.reads.specs.Outcome.{Outcome, value, absent, refused}
 use Rattle.pointers.specs.Tables.{section_table_words, rebase_words, bind_words, chains}
 use Rattle.macho.specs.OpenFile.{segment_table_words}
 use Rattle.frames.specs.declared.frames.Ranges.{Ranges}
-use Rattle.universal.specs.declared.part.PartAnswer.{PartAnswer}
-use Rattle.universal.specs.declared.part.PartAnswer.TheVariants.{Found, Absent, Refused}
+use Rattle.universal.specs.declared.fat.Part.{Part}
+use Rattle.reads.specs.declared.answer.Question.{Question}
 use Rattle.fixups.specs.Fixups.{Pair}
 use Rattle.face.specs.declared.file.FilePart.{FilePart}
 use Rattle.face.specs.declared.file.Counts.{Counts}
 use Rattle.face.specs.declared.file.Sizes.{Sizes}
 use Rattle.reads.specs.Question.{number_of}
 
-abbrev pub part_words : PartAnswer → FilePart
-part_words (Found p) = record { status = 0; number = 0; cputype = p.cputype; cpusubtype = p.cpusubtype; offset = p.offset; size = p.size }
-part_words Absent = record { status = 2; number = 0; cputype = 0; cpusubtype = 0; offset = 0; size = 0 }
-part_words (Refused k) = record { status = 1; number = number_of k; cputype = 0; cpusubtype = 0; offset = 0; size = 0 }
+abbrev pub part_words : Result (Option Part) Question → FilePart
+part_words (Ok (Some p)) = record { status = 0; number = 0; cputype = p.cputype; cpusubtype = p.cpusubtype; offset = p.offset; size = p.size }
+part_words (Ok None) = record { status = 2; number = 0; cputype = 0; cpusubtype = 0; offset = 0; size = 0 }
+part_words (Err k) = record { status = 1; number = number_of k; cputype = 0; cpusubtype = 0; offset = 0; size = 0 }
 
 abbrev pub tables_words : Outcome Pair → Counts
 tables_words (value p) = record { status = 0; number = 0; rebases = p.rebased; binds = p.bound }

@@ -1,5 +1,5 @@
 -- The rows of a list for C: a step of its walk, whose state is words, and the steps of a call, one for each row that the lent table has room for.
-use Rattle.std.specs.Prelude.{ℕ, zero, suc, ◌*◌, ◌^◌, List, ltb, eqb}
+use Rattle.std.specs.Prelude.{ℕ, zero, suc, ◌*◌, ◌^◌, List, ltb, eqb, Option, Some, None, Result, Ok, Err}
 use Rattle.std.proofs.lemmas.List.Edits.{sets}
 use Rattle.reads.specs.Outcome.{choose}
 use Rattle.pointers.specs.Tables.{Tables, under}
@@ -14,10 +14,10 @@ use Rattle.walks.specs.declared.list_walk.ListWalk.{ListWalk}
 use Rattle.walks.specs.declared.protocol_names.ProtocolNameWalk.{ProtocolNameWalk}
 use Rattle.face.specs.Status.{says_more, says_refused}
 use Rattle.face.specs.Words.{setting_in}
-use Rattle.face.specs.Row.{row_size, said_none, list_row, name_row}
+use Rattle.face.specs.Row.{row_size, list_row, name_row}
 use Rattle.face.specs.declared.status.Status.{Status}
 use Rattle.face.specs.declared.rows.Listed.{Listed}
-use Rattle.face.specs.declared.rows.Listed.TheVariants.{Rows, Names, Nothing}
+use Rattle.face.specs.declared.rows.Listed.TheVariants.{Rows, Names}
 use Rattle.face.specs.declared.rows.RowWalk.{RowWalk}
 use Rattle.face.specs.declared.rows.RowTurn.{RowTurn}
 use Rattle.face.specs.declared.rows.RowsTold.{RowsTold}
@@ -25,10 +25,10 @@ use Rattle.reads.specs.declared.answer.Question.{Question}
 use Rattle.reads.specs.declared.answer.Question.TheVariants.{WalkState}
 
 -- What a list lists, by the kind of its walk.
-unfoldable pub listed : ℕ → Listed
+unfoldable pub listed : ℕ → Option Listed
 listed kind =
-    choose (eqb kind 0) (Rows Methods)
-    (choose (eqb kind 1) (Rows Ivars) (choose (eqb kind 2) (Rows Properties) (choose (eqb kind 3) Names Nothing)))
+    choose (eqb kind 0) (Some (Rows Methods))
+    (choose (eqb kind 1) (Some (Rows Ivars)) (choose (eqb kind 2) (Some (Rows Properties)) (choose (eqb kind 3) (Some Names) None)))
 
 -- The walk at another cursor.
 abbrev pub moved_to : RowWalk → ℕ → RowWalk
@@ -36,7 +36,7 @@ moved_to w cursor = record { list = w.list; kind = w.kind; cursor = cursor; old_
 
 -- A refused step hands the walk back as given.
 abbrev pub refused_turn : RowWalk → Question → RowTurn
-refused_turn w k = record { said = said_none (says_refused k); walk = w }
+refused_turn w k = record { said = Err (says_refused k); walk = w }
 
 -- A step of the library's walk that the words say, and its answer in words.
 abbrev pub list_turn : (ListWalk → RowLeft) → RowWalk → ListKind → RowTurn
@@ -50,10 +50,10 @@ name_turn step w =
     record { said = name_row left.answer; walk = moved_to w left.walk.cursor }
 
 -- A step by what is listed. What is no state, by its kind or by a cursor of 2^32 or more in a list of at most 2^32 - 1 entries, has `none`.
-abbrev pub turn_by : (ListWalk → RowLeft) → (ProtocolNameWalk → NameLeft) → RowTurn → RowWalk → Listed → RowTurn
-turn_by rows names none w (Rows k) = choose (ltb w.cursor (2 ^ 32)) (list_turn rows w k) none
-turn_by rows names none w Names = name_turn names w
-turn_by rows names none w Nothing = none
+abbrev pub turn_by : (ListWalk → RowLeft) → (ProtocolNameWalk → NameLeft) → RowTurn → RowWalk → Option Listed → RowTurn
+turn_by rows names none w (Some (Rows k)) = choose (ltb w.cursor (2 ^ 32)) (list_turn rows w k) none
+turn_by rows names none w (Some Names) = name_turn names w
+turn_by rows names none w None = none
 
 -- The step: what is no state is 10, after the questions 1 to 6 and 8.
 unfoldable pub row_turn : Tables → RowWalk → RowTurn
@@ -78,10 +78,13 @@ pub record Filled : Type 0 where
 abbrev pub filled : Status → ℕ → RowWalk → List ℕ → Filled
 filled s n w table = record { told = record { status = s; rows = n; walk = w }; table = table }
 
+-- By what a step says: a row's words, or what ends the rows.
+abbrev pub row_or : {A : Type 0} → (List ℕ → A) → (Status → A) → Result (List ℕ) Status → A
+row_or row end (Ok ws) = row ws
+row_or row end (Err s) = end s
+
 -- The steps of a call, at most k more after n rows: each row goes behind those before it, and the first step that finds none ends the call.
 unfoldable pub gather : (RowWalk → RowTurn) → ℕ → RowWalk → ℕ → List ℕ → Filled
 gather turn zero w n table = filled says_more n w table
 gather turn (suc k) w n table =
-    choose (eqb (turn w).said.status.kind 0)
-    (gather turn k (turn w).walk (suc n) (sets table (row_size * n) (turn w).said.words))
-    (filled (turn w).said.status n (turn w).walk table)
+    row_or (λ ws. gather turn k (turn w).walk (suc n) (sets table (row_size * n) ws)) (λ s. filled s n (turn w).walk table) (turn w).said

@@ -1,11 +1,13 @@
 -- What an answer of the C face says first (include/objclist.h): its kind, with the code of a reason or the number of a question.
-use Rattle.std.specs.Prelude.{ℕ}
+use Rattle.std.specs.Prelude.{ℕ, Result, Ok, Err}
 use Rattle.reads.specs.Outcome.{Outcome, value, absent, refused}
 use Rattle.reads.specs.declared.answer.Missing.{Missing}
 use Rattle.reads.specs.declared.answer.Missing.TheVariants.{Absent, Refused}
 use Rattle.reads.specs.declared.answer.Reason.{Reason}
 use Rattle.reads.specs.declared.answer.Reason.TheVariants.{NullAddress, Unmapped, PastEnd, Unterminated, NotUtf8, NoData, Unresolved, Unreadable, FieldOverflow, NoRecord, OddList, ShortEntry, Malformed}
-use Rattle.walks.specs.Sections.{Step, found, passed, dropped, finished}
+use Rattle.walks.specs.Sections.{Step, found, passed, dropped, finished, record_step}
+use Rattle.walks.specs.declared.sections.RecordStep.{RecordStep}
+use Rattle.reads.specs.Answer.{missed}
 use Rattle.face.specs.declared.status.Status.{Status}
 use Rattle.reads.specs.Question.{number_of}
 use Rattle.reads.specs.declared.answer.Question.{Question}
@@ -54,6 +56,11 @@ abbrev pub given : {A : Type 0} → Outcome A → Outcome (Step A)
 given (value a) = value (found a)
 given (absent r) = value (passed r)
 given (refused k) = refused k
+
+-- A step, or what stands in its place.
+abbrev pub stepped : {A : Type 0} → Result (RecordStep A) Missing → Outcome (Step A)
+stepped (Ok s) = value (record_step s)
+stepped (Err m) = missed m
 
 -- What an answer says first, and the words of what it found: `none` where it found nothing.
 abbrev pub says : {A : Type 0} → Outcome (Step A) → Status

@@ -5,19 +5,20 @@ ghost use Rattle.pointers.specs.Tables.{lent, under};
 ghost use Rattle.records.specs.Category.{category_at, category_class_name};
 ghost use Rattle.records.specs.Class.{class_at, ro_of, class_name_at, superclass_name};
 ghost use Rattle.records.specs.Protocol.{protocol_at};
-ghost use Rattle.face.specs.Status.{given};
-ghost use Rattle.face.specs.Words.{is_set, setting_in, no_text, no_class, class_in, no_ro, no_protocol, no_category, category_in};
+ghost use Rattle.face.specs.Status.{given, stepped, says, words_or};
+ghost use Rattle.face.specs.Words.{is_set, setting_in, class_in, category_in};
 ghost use Rattle.face.specs.Decoding.{class_told, ro_told, protocol_told, category_told, name_told};
 ghost use Rattle.reads.specs.Answer.{outcome};
 
 use crate::status::Status;
 use crate::words::{CategoryWords, ClassWords, ProtocolWords, RoWords, TextWords, setting_in};
+use pointers::tables::Tables;
 use reads::answer::Missing;
-use reads::text::Text;
+use reads::place::Image;
 use records::calls::{decode_category, decode_class, decode_class_name, decode_protocol};
 use records::category::ObjcCategory;
-use records::class::{ClassRo, ObjcClass};
-use records::protocol::ObjcProtocol;
+use records::class::ObjcClass;
+use walks::sections::RecordStep;
 
 // Five structs and not a generic one: a function for C takes and gives none.
 #[repr(C)]
@@ -55,136 +56,57 @@ pub struct NameTold {
     pub name: TextWords,
 }
 
-impl ClassTold {
-    // Nothing was found.
-    pub(crate) fn none(status: Status) -> ClassTold
-        ensures { result ≡ record { status = status; cls = no_class } }
-    {
-        ClassTold {
-            status,
-            cls: ClassWords::default(),
-        }
+// What a step, or what stands in its place, says first; and the words of the record that it gives, or else `none`.
+pub(crate) fn told<R: Copy, W: Copy + From<R>>(
+    answer: Result<RecordStep<R>, Missing>,
+    none: W,
+) -> (Status, W)
+    ensures status { result.0 ≡ says (stepped answer) }
+    ensures words { (words : R → W) → ((r : _) (w : _) → W.from_gives r w → w ≡ words r) → result.1 ≡ words_or none words (stepped answer) }
+{
+    match answer {
+        Ok(RecordStep::Record(r)) => (Status::found(), W::from(r)),
+        Ok(RecordStep::Passed(why)) => (Status::from(why), none),
+        Ok(RecordStep::Dropped) => (Status::of(Status::DROPPED), none),
+        Ok(RecordStep::Finished) => (Status::of(Status::FINISHED), none),
+        Err(m) => (Status::from(m), none),
     }
 }
 
-impl From<Result<ObjcClass, Missing>> for ClassTold {
-    ghost from_gives = { λ x w. w ≡ class_told (given (outcome x)) };
-
-    fn from(answer: Result<ObjcClass, Missing>) -> ClassTold {
-        match answer {
-            Ok(x) => ClassTold {
-                status: Status::found(),
-                cls: ClassWords::from(x),
-            },
-            Err(m) => ClassTold::none(Status::from(m)),
-        }
+// A record decoded at an address is given as by a step that reaches it.
+fn found<R: Copy>(answer: Result<R, Missing>) -> Result<RecordStep<R>, Missing>
+    ensures { stepped result ≡ given (outcome answer) }
+{
+    match answer {
+        Ok(r) => Ok(RecordStep::Record(r)),
+        Err(Missing::Absent(why)) => Ok(RecordStep::Passed(why)),
+        Err(m) => Err(m),
     }
 }
 
-impl RoTold {
-    // Nothing was found.
-    pub(crate) fn none(status: Status) -> RoTold
-        ensures { result ≡ record { status = status; ro = no_ro } }
-    {
-        RoTold {
-            status,
-            ro: RoWords::default(),
-        }
+// What C lends, as one value.
+pub(crate) fn lent<'a>(
+    files: &'a [&'a [u8]],
+    segments: &'a [u64],
+    sections: &'a [u64],
+    info: &'a [u8],
+    rebases: &'a [u64],
+    binds: &'a [u64],
+    index: &'a [u32],
+) -> Tables<'a>
+    ensures { result ≡ lent files segments sections info rebases binds index }
+{
+    Tables {
+        image: Image { files, segments },
+        sections,
+        info,
+        rebases,
+        binds,
+        index,
     }
 }
 
-impl From<Result<ClassRo, Missing>> for RoTold {
-    ghost from_gives = { λ x w. w ≡ ro_told (given (outcome x)) };
-
-    fn from(answer: Result<ClassRo, Missing>) -> RoTold {
-        match answer {
-            Ok(x) => RoTold {
-                status: Status::found(),
-                ro: RoWords::from(x),
-            },
-            Err(m) => RoTold::none(Status::from(m)),
-        }
-    }
-}
-
-impl ProtocolTold {
-    // Nothing was found.
-    pub(crate) fn none(status: Status) -> ProtocolTold
-        ensures { result ≡ record { status = status; protocol = no_protocol } }
-    {
-        ProtocolTold {
-            status,
-            protocol: ProtocolWords::default(),
-        }
-    }
-}
-
-impl From<Result<ObjcProtocol, Missing>> for ProtocolTold {
-    ghost from_gives = { λ x w. w ≡ protocol_told (given (outcome x)) };
-
-    fn from(answer: Result<ObjcProtocol, Missing>) -> ProtocolTold {
-        match answer {
-            Ok(x) => ProtocolTold {
-                status: Status::found(),
-                protocol: ProtocolWords::from(x),
-            },
-            Err(m) => ProtocolTold::none(Status::from(m)),
-        }
-    }
-}
-
-impl CategoryTold {
-    // Nothing was found.
-    pub(crate) fn none(status: Status) -> CategoryTold
-        ensures { result ≡ record { status = status; category = no_category } }
-    {
-        CategoryTold {
-            status,
-            category: CategoryWords::default(),
-        }
-    }
-}
-
-impl From<Result<ObjcCategory, Missing>> for CategoryTold {
-    ghost from_gives = { λ x w. w ≡ category_told (given (outcome x)) };
-
-    fn from(answer: Result<ObjcCategory, Missing>) -> CategoryTold {
-        match answer {
-            Ok(x) => CategoryTold {
-                status: Status::found(),
-                category: CategoryWords::from(x),
-            },
-            Err(m) => CategoryTold::none(Status::from(m)),
-        }
-    }
-}
-
-impl NameTold {
-    // Nothing was found.
-    pub(crate) fn none(status: Status) -> NameTold
-        ensures { result ≡ record { status = status; name = no_text } }
-    {
-        NameTold {
-            status,
-            name: TextWords::default(),
-        }
-    }
-}
-
-impl From<Result<Text, Missing>> for NameTold {
-    ghost from_gives = { λ x w. w ≡ name_told (given (outcome x)) };
-
-    fn from(answer: Result<Text, Missing>) -> NameTold {
-        match answer {
-            Ok(x) => NameTold {
-                status: Status::found(),
-                name: TextWords::from(x),
-            },
-            Err(m) => NameTold::none(Status::from(m)),
-        }
-    }
-}
-
+// What C lends comes part by part, here and in the other exports; it is put together by `lent`.
 // The class at an address; is_meta, 0 or not, says as what it is asked for.
 #[unsafe(no_mangle)]
 pub extern "C" fn objclist_class(
@@ -202,20 +124,11 @@ pub extern "C" fn objclist_class(
     ensures { let t = under (setting_in old_reading) (lent files segments sections info rebases binds index) in
         result ≡ class_told (given (guarded t (class_at t address (is_set is_meta)))) }
 {
+    let tables = lent(files, segments, sections, info, rebases, binds, index);
     let setting = setting_in(old_reading);
-    let answer = decode_class(
-        files,
-        segments,
-        sections,
-        info,
-        rebases,
-        binds,
-        index,
-        setting,
-        address,
-        is_meta != 0,
-    );
-    ClassTold::from(answer)
+    let answer = decode_class(&tables, setting, address, is_meta != 0);
+    let (status, cls) = told(found(answer), ClassWords::default());
+    ClassTold { status, cls }
 }
 
 // The class_ro_t of a class.
@@ -234,12 +147,12 @@ pub extern "C" fn objclist_class_ro(
     ensures { let t = under (setting_in old_reading) (lent files segments sections info rebases binds index) in
         result ≡ ro_told (given (guarded t (ro_of t (class_in cls)))) }
 {
+    let tables = lent(files, segments, sections, info, rebases, binds, index);
     let setting = setting_in(old_reading);
     let class = ObjcClass::from(cls);
-    let answer = class.ro(
-        files, segments, sections, info, rebases, binds, index, setting,
-    );
-    RoTold::from(answer)
+    let answer = class.ro(&tables, setting);
+    let (status, ro) = told(found(answer), RoWords::default());
+    RoTold { status, ro }
 }
 
 // The name of the class at an address.
@@ -258,11 +171,11 @@ pub extern "C" fn objclist_class_name(
     ensures { let t = under (setting_in old_reading) (lent files segments sections info rebases binds index) in
         result ≡ name_told (given (guarded t (class_name_at t address))) }
 {
+    let tables = lent(files, segments, sections, info, rebases, binds, index);
     let setting = setting_in(old_reading);
-    let answer = decode_class_name(
-        files, segments, sections, info, rebases, binds, index, setting, address,
-    );
-    NameTold::from(answer)
+    let answer = decode_class_name(&tables, setting, address);
+    let (status, name) = told(found(answer), TextWords::default());
+    NameTold { status, name }
 }
 
 // The name of a class's superclass: decoded, or by its bind.
@@ -281,12 +194,12 @@ pub extern "C" fn objclist_superclass_name(
     ensures { let t = under (setting_in old_reading) (lent files segments sections info rebases binds index) in
         result ≡ name_told (given (guarded t (superclass_name t (class_in cls)))) }
 {
+    let tables = lent(files, segments, sections, info, rebases, binds, index);
     let setting = setting_in(old_reading);
     let class = ObjcClass::from(cls);
-    let answer = class.superclass_name(
-        files, segments, sections, info, rebases, binds, index, setting,
-    );
-    NameTold::from(answer)
+    let answer = class.superclass_name(&tables, setting);
+    let (status, name) = told(found(answer), TextWords::default());
+    NameTold { status, name }
 }
 
 // The protocol at an address.
@@ -305,11 +218,11 @@ pub extern "C" fn objclist_protocol(
     ensures { let t = under (setting_in old_reading) (lent files segments sections info rebases binds index) in
         result ≡ protocol_told (given (guarded t (protocol_at t address))) }
 {
+    let tables = lent(files, segments, sections, info, rebases, binds, index);
     let setting = setting_in(old_reading);
-    let answer = decode_protocol(
-        files, segments, sections, info, rebases, binds, index, setting, address,
-    );
-    ProtocolTold::from(answer)
+    let answer = decode_protocol(&tables, setting, address);
+    let (status, protocol) = told(found(answer), ProtocolWords::default());
+    ProtocolTold { status, protocol }
 }
 
 // The category at an address.
@@ -328,11 +241,11 @@ pub extern "C" fn objclist_category(
     ensures { let t = under (setting_in old_reading) (lent files segments sections info rebases binds index) in
         result ≡ category_told (given (guarded t (category_at t address))) }
 {
+    let tables = lent(files, segments, sections, info, rebases, binds, index);
     let setting = setting_in(old_reading);
-    let answer = decode_category(
-        files, segments, sections, info, rebases, binds, index, setting, address,
-    );
-    CategoryTold::from(answer)
+    let answer = decode_category(&tables, setting, address);
+    let (status, category) = told(found(answer), CategoryWords::default());
+    CategoryTold { status, category }
 }
 
 // The name of a category's class: decoded, or by its bind.
@@ -351,10 +264,10 @@ pub extern "C" fn objclist_category_class_name(
     ensures { let t = under (setting_in old_reading) (lent files segments sections info rebases binds index) in
         result ≡ name_told (given (guarded t (category_class_name t (category_in category)))) }
 {
+    let tables = lent(files, segments, sections, info, rebases, binds, index);
     let setting = setting_in(old_reading);
     let extended = ObjcCategory::from(category);
-    let answer = extended.class_name(
-        files, segments, sections, info, rebases, binds, index, setting,
-    );
-    NameTold::from(answer)
+    let answer = extended.class_name(&tables, setting);
+    let (status, name) = told(found(answer), TextWords::default());
+    NameTold { status, name }
 }

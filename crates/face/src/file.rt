@@ -16,13 +16,14 @@ ghost use Rattle.face.specs.File.{part_words, tables_words, sizes_of, ranges_of}
 use filetables::build::file_tables;
 use filewrite::write::{Wrote, write_file};
 use frames::frames::Ranges;
-use macho::open::SEGMENT_TABLE_WORDS;
+use macho::open::{Lent, SEGMENT_TABLE_WORDS};
 use pointers::index::HEADS;
 use pointers::section::ObjcSection;
 use pointers::table::{Bind, Rebase};
 use reads::answer::Question;
 use universal::arch::{Arch, Wanted};
-use universal::part::{PartAnswer, find_part, part_at};
+use universal::fat::Part;
+use universal::part::{find_part, part_at};
 
 // A part of a universal file. Status 0: it was found; 1: refused, by the number; 2: there is none.
 #[repr(C)]
@@ -64,12 +65,12 @@ const RECORDS: u64 = 16_777_215;
 // The bytes of a slot of a section.
 const SLOT: u64 = 8;
 
-impl From<PartAnswer> for FilePart {
+impl From<Result<Option<Part>, Question>> for FilePart {
     ghost from_gives = { λ x w. w ≡ part_words x };
 
-    fn from(answer: PartAnswer) -> FilePart {
+    fn from(answer: Result<Option<Part>, Question>) -> FilePart {
         match answer {
-            PartAnswer::Found(p) => FilePart {
+            Ok(Some(p)) => FilePart {
                 status: 0,
                 number: 0,
                 cputype: p.cputype,
@@ -77,11 +78,11 @@ impl From<PartAnswer> for FilePart {
                 offset: p.offset,
                 size: p.size,
             },
-            PartAnswer::Absent => FilePart {
+            Ok(None) => FilePart {
                 status: 2,
                 ..FilePart::default()
             },
-            PartAnswer::Refused(k) => FilePart {
+            Err(k) => FilePart {
                 status: 1,
                 number: k.number() as u64,
                 ..FilePart::default()
@@ -165,18 +166,18 @@ pub extern "C" fn objclist_tables(file: &[u8], rebases: &mut [u64], binds: &mut 
 
 // Writes the listing of a file to a file descriptor, its methods marked for frames and slides in these ranges.
 #[unsafe(no_mangle)]
-pub extern "C" fn objclist_write(
+pub extern "C" fn objclist_write<'a, 'b>(
     fd: i32,
     first_frame: u64,
     last_frame: u64,
     first_slide: u64,
     last_slide: u64,
     file: &[u8],
-    segments: &mut [u64],
-    sections: &mut [u64],
-    rebases: &[u64],
-    binds: &[u64],
-    index: &mut [u32],
+    segments: &'a mut [u64],
+    sections: &'a mut [u64],
+    rebases: &'b [u64],
+    binds: &'b [u64],
+    index: &'a mut [u32],
     ledger: &mut [u64],
     out: &mut [u8; 65536],
 ) -> Wrote
@@ -194,7 +195,12 @@ pub extern "C" fn objclist_write(
         first_slide,
         last_slide,
     };
-    write_file(
-        fd, ranges, file, segments, sections, rebases, binds, index, ledger, out,
-    )
+    let mut lent = Lent {
+        segments,
+        sections,
+        index,
+        rebases,
+        binds,
+    };
+    write_file(fd, ranges, file, &mut lent, ledger, out)
 }

@@ -10,7 +10,7 @@ ghost use Rattle.face.specs.Opening.{opened_words, file_words, file_told};
 ghost use Rattle.reads.specs.Answer.{outcome};
 
 use crate::status::Status;
-use macho::open::{OpenedFile, open_file};
+use macho::open::{Lent, OpenedFile, open_file};
 use pointers::imageinfo::ImageInfo;
 use pointers::open::open;
 use reads::answer::Missing;
@@ -115,19 +115,26 @@ pub extern "C" fn objclist_open(
 
 // Opens a Mach-O file: fills the segments and the sections by loader.h and writes the index; with a number all three are as they were.
 #[unsafe(no_mangle)]
-pub extern "C" fn objclist_open_file(
+pub extern "C" fn objclist_open_file<'a, 'b>(
     file: &[u8],
-    segments: &mut [u64],
-    sections: &mut [u64],
-    rebases: &[u64],
-    binds: &[u64],
-    index: &mut [u32],
+    segments: &'a mut [u64],
+    sections: &'a mut [u64],
+    rebases: &'b [u64],
+    binds: &'b [u64],
+    index: &'a mut [u32],
 ) -> FileTold
     ensures answer { result ≡ file_told (given (opening_file (before file) segments.old sections.old (before rebases) (before binds) index.old)) }
     ensures segments { segments.new ≡ segments_left (before file) segments.old sections.old (before rebases) (before binds) index.old }
     ensures sections { sections.new ≡ sections_left (before file) segments.old sections.old (before rebases) (before binds) index.old }
     ensures index { index.new ≡ index_left (before file) segments.old sections.old (before rebases) (before binds) index.old }
 {
-    let answer = open_file(file, segments, sections, rebases, binds, index);
+    let mut lent = Lent {
+        segments,
+        sections,
+        index,
+        rebases,
+        binds,
+    };
+    let answer = open_file(file, &mut lent);
     FileTold::from(answer)
 }

@@ -1,18 +1,18 @@
 // A row as words: a method, an ivar, a property, a protocol name, or an entry that is skipped.
 ghost use Rattle.std.specs.Prelude.{◌≡◌};
-ghost use Rattle.walks.specs.Walk.{step_answer, list_answer};
-ghost use Rattle.walks.specs.ProtocolNames.{name_answer, names_answer};
-ghost use Rattle.face.specs.Row.{number_of, imp_number, offset_number, alignment_number, aligned_code, method_words, ivar_words, property_words, row_words, name_words, skipped_words, said_row, said_none, list_row, name_row};
+ghost use Rattle.walks.specs.Walk.{list_answer};
+ghost use Rattle.walks.specs.ProtocolNames.{names_answer};
+ghost use Rattle.face.specs.Row.{number_words, aligned_code, method_words, ivar_words, property_words, row_words, name_words, skipped_words, list_row, name_row};
 
 use crate::status::Status;
-use reads::answer::Reason;
+use reads::answer::{Missing, Reason};
 use reads::text::Text;
-use records::ivar::{Aligned, Ivar};
+use records::ivar::Ivar;
 use records::method::Method;
 use records::property::Property;
 use records::row::Row;
-use walks::list_walk::{ListStep, ListWalked};
-use walks::protocol_names::{NameStep, ProtocolNamesWalked};
+use walks::list_walk::ListStep;
+use walks::protocol_names::NameStep;
 
 // The words of a row.
 pub const ROW_WORDS: usize = 15;
@@ -27,75 +27,24 @@ pub const NAME: u64 = 3;
 
 pub const SKIPPED: u64 = 4;
 
-// A number, or none.
-#[derive(Clone, Copy)]
-pub struct Number {
-    pub here: u64,
-    pub n: u64,
-}
-
-// What a step says: a row's words where one is found.
-#[derive(Clone, Copy)]
-pub struct RowSaid {
-    pub status: Status,
-    pub words: [u64; ROW_WORDS],
-}
-
-impl Number {
-    fn at(n: u64) -> Number
-        ensures { result ≡ number_of 1 n }
-    {
-        Number { here: 1, n }
-    }
-
-    fn none() -> Number
-        ensures { result ≡ number_of 0 0 }
-    {
-        Number { here: 0, n: 0 }
-    }
-}
-
-impl From<Option<u64>> for Number {
-    ghost from_gives = { λ x n. n ≡ imp_number x };
-
-    fn from(imp: Option<u64>) -> Number {
-        match imp {
-            Some(n) => Number::at(n),
-            None => Number::none(),
-        }
-    }
-}
-
-impl From<Option<u32>> for Number {
-    ghost from_gives = { λ x n. n ≡ offset_number x };
-
-    fn from(offset: Option<u32>) -> Number {
-        match offset {
-            Some(n) => Number::at(n as u64),
-            None => Number::none(),
-        }
-    }
-}
-
-impl From<Option<u8>> for Number {
-    ghost from_gives = { λ x n. n ≡ alignment_number x };
-
-    fn from(alignment: Option<u8>) -> Number {
-        match alignment {
-            Some(n) => Number::at(n as u64),
-            None => Number::none(),
-        }
+// The two words of a number that may be none: whether it is there, and which.
+fn number_words(number: Option<u64>) -> (u64, u64)
+    ensures { result ≡ number_words number }
+{
+    match number {
+        Some(n) => (1, n),
+        None => (0, 0),
     }
 }
 
 // Not a cast: the numbers are the C interface's, in another order.
-fn aligned_code(aligned: Aligned) -> u64
+fn aligned_code(aligned: Option<bool>) -> u64
     ensures { result ≡ aligned_code aligned }
 {
     match aligned {
-        Aligned::No => 0,
-        Aligned::Yes => 1,
-        Aligned::Unknown => 2,
+        Some(false) => 0,
+        Some(true) => 1,
+        None => 2,
     }
 }
 
@@ -106,7 +55,7 @@ fn method_words(m: Method) -> [u64; ROW_WORDS]
     let types = m.types;
     let implementation = m.implementation;
     let kind = m.kind;
-    let imp = Number::from(implementation);
+    let (has_imp, imp) = number_words(implementation);
     [
         METHOD,
         0,
@@ -117,8 +66,8 @@ fn method_words(m: Method) -> [u64; ROW_WORDS]
         types.file,
         types.offset,
         types.len,
-        imp.here,
-        imp.n,
+        has_imp,
+        imp,
         kind as u64,
         0,
         0,
@@ -134,8 +83,8 @@ fn ivar_words(v: Ivar) -> [u64; ROW_WORDS]
     let offset = v.offset;
     let log2_alignment = v.log2_alignment;
     let aligned = v.aligned;
-    let place = Number::from(offset);
-    let alignment = Number::from(log2_alignment);
+    let (has_place, place) = number_words(offset.map(|n| n as u64));
+    let (has_alignment, alignment) = number_words(log2_alignment.map(|n| n as u64));
     let code = aligned_code(aligned);
     [
         IVAR,
@@ -147,11 +96,11 @@ fn ivar_words(v: Ivar) -> [u64; ROW_WORDS]
         encoding.file,
         encoding.offset,
         encoding.len,
-        place.here,
-        place.n,
+        has_place,
+        place,
         v.size as u64,
-        alignment.here,
-        alignment.n,
+        has_alignment,
+        alignment,
         code,
     ]
 }
@@ -212,10 +161,11 @@ fn name_words(name: Text) -> [u64; ROW_WORDS]
     ]
 }
 
-fn skipped_words(why: Reason, place: Number) -> [u64; ROW_WORDS]
+fn skipped_words(why: Reason, place: Option<u64>) -> [u64; ROW_WORDS]
     ensures { result ≡ skipped_words why place }
 {
     let status = Status::from(why);
+    let (has_place, place) = number_words(place);
     [
         SKIPPED,
         status.code,
@@ -226,8 +176,8 @@ fn skipped_words(why: Reason, place: Number) -> [u64; ROW_WORDS]
         0,
         0,
         0,
-        place.here,
-        place.n,
+        has_place,
+        place,
         0,
         0,
         0,
@@ -235,65 +185,26 @@ fn skipped_words(why: Reason, place: Number) -> [u64; ROW_WORDS]
     ]
 }
 
-impl RowSaid {
-    fn row(words: [u64; ROW_WORDS]) -> RowSaid
-        ensures { result ≡ said_row words }
-    {
-        RowSaid {
-            status: Status::found(),
-            words,
-        }
-    }
-
-    // No row.
-    pub(crate) fn none(status: Status) -> RowSaid
-        ensures { result ≡ said_none status }
-    {
-        RowSaid {
-            status,
-            words: [0; ROW_WORDS],
-        }
-    }
-}
-
-fn list_step_said(step: ListStep) -> RowSaid
-    ensures { result ≡ list_row (step_answer step) }
-{
-    match step {
-        ListStep::Row(row) => RowSaid::row(row_words(row)),
-        ListStep::Skipped(j, why) => RowSaid::row(skipped_words(why, Number::at(j as u64))),
-        ListStep::Finished => RowSaid::none(Status::of(Status::FINISHED)),
-        ListStep::Refused(k) => RowSaid::none(Status::refused(k)),
-    }
-}
-
-// What a step over a list says.
-pub(crate) fn list_said(walked: ListWalked) -> RowSaid
+// What a step over a list says: a row's words, or what ends the rows.
+pub(crate) fn list_said(walked: Result<ListStep, Missing>) -> Result<[u64; ROW_WORDS], Status>
     ensures { result ≡ list_row (list_answer walked) }
 {
     match walked {
-        ListWalked::Step(step) => list_step_said(step),
-        ListWalked::Absent(why) => RowSaid::none(Status::from(why)),
+        Ok(ListStep::Row(row)) => Ok(row_words(row)),
+        Ok(ListStep::Skipped(j, why)) => Ok(skipped_words(why, Some(j as u64))),
+        Ok(ListStep::Finished) => Err(Status::of(Status::FINISHED)),
+        Err(m) => Err(Status::from(m)),
     }
 }
 
-fn name_step_said(step: NameStep) -> RowSaid
-    ensures { result ≡ name_row (name_answer step) }
-{
-    match step {
-        NameStep::Name(name) => RowSaid::row(name_words(name)),
-        NameStep::Passed(why) => RowSaid::row(skipped_words(why, Number::none())),
-        NameStep::Finished => RowSaid::none(Status::of(Status::FINISHED)),
-        NameStep::Refused(k) => RowSaid::none(Status::refused(k)),
-    }
-}
-
-// What a step over protocol names says.
-pub(crate) fn names_said(walked: ProtocolNamesWalked) -> RowSaid
+// What a step over protocol names says: a name's words, or what ends the names.
+pub(crate) fn names_said(walked: Result<NameStep, Missing>) -> Result<[u64; ROW_WORDS], Status>
     ensures { result ≡ name_row (names_answer walked) }
 {
     match walked {
-        ProtocolNamesWalked::Step(step) => name_step_said(step),
-        ProtocolNamesWalked::Absent(why) => RowSaid::none(Status::from(why)),
+        Ok(NameStep::Name(name)) => Ok(name_words(name)),
+        Ok(NameStep::Passed(why)) => Ok(skipped_words(why, None)),
+        Ok(NameStep::Finished) => Err(Status::of(Status::FINISHED)),
+        Err(m) => Err(Status::from(m)),
     }
 }

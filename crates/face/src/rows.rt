@@ -5,10 +5,12 @@ ghost use Rattle.reads.specs.Reference.{before};
 ghost use Rattle.pointers.specs.Tables.{lent};
 ghost use Rattle.face.specs.Rows.{listed, refused_turn, moved_to, list_turn, name_turn, list_over, names_over, turn_over, row_turn, gather};
 
-use crate::row::{ROW_WORDS, RowSaid, list_said, names_said};
+use crate::decoding::lent;
+use crate::row::{ROW_WORDS, list_said, names_said};
 use crate::status::Status;
 use crate::words::setting_in;
 use pointers::question::ask;
+use pointers::tables::Tables;
 use reads::answer::Question;
 use records::list::ListKind;
 use walks::list_walk::ListWalk;
@@ -38,32 +40,31 @@ pub struct RowsTold {
 pub enum Listed {
     Rows(ListKind),
     Names,
-    Nothing,
 }
 
-// What a step says, and the walk after it.
+// What a step says, a row's words or what ends the rows, and the walk after it.
 #[derive(Clone, Copy)]
 pub struct RowTurn {
-    pub said: RowSaid,
+    pub said: Result<[u64; ROW_WORDS], Status>,
     pub walk: RowWalk,
 }
 
 // What the kind of a walk says that its list lists.
-fn listed_by(kind: u64) -> Listed
+fn listed_by(kind: u64) -> Option<Listed>
     ensures { result ≡ listed kind }
 {
     match kind {
-        0 => Listed::Rows(ListKind::Methods),
-        1 => Listed::Rows(ListKind::Ivars),
-        2 => Listed::Rows(ListKind::Properties),
-        3 => Listed::Names,
-        _ => Listed::Nothing,
+        0 => Some(Listed::Rows(ListKind::Methods)),
+        1 => Some(Listed::Rows(ListKind::Ivars)),
+        2 => Some(Listed::Rows(ListKind::Properties)),
+        3 => Some(Listed::Names),
+        _ => None,
     }
 }
 
 impl RowWalk {
     // A step, with the walk at another cursor.
-    fn turn(self, said: RowSaid, cursor: u64) -> RowTurn
+    fn turn(self, said: Result<[u64; ROW_WORDS], Status>, cursor: u64) -> RowTurn
         ensures { result ≡ record { said = said; walk = moved_to self cursor } }
     {
         RowTurn {
@@ -76,24 +77,14 @@ impl RowWalk {
     fn refused(self, k: Question) -> RowTurn
         ensures { result ≡ refused_turn self k }
     {
-        let said = RowSaid::none(Status::refused(k));
+        let said = Err(Status::refused(k));
         RowTurn { said, walk: self }
     }
 
     // A step over a list of methods, ivars or properties.
-    fn list_turn(
-        self,
-        files: &[&[u8]],
-        segments: &[u64],
-        sections: &[u64],
-        info: &[u8],
-        rebases: &[u64],
-        binds: &[u64],
-        index: &[u32],
-        kind: ListKind,
-    ) -> RowTurn
+    fn list_turn(self, tables: &Tables, kind: ListKind) -> RowTurn
         requires { self.cursor < 2 ^ 32 }
-        ensures { let t = lent files segments sections info rebases binds index in
+        ensures { let t = tables.now in
             result ≡ list_turn (list_over t) self kind }
     {
         let setting = setting_in(self.old_reading);
@@ -103,7 +94,7 @@ impl RowWalk {
             setting,
             cursor: self.cursor as u32,
         };
-        let stepped = walk.walked_list(files, segments, sections, info, rebases, binds, index);
+        let stepped = walk.walked_list(tables);
         let walked = stepped.walked;
         let next = stepped.walk;
         let said = list_said(walked);
@@ -111,17 +102,8 @@ impl RowWalk {
     }
 
     // A step over protocol names.
-    fn name_turn(
-        self,
-        files: &[&[u8]],
-        segments: &[u64],
-        sections: &[u64],
-        info: &[u8],
-        rebases: &[u64],
-        binds: &[u64],
-        index: &[u32],
-    ) -> RowTurn
-        ensures { let t = lent files segments sections info rebases binds index in
+    fn name_turn(self, tables: &Tables) -> RowTurn
+        ensures { let t = tables.now in
             result ≡ name_turn (names_over t) self }
     {
         let setting = setting_in(self.old_reading);
@@ -130,7 +112,7 @@ impl RowWalk {
             cursor: self.cursor,
             setting,
         };
-        let stepped = walk.walked_list(files, segments, sections, info, rebases, binds, index);
+        let stepped = walk.walked_list(tables);
         let walked = stepped.walked;
         let next = stepped.walk;
         let said = names_said(walked);
@@ -138,29 +120,21 @@ impl RowWalk {
     }
 
     // A step over tables that no question refuses.
-    fn next(
-        self,
-        files: &[&[u8]],
-        segments: &[u64],
-        sections: &[u64],
-        info: &[u8],
-        rebases: &[u64],
-        binds: &[u64],
-        index: &[u32],
-    ) -> RowTurn
-        ensures { let t = lent files segments sections info rebases binds index in
+    fn next(self, tables: &Tables) -> RowTurn
+        ensures { let t = tables.now in
             result ≡ turn_over t self }
     {
-        let listed = listed_by(self.kind);
+        let Some(listed) = listed_by(self.kind) else {
+            return self.refused(Question::WalkState);
+        };
         match listed {
             Listed::Rows(kind) => {
                 if 0x1_0000_0000 <= self.cursor {
                     return self.refused(Question::WalkState);
                 }
-                self.list_turn(files, segments, sections, info, rebases, binds, index, kind)
+                self.list_turn(tables, kind)
             }
-            Listed::Names => self.name_turn(files, segments, sections, info, rebases, binds, index),
-            Listed::Nothing => self.refused(Question::WalkState),
+            Listed::Names => self.name_turn(tables),
         }
     }
 }
@@ -187,37 +161,25 @@ fn put_row(table: &mut [u64], from: usize, words: [u64; ROW_WORDS])
 }
 
 // At most `room` steps over tables that no question refuses, each with its row.
-fn gather_rows(
-    files: &[&[u8]],
-    segments: &[u64],
-    sections: &[u64],
-    info: &[u8],
-    rebases: &[u64],
-    binds: &[u64],
-    index: &[u32],
-    walk: RowWalk,
-    room: usize,
-    table: &mut [u64],
-) -> RowsTold
+fn gather_rows(tables: &Tables, walk: RowWalk, room: usize, table: &mut [u64]) -> RowsTold
     requires { (15 * room ≤ length table.old) × (15 * room < 2 ^ 64) }
-    ensures { let t = lent files segments sections info rebases binds index in
+    ensures { let t = tables.now in
         record { told = result; table = table.new } ≡ gather (turn_over t) room walk 0 table.old }
 {
     let mut at = walk;
     for n in 0..room {
-        let turn = at.next(files, segments, sections, info, rebases, binds, index);
-        let said = turn.said;
-        let status = said.status;
+        let turn = at.next(tables);
         at = turn.walk;
-        if status.kind != Status::FOUND {
-            return RowsTold {
-                status,
-                rows: n as u64,
-                walk: at,
-            };
+        match turn.said {
+            Ok(words) => put_row(table, ROW_WORDS * n, words),
+            Err(status) => {
+                return RowsTold {
+                    status,
+                    rows: n as u64,
+                    walk: at,
+                };
+            }
         }
-        let words = said.words;
-        put_row(table, ROW_WORDS * n, words);
     }
     RowsTold {
         status: Status::of(Status::MORE),
@@ -242,11 +204,10 @@ pub extern "C" fn objclist_rows(
     ensures { let t = lent files segments sections info rebases binds index in
         record { told = result; table = table.new } ≡ gather (row_turn t) (length table.old / 15) walk 0 table.old }
 {
+    let tables = lent(files, segments, sections, info, rebases, binds, index);
     let room = table.len() / ROW_WORDS;
-    match ask(files, segments, sections, info, rebases, binds, index) {
-        Ok(()) => gather_rows(
-            files, segments, sections, info, rebases, binds, index, walk, room, table,
-        ),
+    match ask(&tables) {
+        Ok(()) => gather_rows(&tables, walk, room, table),
         Err(k) => {
             if room == 0 {
                 return RowsTold::none(Status::of(Status::MORE), walk);

@@ -1,17 +1,14 @@
 // A step of the walk over classes, over categories and over protocols: the walk's state goes in and comes back as words.
 ghost use Rattle.std.specs.Prelude.{◌≡◌, []};
 ghost use Rattle.pointers.specs.Tables.{lent, under};
-ghost use Rattle.walks.specs.Sections.{classes, categories, step_of, protocol_step_of, record_step};
+ghost use Rattle.walks.specs.Sections.{classes, categories, step_of, protocol_step_of, record_answer};
+ghost use Rattle.face.specs.Status.{stepped};
 ghost use Rattle.face.specs.Words.{setting_in};
-ghost use Rattle.face.specs.Decoding.{class_told, category_told, protocol_told};
 ghost use Rattle.face.specs.Sections.{class_state, category_state, protocol_state, class_walked, category_walked, protocol_walked};
 
-use crate::decoding::{CategoryTold, ClassTold, ProtocolTold};
-use crate::status::Status;
+use crate::decoding::{CategoryTold, ClassTold, ProtocolTold, lent, told};
 use crate::words::{CategoryWords, ClassWords, ProtocolWords, setting_in};
-use records::category::ObjcCategory;
-use records::class::ObjcClass;
-use records::protocol::ObjcProtocol;
+use reads::answer::{Missing, Question};
 use walks::section_slots::{CategorySlots, ClassSlots, ProtocolSlots};
 use walks::sections::{CategoryWalk, ClassWalk, ProtocolWalk, RecordStep};
 use walks::slots::SlotWalk;
@@ -49,49 +46,11 @@ pub struct ProtocolWalked {
     pub walk: WalkWords,
 }
 
-fn class_step_told(step: RecordStep<ObjcClass>) -> ClassTold
-    ensures { result ≡ class_told (record_step step) }
+// A step of a walk, whose question is what is missing.
+fn step_of_walk<R: Copy>(step: Result<RecordStep<R>, Question>) -> Result<RecordStep<R>, Missing>
+    ensures { stepped result ≡ record_answer step }
 {
-    match step {
-        RecordStep::Record(c) => ClassTold {
-            status: Status::found(),
-            cls: ClassWords::from(c),
-        },
-        RecordStep::Passed(why) => ClassTold::none(Status::from(why)),
-        RecordStep::Dropped => ClassTold::none(Status::of(Status::DROPPED)),
-        RecordStep::Finished => ClassTold::none(Status::of(Status::FINISHED)),
-        RecordStep::Refused(k) => ClassTold::none(Status::refused(k)),
-    }
-}
-
-fn category_step_told(step: RecordStep<ObjcCategory>) -> CategoryTold
-    ensures { result ≡ category_told (record_step step) }
-{
-    match step {
-        RecordStep::Record(k) => CategoryTold {
-            status: Status::found(),
-            category: CategoryWords::from(k),
-        },
-        RecordStep::Passed(why) => CategoryTold::none(Status::from(why)),
-        RecordStep::Dropped => CategoryTold::none(Status::of(Status::DROPPED)),
-        RecordStep::Finished => CategoryTold::none(Status::of(Status::FINISHED)),
-        RecordStep::Refused(k) => CategoryTold::none(Status::refused(k)),
-    }
-}
-
-fn protocol_step_told(step: RecordStep<ObjcProtocol>) -> ProtocolTold
-    ensures { result ≡ protocol_told (record_step step) }
-{
-    match step {
-        RecordStep::Record(p) => ProtocolTold {
-            status: Status::found(),
-            protocol: ProtocolWords::from(p),
-        },
-        RecordStep::Passed(why) => ProtocolTold::none(Status::from(why)),
-        RecordStep::Dropped => ProtocolTold::none(Status::of(Status::DROPPED)),
-        RecordStep::Finished => ProtocolTold::none(Status::of(Status::FINISHED)),
-        RecordStep::Refused(k) => ProtocolTold::none(Status::refused(k)),
-    }
+    Ok(step?)
 }
 
 // The next class, or the metaclass that waits.
@@ -112,6 +71,7 @@ pub extern "C" fn objclist_next_class(
     ensures contents { let t = under (setting_in walk.old_reading) (lent files segments sections info rebases binds index) in
         ledger.new ≡ (step_of classes t (class_state walk) ledger.old).ledger }
 {
+    let tables = lent(files, segments, sections, info, rebases, binds, index);
     let setting = setting_in(walk.old_reading);
     let at = ClassWalk {
         slots: ClassSlots {
@@ -124,13 +84,12 @@ pub extern "C" fn objclist_next_class(
         },
         setting,
     };
-    let stepped = at.next(
-        files, segments, sections, info, rebases, binds, index, ledger,
-    );
+    let stepped = at.next(&tables, ledger);
     let step = stepped.step;
     let next = stepped.walk;
+    let (status, cls) = told(step_of_walk(step), ClassWords::default());
     ClassWalked {
-        told: class_step_told(step),
+        told: ClassTold { status, cls },
         walk: WalkWords {
             slot: next.slots.slots.slot,
             used: next.slots.slots.used,
@@ -159,6 +118,7 @@ pub extern "C" fn objclist_next_category(
     ensures contents { let t = under (setting_in walk.old_reading) (lent files segments sections info rebases binds index) in
         ledger.new ≡ (step_of categories t (category_state walk) ledger.old).ledger }
 {
+    let tables = lent(files, segments, sections, info, rebases, binds, index);
     let setting = setting_in(walk.old_reading);
     let at = CategoryWalk {
         slots: CategorySlots {
@@ -170,13 +130,12 @@ pub extern "C" fn objclist_next_category(
         },
         setting,
     };
-    let stepped = at.next(
-        files, segments, sections, info, rebases, binds, index, ledger,
-    );
+    let stepped = at.next(&tables, ledger);
     let step = stepped.step;
     let next = stepped.walk;
+    let (status, category) = told(step_of_walk(step), CategoryWords::default());
     CategoryWalked {
-        told: category_step_told(step),
+        told: CategoryTold { status, category },
         walk: WalkWords {
             slot: next.slots.slots.slot,
             used: next.slots.slots.used,
@@ -202,16 +161,18 @@ pub extern "C" fn objclist_next_protocol(
     ensures { let t = under (setting_in walk.old_reading) (lent files segments sections info rebases binds index) in
         result ≡ protocol_walked walk.old_reading (protocol_step_of t (protocol_state walk) []) }
 {
+    let tables = lent(files, segments, sections, info, rebases, binds, index);
     let setting = setting_in(walk.old_reading);
     let at = ProtocolWalk {
         slots: ProtocolSlots { slot: walk.slot },
         setting,
     };
-    let stepped = at.next_protocol(files, segments, sections, info, rebases, binds, index);
+    let stepped = at.next_protocol(&tables);
     let step = stepped.step;
     let next = stepped.walk;
+    let (status, protocol) = told(step_of_walk(step), ProtocolWords::default());
     ProtocolWalked {
-        told: protocol_step_told(step),
+        told: ProtocolTold { status, protocol },
         walk: WalkWords {
             slot: next.slots.slot,
             used: 0,

@@ -6,7 +6,7 @@ use mathlib.Core.List.{List, [], ◌++◌}
 use native.Mathlib.Nat.{le_of_lt}
 use native.Mathlib.Omega.{arith}
 use lib.Dec.{leb, eqb}
-use lib.ListN.{length, take, drop, drop_of_length-le}
+use lib.ListN.{length, take, drop, drop_of_length-le, take-append-drop}
 use lib.Seq.{drop-length}
 use borrow.Author.Tests.{leb-true, leb-false, ne_eqb}
 use Rattle.reads.specs.Answer.{missed, outcome}
@@ -21,10 +21,9 @@ use Rattle.pointers.specs.declared.imageinfo.ImageInfo.{ImageInfo}
 use Rattle.pointers.specs.ImageInfo.{image_info}
 use Rattle.pointers.specs.Open.{asked_opening, opening}
 use Rattle.pointers.specs.Tables.{Tables}
-use Rattle.pointers.specs.declared.setting.Setting.{Setting}
 use Rattle.macho.specs.Commands.{asked_commands}
 use Rattle.macho.specs.FileTables.{over_file, file_tables}
-use Rattle.macho.specs.OpenFile.{asked_lent, asked_file, opened_file, opening_file, segments_left, sections_left, index_left}
+use Rattle.macho.specs.OpenFile.{asked_lent, asked_file, opened_file, opening_file, segments_left, sections_left, index_left, Buffers}
 use Rattle.macho.specs.declared.open.OpenedFile.{OpenedFile}
 use Rattle.macho.proofs.FileOpened.{number_keeps}
 use Rattle.frames.specs.Marks.{frames_of}
@@ -33,7 +32,7 @@ use Rattle.frames.specs.declared.frames.Ranges.{Ranges}
 use Rattle.marking.specs.Framed.{with_frames, last_refusal, framed_opening}
 use Rattle.marking.specs.declared.framed.Framed.{Framed}
 use Rattle.marking.proofs.Framing.{framed_accepted, framed_refused, Not8, passes, refuses, question_not8, then_not8, fits8, unindexed, missed_is, opening_short, refused_then}
-use Rattle.printing.specs.Pieces.{Standing, begun, listable}
+use Rattle.printing.specs.Pieces.{listable}
 use Rattle.printing.proofs.BundleAnswers.{first_bytes}
 use Rattle.filelist.specs.FileText.{info_in, framed_file, opened_by, refused_file}
 use Rattle.filelist.specs.FileLent.{index_used, segments_after, sections_after, index_after, tables_by}
@@ -42,23 +41,15 @@ use Rattle.reads.specs.declared.answer.Question.{Question}
 use Rattle.reads.specs.declared.answer.Question.TheVariants.{FileLength, SegmentTable, SectionTable, Header, LoadCommands, IndexLength}
 use Rattle.reads.specs.Question.{number_of}
 
--- The image info of an answer.
-pub info_missing : (a : Result OpenedFile Missing) (m : Missing) → a ≡ Err m → missed m ≡ info_in (outcome a)
-info_missing a m e = rw e (go m)
-  where
-    go : (m : Missing) → ◌≡◌ {A = Outcome ImageInfo} (missed m) (info_in (missed m))
-    go (Absent r) = refl
-    go (Refused k) = refl
-
 -- What is left of the index past the words that are used.
-rest_words : (index : List ℕ) (k n : ℕ) → n ≡ min k (length index) → drop (n - 0) (drop 0 index) ≡ drop k index
+rest_words : (index : List ℕ) (k n : ℕ) → n ≡ min k (length index) → drop n index ≡ drop k index
 rest_words index k n e = go (leb k (length index)) refl
   where
-    go : (t : Bool) → leb k (length index) ≡ t → drop (n - 0) index ≡ drop k index
-    go true g = let h : n - 0 ≡ k = omega (arith, leb-true k (length index) g) in rw h
+    go : (t : Bool) → leb k (length index) ≡ t → drop n index ≡ drop k index
+    go true g = let h : n ≡ k = omega (arith, leb-true k (length index) g) in rw h
     go false g =
         let less = leb-false k (length index) g in
-        let h : n - 0 ≡ length index = omega arith in
+        let h : n ≡ length index = omega arith in
         rw (h, drop-length index) (sym (drop_of_length-le index {i = k} (le_of_lt less)))
 
 -- Ranges that 23 takes: what opening the file gives, with the frames.
@@ -176,65 +167,49 @@ missed_opened file (Absent r) = refl
 missed_opened file (Refused k) = refl
 
 -- Opening for ranges over the first words of the index.
-module _ (u : Setting) (x : Ranges) (file segments sections rebases binds index : List ℕ) (n : ℕ) (e : n ≡ min (index_length rebases binds) (length index)) where
+module _ (x : Ranges) (file segments sections rebases binds index : List ℕ) (n : ℕ) (e : n ≡ min (index_length rebases binds) (length index)) where
   abbrev used : List ℕ
   used = index_used rebases binds index
 
-  used_part : take (n - 0) (drop 0 index) ≡ used
-  used_part = first_bytes index (index_length rebases binds) n e
+  used_part : take n index ≡ used
+  used_part = let h : n - 0 ≡ n = omega arith in rw h at (first_bytes index (index_length rebases binds) n e)
 
-  abbrev Begins : Outcome OpenedFile → (List ℕ → Standing) → List ℕ → List ℕ → List ℕ → Type 0
-  Begins o q s c i =
-      (o ≡ opened_by file (framed_file x file segments sections rebases binds used))
-      × ((q ≡ begun u (framed_file x file segments sections rebases binds used))
-      × ((s ≡ segments_after x file segments sections rebases binds index)
-      × ((c ≡ sections_after x file segments sections rebases binds index)
-      × (i ++ drop (n - 0) (drop 0 index) ≡ index_after x file segments sections rebases binds index))))
+  rest_part : drop n index ≡ drop (index_length rebases binds) index
+  rest_part = rest_words index (index_length rebases binds) n e
 
-  pub begins_framed : (w : Frames) → frames_of x ≡ value w → (o : Outcome OpenedFile) (q : List ℕ → Standing) (s c i : List ℕ)
-      → ((o ≡ opening_file file segments sections rebases binds (take (n - 0) (drop 0 index)))
-      × ((q ≡ begun u (with_frames w (info_in o)))
-      × ((s ≡ segments_left file segments sections rebases binds (take (n - 0) (drop 0 index)))
-      × ((c ≡ sections_left file segments sections rebases binds (take (n - 0) (drop 0 index)))
-      × (i ≡ index_left file segments sections rebases binds (take (n - 0) (drop 0 index)))))))
-      → Begins o q s c i
-  begins_framed w g o q s c i h =
-      let opens = h.0 ∙ ap (opening_file file segments sections rebases binds) used_part in (
-        opens ∙ frames_taken x w g file segments sections rebases binds used,
-        (
-          h.1.0 ∙ ap (λ (a : Outcome OpenedFile). begun u (with_frames w (info_in a))) opens ∙ ap (begun u) (frames_begun x w g file segments sections rebases binds used),
-          (
-            rw g (h.1.1.0 ∙ ap (segments_left file segments sections rebases binds) used_part),
-            (
-              rw g (h.1.1.1.0 ∙ ap (sections_left file segments sections rebases binds) used_part),
-              rw g
-                  (ap (λ (y : List ℕ). y ++ drop (n - 0) (drop 0 index)) (h.1.1.1.1 ∙ ap (index_left file segments sections rebases binds) used_part)
-                  ∙ ap (λ (y : List ℕ). index_left file segments sections rebases binds used ++ y) (rest_words index (index_length rebases binds) n e)),
-            ),
-          ),
-        ),
-      )
+  abbrev After : Buffers
+  After =
+      record {
+        segments = segments_after x file segments sections rebases binds index;
+        sections = sections_after x file segments sections rebases binds index;
+        index = index_after x file segments sections rebases binds index;
+      }
 
-  pub begins_refused : (k : Question) → frames_of x ≡ refused k → (m : Missing) (q : List ℕ → Standing) (s c i : List ℕ) → q ≡ begun u (missed m)
-      → ((missed m ≡ refused_file k file segments sections rebases binds (take (n - 0) (drop 0 index)))
-      × ((s ≡ segments) × ((c ≡ sections) × (i ≡ take (n - 0) (drop 0 index)))))
-      → Begins (missed m) q s c i
-  begins_refused k g m q s c i b h =
-      let refuses = h.0 ∙ ap (refused_file k file segments sections rebases binds) used_part ∙ frames_refused x k g file segments sections rebases binds used in (
-        sym (missed_opened file m) ∙ ap (opened_by file) refuses,
-        (
-          b ∙ ap (begun u) refuses,
-          (
-            rw g h.1.0,
-            (
-              rw g h.1.1.0,
-              rw g
-                  (ap (λ (y : List ℕ). y ++ drop (n - 0) (drop 0 index)) (h.1.1.1 ∙ used_part)
-                  ∙ ap (λ (y : List ℕ). used ++ y) (rest_words index (index_length rebases binds) n e)),
-            ),
-          ),
-        ),
-      )
+  module _ (w : Frames) (g : frames_of x ≡ value w) where
+    pub first_framed : (o : Outcome OpenedFile) → o ≡ opening_file file segments sections rebases binds (take n index)
+        → (o ≡ opened_by file (framed_file x file segments sections rebases binds used))
+        × (with_frames w (info_in o) ≡ framed_file x file segments sections rebases binds used)
+    first_framed o h =
+        let opens = h ∙ ap (opening_file file segments sections rebases binds) used_part in (
+          opens ∙ frames_taken x w g file segments sections rebases binds used,
+          ap (λ (a : Outcome OpenedFile). with_frames w (info_in a)) opens ∙ frames_begun x w g file segments sections rebases binds used,
+        )
+
+    pub left_framed : ◌≡◌ {A = Buffers}
+        (record {
+          segments = segments_left file segments sections rebases binds (take n index);
+          sections = sections_left file segments sections rebases binds (take n index);
+          index = index_left file segments sections rebases binds (take n index) ++ drop n index;
+        })
+        After
+    left_framed = rw (g, used_part, rest_part)
+
+  module _ (k : Question) (g : frames_of x ≡ refused k) where
+    pub first_refused : refused_file k file segments sections rebases binds (take n index) ≡ framed_file x file segments sections rebases binds used
+    first_refused = ap (refused_file k file segments sections rebases binds) used_part ∙ frames_refused x k g file segments sections rebases binds used
+
+    pub left_refused : ◌≡◌ {A = Buffers} (record { segments = segments; sections = sections; index = index }) After
+    left_refused = rw (g, take-append-drop (index_length rebases binds) index)
 
 -- The tables over the first words of the segments and of the index.
 pub parts_same : (file segments sections info rebases binds index : List ℕ) (count w n : ℕ)

@@ -9,9 +9,15 @@ use Rattle.pointers.specs.Tables.{Tables}
 use Rattle.frames.specs.Marks.{frames_of}
 use Rattle.frames.specs.declared.frames.Ranges.{Ranges}
 use Rattle.macho.specs.FileTables.{over_file}
-use Rattle.macho.specs.OpenFile.{segments_left, sections_left, index_left}
+use Rattle.macho.specs.OpenFile.{opening_file, segments_left, sections_left, index_left, Buffers}
 use Rattle.macho.specs.declared.open.OpenedFile.{OpenedFile}
+use Rattle.macho.specs.declared.open.Lent.{Lent}
+use Rattle.marking.specs.declared.framed.Framed.{Framed}
 use Rattle.printing.specs.Pieces.{listable}
+use Rattle.filelist.specs.FileText.{framed_file, refused_file}
+use Rattle.filelist.specs.declared.file.Opened.{Opened}
+use Rattle.reads.specs.Answer.{outcome}
+use Rattle.reads.specs.declared.answer.Question.{Question}
 
 -- The words of the index that are used: as many as question IndexLength asks.
 abbrev pub index_used : List ℕ → List ℕ → List ℕ → List ℕ
@@ -41,3 +47,39 @@ tables_by (refused k) file segments sections rebases binds index = over_file fil
 abbrev pub tables_lent : Outcome OpenedFile → List ℕ → List ℕ → List ℕ → List ℕ → List ℕ → List ℕ → Tables
 tables_lent o file segments sections rebases binds index =
     listable (tables_by o file segments sections rebases binds (index_used rebases binds index))
+
+-- Of what a caller lends as one.
+abbrev pub framed_lent : Ranges → List ℕ → Lent → Outcome Framed
+framed_lent x file l = framed_file x file l.segments.now l.sections.now l.rebases.now l.binds.now (index_used l.rebases.now l.binds.now l.index.now)
+
+abbrev pub buffers_after : Ranges → List ℕ → Lent → Buffers
+buffers_after x file l =
+    record {
+      segments = segments_after x file l.segments.now l.sections.now l.rebases.now l.binds.now l.index.now;
+      sections = sections_after x file l.segments.now l.sections.now l.rebases.now l.binds.now l.index.now;
+      index = index_after x file l.segments.now l.sections.now l.rebases.now l.binds.now l.index.now;
+    }
+
+-- The same of opening over the first n words of the index.
+abbrev pub opening_first : ℕ → List ℕ → Lent → Outcome OpenedFile
+opening_first n file l = opening_file file l.segments.now l.sections.now l.rebases.now l.binds.now (take n l.index.now)
+
+abbrev pub refused_first : Question → ℕ → List ℕ → Lent → Outcome Framed
+refused_first k n file l = refused_file k file l.segments.now l.sections.now l.rebases.now l.binds.now (take n l.index.now)
+
+abbrev pub buffers_first : ℕ → List ℕ → Lent → Buffers
+buffers_first n file l =
+    record {
+      segments = segments_left file l.segments.now l.sections.now l.rebases.now l.binds.now (take n l.index.now);
+      sections = sections_left file l.segments.now l.sections.now l.rebases.now l.binds.now (take n l.index.now);
+      index = index_left file l.segments.now l.sections.now l.rebases.now l.binds.now (take n l.index.now) ++ drop n l.index.now;
+    }
+
+-- Of what pieces are read from as one: over the rows of so many segments and the bytes of an image info, and by what opening gave.
+abbrev pub tables_over : ℕ → List ℕ → Opened → Tables
+tables_over count info o =
+    over_file o.file.now (take (segment_words * count) o.segments.now) o.sections.now info o.rebases.now o.binds.now
+    (index_used o.rebases.now o.binds.now o.index.now)
+
+abbrev pub tables_opened : Opened → Tables
+tables_opened o = tables_lent (outcome o.answer) o.file.now o.segments.now o.sections.now o.rebases.now o.binds.now o.index.now

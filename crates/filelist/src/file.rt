@@ -1,23 +1,22 @@
 // The listing of a Mach-O file: it is opened over what is lent, and its text handed out piece by piece. Rebases and binds are lent. Of the
 // index as many words are used as question 8 asks. With a number, 23 of the ranges last, nothing lent is written, and the text is `refused` and
 // that number.
-ghost use Rattle.std.specs.Prelude.{◌*◌, min, ◌≡◌, length, take, drop};
+ghost use Rattle.std.specs.Prelude.{◌*◌, ◌≤◌, min, ◌≡◌, length, drop};
 ghost use Rattle.reads.specs.Answer.{missed, outcome};
 ghost use Rattle.reads.specs.Reference.{before};
 ghost use Rattle.reads.specs.Segment.{segment_words};
 ghost use Rattle.reads.specs.declared.text.Reading.TheVariants.{New};
 ghost use Rattle.pointers.specs.Index.{index_length};
-ghost use Rattle.macho.specs.FileTables.{over_file};
-ghost use Rattle.macho.specs.OpenFile.{opening_file, segments_left, sections_left, index_left};
+ghost use Rattle.macho.specs.OpenFile.{Kept, opening_file, segments_left, sections_left, index_left, buffers};
 ghost use Rattle.frames.specs.Frames.{no_ranges};
 ghost use Rattle.marking.specs.Framed.{with_frames};
 ghost use Rattle.printing.specs.Pieces.{standing_of, begun, listable, to_come, handed_of, piece_of};
-ghost use Rattle.filelist.specs.FileText.{file_setting, info_in, framed_file, opened_by, refused_file};
-ghost use Rattle.filelist.specs.FileLent.{index_used, segments_after, sections_after, index_after, tables_lent};
+ghost use Rattle.filelist.specs.FileText.{file_setting, info_in, opened_by};
+ghost use Rattle.filelist.specs.FileLent.{framed_lent, opening_first, refused_first, buffers_first, buffers_after, tables_over, tables_opened};
 
 use frames::frames::{Frames, Ranges};
 use macho::header::range_of;
-use macho::open::{OpenedFile, open_file};
+use macho::open::{Lent, OpenedFile, open_file};
 use marking::framed::{refused_last, with_frames};
 use pointers::imageinfo::ImageInfo;
 use pointers::index::HEADS;
@@ -25,8 +24,10 @@ use pointers::question::index_fits;
 use pointers::setting::{Lookup, Setting};
 use pointers::sorted::ascends;
 use pointers::table::{Bind, Rebase};
+use pointers::tables::Tables;
 use printing::pieces::{Piece, Progress};
 use reads::answer::{Missing, Question};
+use reads::place::Image;
 use reads::segment::Segment;
 use reads::text::Reading;
 
@@ -35,6 +36,18 @@ use reads::text::Reading;
 pub struct FileListing {
     pub answer: Result<OpenedFile, Missing>,
     pub progress: Progress,
+}
+
+// What the pieces of a listing are read from: the file, what opening it answered, and what was lent for it.
+#[derive(Drop)]
+pub struct Opened<'a> {
+    pub answer: Result<OpenedFile, Missing>,
+    pub file: &'a [u8],
+    pub segments: &'a [u64],
+    pub sections: &'a [u64],
+    pub rebases: &'a [u64],
+    pub binds: &'a [u64],
+    pub index: &'a [u32],
 }
 
 // The words of the index that question 8 asks, or all that are lent.
@@ -59,33 +72,73 @@ fn segment_words(count: u64, lent: usize) -> usize
 fn info_of(answer: Result<OpenedFile, Missing>) -> Result<ImageInfo, Missing>
     ensures { outcome result ≡ info_in (outcome answer) }
 {
-    match answer {
-        Ok(opened) => {
-            let info = opened.info;
-            Ok(info)
-        }
-        Err(m) => Err(m),
-    }
+    let opened = answer?;
+    let info = opened.info;
+    Ok(info)
 }
 
-// Opens the file, and begins its listing for these frames.
-fn begin(
-    setting: Setting,
-    frames: Frames,
+// Opens the file over slices.
+// Not a `Lent`: one made from the fields of another has no proof.
+fn open_over(
     file: &[u8],
     segments: &mut [u64],
     sections: &mut [u64],
+    index: &mut [u32],
     rebases: &[u64],
     binds: &[u64],
-    index: &mut [u32],
-) -> FileListing
-    ensures answer { outcome result.answer ≡ opening_file (before file) segments.old sections.old (before rebases) (before binds) index.old }
-    ensures progress { standing_of result.progress ≡ begun setting (with_frames frames (info_in (outcome result.answer))) }
+) -> Result<OpenedFile, Missing>
+    ensures outcome { outcome result ≡ opening_file (before file) segments.old sections.old (before rebases) (before binds) index.old }
     ensures segments { segments.new ≡ segments_left (before file) segments.old sections.old (before rebases) (before binds) index.old }
     ensures sections { sections.new ≡ sections_left (before file) segments.old sections.old (before rebases) (before binds) index.old }
     ensures index { index.new ≡ index_left (before file) segments.old sections.old (before rebases) (before binds) index.old }
 {
-    let answer = open_file(file, segments, sections, rebases, binds, index);
+    let mut lent = Lent {
+        segments,
+        sections,
+        index,
+        rebases,
+        binds,
+    };
+    open_file(file, &mut lent)
+}
+
+// Opens the file over the first words of the index.
+fn open_first(file: &[u8], lent: &mut Lent, words: usize) -> Result<OpenedFile, Missing>
+    requires { words ≤ length lent.old.index.now }
+    ensures kept { Kept lent.old lent.new }
+    ensures outcome { outcome result ≡ opening_first words (before file) lent.old }
+    ensures left { buffers lent.new ≡ buffers_first words (before file) lent.old }
+{
+    let rebases = lent.rebases;
+    let binds = lent.binds;
+    let segments = &mut *lent.segments;
+    let sections = &mut *lent.sections;
+    let index = &mut *lent.index;
+    open_over(
+        file,
+        segments,
+        sections,
+        &mut index[0..words],
+        rebases,
+        binds,
+    )
+}
+
+// Opens the file over the first words of the index, and begins its listing for these frames.
+fn begin(
+    setting: Setting,
+    frames: Frames,
+    file: &[u8],
+    lent: &mut Lent,
+    words: usize,
+) -> FileListing
+    requires { words ≤ length lent.old.index.now }
+    ensures kept { Kept lent.old lent.new }
+    ensures answer { outcome result.answer ≡ opening_first words (before file) lent.old }
+    ensures progress { standing_of result.progress ≡ begun setting (with_frames frames (info_in (outcome result.answer))) }
+    ensures left { buffers lent.new ≡ buffers_first words (before file) lent.old }
+{
+    let answer = open_first(file, lent, words);
     FileListing {
         answer,
         progress: Progress::starting(setting, with_frames(info_of(answer), frames)),
@@ -93,26 +146,18 @@ fn begin(
 }
 
 // What refuses where number k refuses the ranges: opened over no index the file is refused at the latest by 8, and nothing is written.
-fn ranges_refused(
-    file: &[u8],
-    segments: &mut [u64],
-    sections: &mut [u64],
-    rebases: &[u64],
-    binds: &[u64],
-    index: &mut [u32],
-    k: Question,
-) -> Missing
-    ensures outcome { missed result ≡ refused_file k (before file) segments.old sections.old (before rebases) (before binds) index.old }
-    ensures segments { segments.new ≡ segments.old }
-    ensures sections { sections.new ≡ sections.old }
-    ensures index { index.new ≡ index.old }
+fn ranges_refused(file: &[u8], lent: &mut Lent, words: usize, k: Question) -> Missing
+    requires { words ≤ length lent.old.index.now }
+    ensures kept { Kept lent.old lent.new }
+    ensures outcome { missed result ≡ refused_first k words (before file) lent.old }
+    ensures left { buffers lent.new ≡ buffers lent.old }
 {
     let fits = index_fits(
-        rebases.len() / Rebase::WORDS,
-        binds.len() / Bind::WORDS,
-        index.len(),
+        lent.rebases.len() / Rebase::WORDS,
+        lent.binds.len() / Bind::WORDS,
+        words,
     );
-    match open_file(file, segments, sections, rebases, binds, &mut index[0..0]) {
+    match open_first(file, lent, 0) {
         Ok(_) => Missing::Refused(k),
         Err(m) => refused_last(m, fits, k),
     }
@@ -132,44 +177,17 @@ fn file_setting(reading: Reading, rebases: &[u64]) -> Setting
 }
 
 // The listing of a file under a setting, its methods marked for frames and slides in these ranges; begun.
-fn list_by(
-    setting: Setting,
-    ranges: Ranges,
-    file: &[u8],
-    segments: &mut [u64],
-    sections: &mut [u64],
-    rebases: &[u64],
-    binds: &[u64],
-    index: &mut [u32],
-) -> FileListing
-    ensures answer { outcome result.answer ≡ opened_by (before file) (framed_file ranges (before file) segments.old sections.old (before rebases) (before binds) (index_used (before rebases) (before binds) index.old)) }
-    ensures progress { standing_of result.progress ≡ begun setting (framed_file ranges (before file) segments.old sections.old (before rebases) (before binds) (index_used (before rebases) (before binds) index.old)) }
-    ensures segments { segments.new ≡ segments_after ranges (before file) segments.old sections.old (before rebases) (before binds) index.old }
-    ensures sections { sections.new ≡ sections_after ranges (before file) segments.old sections.old (before rebases) (before binds) index.old }
-    ensures index { index.new ≡ index_after ranges (before file) segments.old sections.old (before rebases) (before binds) index.old }
+fn list_by(setting: Setting, ranges: Ranges, file: &[u8], lent: &mut Lent) -> FileListing
+    ensures kept { Kept lent.old lent.new }
+    ensures answer { outcome result.answer ≡ opened_by (before file) (framed_lent ranges (before file) lent.old) }
+    ensures progress { standing_of result.progress ≡ begun setting (framed_lent ranges (before file) lent.old) }
+    ensures left { buffers lent.new ≡ buffers_after ranges (before file) lent.old }
 {
-    let entries = index_words(rebases, binds, index.len());
+    let words = index_words(lent.rebases, lent.binds, lent.index.len());
     match Frames::new(ranges) {
-        Ok(frames) => begin(
-            setting,
-            frames,
-            file,
-            segments,
-            sections,
-            rebases,
-            binds,
-            &mut index[0..entries],
-        ),
+        Ok(frames) => begin(setting, frames, file, lent, words),
         Err(k) => {
-            let m = ranges_refused(
-                file,
-                segments,
-                sections,
-                rebases,
-                binds,
-                &mut index[0..entries],
-                k,
-            );
+            let m = ranges_refused(file, lent, words, k);
             FileListing {
                 answer: Err(m),
                 progress: Progress::starting(setting, Err(m)),
@@ -179,30 +197,13 @@ fn list_by(
 }
 
 // The listing of a file under the new reading and without ranges, so that nothing is marked; begun.
-pub fn list_file(
-    file: &[u8],
-    segments: &mut [u64],
-    sections: &mut [u64],
-    rebases: &[u64],
-    binds: &[u64],
-    index: &mut [u32],
-) -> FileListing
-    ensures answer { outcome result.answer ≡ opened_by (before file) (framed_file no_ranges (before file) segments.old sections.old (before rebases) (before binds) (index_used (before rebases) (before binds) index.old)) }
-    ensures progress { standing_of result.progress ≡ begun (file_setting New (before rebases)) (framed_file no_ranges (before file) segments.old sections.old (before rebases) (before binds) (index_used (before rebases) (before binds) index.old)) }
-    ensures segments { segments.new ≡ segments_after no_ranges (before file) segments.old sections.old (before rebases) (before binds) index.old }
-    ensures sections { sections.new ≡ sections_after no_ranges (before file) segments.old sections.old (before rebases) (before binds) index.old }
-    ensures index { index.new ≡ index_after no_ranges (before file) segments.old sections.old (before rebases) (before binds) index.old }
+pub fn list_file(file: &[u8], lent: &mut Lent) -> FileListing
+    ensures kept { Kept lent.old lent.new }
+    ensures answer { outcome result.answer ≡ opened_by (before file) (framed_lent no_ranges (before file) lent.old) }
+    ensures progress { standing_of result.progress ≡ begun (file_setting New lent.old.rebases.now) (framed_lent no_ranges (before file) lent.old) }
+    ensures left { buffers lent.new ≡ buffers_after no_ranges (before file) lent.old }
 {
-    list_file_under(
-        Reading::New,
-        Ranges::none(),
-        file,
-        segments,
-        sections,
-        rebases,
-        binds,
-        index,
-    )
+    list_file_under(Reading::New, Ranges::none(), file, lent)
 }
 
 // The same under either reading, its methods marked for frames and slides in these ranges.
@@ -210,112 +211,60 @@ pub fn list_file_under(
     reading: Reading,
     ranges: Ranges,
     file: &[u8],
-    segments: &mut [u64],
-    sections: &mut [u64],
-    rebases: &[u64],
-    binds: &[u64],
-    index: &mut [u32],
+    lent: &mut Lent,
 ) -> FileListing
-    ensures answer { outcome result.answer ≡ opened_by (before file) (framed_file ranges (before file) segments.old sections.old (before rebases) (before binds) (index_used (before rebases) (before binds) index.old)) }
-    ensures progress { standing_of result.progress ≡ begun (file_setting reading (before rebases)) (framed_file ranges (before file) segments.old sections.old (before rebases) (before binds) (index_used (before rebases) (before binds) index.old)) }
-    ensures segments { segments.new ≡ segments_after ranges (before file) segments.old sections.old (before rebases) (before binds) index.old }
-    ensures sections { sections.new ≡ sections_after ranges (before file) segments.old sections.old (before rebases) (before binds) index.old }
-    ensures index { index.new ≡ index_after ranges (before file) segments.old sections.old (before rebases) (before binds) index.old }
+    ensures kept { Kept lent.old lent.new }
+    ensures answer { outcome result.answer ≡ opened_by (before file) (framed_lent ranges (before file) lent.old) }
+    ensures progress { standing_of result.progress ≡ begun (file_setting reading lent.old.rebases.now) (framed_lent ranges (before file) lent.old) }
+    ensures left { buffers lent.new ≡ buffers_after ranges (before file) lent.old }
 {
-    list_by(
-        file_setting(reading, rebases),
-        ranges,
-        file,
-        segments,
-        sections,
-        rebases,
-        binds,
-        index,
-    )
+    list_by(file_setting(reading, lent.rebases), ranges, file, lent)
 }
 
 // The next piece over the rows of so many segments and the bytes of an image info.
-fn piece_over(
+fn piece_over<'a>(
     progress: Progress,
     count: u64,
-    info: &[u8],
-    file: &[u8],
-    segments: &[u64],
-    sections: &[u64],
-    rebases: &[u64],
-    binds: &[u64],
-    index: &[u32],
+    info: &'a [u8],
+    opened: &Opened<'a>,
     ledger: &mut [u64],
     out: &mut [u8],
 ) -> Piece
-    ensures piece { let t = listable (over_file (before file) (take (segment_words * count) (before segments)) (before sections) (before info) (before rebases) (before binds) (index_used (before rebases) (before binds) (before index))) in
+    ensures piece { let t = listable (tables_over count (before info) opened.now) in
         handed_of result ledger.new out.new ≡ piece_of t (standing_of progress ledger.old) (length out.old) out.old }
-    ensures rest { let t = listable (over_file (before file) (take (segment_words * count) (before segments)) (before sections) (before info) (before rebases) (before binds) (index_used (before rebases) (before binds) (before index))) in
+    ensures rest { let t = listable (tables_over count (before info) opened.now) in
         to_come t (standing_of result.progress ledger.new) ≡ drop (length out.old) (to_come t (standing_of progress ledger.old)) }
 {
-    let words = segment_words(count, segments.len());
-    let entries = index_words(rebases, binds, index.len());
-    let files = [file];
-    progress.next_piece(
-        &files,
-        &segments[0..words],
-        sections,
+    let words = segment_words(count, opened.segments.len());
+    let entries = index_words(opened.rebases, opened.binds, opened.index.len());
+    let files = [opened.file];
+    let tables = Tables {
+        image: Image {
+            files: &files,
+            segments: &opened.segments[0..words],
+        },
+        sections: opened.sections,
         info,
-        rebases,
-        binds,
-        &index[0..entries],
-        ledger,
-        out,
-    )
+        rebases: opened.rebases,
+        binds: opened.binds,
+        index: &opened.index[0..entries],
+    };
+    progress.next_piece(&tables, ledger, out)
 }
 
 // The next piece of the text: its length, 0 where nothing is still to come, and where the printing stands after it.
-pub fn next_piece(
-    progress: Progress,
-    answer: Result<OpenedFile, Missing>,
-    file: &[u8],
-    segments: &[u64],
-    sections: &[u64],
-    rebases: &[u64],
-    binds: &[u64],
-    index: &[u32],
-    ledger: &mut [u64],
-    out: &mut [u8],
-) -> Piece
-    ensures piece { let t = tables_lent (outcome answer) (before file) (before segments) (before sections) (before rebases) (before binds) (before index) in
+pub fn next_piece(progress: Progress, opened: &Opened, ledger: &mut [u64], out: &mut [u8]) -> Piece
+    ensures piece { let t = tables_opened opened.now in
         handed_of result ledger.new out.new ≡ piece_of t (standing_of progress ledger.old) (length out.old) out.old }
-    ensures rest { let t = tables_lent (outcome answer) (before file) (before segments) (before sections) (before rebases) (before binds) (before index) in
+    ensures rest { let t = tables_opened opened.now in
         to_come t (standing_of result.progress ledger.new) ≡ drop (length out.old) (to_come t (standing_of progress ledger.old)) }
 {
-    match answer {
-        Ok(opened) => {
-            let info = range_of(file, opened.info_at, opened.info_len);
-            piece_over(
-                progress,
-                opened.segments,
-                info,
-                file,
-                segments,
-                sections,
-                rebases,
-                binds,
-                index,
-                ledger,
-                out,
-            )
+    let file = opened.file;
+    match opened.answer {
+        Ok(o) => {
+            let info = range_of(file, o.info_at, o.info_len);
+            piece_over(progress, o.segments, info, opened, ledger, out)
         }
-        Err(_) => piece_over(
-            progress,
-            0,
-            &file[0..0],
-            file,
-            segments,
-            sections,
-            rebases,
-            binds,
-            index,
-            ledger,
-            out,
-        ),
+        Err(_) => piece_over(progress, 0, &file[0..0], opened, ledger, out),
     }
 }

@@ -1,47 +1,22 @@
 -- Question 25, by the tests that the code makes.
-use Prim.Native.Nat.{ℕ, ◌+◌, ◌/◌, ◌%◌, ◌≤◌, ◌<◌}
+use Prim.Native.Nat.{ℕ, ◌+◌}
 use mathlib.Core.Path.{◌≡◌, refl}
-use mathlib.Core.Bool.{true, false, ◌&&◌}
+use mathlib.Core.Bool.{true, ◌&&◌}
 use mathlib.Core.List.{List, [], ◌∷◌}
 use Rattle.std.specs.List.{list_all}
 use lib.Dec.{eqb, leb}
 use Rattle.std.proofs.Math.Bool.{and_assoc}
-use borrow.Author.Tests.{le-leb, lt-leb, ne_eqb}
-use Rattle.reads.specs.Outcome.{value, refused, choose}
+use borrow.Author.Tests.{ne_eqb}
+use Rattle.reads.specs.Outcome.{value, choose}
 use Rattle.pointers.specs.Question.{question}
 use Rattle.macho.specs.Number.{u32_at}
-use Rattle.macho.specs.Loader.{fileoff, filesize}
 use Rattle.macho.specs.Commands.{asked_commands}
 use Rattle.filetables.specs.Kind.{type_read, segment_read, info_read, command_read, all_read, kind_read, carriers, commands_read, is_read, asked_kind}
-use Rattle.reads.specs.declared.answer.Question.{Question}
-use Rattle.reads.specs.declared.answer.Question.TheVariants.{FileKind}
 
 module _ (t : ℕ) where
   pub type_first : t ≡ 2 → true ≡ type_read t
   unfolding type_read
   type_first e = rw e
-
-  pub type_second : t ≡ 6 → true ≡ type_read t
-  unfolding type_read
-  type_second e = rw e
-
-  pub type_third : t ≡ 7 → true ≡ type_read t
-  unfolding type_read
-  type_third e = rw e
-
-  pub type_last : (t ≡ 2 → ⊥) → (t ≡ 6 → ⊥) → (t ≡ 7 → ⊥) → eqb t 8 ≡ type_read t
-  unfolding type_read
-  type_last a b c = simp (ne_eqb t 2 a, ne_eqb t 6 b, ne_eqb t 7 c)
-
--- A segment.
-module _ (n : ℕ) (cmds : List ℕ) (a : ℕ) where
-  pub segment_past : (m : ℕ) → m ≡ fileoff cmds a + filesize cmds a → n < m → false ≡ segment_read n cmds a
-  unfolding segment_read
-  segment_past m e l = rw (← e, lt-leb m n l)
-
-  pub segment_by : (w : ℕ) → w ≡ u32_at cmds (a + 68) → fileoff cmds a + filesize cmds a ≤ n → eqb (w / 8 % 2) 0 ≡ segment_read n cmds a
-  unfolding segment_read
-  segment_by w e l = rw (e, le-leb (fileoff cmds a + filesize cmds a) n l)
 
 -- A command of each kind.
 module _ (n : ℕ) (cmds : List ℕ) (kind a : ℕ) where
@@ -81,15 +56,7 @@ commands_by n cmds count = simp and_assoc
 
 -- 15 and 16, then 25.
 module _ (file : List ℕ) where
-  pub kind_refused : (k : Question) → refused k ≡ asked_commands file → refused k ≡ asked_kind file
-  unfolding asked_kind
-  kind_refused k e = rw (← e)
-
   module _ (asked : asked_commands file ≡ value tt) where
     pub kind_read_lem : is_read file ≡ true → value tt ≡ asked_kind file
     unfolding asked_kind question choose
     kind_read_lem e = rw (asked, e)
-
-    pub kind_not : is_read file ≡ false → refused FileKind ≡ asked_kind file
-    unfolding asked_kind question choose
-    kind_not e = rw (asked, e)

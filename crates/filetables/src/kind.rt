@@ -19,6 +19,7 @@ use reads::answer::Question;
 use reads::place::u64_from;
 
 // The kinds of file that dyld loads by themselves.
+#[tactic(auto, unfolding(crate::specs::Kind::type_read), using(std::proofs::lemmas::Bool::Decides::nat_tests))]
 fn type_read(filetype: u64) -> bool
     ensures { result ≡ type_read filetype }
 {
@@ -35,6 +36,7 @@ fn type_read(filetype: u64) -> bool
 }
 
 // A segment: its part of the file lies in the file, of n bytes, and is not encrypted.
+#[tactic(auto, unfolding(crate::specs::Kind::segment_read), using(std::proofs::lemmas::Bool::Decides::nat_tests))]
 fn segment_read(cmds: &[u8], at: u64, n: u64) -> bool
     ensures { result ≡ segment_read n (before cmds) at }
 {
@@ -49,6 +51,7 @@ fn segment_read(cmds: &[u8], at: u64, n: u64) -> bool
 }
 
 // A stream of bind opcodes lies in the file: its offset, and its size after it.
+#[tactic(auto, unfolding(crate::specs::Kind::stream_read), using(std::proofs::lemmas::Bool::Decides::nat_tests))]
 fn stream_read(cmds: &[u8], at: u64, field: u64, n: u64) -> bool
     requires { field < 2 ^ 32 }
     ensures { result ≡ stream_read n (before cmds) at field }
@@ -57,6 +60,7 @@ fn stream_read(cmds: &[u8], at: u64, field: u64, n: u64) -> bool
 }
 
 // The streams of bind opcodes lie in the file.
+#[tactic(auto, unfolding(crate::specs::Kind::info_read), using(std::proofs::lemmas::Bool::Decides::nat_tests))]
 fn info_read(cmds: &[u8], at: u64, n: u64) -> bool
     ensures { result ≡ info_read n (before cmds) at }
 {
@@ -103,6 +107,7 @@ fn count_kind(cmds: &[u8], count: u64, kind: u64) -> u64
 }
 
 // How many commands say what is bound.
+#[tactic(auto, unfolding(crate::specs::Kind::carriers), using(std::proofs::lemmas::Bool::Decides::nat_tests))]
 fn carriers(cmds: &[u8], count: u64) -> u64
     requires { count < 2 ^ 32 }
     ensures { result ≡ carriers (before cmds) count }
@@ -129,6 +134,7 @@ fn commands_read(cmds: &[u8], count: u64, n: u64) -> bool
 }
 
 // 25.
+#[tactic(auto, unfolding(crate::specs::Kind::is_read), using(std::proofs::lemmas::Bool::Decides::nat_tests))]
 fn is_read(file: &[u8]) -> bool
     ensures { result ≡ is_read (before file) }
 {
@@ -142,6 +148,7 @@ fn is_read(file: &[u8]) -> bool
 }
 
 // 15 and 16, then 25.
+#[tactic(auto, unfolding(crate::specs::Kind::asked_kind), using(pointers::proofs::Questions::in_order))]
 pub fn ask_kind(file: &[u8]) -> Result<(), Question>
     ensures { answered result ≡ asked_kind (before file) }
 {

@@ -8,6 +8,8 @@ use Rattle.printing.specs.Pieces.{Standing, to_come, past, in_front}
 use Rattle.filelist.specs.FileText.{framed_file, opened_by}
 use Rattle.filelist.specs.FileLent.{index_used, segments_after, sections_after, index_after, tables_lent}
 use Rattle.filewrite.specs.declared.write.Wrote.{Wrote}
+use Rattle.macho.specs.declared.open.Lent.{Lent}
+use Rattle.macho.specs.declared.open.OpenedFile.{OpenedFile}
 use Rattle.reads.specs.Question.{number_of}
 
 -- The most bytes of a piece, and the next piece of what is still to come.
@@ -58,3 +60,10 @@ tables_read x file segments sections rebases binds index =
     (sections_after x file segments sections rebases binds index)
     rebases binds
     (index_after x file segments sections rebases binds index)
+
+-- Of what a caller lends as one: what pieces are read from, and what they are read from after the file was opened.
+abbrev pub tables_given : Outcome OpenedFile → List ℕ → Lent → Tables
+tables_given o file l = tables_lent o file l.segments.now l.sections.now l.rebases.now l.binds.now l.index.now
+
+abbrev pub tables_left : Ranges → List ℕ → Lent → Tables
+tables_left x file l = tables_read x file l.segments.now l.sections.now l.rebases.now l.binds.now l.index.now

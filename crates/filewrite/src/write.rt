@@ -4,17 +4,19 @@ ghost use Rattle.reads.specs.Reference.{before};
 ghost use Rattle.reads.specs.declared.text.Reading.TheVariants.{New};
 ghost use Rattle.listing.specs.ListingAnswer.{said_of};
 ghost use Rattle.printing.specs.Pieces.{standing_of, to_come, begun, handed_of, piece_of};
-ghost use Rattle.filelist.specs.FileText.{file_setting, framed_file};
-ghost use Rattle.filelist.specs.FileLent.{index_used, segments_after, sections_after, index_after, tables_lent};
-ghost use Rattle.filewrite.specs.Written.{piece_bytes, end_of, HandedOver, Written, tables_read};
+ghost use Rattle.macho.specs.OpenFile.{Kept, buffers};
+ghost use Rattle.filelist.specs.FileText.{file_setting};
+ghost use Rattle.filelist.specs.FileLent.{framed_lent, buffers_after, tables_opened};
+ghost use Rattle.filewrite.specs.Written.{piece_bytes, end_of, HandedOver, Written, tables_given, tables_left};
 ghost use Rattle.reads.specs.Answer.{outcome};
 
-use filelist::file::{list_file_under, next_piece};
+use filelist::file::{FileListing, Opened, list_file_under, next_piece};
 use frames::frames::Ranges;
 use listing::listing::Said;
-use macho::open::OpenedFile;
+use macho::open::Lent;
 use printing::pieces::{Piece, Progress};
-use reads::answer::Missing;
+use printing::write;
+use reads::answer::Question;
 use reads::text::Reading;
 
 // How the writing of a listing ended, for C too: status 0, the whole listing was written; 1, the file was refused, by the number; 3, a write
@@ -34,72 +36,50 @@ impl Wrote {
     pub const FAILED: u64 = 3;
 }
 
-// Whether every write went well, and where the printing stands.
-#[derive(Clone, Copy)]
-pub struct Pieces {
-    pub whole: bool,
-    pub progress: Progress,
-}
-
 // The next piece, into a buffer of this length.
 fn whole_piece(
     progress: Progress,
-    answer: Result<OpenedFile, Missing>,
-    file: &[u8],
-    segments: &[u64],
-    sections: &[u64],
-    rebases: &[u64],
-    binds: &[u64],
-    index: &[u32],
+    opened: &Opened,
     ledger: &mut [u64],
     out: &mut [u8; 65536],
 ) -> Piece
-    ensures piece { let t = tables_lent (outcome answer) (before file) (before segments) (before sections) (before rebases) (before binds) (before index) in
+    ensures piece { let t = tables_opened opened.now in
         handed_of result ledger.new out.new ≡ piece_of t (standing_of progress ledger.old) piece_bytes out.old }
-    ensures rest { let t = tables_lent (outcome answer) (before file) (before segments) (before sections) (before rebases) (before binds) (before index) in
+    ensures rest { let t = tables_opened opened.now in
         to_come t (standing_of result.progress ledger.new) ≡ drop piece_bytes (to_come t (standing_of progress ledger.old)) }
 {
-    next_piece(
-        progress, answer, file, segments, sections, rebases, binds, index, ledger, out,
-    )
+    next_piece(progress, opened, ledger, out)
 }
 
 // Hands all pieces that are still to come to the file descriptor; after a write that failed nothing more.
-// Not printing's loop with a closure for the next piece: the closure would hold the buffer that the loop then writes from.
+// Not one function with printing's: its contract would name the tables that a closure's pieces come from, and be longer than the loop.
 fn write_pieces(
     fd: i32,
     start: Progress,
-    answer: Result<OpenedFile, Missing>,
-    file: &[u8],
-    segments: &[u64],
-    sections: &[u64],
-    rebases: &[u64],
-    binds: &[u64],
-    index: &[u32],
+    opened: &Opened,
     ledger: &mut [u64],
     out: &mut [u8; 65536],
-) -> Pieces
-    ensures handed { let t = tables_lent (outcome answer) (before file) (before segments) (before sections) (before rebases) (before binds) (before index) in
+) -> write::Written
+    ensures handed { let t = tables_opened opened.now in
         HandedOver t (standing_of start ledger.old) out.old (standing_of result.progress ledger.new) out.new }
-    ensures whole { let t = tables_lent (outcome answer) (before file) (before segments) (before sections) (before rebases) (before binds) (before index) in
+    ensures whole { let t = tables_opened opened.now in
         (result.whole ≡ true → to_come t (standing_of result.progress ledger.new) ≡ []) }
 {
     let mut progress = start;
+    // Not a `for`: each piece comes from where the last one left the printing; an empty one or a failed write ends it.
     loop {
-        let piece = whole_piece(
-            progress, answer, file, segments, sections, rebases, binds, index, ledger, out,
-        );
+        let piece = whole_piece(progress, opened, ledger, out);
         let len = piece.len;
         progress = piece.progress;
         if len == 0 {
-            return Pieces {
+            return write::Written {
                 whole: true,
                 progress,
             };
         }
         let text: &[u8] = out;
         if !io::write_all(fd, &text[0..len]) {
-            return Pieces {
+            return write::Written {
                 whole: false,
                 progress,
             };
@@ -107,28 +87,42 @@ fn write_pieces(
     }
 }
 
+// Hands all pieces of a listing that is begun to the file descriptor.
+fn write_opened<'a>(
+    fd: i32,
+    listing: FileListing,
+    file: &'a [u8],
+    lent: &'a Lent<'a, 'a>,
+    ledger: &mut [u64],
+    out: &mut [u8; 65536],
+) -> write::Written
+    ensures handed { let t = tables_given (outcome listing.answer) (before file) lent.now in
+        HandedOver t (standing_of listing.progress ledger.old) out.old (standing_of result.progress ledger.new) out.new }
+    ensures whole { let t = tables_given (outcome listing.answer) (before file) lent.now in
+        (result.whole ≡ true → to_come t (standing_of result.progress ledger.new) ≡ []) }
+{
+    let opened = Opened {
+        answer: listing.answer,
+        file,
+        segments: lent.segments,
+        sections: lent.sections,
+        rebases: lent.rebases,
+        binds: lent.binds,
+        index: lent.index,
+    };
+    write_pieces(fd, listing.progress, &opened, ledger, out)
+}
+
 // How a listing ended whose text was handed over to its end, by what its last step said.
-fn ended(said: Said) -> Wrote
+fn ended(said: Result<Said, Question>) -> Wrote
     ensures { result ≡ end_of (said_of said) }
 {
     match said {
-        Said::Line(_) => Wrote {
+        Ok(_) => Wrote {
             status: Wrote::LISTED,
             number: 0,
         },
-        Said::Absent(_) => Wrote {
-            status: Wrote::LISTED,
-            number: 0,
-        },
-        Said::Nothing => Wrote {
-            status: Wrote::LISTED,
-            number: 0,
-        },
-        Said::Ended => Wrote {
-            status: Wrote::LISTED,
-            number: 0,
-        },
-        Said::Refused(k) => Wrote {
+        Err(k) => Wrote {
             status: Wrote::REFUSED,
             number: k.number() as u64,
         },
@@ -141,36 +135,17 @@ pub fn write_file(
     fd: i32,
     ranges: Ranges,
     file: &[u8],
-    segments: &mut [u64],
-    sections: &mut [u64],
-    rebases: &[u64],
-    binds: &[u64],
-    index: &mut [u32],
+    lent: &mut Lent,
     ledger: &mut [u64],
     out: &mut [u8; 65536],
 ) -> Wrote
-    ensures written { let t = tables_read ranges (before file) segments.old sections.old (before rebases) (before binds) index.old in
-        let opened = framed_file ranges (before file) segments.old sections.old (before rebases) (before binds) (index_used (before rebases) (before binds) index.old) in
-        Written t (begun (file_setting New (before rebases)) opened ledger.old) out.old result ledger.new out.new }
-    ensures segments { segments.new ≡ segments_after ranges (before file) segments.old sections.old (before rebases) (before binds) index.old }
-    ensures sections { sections.new ≡ sections_after ranges (before file) segments.old sections.old (before rebases) (before binds) index.old }
-    ensures index { index.new ≡ index_after ranges (before file) segments.old sections.old (before rebases) (before binds) index.old }
+    ensures kept { Kept lent.old lent.new }
+    ensures written { let start = begun (file_setting New lent.old.rebases.now) (framed_lent ranges (before file) lent.old) in
+        Written (tables_left ranges (before file) lent.old) (start ledger.old) out.old result ledger.new out.new }
+    ensures left { buffers lent.new ≡ buffers_after ranges (before file) lent.old }
 {
-    let listing = list_file_under(
-        Reading::New,
-        ranges,
-        file,
-        segments,
-        sections,
-        rebases,
-        binds,
-        index,
-    );
-    let start = listing.progress;
-    let answer = listing.answer;
-    let pieces = write_pieces(
-        fd, start, answer, file, segments, sections, rebases, binds, index, ledger, out,
-    );
+    let listing = list_file_under(Reading::New, ranges, file, lent);
+    let pieces = write_opened(fd, listing, file, lent, ledger, out);
     if !pieces.whole {
         return Wrote {
             status: Wrote::FAILED,

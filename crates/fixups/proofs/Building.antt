@@ -14,7 +14,7 @@ use Rattle.macho.specs.declared.command.Found.{Found}
 use Rattle.macho.proofs.Commands.{Finds}
 use Rattle.fixups.specs.FixupChains.{chained_fixups_kind, dataoff, datasize}
 use Rattle.fixups.specs.Starts.{walk_of}
-use Rattle.fixups.specs.Tables.{rebase_row, bind_row, rows_of, State, state, puts, told, state_of}
+use Rattle.fixups.specs.Tables.{rebase_row, bind_row, rows_of, State, state, puts, told, state_of, reached}
 use Rattle.fixups.specs.Fixups.{base_of, fixups_from, fixups_in, fixups_found, pair, leaves, settled}
 use Rattle.fixups.specs.declared.chain.Fixup.{Fixup}
 use Rattle.std.specs.Prelude.{Result, Ok, Err}
@@ -25,6 +25,14 @@ use Rattle.reads.specs.declared.answer.Question.TheVariants.{RebaseTable, BindTa
 pub nil_of : (l : List ℕ) → length l ≡ 0 → l ≡ []
 nil_of [] e = refl
 nil_of (x ∷ l) e = absurd (omega arith)
+
+-- The counts of a walk that was lent no room: w, with the tables that it leaves.
+module _ (x : Outcome State) (w : Result (Unit {0}) Question) (s : State) (seen : reached w s ≡ x) where
+  pub counted : w ≡ Ok tt → length s.rebases.words ≡ 0 → length s.binds.words ≡ 0 → state_of (Ok (s.rebases.count, s.binds.count)) [] [] ≡ x
+  counted e h g = rw (← seen, e, nil_of s.rebases.words h, nil_of s.binds.words g)
+
+  pub uncounted : (k : Question) → w ≡ Err k → refused k ≡ x
+  uncounted k e = rw (← seen, e)
 
 -- The image base, by the segments that are left.
 module _ (cmds segs : List ℕ) where
@@ -127,19 +135,20 @@ module _ (rs bs : List ℕ) (hr : length rs < 2 ^ 64) (hb : length bs < 2 ^ 64) 
       unfolding settled
       is_6 h = rw walked.1 (sym (choose_true _ _ (le-leb _ _ (rebased.fits rs hr p)) ∙ choose_false _ _ (lt-leb _ _ (bound.short bs hb h))))
 
-      pub is_filled : b ≤ length bs / bind_words → (v : Result (ℕ × ℕ) Question) (rs' bs' : List ℕ) → state_of v rs' bs' ≡ told x (state 0 0 rs bs)
-          → leaves (value (pair r b)) rs' bs' ≡ settled x rs bs
+      pub is_filled : b ≤ length bs / bind_words → (v : Result (Unit {0}) Question) (s : State) → reached v s ≡ told x (state 0 0 rs bs)
+          → leaves (value (pair r b)) s.rebases.words s.binds.words ≡ settled x rs bs
       unfolding settled told
-      is_filled q v rs' bs' u = rw walked.1 (go v (rw walked.1 at u))
+      is_filled q v s u = rw walked.1 (go v (rw walked.1 at u))
         where
-          go : (v' : Result (ℕ × ℕ) Question) → state_of v' rs' bs' ≡ value (puts walked.0 (state 0 0 rs bs))
-              → leaves (value (pair r b)) rs' bs' ≡ settled (value walked.0) rs bs
-          go (Ok u) s =
-              let n = u.0 in let m = u.1 in
-              let z : state n m rs' bs' ≡ puts walked.0 (state 0 0 rs bs) = cc in
+          go : (v' : Result (Unit {0}) Question) → reached v' s ≡ value (puts walked.0 (state 0 0 rs bs))
+              → leaves (value (pair r b)) s.rebases.words s.binds.words ≡ settled (value walked.0) rs bs
+          go (Ok u) h =
+              let n = s.rebases.count in let m = s.binds.count in let rs' = s.rebases.words in let bs' = s.binds.words in
+              let y : s ≡ puts walked.0 (state 0 0 rs bs) = cc in
+              let z : state n m rs' bs' ≡ puts walked.0 (state 0 0 rs bs) = y in
               let er = rebases_filled walked.0 n m rs' bs' rs bs z (rebased.fits rs hr p) hr in
               let eb = binds_filled walked.0 n m rs' bs' rs bs z (bound.fits bs hb q) hb in
               ap₂ (λ (i j : ℕ). leaves (value (pair i j)) rs' bs') (rebased.exact rs hr p) (bound.exact bs hb q)
               ∙ rw (er, eb)
               (sym (choose_true _ _ (le-leb _ _ (rebased.fits rs hr p)) ∙ choose_true _ _ (le-leb _ _ (bound.fits bs hb q))))
-          go (Err k) s = let z : ◌≡◌ {A = ℕ} 0 1 = cc in absurd (omega arith)
+          go (Err k) h = let z : ◌≡◌ {A = ℕ} 0 1 = cc in absurd (omega arith)

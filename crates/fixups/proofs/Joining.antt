@@ -1,11 +1,24 @@
 -- Two parts of a walk, one after the other.
-use Rattle.std.proofs.Common.{◌≡◌, ℕ, List, [], ◌∷◌, ◌++◌, refl, ◌∙◌}
+use Rattle.std.proofs.Common.{◌≡◌, List, [], ◌∷◌, ◌++◌, refl, ◌∙◌}
 use Rattle.reads.specs.Outcome.{Outcome, value, absent, refused, and_then}
 use Rattle.fixups.specs.Starts.{joined}
-use Rattle.fixups.specs.Tables.{state, put, puts, told, State, state_of}
+use Rattle.fixups.specs.Tables.{put, puts, told, State, reached, Kept}
+use Rattle.fixups.specs.declared.table.Lists.{Lists}
 use Rattle.fixups.specs.declared.chain.Fixup.{Fixup}
 use Rattle.std.specs.Prelude.{Result, Ok, Err}
 use Rattle.reads.specs.declared.answer.Question.{Question}
+
+pub kept : (l : Lists) → Kept l l
+kept l = record { rebases = refl; binds = refl; rebase_words = refl; bind_words = refl }
+
+pub kept_on : (l m n : Lists) → Kept l m → Kept m n → Kept l n
+kept_on l m n h g =
+    record {
+      rebases = g.rebases ∙ h.rebases;
+      binds = g.binds ∙ h.binds;
+      rebase_words = g.rebase_words ∙ h.rebase_words;
+      bind_words = g.bind_words ∙ h.bind_words;
+    }
 
 pub puts_append : (xs ys : List Fixup) (st : State) → puts (xs ++ ys) st ≡ puts ys (puts xs st)
 unfolding puts
@@ -29,9 +42,9 @@ unfolding told
 told_number k st = refl
 
 -- What the code sees of the first part: w, with what it leaves in the tables.
-module _ (x y : Outcome (List Fixup)) (st : State) (w : Result (ℕ × ℕ) Question) (rs bs : List ℕ) (seen : state_of w rs bs ≡ told x st) where
-  pub then : (n : ℕ × ℕ) → w ≡ Ok n → told (joined x y) st ≡ told y (state n.0 n.1 rs bs)
-  then n e = told_joined x y st ∙ rw (← seen, e)
+module _ (x y : Outcome (List Fixup)) (st : State) (w : Result (Unit {0}) Question) (t : State) (seen : reached w t ≡ told x st) where
+  pub then : w ≡ Ok tt → told (joined x y) st ≡ told y t
+  then e = told_joined x y st ∙ rw (← seen, e)
 
   pub stops : (k : Question) → w ≡ Err k → told (joined x y) st ≡ refused k
   stops k e = told_joined x y st ∙ rw (← seen, e)

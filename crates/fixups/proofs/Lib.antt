@@ -1,5 +1,4 @@
 -- Laws that the proofs of fixups share.
-pub mod Targets
 pub mod Names
 pub mod Rows
 pub mod Visits

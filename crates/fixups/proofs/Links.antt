@@ -4,11 +4,10 @@ use borrow.Author.Tests.{eqb-false}
 use Rattle.reads.specs.Outcome.{Outcome, value, absent, refused, and_then, choose}
 use Rattle.fixups.specs.FixupChains.{lies}
 use Rattle.fixups.specs.Chain.{visit_of, entry_of, slot_word, step_of, Met, met, chain, chain_at}
-use Rattle.fixups.specs.Tables.{state, put, puts, told, State, Stepped, stepped, stepped_of}
+use Rattle.fixups.specs.Tables.{put, puts, told, State, Stepped, stepped, stepped_of}
 use Rattle.fixups.specs.declared.chain.Fixups.{Fixups}
 use Rattle.fixups.specs.declared.chain.Starts.{Starts}
 use Rattle.fixups.specs.declared.chain.Fixup.{Fixup}
-use Rattle.fixups.specs.declared.chain.Visit.{Visit}
 use Rattle.std.specs.Prelude.{Result, Ok, Err}
 use Rattle.fixups.proofs.Visits.{after}
 use Rattle.reads.specs.declared.answer.Question.{Question}
@@ -92,7 +91,7 @@ module _ (file body : List ℕ) (f : Fixups) (s : Starts) (page o : ℕ) (st : S
 
 -- What the code sees of a slot: v, with what it leaves in the tables.
 module _ (file body : List ℕ) (f : Fixups) (s : Starts) (page o : ℕ) (st : State) (h : o < s.size)
-    (v : Result Visit Question) (rs bs : List ℕ) (seen : stepped_of v rs bs ≡ and_then (visit_of file body f s (page + o)) (after st)) where
+    (v : Result ℕ Question) (t : State) (seen : stepped_of v t ≡ and_then (visit_of file body f s (page + o)) (after st)) where
   pub chain_refused : (k : Question) → v ≡ Err k → refused k ≡ told (chain_at file body f s page o) st
   unfolding told
   chain_refused k e = rw (chain_rule file body f s page o h) (go (visit_of file body f s (page + o)) (rw e at seen))
@@ -103,34 +102,25 @@ module _ (file body : List ℕ) (f : Fixups) (s : Starts) (page o : ℕ) (st : S
       go (absent j) q = let z : ◌≡◌ {A = ℕ} 0 1 = cc in absurd (omega arith)
       go (refused j) q = cc
 
-  module _ (w : Visit) (e : v ≡ Ok w) where
-    abbrev x : ℕ
-    x = w.rebases
-
-    abbrev y : ℕ
-    y = w.binds
-
-    abbrev n : ℕ
-    n = w.step
-
-    met_one : (W : Outcome Met) → value (stepped n (state x y rs bs)) ≡ and_then W (after st)
-        → (m : Met) × (W ≡ value m) × (n ≡ m.step) × (state x y rs bs ≡ put m.fixup st)
+  module _ (n : ℕ) (e : v ≡ Ok n) where
+    met_one : (W : Outcome Met) → value (stepped n t) ≡ and_then W (after st)
+        → (m : Met) × (W ≡ value m) × (n ≡ m.step) × (t ≡ put m.fixup st)
     met_one (value m) q =
-        let p : stepped n (state x y rs bs) ≡ stepped m.step (put m.fixup st) = cc in
-        (m, refl, ap (λ (t : Stepped). t.step) p, ap (λ (t : Stepped). t.after) p)
+        let p : stepped n t ≡ stepped m.step (put m.fixup st) = cc in
+        (m, refl, ap (λ (q : Stepped). q.step) p, ap (λ (q : Stepped). q.after) p)
     met_one (absent j) q = let z : ◌≡◌ {A = ℕ} 0 1 = cc in absurd (omega arith)
     met_one (refused j) q = let z : ◌≡◌ {A = ℕ} 0 1 = cc in absurd (omega arith)
 
-    pub last : n ≡ 0 → value (state x y rs bs) ≡ told (chain_at file body f s page o) st
+    pub last : n ≡ 0 → value t ≡ told (chain_at file body f s page o) st
     unfolding told puts choose
     last z =
         let q = met_one (visit_of file body f s (page + o)) (rw e at seen) in
         rw (chain_rule file body f s page o h, q.1) (simp (eq-eqb q.0.step 0 (sym q.2 ∙ z), q.3))
 
-    pub onto : (n ≡ 0 → ⊥) → told (chain_at file body f s page (o + n)) (state x y rs bs) ≡ told (chain_at file body f s page o) st
+    pub onto : (n ≡ 0 → ⊥) → told (chain_at file body f s page (o + n)) t ≡ told (chain_at file body f s page o) st
     onto z =
         let q = met_one (visit_of file body f s (page + o)) (rw e at seen) in
-        rw (chain_rule file body f s page o h, q.1) (carried file body f s page o st q.0 n (state x y rs bs) q.2 q.3 z)
+        rw (chain_rule file body f s page o h, q.1) (carried file body f s page o st q.0 n t q.2 q.3 z)
 
     pub small : n < 2 ^ 14
     small =

@@ -1,14 +1,11 @@
 -- The name of an import, by the branches of the code.
-use Rattle.std.proofs.Common.{◌≡◌, ℕ, ◌+◌, ◌-◌, ◌*◌, ◌/◌, ◌^◌, ◌<◌, ◌≤◌, Bool, true, false, cond, Option, Some, None, List, [], ◌∷◌, length, take, drop, refl, sym, ap, ◌∙◌, arith, drop_of_length-le, length-drop, le-ltb, lt-ltb, le-leb, ◌==◌}
+use Rattle.std.proofs.Common.{◌≡◌, ℕ, ◌+◌, ◌-◌, ◌<◌, Bool, true, false, cond, Option, Some, None, List, [], ◌∷◌, length, take, drop, refl, sym, ap, ◌∙◌, arith, drop_of_length-le, length-drop, ◌==◌}
 use Rattle.std.specs.List.{position, position_from}
 use Rattle.std.proofs.lemmas.Iterator.Adapters.{position_from-zero}
 use lib.Seq.{take_all}
-use borrow.Author.Tests.{lt-leb}
 use Rattle.reads.specs.Outcome.{Outcome, value, refused, choose}
-use Rattle.macho.specs.Number.{u32_at}
-use Rattle.fixups.specs.Imports.{zero_from, text_at, import_at, span}
-use Rattle.fixups.specs.declared.chain.Fixups.{Fixups}
-use Rattle.reads.specs.declared.answer.Question.TheVariants.{FixupData, FixupSlot}
+use Rattle.fixups.specs.Imports.{zero_from, text_at, span}
+use Rattle.reads.specs.declared.answer.Question.TheVariants.{FixupData}
 
 -- The first zero of bytes that stand i bytes after those whose first stands at j.
 pub zero_by : ℕ → Option ℕ → Outcome ℕ
@@ -53,18 +50,3 @@ module _ (bs : List ℕ) (at start : ℕ) where
     pub runs_out : r ≡ None → refused FixupData ≡ text_at bs at start
     unfolding text_at
     runs_out g = rw (zero_nowhere start (drop start bs) r from_start g)
-
-module _ (body : List ℕ) (f : Fixups) (o : ℕ) where
-  pub import_none : f.count ≤ o → refused FixupSlot ≡ import_at body f o
-  unfolding import_at choose
-  import_none h = simp (le-ltb _ _ h)
-
-  -- a and i are the two parts of where the import stands.
-  module _ (a i : ℕ) (h : o < f.count) (ea : a ≡ f.imports) (ei : i ≡ 4 * o) where
-    pub import_out : length body < a + i + 4 → refused FixupData ≡ import_at body f o
-    unfolding import_at choose
-    import_out l = simp (lt-ltb _ _ h, lt-leb (f.imports + 4 * o + 4) (length body) (omega arith))
-
-    pub import_in : (w s : ℕ) → a + i + 4 ≤ length body → w ≡ u32_at body (a + i) → s ≡ f.symbols + w / 2 ^ 9 → text_at body f.at s ≡ import_at body f o
-    unfolding import_at choose
-    import_in w s l ew es = rw (es, ew, ea, ei) (simp (lt-ltb _ _ h, le-leb (f.imports + 4 * o + 4) (length body) (omega arith)))

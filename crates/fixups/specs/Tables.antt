@@ -1,10 +1,10 @@
 -- The words of the records, and what a walk leaves in the lent tables.
-use Rattle.std.specs.Prelude.{ℕ, ◌+◌, ◌-◌, ◌*◌, ◌^◌, List, [], ◌∷◌, ◌++◌, length, nat_le, nat_lt, Result, Ok, Err}
+use Rattle.std.specs.Prelude.{◌≡◌, ℕ, ◌+◌, ◌-◌, ◌*◌, ◌^◌, List, [], ◌∷◌, ◌++◌, length, nat_le, nat_lt, Result, Ok, Err}
 use Rattle.std.proofs.lemmas.List.Edits.{sets}
 use Rattle.reads.specs.Outcome.{Outcome, value, refused, and_then, choose}
 use Rattle.fixups.specs.declared.chain.Fixup.{Fixup}
 use Rattle.fixups.specs.declared.chain.Fixup.TheVariants.{Rebase, Bind}
-use Rattle.fixups.specs.declared.chain.Visit.{Visit}
+use Rattle.fixups.specs.declared.table.Lists.{Lists}
 use Rattle.reads.specs.declared.answer.Question.{Question}
 
 -- The row of a record in the rebase table and in the bind table; it has none in the other's.
@@ -52,6 +52,16 @@ pub record State : Type 0 where
 abbrev pub state : ℕ → ℕ → List ℕ → List ℕ → State
 state r b rs bs = record { rebases = part r rs; binds = part b bs }
 
+abbrev pub state_in : Lists → State
+state_in l = state l.rebased l.bound l.rebases.now l.binds.now
+
+-- The tables that take rows are the same tables.
+pub record Kept (o p : Lists) : Type 0 where
+  pub rebases : p.rebases.ghost_name ≡ o.rebases.ghost_name
+  pub binds : p.binds.ghost_name ≡ o.binds.ghost_name
+  pub rebase_words : length p.rebases.now ≡ length o.rebases.now
+  pub bind_words : length p.binds.now ≡ length o.binds.now
+
 unfoldable pub put : Fixup → State → State
 put x s = record { rebases = put_row (rebase_row x) s.rebases; binds = put_row (bind_row x) s.binds }
 
@@ -63,6 +73,12 @@ puts (x ∷ xs) s = puts xs (put x s)
 unfoldable pub told : Outcome (List Fixup) → State → Outcome State
 told x s = and_then x (λ xs. value (puts xs s))
 
+-- What a walk's answer says of the tables that it leaves.
+abbrev pub reached : Result (Unit {0}) Question → State → Outcome State
+reached (Ok u) s = value s
+reached (Err k) s = refused k
+
+-- And an answer of both counts.
 abbrev pub state_of : Result (ℕ × ℕ) Question → List ℕ → List ℕ → Outcome State
 state_of (Ok n) rs bs = value (state n.0 n.1 rs bs)
 state_of (Err k) rs bs = refused k
@@ -75,9 +91,6 @@ pub record Stepped : Type 0 where
 abbrev pub stepped : ℕ → State → Stepped
 stepped n s = record { step = n; after = s }
 
-abbrev pub stepped_by : Visit → List ℕ → List ℕ → Stepped
-stepped_by v rs bs = stepped v.step (state v.rebases v.binds rs bs)
-
-abbrev pub stepped_of : Result Visit Question → List ℕ → List ℕ → Outcome Stepped
-stepped_of (Ok v) rs bs = value (stepped_by v rs bs)
-stepped_of (Err k) rs bs = refused k
+abbrev pub stepped_of : Result ℕ Question → State → Outcome Stepped
+stepped_of (Ok n) s = value (stepped n s)
+stepped_of (Err k) s = refused k

@@ -11,6 +11,7 @@ use crate::fixup_chains::{
     DATAOFF, DATASIZE, LC_DYLD_CHAINED_FIXUPS, SIZEOF_LINKEDIT_DATA_COMMAND,
 };
 use crate::starts::walk;
+use crate::table::Lists;
 use macho::command::{ask_commands, commands, find};
 use macho::header::{command_bytes, command_count, range_of};
 use macho::loader::{CMDSIZE, LC_SEGMENT_64, SEGNAME, VMADDR};
@@ -48,10 +49,18 @@ fn count_records(
 {
     let mut none = [0u64; 0];
     let mut nothing = [0u64; 0];
-    walk(file, body, cmds, count, at, base, &mut none, &mut nothing)
+    let mut lists = Lists {
+        rebases: &mut none,
+        rebased: 0,
+        binds: &mut nothing,
+        bound: 0,
+    };
+    walk(file, body, cmds, count, at, base, &mut lists)?;
+    Ok((lists.rebased, lists.bound))
 }
 
 // Counts first, then writes, if both tables have room: how many rebases and binds were written.
+// The tables are two parameters, here and below, and no `Lists`: its counts begin with the walk.
 fn fill(
     file: &[u8],
     body: &[u8],
@@ -72,7 +81,13 @@ fn fill(
     if ((binds.len() / Bind::WORDS) as u64) < b {
         return Err(Question::BindTable);
     }
-    let _ = walk(file, body, cmds, count, at, base, rebases, binds);
+    let mut lists = Lists {
+        rebases,
+        rebased: 0,
+        binds,
+        bound: 0,
+    };
+    let _ = walk(file, body, cmds, count, at, base, &mut lists);
     Ok((r, b))
 }
 

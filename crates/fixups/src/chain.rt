@@ -3,12 +3,12 @@ ghost use Rattle.std.specs.Prelude.{◌≡◌, ◌<◌};
 ghost use Rattle.reads.specs.Reference.{before};
 ghost use Rattle.reads.specs.Outcome.{value, and_then};
 ghost use Rattle.fixups.specs.Chain.{target_of, entry_of, visit_of, chain_at};
-ghost use Rattle.fixups.specs.Tables.{state, put, told, state_of, stepped, stepped_by, stepped_of};
+ghost use Rattle.fixups.specs.Tables.{Kept, state_in, put, told, reached, stepped, stepped_of};
 ghost use Rattle.reads.specs.Answer.{answered};
 
 use crate::fixup_chains::DYLD_CHAINED_PTR_64_OFFSET;
 use crate::name::import_at;
-use crate::table::{put_bind, put_rebase};
+use crate::table::{Lists, put_bind, put_rebase};
 use reads::answer::Question;
 use reads::place::u64_from;
 
@@ -40,15 +40,8 @@ pub enum Fixup {
     Bind(u64, u64, u64),
 }
 
-// The counts after a slot, and the bytes to the next.
-#[derive(Clone, Copy)]
-pub struct Visit {
-    pub rebases: u64,
-    pub binds: u64,
-    pub step: u64,
-}
-
 // The address that a rebase word holds: target 36 bits, then high8.
+#[tactic(auto, unfolding(crate::specs::Chain::target_of, crate::specs::Chain::origin_of, reads::specs::Outcome::choose), using(std::proofs::lemmas::Bool::Decides::nat_tests))]
 fn rebased(format: u16, base: u64, word: u64) -> u64
     ensures { result ≡ target_of format base word }
 {
@@ -60,6 +53,7 @@ fn rebased(format: u16, base: u64, word: u64) -> u64
 }
 
 // The record of a slot that stands at bytes into its segment.
+#[tactic(auto, unfolding(crate::specs::Chain::entry_of, crate::specs::Chain::slot_of, reads::specs::Outcome::choose), using(std::proofs::lemmas::Bool::Decides::nat_tests))]
 fn entry_at(body: &[u8], f: Fixups, s: Starts, at: u64, word: u64) -> Result<Fixup, Question>
     ensures { answered result ≡ entry_of (before body) f s at word }
 {
@@ -71,45 +65,36 @@ fn entry_at(body: &[u8], f: Fixups, s: Starts, at: u64, word: u64) -> Result<Fix
     Ok(Fixup::Bind(slot, offset, len))
 }
 
-// Puts a record into its table, where there is room for it.
-fn put_fixup(x: Fixup, step: u64, r: u64, b: u64, rebases: &mut [u64], binds: &mut [u64]) -> Visit
-    ensures { stepped_by result rebases.new binds.new ≡ stepped step (put x (state r b rebases.old binds.old)) }
-{
-    match x {
-        Fixup::Rebase(slot, target) => {
-            let next = put_rebase(rebases, r, slot, target);
-            Visit {
-                rebases: next,
-                binds: b,
-                step,
+impl Lists<'_> {
+    // Puts a record into its table.
+    fn put(&mut self, x: Fixup)
+        ensures kept { Kept self.old self.new }
+        ensures put { state_in self.new ≡ put x (state_in self.old) }
+    {
+        match x {
+            Fixup::Rebase(slot, target) => {
+                self.rebased = put_rebase(self.rebases, self.rebased, slot, target);
             }
-        }
-        Fixup::Bind(slot, name, len) => {
-            let next = put_bind(binds, b, slot, name, len);
-            Visit {
-                rebases: r,
-                binds: next,
-                step,
+            Fixup::Bind(slot, name, len) => {
+                self.bound = put_bind(self.binds, self.bound, slot, name, len);
             }
         }
     }
 }
 
-// One slot of a chain.
+// One slot of a chain: the bytes to the next.
 fn visit_slot(
     file: &[u8],
     body: &[u8],
     f: Fixups,
     s: Starts,
     at: u64,
-    r: u64,
-    b: u64,
-    rebases: &mut [u64],
-    binds: &mut [u64],
-) -> Result<Visit, Question>
+    lists: &mut Lists,
+) -> Result<u64, Question>
     requires { at < 17179869184 }
-    ensures { stepped_of result rebases.new binds.new ≡ and_then (visit_of (before file) (before body) f s at)
-        (λ m. value (stepped m.step (put m.fixup (state r b rebases.old binds.old)))) }
+    ensures kept { Kept lists.old lists.new }
+    ensures told { stepped_of result (state_in lists.new) ≡ and_then (visit_of (before file) (before body) f s at)
+        (λ m. value (stepped m.step (put m.fixup (state_in lists.old)))) }
 {
     let n = file.len() as u64;
     if n < s.fileoff {
@@ -119,12 +104,12 @@ fn visit_slot(
         return Err(Question::FixupSlot);
     }
     let word = u64_from(file, s.fileoff, at);
-    let step = word / 0x8_0000_0000_0000 % 0x1000 * 4;
     let x = entry_at(body, f, s, at, word)?;
-    Ok(put_fixup(x, step, r, b, rebases, binds))
+    lists.put(x);
+    Ok(word / 0x8_0000_0000_0000 % 0x1000 * 4)
 }
 
-// The chain that starts at bytes into a page: the counts after it.
+// The chain that starts at bytes into a page.
 pub(crate) fn chain(
     file: &[u8],
     body: &[u8],
@@ -132,28 +117,22 @@ pub(crate) fn chain(
     s: Starts,
     page: u64,
     start: u64,
-    r: u64,
-    b: u64,
-    rebases: &mut [u64],
-    binds: &mut [u64],
-) -> Result<(u64, u64), Question>
+    lists: &mut Lists,
+) -> Result<(), Question>
     requires { page < 8589934592 }
-    ensures { state_of result rebases.new binds.new
-        ≡ told (chain_at (before file) (before body) f s page start) (state r b rebases.old binds.old) }
+    ensures kept { Kept lists.old lists.new }
+    ensures told { reached result (state_in lists.new)
+        ≡ told (chain_at (before file) (before body) f s page start) (state_in lists.old) }
 {
     let size = u64::from(s.size);
     let mut o = start;
-    let mut rebased = r;
-    let mut bound = b;
     // Not a `for`: the offset moves by the step that each slot holds.
     while o < size {
-        let v = visit_slot(file, body, f, s, page + o, rebased, bound, rebases, binds)?;
-        if v.step == 0 {
-            return Ok((v.rebases, v.binds));
+        let step = visit_slot(file, body, f, s, page + o, lists)?;
+        if step == 0 {
+            return Ok(());
         }
-        rebased = v.rebases;
-        bound = v.binds;
-        o += v.step;
+        o += step;
     }
     Err(Question::FixupSlot)
 }

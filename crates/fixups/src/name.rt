@@ -30,6 +30,7 @@ fn text_at(body: &[u8], at: u32, start: u64) -> Result<(u64, u64), Question>
 }
 
 // The name of an import: name_offset is the upper 23 bits of its word.
+#[tactic(auto, unfolding(crate::specs::Imports::import_at, reads::specs::Outcome::choose), using(std::proofs::lemmas::Bool::Decides::nat_tests))]
 pub(crate) fn import_at(body: &[u8], f: Fixups, ordinal: u32) -> Result<(u64, u64), Question>
     ensures { name_outcome result ≡ import_at (before body) f ordinal }
 {

@@ -4,7 +4,7 @@ ghost use Rattle.reads.specs.Reference.{before};
 ghost use Rattle.reads.specs.Outcome.{value, refused, choose};
 ghost use Rattle.macho.specs.Commands.{segments_of};
 ghost use Rattle.fixups.specs.Starts.{page_at, pages_from, segment_starts, image_starts, walk_of};
-ghost use Rattle.fixups.specs.Tables.{state, told, state_of};
+ghost use Rattle.fixups.specs.Tables.{Kept, state_in, told, reached};
 
 use crate::chain::{Fixups, Starts, chain};
 use crate::fixup_chains::{
@@ -14,6 +14,7 @@ use crate::fixup_chains::{
     SIZEOF_CHAINED_FIXUPS_HEADER, STARTS_OFFSET, SYMBOLS_FORMAT, SYMBOLS_OFFSET,
     SYMBOLS_UNCOMPRESSED,
 };
+use crate::table::Lists;
 use macho::command::{Found, find};
 use macho::loader::{FILEOFF, LC_SEGMENT_64, VMADDR};
 use macho::number::u16_at;
@@ -28,14 +29,12 @@ fn page(
     s: Starts,
     at: u64,
     p: u16,
-    r: u64,
-    b: u64,
-    rebases: &mut [u64],
-    binds: &mut [u64],
-) -> Result<(u64, u64), Question>
+    lists: &mut Lists,
+) -> Result<(), Question>
     requires { at < 17179869184 }
-    ensures { state_of result rebases.new binds.new
-        ≡ told (page_at (before file) (before body) f s at p) (state r b rebases.old binds.old) }
+    ensures kept { Kept lists.old lists.new }
+    ensures told { reached result (state_in lists.new)
+        ≡ told (page_at (before file) (before body) f s at p) (state_in lists.old) }
 {
     let first = at + PAGE_START;
     let i = 2 * u64::from(p);
@@ -44,24 +43,13 @@ fn page(
     }
     let start = u16_at(body, first, i);
     if start == DYLD_CHAINED_PTR_START_NONE {
-        return Ok((r, b));
+        return Ok(());
     }
     if start >= DYLD_CHAINED_PTR_START_MULTI {
         return Err(Question::FixupData);
     }
     let offset = u64::from(p) * u64::from(s.size);
-    chain(
-        file,
-        body,
-        f,
-        s,
-        offset,
-        u64::from(start),
-        r,
-        b,
-        rebases,
-        binds,
-    )
+    chain(file, body, f, s, offset, u64::from(start), lists)
 }
 
 // The pages of a segment.
@@ -72,23 +60,17 @@ fn pages(
     s: Starts,
     at: u64,
     count: u16,
-    r: u64,
-    b: u64,
-    rebases: &mut [u64],
-    binds: &mut [u64],
-) -> Result<(u64, u64), Question>
+    lists: &mut Lists,
+) -> Result<(), Question>
     requires { at < 17179869184 }
-    ensures { state_of result rebases.new binds.new
-        ≡ told (pages_from (before file) (before body) f s at count 0) (state r b rebases.old binds.old) }
+    ensures kept { Kept lists.old lists.new }
+    ensures told { reached result (state_in lists.new)
+        ≡ told (pages_from (before file) (before body) f s at count 0) (state_in lists.old) }
 {
-    let mut rebased = r;
-    let mut bound = b;
     for p in 0..count {
-        let (x, y) = page(file, body, f, s, at, p, rebased, bound, rebases, binds)?;
-        rebased = x;
-        bound = y;
+        page(file, body, f, s, at, p, lists)?;
     }
-    Ok((rebased, bound))
+    Ok(())
 }
 
 // The starts at bytes into the fixup data, of the segment whose command stands at `command`.
@@ -99,14 +81,12 @@ fn segment_starts(
     f: Fixups,
     at: u64,
     command: u64,
-    r: u64,
-    b: u64,
-    rebases: &mut [u64],
-    binds: &mut [u64],
-) -> Result<(u64, u64), Question>
+    lists: &mut Lists,
+) -> Result<(), Question>
     requires { at < 17179869184 }
-    ensures { state_of result rebases.new binds.new
-        ≡ told (segment_starts (before file) (before body) (before cmds) f at command) (state r b rebases.old binds.old) }
+    ensures kept { Kept lists.old lists.new }
+    ensures told { reached result (state_in lists.new)
+        ≡ told (segment_starts (before file) (before body) (before cmds) f at command) (state_in lists.old) }
 {
     if (body.len() as u64) < at + PAGE_START {
         return Err(Question::FixupData);
@@ -123,18 +103,7 @@ fn segment_starts(
         format,
         size: u16_at(body, at, PAGE_SIZE),
     };
-    pages(
-        file,
-        body,
-        f,
-        s,
-        at,
-        u16_at(body, at, PAGE_COUNT),
-        r,
-        b,
-        rebases,
-        binds,
-    )
+    pages(file, body, f, s, at, u16_at(body, at, PAGE_COUNT), lists)
 }
 
 // One seg_info_offset, of the segment whose command was looked for; 0 has no starts.
@@ -145,23 +114,21 @@ fn segment_info(
     found: Found,
     f: Fixups,
     offset: u32,
-    r: u64,
-    b: u64,
-    rebases: &mut [u64],
-    binds: &mut [u64],
-) -> Result<(u64, u64), Question>
-    ensures { state_of result rebases.new binds.new
+    lists: &mut Lists,
+) -> Result<(), Question>
+    ensures kept { Kept lists.old lists.new }
+    ensures told { reached result (state_in lists.new)
         ≡ told (choose (offset == 0) (value []) (choose found.here (segment_starts (before file) (before body) (before cmds) f (f.starts + offset) found.at) (refused Question.FixupData)))
-        (state r b rebases.old binds.old) }
+        (state_in lists.old) }
 {
     if offset == 0 {
-        return Ok((r, b));
+        return Ok(());
     }
     if !found.here {
         return Err(Question::FixupData);
     }
     let at = u64::from(f.starts) + u64::from(offset);
-    segment_starts(file, body, cmds, f, at, found.at, r, b, rebases, binds)
+    segment_starts(file, body, cmds, f, at, found.at, lists)
 }
 
 // The starts of the image, segment by segment.
@@ -171,11 +138,11 @@ fn image_starts(
     cmds: &[u8],
     count: u64,
     f: Fixups,
-    rebases: &mut [u64],
-    binds: &mut [u64],
-) -> Result<(u64, u64), Question>
-    ensures { state_of result rebases.new binds.new
-        ≡ told (image_starts (before file) (before body) (before cmds) f (segments_of (before cmds) count)) (state 0 0 rebases.old binds.old) }
+    lists: &mut Lists,
+) -> Result<(), Question>
+    ensures kept { Kept lists.old lists.new }
+    ensures told { reached result (state_in lists.new)
+        ≡ told (image_starts (before file) (before body) (before cmds) f (segments_of (before cmds) count)) (state_in lists.old) }
 {
     let starts = u64::from(f.starts);
     if (body.len() as u64) < starts + SEG_INFO_OFFSET {
@@ -185,8 +152,6 @@ fn image_starts(
     let first = starts + SEG_INFO_OFFSET;
     let mut left = count;
     let mut at: u64 = 0;
-    let mut rebased: u64 = 0;
-    let mut bound: u64 = 0;
     for i in 0..total {
         let next = 4 * u64::from(i);
         if (body.len() as u64) < first + next + 4 {
@@ -194,15 +159,11 @@ fn image_starts(
         }
         let found = find(cmds, LC_SEGMENT_64, left, at);
         let offset = u32_from(body, first, next);
-        let (x, y) = segment_info(
-            file, body, cmds, found, f, offset, rebased, bound, rebases, binds,
-        )?;
-        rebased = x;
-        bound = y;
+        segment_info(file, body, cmds, found, f, offset, lists)?;
         left = found.left;
         at = found.next;
     }
-    Ok((rebased, bound))
+    Ok(())
 }
 
 // One walk over the fixup data, which stands at bytes into the file: its header, then the starts.
@@ -213,11 +174,11 @@ pub(crate) fn walk(
     count: u64,
     at: u32,
     base: u64,
-    rebases: &mut [u64],
-    binds: &mut [u64],
-) -> Result<(u64, u64), Question>
-    ensures { state_of result rebases.new binds.new
-        ≡ told (walk_of (before file) (before body) (before cmds) at base (segments_of (before cmds) count)) (state 0 0 rebases.old binds.old) }
+    lists: &mut Lists,
+) -> Result<(), Question>
+    ensures kept { Kept lists.old lists.new }
+    ensures told { reached result (state_in lists.new)
+        ≡ told (walk_of (before file) (before body) (before cmds) at base (segments_of (before cmds) count)) (state_in lists.old) }
 {
     if (body.len() as u64) < SIZEOF_CHAINED_FIXUPS_HEADER {
         return Err(Question::FixupData);
@@ -236,5 +197,5 @@ pub(crate) fn walk(
         count: u32_from(body, 0, IMPORTS_COUNT),
         base,
     };
-    image_starts(file, body, cmds, count, f, rebases, binds)
+    image_starts(file, body, cmds, count, f, lists)
 }

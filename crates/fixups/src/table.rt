@@ -2,6 +2,15 @@
 ghost use Rattle.std.specs.Prelude.{◌≡◌, ◌≤◌, [], ◌∷◌};
 ghost use Rattle.fixups.specs.Tables.{part, put_row};
 
+// The tables, and how many rows are counted for each.
+#[derive(Drop)]
+pub(crate) struct Lists<'a> {
+    pub(crate) rebases: &'a mut [u64],
+    pub(crate) rebased: u64,
+    pub(crate) binds: &'a mut [u64],
+    pub(crate) bound: u64,
+}
+
 // Puts row n of N words into the table, if it has room; counts it, up to what a word holds.
 fn put_row<const N: usize>(table: &mut [u64], n: u64, row: [u64; N]) -> u64
     requires { 1 ≤ N }

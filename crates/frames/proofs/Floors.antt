@@ -7,9 +7,8 @@ use mathlib.Core.Logic.{⊎_elim}
 use native.Mathlib.Omega.{arith}
 use borrow.Author.Tests.{leb-true, leb-false, ltb-true, ltb-false}
 use Rattle.reads.proofs.Tests.{by_choose}
+use Rattle.std.specs.Prelude.{Option, None, Some}
 use Rattle.frames.specs.Marks.{later, raised, met, met_all}
-use Rattle.frames.specs.declared.frames.Floor.{Floor}
-use Rattle.frames.specs.declared.frames.Floor.TheVariants.{At, Nothing}
 use Rattle.frames.specs.declared.frames.Frames.{Frames}
 
 pub record Greatest (starts : List ℕ) (limit a : ℕ) : Type 0 where
@@ -18,9 +17,9 @@ pub record Greatest (starts : List ℕ) (limit a : ℕ) : Type 0 where
   pub greatest : (b : ℕ) → Memᴰ b starts → b ≤ limit → b ≤ a
 
 -- What a floor says of the starts.
-abbrev pub IsFloor : List ℕ → ℕ → Floor → Type 0
-IsFloor starts limit Nothing = (b : ℕ) → Memᴰ b starts → limit < b
-IsFloor starts limit (At a) = Greatest starts limit a
+abbrev pub IsFloor : List ℕ → ℕ → Option ℕ → Type 0
+IsFloor starts limit None = (b : ℕ) → Memᴰ b starts → limit < b
+IsFloor starts limit (Some a) = Greatest starts limit a
 
 module _ (starts : List ℕ) (b : ℕ) (limit : ℕ) where
   abbrev more : List ℕ
@@ -33,23 +32,23 @@ module _ (starts : List ℕ) (b : ℕ) (limit : ℕ) where
   last : Memᴰ b more
   last = Memᴰ.append_right starts (Memᴰ.head refl)
 
-  floor_kept : limit < b → (f : Floor) → IsFloor starts limit f → IsFloor more limit f
-  floor_kept h Nothing l = λ c m. earlier_or_last m (λ n. l c n) (λ e. omega arith)
-  floor_kept h (At a) l =
+  floor_kept : limit < b → (f : Option ℕ) → IsFloor starts limit f → IsFloor more limit f
+  floor_kept h None l = λ c m. earlier_or_last m (λ n. l c n) (λ e. omega arith)
+  floor_kept h (Some a) l =
       record {
         member = Memᴰ.append_left (b ∷ []) l.member;
         within = l.within;
         greatest = λ c m u. earlier_or_last m (λ n. l.greatest c n u) (λ e. omega arith);
       }
 
-  floor_later : b ≤ limit → (f : Floor) → IsFloor starts limit f → IsFloor more limit (later f b)
-  floor_later h Nothing l =
+  floor_later : b ≤ limit → (f : Option ℕ) → IsFloor starts limit f → IsFloor more limit (later f b)
+  floor_later h None l =
       record {
         member = last;
         within = h;
         greatest = λ c m u. earlier_or_last m (λ n. absurd (omega (arith, l c n))) (λ e. omega arith);
       }
-  floor_later h (At a) l =
+  floor_later h (Some a) l =
       by_choose (IsFloor more limit)
       (λ e.
       record {
@@ -64,19 +63,19 @@ module _ (starts : List ℕ) (b : ℕ) (limit : ℕ) where
         greatest = λ c m u. earlier_or_last m (λ n. l.greatest c n u) (λ g. omega (arith, ltb-false a b e));
       })
 
-  floor_raised : (f : Floor) → IsFloor starts limit f → IsFloor more limit (raised limit f b)
+  floor_raised : (f : Option ℕ) → IsFloor starts limit f → IsFloor more limit (raised limit f b)
   unfolding raised
   floor_raised f l =
       by_choose (IsFloor more limit) (λ e. floor_later (leb-true b limit e) f l) (λ e. floor_kept (leb-false b limit e) f l)
 
 -- From the floor of the starts before to the floor of all.
-floor_after : (limit : ℕ) (starts before : List ℕ) (f : Floor) → IsFloor before limit f → IsFloor (before ++ starts) limit (foldl (raised limit) f starts)
+floor_after : (limit : ℕ) (starts before : List ℕ) (f : Option ℕ) → IsFloor before limit f → IsFloor (before ++ starts) limit (foldl (raised limit) f starts)
 floor_after limit [] before f l = rw (append-nil before) l
 floor_after limit (b ∷ bs) before f l =
     rw (append_assoc before (b ∷ []) bs) at (floor_after limit bs (before ++ (b ∷ [])) (raised limit f b) (floor_raised before b limit f l))
 
-pub floor_of_all : (limit : ℕ) (starts : List ℕ) → IsFloor starts limit (foldl (raised limit) Nothing starts)
-floor_of_all limit starts = floor_after limit starts [] Nothing (λ b m. absurd (Memᴰ.not-nil m))
+pub floor_of_all : (limit : ℕ) (starts : List ℕ) → IsFloor starts limit (foldl (raised limit) None starts)
+floor_of_all limit starts = floor_after limit starts [] None (λ b m. absurd (Memᴰ.not-nil m))
 
 -- Each floor is raised by itself.
 pub met_each : (w : Frames) (starts : List ℕ)

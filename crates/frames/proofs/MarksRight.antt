@@ -9,9 +9,8 @@ use borrow.Author.Tests.{leb-true, leb-false, ltb-true, ltb-false, eqb-true, eqb
 use Rattle.reads.specs.Outcome.{value, refused, choose}
 use Rattle.reads.proofs.Tests.{by_choose, both_true}
 use Rattle.frames.specs.Frames.{no_ranges, Pair, unslid, Says, none, marked, certain}
+use Rattle.std.specs.Prelude.{Option, None, Some}
 use Rattle.frames.specs.Marks.{is_at, any_pair, lowest, highest, addresses, in_order, frames_of, no_frames, met_all, mark_of}
-use Rattle.frames.specs.declared.frames.Floor.{Floor}
-use Rattle.frames.specs.declared.frames.Floor.TheVariants.{At, Nothing}
 use Rattle.frames.specs.declared.frames.Frames.{Frames}
 use Rattle.frames.specs.declared.frames.Ranges.{Ranges}
 use Rattle.frames.proofs.Floors.{Greatest, IsFloor, floor_of_all, met_each}
@@ -25,13 +24,13 @@ module _ (starts : List ℕ) (limit : ℕ) where
     after : a < start
     within : start ≤ limit
 
-  at_floor : (f : Floor) → IsFloor starts limit f → (a : ℕ) → is_at f a ≡ true → Greatest starts limit a
-  at_floor Nothing l a e = let z : ◌≡◌ {A = ℕ} 0 1 = cc in absurd (omega arith)
-  at_floor (At b) l a e = rw (eqb-true b a e) at l
+  at_floor : (f : Option ℕ) → IsFloor starts limit f → (a : ℕ) → is_at f a ≡ true → Greatest starts limit a
+  at_floor None l a e = let z : ◌≡◌ {A = ℕ} 0 1 = cc in absurd (omega arith)
+  at_floor (Some b) l a e = rw (eqb-true b a e) at l
 
-  below_floor : (f : Floor) → IsFloor starts limit f → (a : ℕ) → Memᴰ a starts → a ≤ limit → is_at f a ≡ false → Other a
-  below_floor Nothing l a m h e = absurd (omega (arith, l a m))
-  below_floor (At b) l a m h e =
+  below_floor : (f : Option ℕ) → IsFloor starts limit f → (a : ℕ) → Memᴰ a starts → a ≤ limit → is_at f a ≡ false → Other a
+  below_floor None l a m h e = absurd (omega (arith, l a m))
+  below_floor (Some b) l a m h e =
       let differs = eqb-false b a e in
       let most = l.greatest a m h in
       record { start = b; member = l.member; after = omega arith; within = l.within }
@@ -139,10 +138,10 @@ module _ (x : Ranges) (frames_in_order : x.first_frame ≤ x.last_frame) (slides
         says_passed o =
             none (λ k. let from = from_lowest k.pair in k.holds.no_other o.start o.member o.after (omega (arith, o.within)))
 
-    abbrev frames_at : Floor → Floor → Frames
+    abbrev frames_at : Option ℕ → Option ℕ → Frames
     frames_at f g = record { any = any_pair x; low = lowest x; high = highest x; low_floor = f; high_floor = g }
 
-    says_mark : Memᴰ a starts → (f g : Floor) → IsFloor starts (lowest x) f → IsFloor starts (highest x) g → Says x starts a (mark_of (frames_at f g) a)
+    says_mark : Memᴰ a starts → (f g : Option ℕ) → IsFloor starts (lowest x) f → IsFloor starts (highest x) g → Says x starts a (mark_of (frames_at f g) a)
     unfolding mark_of
     says_mark m f g p q =
         by_choose (Says x starts a)

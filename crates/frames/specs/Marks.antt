@@ -1,11 +1,9 @@
 -- Marks as they are computed (document 02, note 11): the possible unslid addresses are all from a lowest to a highest, and of the starts met only
 -- the greatest at or before each of these two is kept, its floor.
-use Rattle.std.specs.Prelude.{ℕ, ◌-◌, Bool, false, ◌&&◌, leb, ltb, eqb}
+use Rattle.std.specs.Prelude.{ℕ, ◌-◌, Bool, false, ◌&&◌, leb, ltb, eqb, Option, None, Some}
 use mathlib.Core.List.{List, foldl}
 use Rattle.reads.specs.Outcome.{Outcome, value, refused, choose}
 use Rattle.frames.specs.declared.frames.Ranges.{Ranges}
-use Rattle.frames.specs.declared.frames.Floor.{Floor}
-use Rattle.frames.specs.declared.frames.Floor.TheVariants.{At, Nothing}
 use Rattle.frames.specs.declared.frames.Frames.{Frames}
 use Rattle.reads.specs.declared.answer.Question.TheVariants.{RangeOrder}
 
@@ -32,8 +30,8 @@ addresses x =
       any = any_pair x;
       low = lowest x;
       high = highest x;
-      low_floor = Nothing;
-      high_floor = Nothing;
+      low_floor = None;
+      high_floor = None;
     }
 
 unfoldable pub frames_of : Ranges → Outcome Frames
@@ -41,15 +39,15 @@ frames_of x = choose (in_order x) (value (addresses x)) (refused RangeOrder)
 
 -- No possible address: what the ranges that a listing without any is given leave (proofs/MarksRight.antt, `none_of_no_ranges`).
 abbrev pub no_frames : Frames
-no_frames = record { any = false; low = 0; high = 0; low_floor = Nothing; high_floor = Nothing }
+no_frames = record { any = false; low = 0; high = 0; low_floor = None; high_floor = None }
 
 -- The greater of a floor and a start.
-abbrev pub later : Floor → ℕ → Floor
-later Nothing start = At start
-later (At a) start = choose (ltb a start) (At start) (At a)
+abbrev pub later : Option ℕ → ℕ → Option ℕ
+later None start = Some start
+later (Some a) start = choose (ltb a start) (Some start) (Some a)
 
 -- One more start, which counts if it is at or before the limit.
-unfoldable pub raised : ℕ → Floor → ℕ → Floor
+unfoldable pub raised : ℕ → Option ℕ → ℕ → Option ℕ
 raised limit f start = choose (leb start limit) (later f start) f
 
 -- A start is met.
@@ -67,9 +65,9 @@ met w start =
 abbrev pub met_all : Frames → List ℕ → Frames
 met_all w starts = foldl met w starts
 
-abbrev pub is_at : Floor → ℕ → Bool
-is_at Nothing start = false
-is_at (At a) start = eqb a start
+abbrev pub is_at : Option ℕ → ℕ → Bool
+is_at None start = false
+is_at (Some a) start = eqb a start
 
 -- The mark of a start, once all starts are met.
 unfoldable pub mark_of : Frames → ℕ → ℕ

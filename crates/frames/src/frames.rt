@@ -1,7 +1,7 @@
 // Crash frames known within a range (note 11): the possible unslid addresses, the starts met, and the mark of a start.
 ghost use Rattle.std.specs.Prelude.{◌≡◌};
 ghost use Rattle.frames.specs.Frames.{no_ranges};
-ghost use Rattle.frames.specs.Marks.{frames_of, no_frames, raised, is_at, met, mark_of};
+ghost use Rattle.frames.specs.Marks.{frames_of, no_frames, raised, met, mark_of};
 ghost use Rattle.reads.specs.Answer.{answered};
 
 use reads::answer::Question;
@@ -15,21 +15,15 @@ pub struct Ranges {
     pub last_slide: u64,
 }
 
-// The greatest start met at or before an address.
-#[derive(Clone, Copy)]
-pub enum Floor {
-    At(u64),
-    Nothing,
-}
-
-// The possible unslid addresses, if there are any: all from low to high; and of the starts met the floor of each of the two.
+// The possible unslid addresses, if there are any: all from low to high; and of the starts met the floor of each of the two, the
+// greatest at or before it.
 #[derive(Clone, Copy)]
 pub struct Frames {
     pub any: bool,
     pub low: u64,
     pub high: u64,
-    pub low_floor: Floor,
-    pub high_floor: Floor,
+    pub low_floor: Option<u64>,
+    pub high_floor: Option<u64>,
 }
 
 impl Ranges {
@@ -46,32 +40,20 @@ impl Ranges {
     }
 }
 
-impl Floor {
-    // One more start, which counts if it is at or before the limit.
-    fn raised(self, limit: u64, start: u64) -> Floor
-        ensures { result ≡ raised limit self start }
-    {
-        if start > limit {
-            return self;
-        }
-        match self {
-            Floor::Nothing => Floor::At(start),
-            Floor::At(a) => Floor::At(a.max(start)),
-        }
+// A floor with one more start, which counts if it is at or before the limit.
+#[tactic(auto, using(crate::proofs::MarkSteps::raised_past, crate::proofs::MarkSteps::raised_max))]
+fn raised(floor: Option<u64>, limit: u64, start: u64) -> Option<u64>
+    ensures { result ≡ raised limit floor start }
+{
+    if start > limit {
+        return floor;
     }
-
-    fn is_at(self, start: u64) -> bool
-        ensures { result ≡ is_at self start }
-    {
-        match self {
-            Floor::Nothing => false,
-            Floor::At(a) => a == start,
-        }
-    }
+    floor.max(Some(start))
 }
 
 impl Frames {
     // The possible unslid addresses, no start met; or 23, where a range's first end exceeds its second.
+    #[tactic(auto, using(std::proofs::lemmas::Bool::Decides::nat_tests), unfolding(crate::specs::Marks::frames_of, crate::specs::Marks::in_order, crate::specs::Marks::addresses, reads::specs::Outcome::choose))]
     pub fn new(ranges: Ranges) -> Result<Frames, Question>
         ensures { answered result ≡ frames_of ranges }
     {
@@ -85,8 +67,8 @@ impl Frames {
             any: ranges.first_slide <= ranges.last_frame,
             low: ranges.first_frame.saturating_sub(ranges.last_slide),
             high: ranges.last_frame.saturating_sub(ranges.first_slide),
-            low_floor: Floor::Nothing,
-            high_floor: Floor::Nothing,
+            low_floor: None,
+            high_floor: None,
         })
     }
 
@@ -98,8 +80,8 @@ impl Frames {
             any: false,
             low: 0,
             high: 0,
-            low_floor: Floor::Nothing,
-            high_floor: Floor::Nothing,
+            low_floor: None,
+            high_floor: None,
         }
     }
 
@@ -109,13 +91,14 @@ impl Frames {
         ensures { result ≡ met self start }
     {
         Frames {
-            low_floor: self.low_floor.raised(self.low, start),
-            high_floor: self.high_floor.raised(self.high, start),
+            low_floor: raised(self.low_floor, self.low, start),
+            high_floor: raised(self.high_floor, self.high, start),
             ..self
         }
     }
 
     // The mark of a start, once all starts are met: 0 none, 1 marked, 2 certain.
+    #[tactic(auto, using(crate::proofs::MarkSteps::eq_at, std::proofs::lemmas::Bool::Decides::nat_tests), unfolding(crate::specs::Marks::mark_of, reads::specs::Outcome::choose))]
     pub fn mark(self, start: u64) -> u8
         ensures { result ≡ mark_of self start }
     {
@@ -128,10 +111,10 @@ impl Frames {
         if start > self.low {
             return 1;
         }
-        if self.high_floor.is_at(start) {
+        if self.high_floor == Some(start) {
             return 2;
         }
-        if self.low_floor.is_at(start) {
+        if self.low_floor == Some(start) {
             return 1;
         }
         0

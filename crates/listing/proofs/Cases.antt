@@ -22,7 +22,6 @@ use Rattle.records.specs.Ask.{even_list, entry_size}
 use Rattle.records.specs.List.{method_rows, list_at, decode_list}
 use Rattle.records.specs.Row.{alignment_of, aligned_of, decode_offset, ivar_at, decode_ivar}
 use Rattle.walks.specs.Slots.{slot_count}
-use Rattle.records.specs.declared.ivar.Aligned.TheVariants.{Unknown}
 use Rattle.records.specs.declared.ivar.Ivar.{Ivar}
 use Rattle.records.specs.declared.list.Layout.{Layout}
 use Rattle.records.specs.declared.list.ListKind.TheVariants.{Methods}
@@ -38,7 +37,6 @@ use Rattle.listing.proofs.HubListing.{hub_events, five_lines, hub_listing}
 use Rattle.listing.proofs.LittleEndian.{bytes_of, eights}
 use Rattle.listing.proofs.WholeListing.{lists_with_room}
 use Rattle.std.specs.Prelude.{None}
-use Rattle.reads.specs.declared.answer.Question.TheVariants.{BundleLength}
 
 -- A case: its name, what the definitions give, and what the documents say.
 pub data Case : Type 1 where
@@ -130,7 +128,7 @@ unaligned =
       offset = None;
       size = 8;
       log2_alignment = None;
-      aligned = Unknown;
+      aligned = None;
     }
 
 abbrev pub edge_cases : List Case

@@ -15,7 +15,6 @@ use Rattle.listing.specs.declared.at.FieldWalk.TheVariants as field_walk
 use Rattle.listing.specs.declared.at.Owner.{Owner}
 use Rattle.listing.specs.declared.at.Record.TheVariants as a_record
 use Rattle.listing.specs.declared.line.Line.{Line}
-use Rattle.reads.specs.Answer.{answered}
 use Rattle.reads.specs.declared.answer.Question.{Question}
 
 module _ (u : Setting) (t : Tables) where

@@ -9,7 +9,6 @@ use Rattle.listing.specs.Listing.{State, Answer, Left, leaves, start, says, lack
 use Rattle.listing.specs.ListingRun.{events_in, line_said, settled_at, answer_at, lines_by, events_by, Answered, is_said, Lists}
 use Rattle.listing.specs.declared.absence.Absence.{Absence}
 use Rattle.listing.specs.declared.line.Line.{Line}
-use Rattle.reads.specs.Answer.{answered}
 
 pub data Steps (t : Tables) (Over : State → List ℕ → Type 0) : State → List ℕ → List Line → List Event → Type 0 where
   over : {s : State} {l : List ℕ} → Over s l → events_in t s ≡ value [] → Steps t Over s l [] []

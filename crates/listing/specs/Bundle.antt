@@ -3,7 +3,6 @@
 -- bind tables; the four files.
 use Rattle.std.specs.Prelude.{◌≡◌, ℕ, zero, suc, ◌+◌, ◌*◌, ◌≤◌, Bool, ◌&&◌, List, [], ◌∷◌, length, ◌==◌, nat_le}
 use Rattle.reads.specs.Outcome.{Outcome, value, refused, choose}
-use Rattle.reads.specs.Answer.{missed}
 use Rattle.reads.specs.Segment.{segment_words}
 use Rattle.reads.specs.Place.{part, le_in}
 use Rattle.pointers.specs.Question.{every}

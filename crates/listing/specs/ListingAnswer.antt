@@ -1,21 +1,19 @@
 -- What the code's listing and its answers mean in the words of the definitions.
-use Rattle.std.specs.Prelude.{ℕ, ◌+◌, ◌*◌, ◌^◌, List}
+use Rattle.std.specs.Prelude.{ℕ, ◌+◌, ◌*◌, ◌^◌, List, Result, Ok, Err}
 use Rattle.reads.specs.Outcome.{Outcome, value, refused}
-use Rattle.walks.specs.Sections.{Step, found, passed, dropped, finished, class_walk, category_walk, protocol_walk}
+use Rattle.walks.specs.Sections.{record_answer, class_walk, category_walk, protocol_walk}
 use Rattle.listing.specs.Listing.{Begun, begun, SectionWalk, walks, SectionLeft, State, state, Answer, says, lacks, nothing, ended, Left, leaves}
 use Rattle.walks.specs.declared.section_slots.CategorySlots.{CategorySlots}
 use Rattle.walks.specs.declared.section_slots.ClassSlots.{ClassSlots}
 use Rattle.walks.specs.declared.section_slots.ProtocolSlots.{ProtocolSlots}
 use Rattle.walks.specs.declared.sections.RecordWalk.{RecordWalk}
-use Rattle.listing.specs.declared.at.Record.{Record}
 use Rattle.listing.specs.declared.listing.Listed.{Listed}
 use Rattle.listing.specs.declared.listing.Listing.{Listing}
+use Rattle.reads.specs.declared.answer.Question.{Question}
 use Rattle.listing.specs.declared.listing.Said.{Said}
 use Rattle.listing.specs.declared.listing.Said.TheVariants as said
 use Rattle.listing.specs.declared.section.Section.{Section}
 use Rattle.listing.specs.declared.section.SectionStepped.{SectionStepped}
-use Rattle.listing.specs.declared.section.Taken.{Taken}
-use Rattle.listing.specs.declared.section.Taken.TheVariants as taken
 
 -- Each walk of a section.
 abbrev pub class_begun : RecordWalk ClassSlots → Begun
@@ -30,27 +28,23 @@ category_begun w = begun w.setting (category_walk w)
 abbrev pub section_walk_of : Section → SectionWalk
 section_walk_of s = walks s.stage (class_begun s.classes) (protocol_begun s.protocols) (category_begun s.categories)
 
-abbrev pub taken_of : Taken → Outcome (Step Record)
-taken_of (taken.Record x) = value (found x)
-taken_of (taken.Passed r) = value (passed r)
-taken_of taken.Dropped = value dropped
-taken_of taken.Finished = value finished
-taken_of (taken.Refused k) = refused k
-
 -- What a section step gives, with a ledger.
 abbrev pub section_left_of : SectionStepped → List ℕ → SectionLeft
-section_left_of r l = record { answer = taken_of r.taken; section = section_walk_of r.section; ledger = l }
+section_left_of r l = record { answer = record_answer r.taken; section = section_walk_of r.section; ledger = l }
 
 -- The entries settled are a number of two words.
 abbrev pub state_of : Listing → State
 state_of s = state s.setting s.at (section_walk_of s.section) s.records (s.settled_high * 2 ^ 64 + s.settled_low)
 
-abbrev pub said_of : Said → Outcome Answer
-said_of (said.Line x) = value (says x)
-said_of (said.Absent x) = value (lacks x)
-said_of said.Nothing = value nothing
-said_of said.Ended = value ended
-said_of (said.Refused k) = refused k
+abbrev pub answer_of : Said → Answer
+answer_of (said.Line x) = says x
+answer_of (said.Absent x) = lacks x
+answer_of said.Nothing = nothing
+answer_of said.Ended = ended
+
+abbrev pub said_of : Result Said Question → Outcome Answer
+said_of (Ok s) = value (answer_of s)
+said_of (Err k) = refused k
 
 -- The answer, with the listing that it hands back and a ledger.
 abbrev pub left_of : Listed → List ℕ → Left

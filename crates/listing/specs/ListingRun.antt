@@ -17,7 +17,6 @@ use Rattle.listing.specs.declared.at.FieldWalk.{FieldWalk}
 use Rattle.listing.specs.declared.at.FieldWalk.TheVariants as field_walk
 use Rattle.listing.specs.declared.at.Record.{Record}
 use Rattle.listing.specs.declared.line.Line.{Line}
-use Rattle.reads.specs.Answer.{answered}
 use Rattle.reads.specs.declared.answer.Question.{Question}
 
 -- What a step over list n of a record settles: the entry whose row it gives, one before the cursor that it leaves, or the one it skips

@@ -4,7 +4,7 @@ ghost use Rattle.std.specs.Prelude.{◌≡◌, ℕ, suc, List};
 ghost use Rattle.reads.specs.Outcome.{value, refused};
 ghost use Rattle.reads.specs.Reference.{before, after};
 ghost use Rattle.pointers.specs.Question.{asked};
-ghost use Rattle.pointers.specs.Tables.{lent, under, reading_new, reading_under};
+ghost use Rattle.pointers.specs.Tables.{under, reading_new, reading_under};
 ghost use Rattle.walks.specs.ProtocolNames.{name_left};
 ghost use Rattle.walks.specs.Walk.{row_left};
 ghost use Rattle.listing.specs.PlainListing.{version_and_flags, name_or_none, end_line};
@@ -16,17 +16,19 @@ ghost use Rattle.reads.specs.Answer.{outcome, answered};
 use crate::absence::{Absence, SkippedEntry, UnnamedSlot};
 use crate::at::{At, FieldWalk, ListAt, Owner, Record};
 use crate::line::{CategoryLine, ClassLine, EndLine, InfoLine, Line, NameLine, RowLine};
-use crate::section::{Section, SectionStepped, Taken};
+use crate::section::{Section, SectionStepped};
 use pointers::imageinfo::ImageInfo;
 use pointers::question::ask;
 use pointers::setting::Setting;
+use pointers::tables::Tables;
 use reads::answer::{Missing, Question};
 use reads::place::u32_from;
 use reads::text::{Reading, Text};
 use records::category::ObjcCategory;
 use records::class::{ClassRo, ObjcClass};
-use walks::list_walk::{ListStep, ListStepped, ListWalked};
-use walks::protocol_names::{NameStep, ProtocolNameStepped, ProtocolNamesWalked};
+use walks::list_walk::{ListStep, ListStepped};
+use walks::protocol_names::{NameStep, ProtocolNameStepped};
+use walks::sections::RecordStep;
 
 // The setting that the listing began with; where it stands; the records so far; the entries settled so far, high x 2^64 + low.
 #[derive(Clone, Copy)]
@@ -39,20 +41,19 @@ pub struct Listing {
     settled_low: u64,
 }
 
-// What a step says: a line; what is absent and why; nothing; or the listing has ended; or the number of the question that refuses.
+// What a step says: a line; what is absent and why; nothing; or the listing has ended.
 #[derive(Clone, Copy)]
 pub enum Said {
     Line(Line),
     Absent(Absence),
     Nothing,
     Ended,
-    Refused(Question),
 }
 
-// What a step says, and the listing to go on with; with a number it is as given.
+// What a step says, or the question that refuses it, and the listing to go on with; with a question it is as given.
 #[derive(Clone, Copy)]
 pub struct Listed {
-    pub said: Said,
+    pub said: Result<Said, Question>,
     pub listing: Listing,
 }
 
@@ -62,10 +63,8 @@ fn name_or_none(answer: Result<Text, Missing>) -> Result<Option<Text>, Question>
 {
     match answer {
         Ok(text) => Ok(Some(text)),
-        Err(m) => match m {
-            Missing::Absent(_) => Ok(None),
-            Missing::Refused(k) => Err(k),
-        },
+        Err(Missing::Absent(_)) => Ok(None),
+        Err(Missing::Refused(k)) => Err(k),
     }
 }
 
@@ -172,7 +171,7 @@ impl Listing {
         ensures { (l : List ℕ) → left_of result l ≡ leaves (refused k) (state_of self) l }
     {
         Listed {
-            said: Said::Refused(k),
+            said: Err(k),
             listing: self,
         }
     }
@@ -182,7 +181,7 @@ impl Listing {
         ensures { (l : List ℕ) → left_of result l ≡ leaves (value (says line)) (state_of self) l }
     {
         Listed {
-            said: Said::Line(line),
+            said: Ok(Said::Line(line)),
             listing: self,
         }
     }
@@ -192,7 +191,7 @@ impl Listing {
         ensures { (l : List ℕ) → left_of result l ≡ leaves (value (lacks absence)) (state_of self) l }
     {
         Listed {
-            said: Said::Absent(absence),
+            said: Ok(Said::Absent(absence)),
             listing: self,
         }
     }
@@ -202,57 +201,36 @@ impl Listing {
         ensures { (l : List ℕ) → left_of result l ≡ leaves (value nothing) (state_of self) l }
     {
         Listed {
-            said: Said::Nothing,
+            said: Ok(Said::Nothing),
             listing: self,
         }
     }
 
     // The step given, if 1 to 6 and 8 say yes.
-    fn if_asked(
-        self,
-        files: &[&[u8]],
-        segments: &[u64],
-        sections: &[u64],
-        info: &[u8],
-        rebases: &[u64],
-        binds: &[u64],
-        index: &[u32],
-        listed: Listed,
-    ) -> Listed
-        ensures { let t = lent files segments sections info rebases binds index in
+    fn if_asked(self, tables: &Tables, listed: Listed) -> Listed
+        ensures { let t = tables.now in
             ((l : List ℕ) → left_of result l ≡ onward (state_of self) l (asked t) (λ _. left_of listed l)) }
     {
-        match ask(files, segments, sections, info, rebases, binds, index) {
+        match ask(tables) {
             Ok(()) => listed,
             Err(k) => self.refused(k),
         }
     }
 
     // I.
-    fn info_step(
-        self,
-        files: &[&[u8]],
-        segments: &[u64],
-        sections: &[u64],
-        info: &[u8],
-        rebases: &[u64],
-        binds: &[u64],
-        index: &[u32],
-    ) -> Listed
-        ensures { let t = lent files segments sections info rebases binds index in
+    fn info_step(self, tables: &Tables) -> Listed
+        ensures { let t = tables.now in
             ((l : List ℕ) → left_of result l ≡ step_at t (state_of self) l place.Info) }
     {
         let listing = self.go_to(At::Section);
         let setting = self.setting;
         let reading = setting.reading;
         let line = Line::Info(InfoLine {
-            info: version_and_flags(info),
+            info: version_and_flags(tables.info()),
             reading,
         });
         let listed = listing.says(line);
-        self.if_asked(
-            files, segments, sections, info, rebases, binds, index, listed,
-        )
+        self.if_asked(tables, listed)
     }
 
     // E: the records, and the entries settled.
@@ -300,42 +278,30 @@ impl Listing {
         let taken = stepped.taken;
         let section = stepped.section;
         match taken {
-            Taken::Record(found) => {
+            Ok(RecordStep::Record(found)) => {
                 let listing = self.in_section(At::Record(found), section);
                 listing.nothing()
             }
-            Taken::Passed(why) => {
+            Ok(RecordStep::Passed(why)) => {
                 let listing = self.in_section(At::Section, section);
                 listing.lacks(Absence::Record(why))
             }
-            Taken::Dropped => {
+            Ok(RecordStep::Dropped) => {
                 let listing = self.in_section(At::Section, section);
                 listing.nothing()
             }
-            Taken::Finished => self.after_section(section),
-            Taken::Refused(k) => self.refused(k),
+            Ok(RecordStep::Finished) => self.after_section(section),
+            Err(k) => self.refused(k),
         }
     }
 
     // A step of the section walk under way.
-    fn section_step(
-        self,
-        files: &[&[u8]],
-        segments: &[u64],
-        sections: &[u64],
-        info: &[u8],
-        rebases: &[u64],
-        binds: &[u64],
-        index: &[u32],
-        ledger: &mut [u64],
-    ) -> Listed
-        ensures { let t = lent files segments sections info rebases binds index in
+    fn section_step(self, tables: &Tables, ledger: &mut [u64]) -> Listed
+        ensures { let t = tables.now in
             left_of result ledger.new ≡ step_at t (state_of self) ledger.old place.Section }
     {
         let section = self.section;
-        let stepped = section.next(
-            files, segments, sections, info, rebases, binds, index, ledger,
-        );
+        let stepped = section.next(tables, ledger);
         self.section_said(stepped)
     }
 
@@ -382,39 +348,23 @@ impl Listing {
     }
 
     // The line of a record that the section gave.
-    fn record_step(
-        self,
-        files: &[&[u8]],
-        segments: &[u64],
-        sections: &[u64],
-        info: &[u8],
-        rebases: &[u64],
-        binds: &[u64],
-        index: &[u32],
-        found: Record,
-    ) -> Listed
-        ensures { let t = under self.setting (lent files segments sections info rebases binds index) in
+    fn record_step(self, tables: &Tables, found: Record) -> Listed
+        ensures { let t = under self.setting tables.now in
             ((l : List ℕ) → left_of result l ≡ record_step t (state_of self) l found) }
     {
         let setting = self.setting;
         match found {
             Record::Class(class) => {
-                let name = class.superclass_name(
-                    files, segments, sections, info, rebases, binds, index, setting,
-                );
+                let name = class.superclass_name(tables, setting);
                 self.class_said(class, name)
             }
             Record::Protocol(protocol) => {
                 let lists = Owner::Protocol(protocol).enter(setting, 0);
                 let listed = self.record_said(Line::Protocol(protocol), lists);
-                self.if_asked(
-                    files, segments, sections, info, rebases, binds, index, listed,
-                )
+                self.if_asked(tables, listed)
             }
             Record::Category(category) => {
-                let name = category.class_name(
-                    files, segments, sections, info, rebases, binds, index, setting,
-                );
+                let name = category.class_name(tables, setting);
                 self.category_said(category, name)
             }
         }
@@ -432,13 +382,11 @@ impl Listing {
                 let listing = self.go_to(lists);
                 listing.says(Line::Ro(ro))
             }
-            Err(m) => match m {
-                Missing::Absent(why) => {
-                    let listing = self.go_to(At::Section);
-                    listing.lacks(Absence::Record(why))
-                }
-                Missing::Refused(k) => self.refused(k),
-            },
+            Err(Missing::Absent(why)) => {
+                let listing = self.go_to(At::Section);
+                listing.lacks(Absence::Record(why))
+            }
+            Err(Missing::Refused(k)) => self.refused(k),
         }
     }
 
@@ -466,19 +414,17 @@ impl Listing {
             },
         );
         match walked {
-            ListWalked::Step(step) => match step {
-                ListStep::Row(row) => {
-                    let listing = self.with_entry(at);
-                    listing.says(Line::Row(RowLine { list, row, mark: 0 }))
-                }
-                ListStep::Skipped(index, why) => {
-                    let listing = self.with_entry(at);
-                    listing.lacks(Absence::Entry(SkippedEntry { list, index, why }))
-                }
-                ListStep::Finished => self.next_list(owner, list),
-                ListStep::Refused(k) => self.refused(k),
-            },
-            ListWalked::Absent(_) => self.next_list(owner, list),
+            Ok(ListStep::Row(row)) => {
+                let listing = self.with_entry(at);
+                listing.says(Line::Row(RowLine { list, row, mark: 0 }))
+            }
+            Ok(ListStep::Skipped(index, why)) => {
+                let listing = self.with_entry(at);
+                listing.lacks(Absence::Entry(SkippedEntry { list, index, why }))
+            }
+            Ok(ListStep::Finished) => self.next_list(owner, list),
+            Err(Missing::Absent(_)) => self.next_list(owner, list),
+            Err(Missing::Refused(k)) => self.refused(k),
         }
     }
 
@@ -496,111 +442,69 @@ impl Listing {
             },
         );
         match walked {
-            ProtocolNamesWalked::Step(step) => match step {
-                NameStep::Name(name) => {
-                    let listing = self.go_to(at);
-                    listing.says(Line::Name(NameLine { list, name }))
-                }
-                NameStep::Passed(why) => {
-                    let listing = self.go_to(at);
-                    listing.lacks(Absence::Name(UnnamedSlot { list, slot, why }))
-                }
-                NameStep::Finished => self.next_list(owner, list),
-                NameStep::Refused(k) => self.refused(k),
-            },
-            ProtocolNamesWalked::Absent(_) => self.next_list(owner, list),
+            Ok(NameStep::Name(name)) => {
+                let listing = self.go_to(at);
+                listing.says(Line::Name(NameLine { list, name }))
+            }
+            Ok(NameStep::Passed(why)) => {
+                let listing = self.go_to(at);
+                listing.lacks(Absence::Name(UnnamedSlot { list, slot, why }))
+            }
+            Ok(NameStep::Finished) => self.next_list(owner, list),
+            Err(Missing::Absent(_)) => self.next_list(owner, list),
+            Err(Missing::Refused(k)) => self.refused(k),
         }
     }
 
     // A step over list n of a record.
-    fn list_step(
-        self,
-        files: &[&[u8]],
-        segments: &[u64],
-        sections: &[u64],
-        info: &[u8],
-        rebases: &[u64],
-        binds: &[u64],
-        index: &[u32],
-        n: u16,
-        at: ListAt,
-    ) -> Listed
-        ensures { let t = lent files segments sections info rebases binds index in
+    fn list_step(self, tables: &Tables, n: u16, at: ListAt) -> Listed
+        ensures { let t = tables.now in
             ((l : List ℕ) → left_of result l ≡ list_step t (state_of self) l at.owner n at.walk) }
     {
         let owner = at.owner;
         let walk = at.walk;
         match walk {
             FieldWalk::Rows(rows) => {
-                let stepped = rows.next(files, segments, sections, info, rebases, binds, index);
+                let stepped = rows.next(tables);
                 self.row_said(owner, n, stepped)
             }
             FieldWalk::Names(names) => {
                 let slot = names.cursor();
-                let stepped = names.next(files, segments, sections, info, rebases, binds, index);
+                let stepped = names.next(tables);
                 self.name_said(owner, n, slot, stepped)
             }
         }
     }
 
     // The listing has ended; 1 to 6 and 8 are asked as in every step.
-    fn ended(
-        self,
-        files: &[&[u8]],
-        segments: &[u64],
-        sections: &[u64],
-        info: &[u8],
-        rebases: &[u64],
-        binds: &[u64],
-        index: &[u32],
-    ) -> Listed
-        ensures { let t = lent files segments sections info rebases binds index in
+    fn ended(self, tables: &Tables) -> Listed
+        ensures { let t = tables.now in
             ((l : List ℕ) → left_of result l ≡ step_at t (state_of self) l place.End) }
     {
         let listed = Listed {
-            said: Said::Ended,
+            said: Ok(Said::Ended),
             listing: self,
         };
-        self.if_asked(
-            files, segments, sections, info, rebases, binds, index, listed,
-        )
+        self.if_asked(tables, listed)
     }
 
     // One step.
-    pub fn next(
-        self,
-        files: &[&[u8]],
-        segments: &[u64],
-        sections: &[u64],
-        info: &[u8],
-        rebases: &[u64],
-        binds: &[u64],
-        index: &[u32],
-        ledger: &mut [u64],
-    ) -> Listed
-        ensures { let t = lent files segments sections info rebases binds index in
+    pub fn next(self, tables: &Tables, ledger: &mut [u64]) -> Listed
+        ensures { let t = tables.now in
             left_of result ledger.new ≡ listing_step t (state_of self) ledger.old }
     {
         let at = self.at;
         match at {
-            At::Info => self.info_step(files, segments, sections, info, rebases, binds, index),
-            At::Section => self.section_step(
-                files, segments, sections, info, rebases, binds, index, ledger,
-            ),
-            At::Record(found) => self.record_step(
-                files, segments, sections, info, rebases, binds, index, found,
-            ),
+            At::Info => self.info_step(tables),
+            At::Section => self.section_step(tables, ledger),
+            At::Record(found) => self.record_step(tables, found),
             At::Ro(class) => {
                 let setting = self.setting;
-                let answer = class.ro(
-                    files, segments, sections, info, rebases, binds, index, setting,
-                );
+                let answer = class.ro(tables, setting);
                 self.ro_said(answer)
             }
-            At::List(n, list) => self.list_step(
-                files, segments, sections, info, rebases, binds, index, n, list,
-            ),
-            At::End => self.ended(files, segments, sections, info, rebases, binds, index),
+            At::List(n, list) => self.list_step(tables, n, list),
+            At::End => self.ended(tables),
         }
     }
 }

@@ -1,18 +1,15 @@
 // The section walks one after the other: classes, protocols, categories.
 ghost use Rattle.std.specs.Prelude.{◌≡◌, ℕ, List};
 ghost use Rattle.reads.specs.Reference.{after};
-ghost use Rattle.pointers.specs.Tables.{lent};
-ghost use Rattle.walks.specs.Sections.{record_step};
-ghost use Rattle.listing.specs.declared.at.Record.TheVariants as aRecord;
+ghost use Rattle.walks.specs.Sections.{record_answer};
+ghost use Rattle.listing.specs.declared.at.Record.{Record as SpecRecord};
 ghost use Rattle.listing.specs.Listing.{stage_start, with_classes, with_protocols, with_categories, as_record, classes_step, protocols_step, categories_step, section_step};
-ghost use Rattle.listing.specs.ListingAnswer.{class_begun, protocol_begun, category_begun, section_walk_of, taken_of, section_left_of};
+ghost use Rattle.listing.specs.ListingAnswer.{class_begun, protocol_begun, category_begun, section_walk_of, section_left_of};
 
 use crate::at::Record;
 use pointers::setting::Setting;
-use reads::answer::{Question, Reason};
-use records::category::ObjcCategory;
-use records::class::ObjcClass;
-use records::protocol::ObjcProtocol;
+use pointers::tables::Tables;
+use reads::answer::Question;
 use walks::sections::{CategoryWalk, ClassWalk, ProtocolWalk, RecordStep};
 
 // The section walks side by side, and which is under way: 0, 1, and from 2 on the last. The others stand at their starts, or where a state
@@ -25,61 +22,28 @@ pub struct Section {
     categories: CategoryWalk,
 }
 
-// What a step of a section walk gives: a record, or the reason for which it is absent; a slot is dropped; there was nothing left; or the
-// number of the question that refuses.
-#[derive(Clone, Copy)]
-pub(crate) enum Taken {
-    Record(Record),
-    Passed(Reason),
-    Dropped,
-    Finished,
-    Refused(Question),
-}
-
-// The same with the section walk as it is then; with a number it is as given.
+// What a step of a section walk gives, its record as one of the listing's, with the section walk as it is then; with a question it is as given.
 #[derive(Clone, Copy)]
 pub(crate) struct SectionStepped {
-    pub(crate) taken: Taken,
+    pub(crate) taken: Result<RecordStep<Record>, Question>,
     pub(crate) section: Section,
 }
 
-// What a step of the class walk gives.
-fn class_taken(step: RecordStep<ObjcClass>) -> Taken
-    ensures { taken_of result ≡ as_record aRecord.Class (record_step step) }
+// The same step, its record as one of the listing's.
+fn taken<R: Copy, F: Fn(R) -> Record>(
+    step: Result<RecordStep<R>, Question>,
+    one: F,
+) -> Result<RecordStep<Record>, Question>
+    requires { (r : _) → F.pre one r }
+    ensures { (of : R → SpecRecord) → ((r : _) (x : SpecRecord) → F.post one r x → x ≡ of r) → record_answer result ≡ as_record of (record_answer step) }
 {
-    match step {
-        RecordStep::Record(class) => Taken::Record(Record::Class(class)),
-        RecordStep::Passed(why) => Taken::Passed(why),
-        RecordStep::Dropped => Taken::Dropped,
-        RecordStep::Finished => Taken::Finished,
-        RecordStep::Refused(k) => Taken::Refused(k),
-    }
-}
-
-// What a step of the protocol walk gives.
-fn protocol_taken(step: RecordStep<ObjcProtocol>) -> Taken
-    ensures { taken_of result ≡ as_record aRecord.Protocol (record_step step) }
-{
-    match step {
-        RecordStep::Record(protocol) => Taken::Record(Record::Protocol(protocol)),
-        RecordStep::Passed(why) => Taken::Passed(why),
-        RecordStep::Dropped => Taken::Dropped,
-        RecordStep::Finished => Taken::Finished,
-        RecordStep::Refused(k) => Taken::Refused(k),
-    }
-}
-
-// What a step of the category walk gives.
-fn category_taken(step: RecordStep<ObjcCategory>) -> Taken
-    ensures { taken_of result ≡ as_record aRecord.Category (record_step step) }
-{
-    match step {
-        RecordStep::Record(category) => Taken::Record(Record::Category(category)),
-        RecordStep::Passed(why) => Taken::Passed(why),
-        RecordStep::Dropped => Taken::Dropped,
-        RecordStep::Finished => Taken::Finished,
-        RecordStep::Refused(k) => Taken::Refused(k),
-    }
+    let taken = match step? {
+        RecordStep::Record(found) => RecordStep::Record(one(found)),
+        RecordStep::Passed(why) => RecordStep::Passed(why),
+        RecordStep::Dropped => RecordStep::Dropped,
+        RecordStep::Finished => RecordStep::Finished,
+    };
+    Ok(taken)
 }
 
 impl Section {
@@ -123,110 +87,61 @@ impl Section {
         Section { categories, ..self }
     }
 
-    // A step of the class walk.
-    fn class_step(
-        self,
-        files: &[&[u8]],
-        segments: &[u64],
-        sections: &[u64],
-        info: &[u8],
-        rebases: &[u64],
-        binds: &[u64],
-        index: &[u32],
-        ledger: &mut [u64],
-    ) -> SectionStepped
-        ensures { let t = lent files segments sections info rebases binds index in
+    // A step of the class walk. Not one function with `category_step`: the field that the walk comes from and goes to is all that either says.
+    fn class_step(self, tables: &Tables, ledger: &mut [u64]) -> SectionStepped
+        ensures { let t = tables.now in
             section_left_of result ledger.new ≡ classes_step t ledger.old (section_walk_of self) }
     {
         let walk = self.classes;
-        let stepped = walk.next(
-            files, segments, sections, info, rebases, binds, index, ledger,
-        );
+        let stepped = walk.next(tables, ledger);
         let step = stepped.step;
         let after = stepped.walk;
         SectionStepped {
-            taken: class_taken(step),
+            taken: taken(step, |class| Record::Class(class)),
             section: self.with_classes(after),
         }
     }
 
     // A step of the protocol walk.
-    fn protocol_step(
-        self,
-        files: &[&[u8]],
-        segments: &[u64],
-        sections: &[u64],
-        info: &[u8],
-        rebases: &[u64],
-        binds: &[u64],
-        index: &[u32],
-    ) -> SectionStepped
-        ensures { let t = lent files segments sections info rebases binds index in
+    fn protocol_step(self, tables: &Tables) -> SectionStepped
+        ensures { let t = tables.now in
             ((l : List ℕ) → section_left_of result l ≡ protocols_step t l (section_walk_of self)) }
     {
         let walk = self.protocols;
-        let stepped = walk.next_protocol(files, segments, sections, info, rebases, binds, index);
+        let stepped = walk.next_protocol(tables);
         let step = stepped.step;
         let after = stepped.walk;
         SectionStepped {
-            taken: protocol_taken(step),
+            taken: taken(step, |protocol| Record::Protocol(protocol)),
             section: self.with_protocols(after),
         }
     }
 
     // A step of the category walk.
-    fn category_step(
-        self,
-        files: &[&[u8]],
-        segments: &[u64],
-        sections: &[u64],
-        info: &[u8],
-        rebases: &[u64],
-        binds: &[u64],
-        index: &[u32],
-        ledger: &mut [u64],
-    ) -> SectionStepped
-        ensures { let t = lent files segments sections info rebases binds index in
+    fn category_step(self, tables: &Tables, ledger: &mut [u64]) -> SectionStepped
+        ensures { let t = tables.now in
             section_left_of result ledger.new ≡ categories_step t ledger.old (section_walk_of self) }
     {
         let walk = self.categories;
-        let stepped = walk.next(
-            files, segments, sections, info, rebases, binds, index, ledger,
-        );
+        let stepped = walk.next(tables, ledger);
         let step = stepped.step;
         let after = stepped.walk;
         SectionStepped {
-            taken: category_taken(step),
+            taken: taken(step, |category| Record::Category(category)),
             section: self.with_categories(after),
         }
     }
 
     // A step of the section walk under way. The protocol walk looks at no ledger.
-    pub(crate) fn next(
-        self,
-        files: &[&[u8]],
-        segments: &[u64],
-        sections: &[u64],
-        info: &[u8],
-        rebases: &[u64],
-        binds: &[u64],
-        index: &[u32],
-        ledger: &mut [u64],
-    ) -> SectionStepped
-        ensures { let t = lent files segments sections info rebases binds index in
+    pub(crate) fn next(self, tables: &Tables, ledger: &mut [u64]) -> SectionStepped
+        ensures { let t = tables.now in
             section_left_of result ledger.new ≡ section_step t ledger.old (section_walk_of self) }
     {
         let stage = self.stage;
         match stage {
-            Section::CLASSES => self.class_step(
-                files, segments, sections, info, rebases, binds, index, ledger,
-            ),
-            Section::PROTOCOLS => self.protocol_step(
-                files, segments, sections, info, rebases, binds, index,
-            ),
-            _ => self.category_step(
-                files, segments, sections, info, rebases, binds, index, ledger,
-            ),
+            Section::CLASSES => self.class_step(tables, ledger),
+            Section::PROTOCOLS => self.protocol_step(tables),
+            _ => self.category_step(tables, ledger),
         }
     }
 }

@@ -6,7 +6,7 @@ use mathlib.Core.List.{List, [], ◌∷◌}
 use native.Mathlib.Omega.{arith}
 use lib.Dec.{eqb, leb}
 use lib.ListN.{length, drop}
-use borrow.Author.Tests.{le-leb, lt-leb, leb-true, eq-eqb, ne_eqb, eqb-true}
+use borrow.Author.Tests.{lt-leb, leb-true, eq-eqb, ne_eqb, eqb-true}
 use Rattle.reads.specs.Outcome.{choose}
 use Rattle.reads.proofs.Tests.{both_true, choose_true, choose_false}
 use Rattle.macho.specs.Loader.{cmd, cmdsize, nsects}
@@ -18,28 +18,6 @@ module _ (cmds : List ℕ) (a : ℕ) where
   pub fits_short : length cmds < a + 8 → false ≡ fits cmds a
   unfolding fits
   fits_short h = simp (lt-leb (a + 8) (length cmds) h)
-
-  module _ (h : a + 8 ≤ length cmds) where
-    pub fits_small : cmdsize cmds a < 8 → false ≡ fits cmds a
-    unfolding fits
-    fits_small l = simp (le-leb (a + 8) (length cmds) h, lt-leb 8 (cmdsize cmds a) l)
-
-    module _ (l : 8 ≤ cmdsize cmds a) where
-      pub fits_long : length cmds < a + cmdsize cmds a → false ≡ fits cmds a
-      unfolding fits
-      fits_long r = simp (le-leb (a + 8) (length cmds) h, le-leb 8 (cmdsize cmds a) l, lt-leb (a + cmdsize cmds a) (length cmds) r)
-
-      module _ (r : a + cmdsize cmds a ≤ length cmds) where
-        pub fits_other : (cmd cmds a ≡ 0x19 → ⊥) → true ≡ fits cmds a
-        unfolding fits sectioned choose
-        fits_other n =
-            simp (le-leb (a + 8) (length cmds) h, le-leb 8 (cmdsize cmds a) l, le-leb (a + cmdsize cmds a) (length cmds) r, ne_eqb (cmd cmds a) 0x19 n)
-
-        pub fits_by : cmd cmds a ≡ 0x19 → (n size : ℕ) → n ≡ nsects cmds a → size ≡ cmdsize cmds a → leb (72 + 80 * n) size ≡ fits cmds a
-        unfolding fits sectioned choose
-        fits_by e n size f g =
-            rw (f, g)
-            (simp (le-leb (a + 8) (length cmds) h, le-leb 8 (cmdsize cmds a) l, le-leb (a + cmdsize cmds a) (length cmds) r, eq-eqb (cmd cmds a) 0x19 e))
 
 -- What a command that fits has room for.
 pub record Room (cmds : List ℕ) (a : ℕ) : Type 0 where

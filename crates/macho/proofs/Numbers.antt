@@ -1,18 +1,13 @@
 -- Numbers in bytes, the header, and parts of a file, by the tests that the code makes.
-use Prim.Native.Nat.{ℕ, ◌+◌, ◌-◌, ◌*◌, ◌≤◌, ◌<◌}
+use Prim.Native.Nat.{ℕ, ◌+◌, ◌*◌, ◌≤◌}
 use mathlib.Core.Path.{◌≡◌, sym, ◌∙◌}
-use mathlib.Core.Bool.{false}
 use mathlib.Core.List.{List}
 use native.Mathlib.Omega.{arith}
-use lib.Dec.{eqb}
-use lib.ListN.{length, take, drop, get_or, length-drop, drop_of_length-le}
-use lib.Seq.{take_all, take-nil}
-use borrow.Author.Tests.{le-leb, lt-leb}
+use lib.ListN.{length, take, drop, get_or, length-drop}
+use lib.Seq.{take_all}
 use Rattle.reads.specs.Place.{part}
 use Rattle.reads.proofs.Numbers.{le_part, le_one, le_inside}
 use Rattle.macho.specs.Number.{u16_at}
-use Rattle.macho.specs.Loader.{magic}
-use Rattle.macho.specs.Commands.{headed}
 
 -- Two bytes that lie in the bytes.
 pub u16_in : (bytes : List ℕ) (at : ℕ) → at + 2 ≤ length bytes → get_or bytes at 0 + get_or bytes (at + 1) 0 * 0x100 ≡ u16_at bytes at
@@ -21,21 +16,7 @@ u16_in bytes at h =
     ∙ le_inside bytes 2 at h
 
 module _ (file : List ℕ) where
-  pub headed_short : length file < 32 → false ≡ headed file
-  unfolding headed
-  headed_short h = simp (lt-leb 32 (length file) h)
-
-  pub headed_by : 32 ≤ length file → (w : ℕ) → w ≡ magic file → eqb w 0xFEEDFACF ≡ headed file
-  unfolding headed
-  headed_by h w e = rw e (simp (le-leb 32 (length file) h))
-
   -- A part that lies past the end, one that the end cuts, and one inside.
-  pub part_past : (from size n k : ℕ) → length file ≤ from → length file ≤ n → take k (drop n file) ≡ part file from size
-  part_past from size n k h l = rw (drop_of_length-le file h, drop_of_length-le file l, take-nil k, take-nil size)
-
   pub part_cut : (from size k : ℕ) → length file ≤ from + size → length file ≤ from + k → take k (drop from file) ≡ part file from size
   part_cut from size k h l =
       take_all k (drop from file) (simp length-drop (omega arith)) ∙ sym (take_all size (drop from file) (simp length-drop (omega arith)))
-
-  pub part_whole : (from size : ℕ) → take (from + size - from) (drop from file) ≡ part file from size
-  part_whole from size = let e : from + size - from ≡ size = omega arith in rw e

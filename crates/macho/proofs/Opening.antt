@@ -18,7 +18,7 @@ use Rattle.macho.specs.Commands.{command_bytes, segments_of}
 use Rattle.macho.specs.Segments.{segment_table_of, written}
 use Rattle.macho.specs.Sections.{section_named, info_name, section_table_of}
 use Rattle.macho.specs.FileTables.{segment_table, section_table, over_file, file_tables}
-use Rattle.macho.specs.OpenFile.{asked_file, opened_file, opening_file, segments_left, sections_left, index_left}
+use Rattle.macho.specs.OpenFile.{asked_file, opened_file, opening_file, segments_left, sections_left, index_left, Buffers}
 use Rattle.macho.specs.declared.section.Section.{Section}
 use Rattle.std.specs.Prelude.{Result, Ok, Err}
 use Rattle.reads.specs.declared.answer.Question.{Question}
@@ -89,6 +89,11 @@ module _ (file segments sections rebases binds index : List ℕ) (asked : asked_
           × ((sections ≡ sections_left file segments sections rebases binds index) × (xs ≡ index_left file segments sections rebases binds index)))
       unfolding segments_left sections_left
       refusing xs l = (rw (opening_by, gone) (missed_then m _), (kept _ segments, (kept _ sections, index_left_lem xs l)))
+
+-- The three buffers at once.
+pub buffers_by : {a b c d e f : List ℕ} → (a ≡ b) × ((c ≡ d) × (e ≡ f))
+    → ◌≡◌ {A = Buffers} (record { segments = a; sections = c; index = e }) (record { segments = b; sections = d; index = f })
+buffers_by h = rw (h.0, h.1.0, h.1.1)
 
 -- With a number from what is asked first, nothing is opened.
 module _ (file segments sections rebases binds index : List ℕ) (k : Question) (e : refused k ≡ asked_file file (length segments) (length sections)) where

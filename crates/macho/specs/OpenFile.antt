@@ -1,6 +1,6 @@
 -- Opening a file (document 02, note 3): 15 and 16, then document 01's questions of the tables that would be filled; then the tables are
 -- filled and the index is written.
-use Rattle.std.specs.Prelude.{ℕ, ◌*◌, ◌&&◌, List, leb, eqb, length, take}
+use Rattle.std.specs.Prelude.{◌≡◌, ℕ, ◌*◌, ◌&&◌, List, leb, eqb, length, take}
 use Rattle.reads.specs.Outcome.{Outcome, value, and_then}
 use Rattle.reads.specs.Segment.{segment_words}
 use Rattle.reads.specs.Place.{part}
@@ -13,6 +13,7 @@ use Rattle.macho.specs.Commands.{asked_commands}
 use Rattle.macho.specs.Segments.{written}
 use Rattle.macho.specs.FileTables.{file_segments, segment_table, section_table, info_section, info_bytes, over_file, file_tables}
 use Rattle.macho.specs.declared.open.OpenedFile.{OpenedFile}
+use Rattle.macho.specs.declared.open.Lent.{Lent}
 use Rattle.reads.specs.declared.answer.Question.TheVariants.{FileLength, SegmentTable, SectionTable}
 
 -- Document 01's outcome of each case of the code's answer.
@@ -63,3 +64,32 @@ later_tables file segments sections rebases binds index o =
     (sections_left file segments sections rebases binds index)
     (part file o.info_at o.info_len) rebases binds
     (index_left file segments sections rebases binds index)
+
+-- Of what a caller lends as one.
+abbrev pub opening_lent : List ℕ → Lent → Outcome OpenedFile
+opening_lent file l = opening_file file l.segments.now l.sections.now l.rebases.now l.binds.now l.index.now
+
+-- What the buffers that opening writes hold, and what it leaves there.
+pub record Buffers : Type 0 where
+  pub segments : List ℕ
+  pub sections : List ℕ
+  pub index : List ℕ
+
+abbrev pub buffers : Lent → Buffers
+buffers l = record { segments = l.segments.now; sections = l.sections.now; index = l.index.now }
+
+abbrev pub buffers_left : List ℕ → Lent → Buffers
+buffers_left file l =
+    record {
+      segments = segments_left file l.segments.now l.sections.now l.rebases.now l.binds.now l.index.now;
+      sections = sections_left file l.segments.now l.sections.now l.rebases.now l.binds.now l.index.now;
+      index = index_left file l.segments.now l.sections.now l.rebases.now l.binds.now l.index.now;
+    }
+
+-- What is lent stays the same slices, and what is only read stays as it is.
+pub record Kept (o p : Lent) : Type 0 where
+  pub segments : p.segments.ghost_name ≡ o.segments.ghost_name
+  pub sections : p.sections.ghost_name ≡ o.sections.ghost_name
+  pub index : p.index.ghost_name ≡ o.index.ghost_name
+  pub rebases : p.rebases.now ≡ o.rebases.now
+  pub binds : p.binds.now ≡ o.binds.now

@@ -23,6 +23,7 @@ pub struct Found {
 }
 
 // 16, of the command at an offset.
+#[tactic(auto, unfolding(crate::specs::Commands::fits, crate::specs::Commands::sectioned, reads::specs::Outcome::choose), using(std::proofs::lemmas::Bool::Decides::nat_tests))]
 fn command_fits(cmds: &[u8], at: u64) -> bool
     ensures { result ≡ fits (before cmds) at }
 {
@@ -62,6 +63,7 @@ fn commands_fit(cmds: &[u8], count: u64) -> bool
 }
 
 // 15, then 16.
+#[tactic(auto, unfolding(crate::specs::Commands::asked_commands), using(pointers::proofs::Questions::in_order))]
 pub fn ask_commands(file: &[u8]) -> Result<(), Question>
     ensures { answered result ≡ asked_commands (before file) }
 {

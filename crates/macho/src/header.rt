@@ -9,6 +9,7 @@ use crate::loader::{MAGIC, MH_MAGIC_64, NCMDS, SIZEOF_MACH_HEADER_64, SIZEOFCMDS
 use crate::number::field32;
 
 // 15: is there a header, with the magic of a 64-bit little-endian file?
+#[tactic(auto, unfolding(crate::specs::Commands::headed, reads::specs::Outcome::choose), using(std::proofs::lemmas::Bool::Decides::nat_tests))]
 pub(crate) fn headed(file: &[u8]) -> bool
     ensures { result ≡ headed (before file) }
 {

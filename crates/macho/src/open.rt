@@ -8,7 +8,7 @@ ghost use Rattle.macho.specs.Commands.{segments_of};
 ghost use Rattle.macho.specs.Segments.{segment_table_of};
 ghost use Rattle.macho.specs.Sections.{section_table_of};
 ghost use Rattle.macho.specs.FileTables.{over_file};
-ghost use Rattle.macho.specs.OpenFile.{asked_lent, asked_file, opening_file, segments_left, sections_left, index_left};
+ghost use Rattle.macho.specs.OpenFile.{Kept, asked_lent, asked_file, opening_lent, buffers, buffers_left};
 ghost use Rattle.reads.specs.Answer.{outcome, answered};
 
 use crate::command::ask_commands;
@@ -37,7 +37,18 @@ pub struct OpenedFile {
     pub info_len: u64,
 }
 
+// What a caller lends for a file: the first three are written.
+#[derive(Drop)]
+pub struct Lent<'a, 'b> {
+    pub segments: &'a mut [u64],
+    pub sections: &'a mut [u64],
+    pub index: &'a mut [u32],
+    pub rebases: &'b [u64],
+    pub binds: &'b [u64],
+}
+
 // 1, and what 2 and 3 ask of the buffers lent for the tables.
+#[tactic(auto, unfolding(crate::specs::OpenFile::asked_lent), using(pointers::proofs::Questions::in_order, std::proofs::lemmas::Bool::Decides::nat_tests))]
 fn ask_lent(file: &[u8], segments: usize, sections: usize) -> Result<(), Question>
     ensures { answered result ≡ asked_lent (before file) segments sections }
 {
@@ -57,6 +68,7 @@ fn ask_lent(file: &[u8], segments: usize, sections: usize) -> Result<(), Questio
 }
 
 // 15 and 16, then these.
+#[tactic(auto, unfolding(crate::specs::OpenFile::asked_file), using(pointers::proofs::Questions::in_order))]
 fn ask_file(file: &[u8], segments: usize, sections: usize) -> Result<(), Question>
     ensures { answered result ≡ asked_file (before file) segments sections }
 {
@@ -65,6 +77,7 @@ fn ask_file(file: &[u8], segments: usize, sections: usize) -> Result<(), Questio
 }
 
 // Opens over the first words of a segment table.
+// Not a struct, here and below: the two put together what `pointers::open::open` takes.
 fn open_part(
     file: &[u8],
     segments: &[u64],
@@ -120,56 +133,37 @@ fn open_tables(
 }
 
 // Opens over the tables for the file; then fills them into what is lent.
-fn fill_file(
-    file: &[u8],
-    segments: &mut [u64],
-    sections: &mut [u64],
-    rebases: &[u64],
-    binds: &[u64],
-    index: &mut [u32],
-) -> Result<OpenedFile, Missing>
-    requires { asked_file file.now (length segments.old) (length sections.old) ≡ value tt }
-    ensures outcome { outcome result ≡ opening_file (before file) segments.old sections.old (before rebases) (before binds) index.old }
-    ensures segments { segments.new ≡ segments_left (before file) segments.old sections.old (before rebases) (before binds) index.old }
-    ensures sections { sections.new ≡ sections_left (before file) segments.old sections.old (before rebases) (before binds) index.old }
-    ensures index { index.new ≡ index_left (before file) segments.old sections.old (before rebases) (before binds) index.old }
+fn fill_file(file: &[u8], lent: &mut Lent) -> Result<OpenedFile, Missing>
+    requires { asked_file file.now (length lent.old.segments.now) (length lent.old.sections.now) ≡ value tt }
+    ensures kept { Kept lent.old lent.new }
+    ensures outcome { outcome result ≡ opening_lent (before file) lent.old }
+    ensures left { buffers lent.new ≡ buffers_left (before file) lent.old }
 {
     let cmds = command_bytes(file);
     let count = command_count(file);
     let name = IMAGE_INFO;
     let section = section_named(cmds, count, &name);
     let info = range_of(file, section.offset, section.size);
-    match open_tables(file, cmds, count, info, rebases, binds, index) {
-        Ok(i) => {
-            write_segments(cmds, count, segments);
-            write_sections(cmds, count, sections);
-            Ok(OpenedFile {
-                segments: segment_count(cmds, count),
-                info: i,
-                info_at: section.offset,
-                info_len: info.len() as u64,
-            })
-        }
-        Err(m) => Err(m),
-    }
+    let rebases = lent.rebases;
+    let binds = lent.binds;
+    let index = &mut *lent.index;
+    let i = open_tables(file, cmds, count, info, rebases, binds, index)?;
+    write_segments(cmds, count, lent.segments);
+    write_sections(cmds, count, lent.sections);
+    Ok(OpenedFile {
+        segments: segment_count(cmds, count),
+        info: i,
+        info_at: section.offset,
+        info_len: info.len() as u64,
+    })
 }
 
 // The file's tables filled, with the index written; or the number of the first question that says no, with nothing written.
-pub fn open_file(
-    file: &[u8],
-    segments: &mut [u64],
-    sections: &mut [u64],
-    rebases: &[u64],
-    binds: &[u64],
-    index: &mut [u32],
-) -> Result<OpenedFile, Missing>
-    ensures outcome { outcome result ≡ opening_file (before file) segments.old sections.old (before rebases) (before binds) index.old }
-    ensures segments { segments.new ≡ segments_left (before file) segments.old sections.old (before rebases) (before binds) index.old }
-    ensures sections { sections.new ≡ sections_left (before file) segments.old sections.old (before rebases) (before binds) index.old }
-    ensures index { index.new ≡ index_left (before file) segments.old sections.old (before rebases) (before binds) index.old }
+pub fn open_file(file: &[u8], lent: &mut Lent) -> Result<OpenedFile, Missing>
+    ensures kept { Kept lent.old lent.new }
+    ensures outcome { outcome result ≡ opening_lent (before file) lent.old }
+    ensures left { buffers lent.new ≡ buffers_left (before file) lent.old }
 {
-    match ask_file(file, segments.len(), sections.len()) {
-        Ok(()) => fill_file(file, segments, sections, rebases, binds, index),
-        Err(k) => Err(Missing::Refused(k)),
-    }
+    ask_file(file, lent.segments.len(), lent.sections.len())?;
+    fill_file(file, lent)
 }

@@ -7,7 +7,7 @@ use native.Mathlib.Omega.{arith}
 use lib.Dec.{eqb}
 use lib.ListN.{length}
 use borrow.Author.Tests.{lt-leb, ne_eqb}
-use Rattle.reads.specs.Answer.{missed, outcome}
+use Rattle.reads.specs.Answer.{missed}
 use Rattle.reads.specs.Outcome.{Outcome, value, absent, refused, and_then, choose}
 use Rattle.reads.specs.Table.{records}
 use Rattle.reads.specs.declared.answer.Reason.{Reason}
@@ -24,22 +24,9 @@ use Rattle.frames.specs.declared.frames.Frames.{Frames}
 use Rattle.frames.specs.declared.frames.Ranges.{Ranges}
 use Rattle.marking.specs.Framed.{with_frames, last_refusal, framed_opening, framed_index}
 use Rattle.marking.specs.declared.framed.Framed.{Framed}
-use Rattle.std.specs.Prelude.{Result, Ok, Err}
 use Rattle.reads.specs.declared.answer.Question.{Question}
 use Rattle.reads.specs.declared.answer.Question.TheVariants.{NameInside, IndexLength, NameUtf8, FileLent, FileLength, SegmentTable, SectionTable, ImageInfoLength, RebaseTable, BindTable}
 use Rattle.reads.specs.Question.{number_of}
-
--- Opening's answer, with frames.
-module _ (w : Frames) (a : Result ImageInfo Missing) where
-  pub with_info : (i : ImageInfo) → a ≡ Ok i → value (record { info = i; frames = w }) ≡ with_frames w (outcome a)
-  with_info i e = rw e
-
-  pub with_missing : (m : Missing) → a ≡ Err m → missed m ≡ with_frames w (outcome a)
-  with_missing m e = rw e (go m)
-    where
-      go : (m : Missing) → ◌≡◌ {A = Outcome Framed} (missed m) (with_frames w (missed m))
-      go (Absent r) = refl
-      go (Refused k) = refl
 
 -- What refuses at last, by the tests that the code makes.
 module _ (m : Missing) (fits : Bool) (k : Question) where

@@ -3,46 +3,24 @@ use Prim.Native.Nat.{ℕ}
 use mathlib.Core.Path.{◌≡◌, sym, ap, ◌∙◌}
 use mathlib.Core.Bool.{Bool, true, false}
 use mathlib.Core.List.{List}
-use Rattle.reads.specs.Outcome.{Outcome, value}
+use Rattle.reads.specs.Outcome.{Outcome}
 use Rattle.pointers.specs.Tables.{Tables}
 use Rattle.pointers.specs.declared.setting.Setting.{Setting}
 use Rattle.frames.specs.declared.frames.Frames.{Frames}
-use Rattle.listing.specs.Listing.{State, start, Answer, says, nothing, listing_step}
+use Rattle.listing.specs.Listing.{State, start, Answer, listing_step}
 use Rattle.listing.specs.ListingAnswer.{state_of, said_of, left_of}
-use Rattle.listing.specs.declared.line.Line.{Line}
 use Rattle.listing.specs.declared.listing.Listed.{Listed}
 use Rattle.listing.specs.declared.listing.Listing.{Listing}
 use Rattle.listing.specs.declared.listing.Said.{Said}
-use Rattle.listing.specs.declared.listing.Said.TheVariants as said
-use Rattle.marking.specs.Marked.{met_line, marked}
-use Rattle.marking.specs.MarkedListing.{marking, marked_start, marked_leaves, finds_by, finds, marked_answer, tells, in_pass, marked_step, marking_of, marked_left_of}
+use Rattle.std.specs.Prelude.{Result}
+use Rattle.reads.specs.declared.answer.Question.{Question}
+use Rattle.marking.specs.MarkedListing.{marking, marked_start, marked_leaves, finds, marked_answer, tells, in_pass, marked_step, marking_of, marked_left_of}
 use Rattle.marking.specs.declared.marked_listing.MarkedListed.{MarkedListed}
 use Rattle.marking.specs.declared.marked_listing.MarkedListing.{MarkedListing}
 
 -- The start.
 pub started : (u : Setting) (w : Frames) (s : Listing) → state_of s ≡ start u → marking w.any w (state_of s) ≡ marked_start u w
 started u w s e = ap (λ (v : State). marking w.any w v) e
-
--- The first pass, by what the listing said.
-module _ (w : Frames) (r : Listed) (l : List ℕ) where
-  pub found : (x : Said) → r.said ≡ x → finds_by w (state_of r.listing) l (said_of x) ≡ finds w (left_of r l)
-  found x e = sym (ap (λ (y : Said). finds_by w (state_of r.listing) l (said_of y)) e)
-
-  pub found_line : (y : Line) → r.said ≡ said.Line y → (v : Frames) → v ≡ met_line w y
-      → marked_leaves (value nothing) (marking true v (state_of r.listing)) l ≡ finds w (left_of r l)
-  found_line y e v g = ap (λ (z : Frames). marked_leaves (value nothing) (marking true z (state_of r.listing)) l) g ∙ found (said.Line y) e
-
-  pub found_ended : r.said ≡ said.Ended → (s : Listing) → state_of s ≡ start r.listing.setting
-      → marked_leaves (value nothing) (marking false w (state_of s)) l ≡ finds w (left_of r l)
-  found_ended e s g = ap (λ (z : State). marked_leaves (value nothing) (marking false w z) l) g ∙ found said.Ended e
-
--- The second pass, by what the listing said.
-module _ (w : Frames) (x : Said) where
-  pub told : (y : Said) → x ≡ y → marked_answer w (said_of y) ≡ marked_answer w (said_of x)
-  told y e = sym (ap (λ (z : Said). marked_answer w (said_of z)) e)
-
-  pub told_line : (y : Line) → x ≡ said.Line y → (z : Line) → z ≡ marked w y → value (says z) ≡ marked_answer w (said_of x)
-  told_line y e z g = ap (λ (v : Line). value (says v)) g ∙ told (said.Line y) e
 
 -- The step, in either.
 module _ (t : Tables) (m : MarkedListing) (l k : List ℕ) (x : Listed) where
@@ -53,7 +31,7 @@ module _ (t : Tables) (m : MarkedListing) (l k : List ℕ) (x : Listed) where
       → ((q : List ℕ) → marked_left_of r q ≡ finds m.frames (left_of x q)) → marked_left_of r k ≡ marked_step t (marking_of m) l
   next_finds r e g f = f k ∙ ap (finds m.frames) e ∙ in_pass_lem true g
 
-  pub next_tells : left_of x k ≡ listing_step t (state_of m.listing) l → m.finding ≡ false → (y : Said) → said_of y ≡ marked_answer m.frames (said_of x.said)
+  pub next_tells : left_of x k ≡ listing_step t (state_of m.listing) l → m.finding ≡ false → (y : Result Said Question) → said_of y ≡ marked_answer m.frames (said_of x.said)
       → marked_leaves (said_of y) (marking false m.frames (state_of x.listing)) k ≡ marked_step t (marking_of m) l
   next_tells e g y h =
       ap (λ (o : Outcome Answer). marked_leaves o (marking false m.frames (state_of x.listing)) k) h ∙ ap (tells m.frames) e ∙ in_pass_lem false g

@@ -1,6 +1,5 @@
 -- Opening an image whose methods are to be marked (document 02, note 11): opening's questions, then 23 of the ranges; then the index is written.
 use Rattle.std.specs.Prelude.{ℕ, Bool, List, eqb}
-use Rattle.reads.specs.Answer.{missed}
 use Rattle.reads.specs.Outcome.{Outcome, value, and_then, choose}
 use Rattle.reads.specs.declared.answer.Missing.{Missing}
 use Rattle.reads.specs.declared.answer.Missing.TheVariants.{Absent, Refused}

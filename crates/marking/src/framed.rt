@@ -23,13 +23,12 @@ pub struct Framed {
 }
 
 // What opening answered, with the frames.
+#[tactic(auto, using(reads::proofs::Outcomes::missed_then))]
 pub fn with_frames(answer: Result<ImageInfo, Missing>, frames: Frames) -> Result<Framed, Missing>
     ensures { outcome result ≡ with_frames frames (outcome answer) }
 {
-    match answer {
-        Ok(info) => Ok(Framed { info, frames }),
-        Err(m) => Err(m),
-    }
+    let info = answer?;
+    Ok(Framed { info, frames })
 }
 
 // What refuses where number k refuses the ranges, by what opening over no index said: that is refused at the latest by 8, and nothing is written.
@@ -51,7 +50,7 @@ pub fn refused_last(m: Missing, fits: bool, k: Question) -> Missing
     }
 }
 
-// The same over tables.
+// The same over tables. Not a struct, here and below: the index is written, as in `pointers::open::open`.
 fn ranges_refused(
     files: &[&[u8]],
     segments: &[u64],

@@ -1,7 +1,7 @@
 // A listing with marks (note 11), one step at a time: it is gone over twice, first to meet the starts, of which nothing is said, and then to say
 // its lines, each m row with its mark. Without a possible pair nothing is marked, and once is enough.
 ghost use Rattle.std.specs.Prelude.{ℕ, ◌≡◌, List};
-ghost use Rattle.pointers.specs.Tables.{lent, reading_new, reading_under};
+ghost use Rattle.pointers.specs.Tables.{reading_new, reading_under};
 ghost use Rattle.listing.specs.ListingAnswer.{said_of, left_of};
 ghost use Rattle.marking.specs.MarkedListing.{marked_start, marking_of, marked_left_of, finds, marked_answer, marked_step};
 
@@ -9,6 +9,8 @@ use crate::marks::{marked, meet_line};
 use frames::frames::Frames;
 use listing::listing::{Listed, Listing, Said};
 use pointers::setting::Setting;
+use pointers::tables::Tables;
+use reads::answer::Question;
 use reads::text::Reading;
 
 // Whether the starts are still being found; the frames with the starts met so far; and the listing that is gone over.
@@ -19,10 +21,10 @@ pub struct MarkedListing {
     listing: Listing,
 }
 
-// What a step says, and the listing to go on with; with a number it is as given.
+// What a step says, or the question that refuses it, and the listing to go on with; with a question it is as given.
 #[derive(Clone, Copy)]
 pub struct MarkedListed {
-    pub said: Said,
+    pub said: Result<Said, Question>,
     pub listing: MarkedListing,
 }
 
@@ -38,47 +40,40 @@ fn finds(frames: Frames, listed: Listed) -> MarkedListed
         listing,
     };
     match said {
-        Said::Line(line) => MarkedListed {
-            said: Said::Nothing,
+        Ok(Said::Line(line)) => MarkedListed {
+            said: Ok(Said::Nothing),
             listing: MarkedListing {
                 finding: true,
                 frames: meet_line(frames, line),
                 listing,
             },
         },
-        Said::Absent(_) => MarkedListed {
-            said: Said::Nothing,
-            listing: on,
-        },
-        Said::Nothing => MarkedListed {
-            said: Said::Nothing,
-            listing: on,
-        },
-        Said::Ended => MarkedListed {
-            said: Said::Nothing,
+        Ok(Said::Ended) => MarkedListed {
+            said: Ok(Said::Nothing),
             listing: MarkedListing {
                 finding: false,
                 frames,
                 listing: listing.again(),
             },
         },
-        Said::Refused(k) => MarkedListed {
-            said: Said::Refused(k),
+        Ok(_) => MarkedListed {
+            said: Ok(Said::Nothing),
+            listing: on,
+        },
+        Err(k) => MarkedListed {
+            said: Err(k),
             listing: on,
         },
     }
 }
 
 // What a step of the second pass says: a line with its mark.
-fn marked_said(frames: Frames, said: Said) -> Said
+fn marked_said(frames: Frames, said: Result<Said, Question>) -> Result<Said, Question>
     ensures { said_of result ≡ marked_answer frames (said_of said) }
 {
     match said {
-        Said::Line(line) => Said::Line(marked(frames, line)),
-        Said::Absent(absence) => Said::Absent(absence),
-        Said::Nothing => Said::Nothing,
-        Said::Ended => Said::Ended,
-        Said::Refused(k) => Said::Refused(k),
+        Ok(Said::Line(line)) => Ok(Said::Line(marked(frames, line))),
+        said => said,
     }
 }
 
@@ -109,25 +104,13 @@ impl MarkedListing {
     }
 
     // The next step.
-    pub fn next(
-        self,
-        files: &[&[u8]],
-        segments: &[u64],
-        sections: &[u64],
-        info: &[u8],
-        rebases: &[u64],
-        binds: &[u64],
-        index: &[u32],
-        ledger: &mut [u64],
-    ) -> MarkedListed
-        ensures { let t = lent files segments sections info rebases binds index in
+    pub fn next(self, tables: &Tables, ledger: &mut [u64]) -> MarkedListed
+        ensures { let t = tables.now in
             marked_left_of result ledger.new ≡ marked_step t (marking_of self) ledger.old }
     {
         let frames = self.frames;
         let listing = self.listing;
-        let listed = listing.next(
-            files, segments, sections, info, rebases, binds, index, ledger,
-        );
+        let listed = listing.next(tables, ledger);
         if self.finding {
             return finds(frames, listed);
         }

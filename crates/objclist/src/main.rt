@@ -5,9 +5,19 @@ use printing::program::list_input;
 use reads::text::Reading;
 
 fn main() {
+    let mut input = [0u8; 32769];
+    let mut words = [0u64; 4096];
+    let mut index = [0u32; 10240];
+    let mut ledger = [0u64; 8192];
+    let mut out = [0u8; 4096];
     list_input(
         Reading::New,
         b"objclist: standard output\n",
         b"objclist: the bundle is refused\n",
+        &mut input,
+        &mut words,
+        &mut index,
+        &mut ledger,
+        &mut out,
     );
 }

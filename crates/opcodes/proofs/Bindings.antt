@@ -1,12 +1,10 @@
 -- The binds that an opcode makes, by the branches of the code.
-use Rattle.std.proofs.Common.{◌≡◌, ℕ, zero, suc, ◌+◌, ◌-◌, ◌%◌, ◌^◌, ◌<◌, ◌≤◌, Bool, true, false, ◌&&◌, leb, Some, None, List, [], ◌∷◌, sym, refl, ap, ◌∙◌, ap₂, arith, le-leb}
+use Rattle.std.proofs.Common.{◌≡◌, ℕ, zero, suc, ◌-◌, ◌<◌, ◌≤◌, Bool, true, false, ◌&&◌, Some, None, List, [], ◌∷◌, sym, refl, ap, ◌∙◌, ap₂, arith}
 use Rattle.std.specs.List.{slice_get}
-use borrow.Author.Tests.{lt-leb}
-use Rattle.reads.specs.Outcome.{Outcome, value, absent, refused, and_then, choose}
-use Rattle.reads.proofs.Tests.{choose_true, choose_false}
-use Rattle.fixups.specs.Tables.{Part, part, put_row, put_rows}
-use Rattle.opcodes.specs.Binding.{bound, further, inside, bound_by, Moved, moved, run, with_segment, with_symbol, in_segment, perform}
-use Rattle.opcodes.specs.Tables.{bind_row, told_at, told_by}
+use Rattle.reads.specs.Outcome.{Outcome, value, absent, refused, and_then}
+use Rattle.fixups.specs.Tables.{Part, put_row, put_rows}
+use Rattle.opcodes.specs.Binding.{further, bound_by, Moved, moved, run, with_segment, with_symbol, in_segment, perform}
+use Rattle.opcodes.specs.Tables.{bind_row, told_at, told_by, ran_of}
 use Rattle.opcodes.specs.declared.opcode.Instruction.{Instruction}
 use Rattle.opcodes.specs.declared.opcode.Instruction.TheVariants.{Pass, Symbol, Segment, Add, Bind}
 use Rattle.opcodes.specs.declared.binding.State.{State}
@@ -14,42 +12,11 @@ use Rattle.opcodes.specs.declared.binding.Bound.{Bound}
 use Rattle.std.specs.Prelude.{Result, Ok, Err}
 use Rattle.reads.specs.Answer.{answered}
 use Rattle.reads.specs.declared.answer.Question.{Question}
-use Rattle.reads.specs.declared.answer.Question.TheVariants.{FixupData, FixupSlot}
+use Rattle.reads.specs.declared.answer.Question.TheVariants.{FixupData}
 
 and_false : (a : Bool) → (a && false) ≡ false
 and_false true = refl
 and_false false = refl
-
--- One bind.
-module _ (end : ℕ) (s : State) where
-  pub bound_unnamed : s.named ≡ false → refused FixupData ≡ bound_by end s
-  unfolding bound_by
-  bound_unnamed e = sym (choose_false _ _ (ap (λ (b : Bool). b && s.placed) e))
-
-  module _ (n : s.named ≡ true) where
-    pub bound_unplaced : s.placed ≡ false → refused FixupData ≡ bound_by end s
-    unfolding bound_by
-    bound_unplaced e = sym (choose_false _ _ (ap₂ (λ (a b : Bool). a && b) n e))
-
-    module _ (p : s.placed ≡ true) where
-      bound_set : bound_by end s ≡ choose (inside end s) (value (bound ((s.vmaddr + s.offset) % 2 ^ 64) s.name s.len)) (refused FixupSlot)
-      unfolding bound_by
-      bound_set = choose_true _ _ (ap₂ (λ (a b : Bool). a && b) n p)
-
-      pub bound_past_segment : s.filesize < s.offset + 8 → refused FixupSlot ≡ bound_by end s
-      bound_past_segment h =
-          sym (bound_set ∙ choose_false _ _ (ap (λ (b : Bool). b && leb (s.fileoff + s.offset + 8) end) (lt-leb (s.offset + 8) s.filesize h)))
-
-      pub bound_past_file : end < s.fileoff + s.offset + 8 → refused FixupSlot ≡ bound_by end s
-      bound_past_file h =
-          sym (bound_set ∙ choose_false _ _ (ap (λ (b : Bool). leb (s.offset + 8) s.filesize && b) (lt-leb (s.fileoff + s.offset + 8) end h) ∙ and_false (leb (s.offset + 8) s.filesize)))
-
-      pub bound_in : s.offset + 8 ≤ s.filesize → s.fileoff + s.offset + 8 ≤ end → (slot : ℕ) → slot ≡ (s.vmaddr + s.offset) % 2 ^ 64
-          → value (bound slot s.name s.len) ≡ bound_by end s
-      bound_in h l slot e =
-          rw e
-          (sym (bound_set
-          ∙ choose_true _ _ (ap₂ (λ (a b : Bool). a && b) (le-leb (s.offset + 8) s.filesize h) (le-leb (s.fileoff + s.offset + 8) end l))))
 
 -- A run of binds.
 then_told : (x : Bound) (o : Outcome Moved) (p : Part)
@@ -74,12 +41,12 @@ module _ (end left stride : ℕ) (s : State) (p : Part) where
     unfolding told_by
     run_refused k e = rw (run_more, e)
 
-    pub run_on : (x : Bound) → r ≡ Ok x → (n : ℕ) (t : List ℕ) → part n t ≡ put_row (bind_row x) p → (s' : State) → s' ≡ further stride s
-        → told_by (run end left stride s) p ≡ told_by (run end (left - 1) stride s') (part n t)
-    run_on x e n t g s' f =
+    pub run_on : (x : Bound) → r ≡ Ok x → (q : Part) → q ≡ put_row (bind_row x) p → (s' : State) → s' ≡ further stride s
+        → told_by (run end left stride s) p ≡ told_by (run end (left - 1) stride s') q
+    run_on x e q g s' f =
         ap (λ (o : Outcome Moved). told_by o p) (run_more ∙ rw e)
         ∙ then_told x (run end (left - 1) stride (further stride s)) p
-        ∙ ap₂ (λ (u : State) (q : Part). told_by (run end (left - 1) stride u) q) (sym f) (sym g)
+        ∙ ap₂ (λ (u : State) (z : Part). told_by (run end (left - 1) stride u) z) (sym f) (sym g)
 
 -- The segment of an index.
 pub segment_none : (cmds segs : List ℕ) (index offset : ℕ) (s : State) → None ≡ slice_get segs index → refused FixupData ≡ in_segment cmds segs index offset s
@@ -113,11 +80,8 @@ module _ (end : ℕ) (cmds segs : List ℕ) (x : Instruction) (s : State) (p : P
   unfolding perform
   does_bind count stride e = rw e
 
-  module _ (index offset : ℕ) (e : x ≡ Segment index offset) (r : Result State Question) (seen : answered r ≡ in_segment cmds segs index offset s) where
-    pub does_segment : (t : State) → r ≡ Ok t → value (told_at t p) ≡ told_by (perform end cmds segs x s) p
-    unfolding perform told_by put_rows
-    does_segment t g = rw e (rw (← seen, g))
-
-    pub does_no_segment : (k : Question) → r ≡ Err k → refused k ≡ told_by (perform end cmds segs x s) p
-    unfolding perform told_by
-    does_no_segment k g = rw e (rw (← seen, g))
+  pub does_segment : (index offset : ℕ) → x ≡ Segment index offset → (r : Result State Question) → answered r ≡ in_segment cmds segs index offset s
+      → ran_of r p ≡ told_by (perform end cmds segs x s) p
+  unfolding perform told_by put_rows
+  does_segment index offset e (Ok t) seen = rw e (rw (← seen))
+  does_segment index offset e (Err k) seen = rw e (rw (← seen))

@@ -1,5 +1,5 @@
 -- The whole call, by the branches of the code: counting first and then writing gives the table that the definition says.
-use Rattle.std.proofs.Common.{◌≡◌, ℕ, ◌/◌, ◌^◌, ◌<◌, ◌≤◌, true, false, List, [], ◌∷◌, length, sym, refl, ap, ◌∙◌, arith, le-ltb, lt-ltb, le-leb}
+use Rattle.std.proofs.Common.{◌≡◌, ℕ, ◌/◌, ◌^◌, ◌<◌, ◌≤◌, true, false, List, [], ◌∷◌, length, sym, refl, ap, ◌∙◌, arith, le-leb}
 use borrow.Author.Tests.{lt-leb}
 use Rattle.reads.specs.Outcome.{Outcome, value, absent, refused, choose}
 use Rattle.reads.proofs.Tests.{choose_true, choose_false}
@@ -9,35 +9,16 @@ use Rattle.macho.specs.Commands.{command_bytes, asked_commands, segments_of}
 use Rattle.macho.specs.Segments.{written}
 use Rattle.macho.specs.declared.command.Found.{Found}
 use Rattle.fixups.specs.Tables.{rows_of, Part, part, put_rows}
+use Rattle.fixups.proofs.Building.{nil_of}
 use Rattle.fixups.proofs.Rows.{Sized, whole, Counted, table_filled, table_counted}
-use Rattle.opcodes.specs.DyldInfo.{earlier, first_info}
+use Rattle.opcodes.specs.DyldInfo.{first_info}
 use Rattle.opcodes.specs.Streams.{streams_at}
-use Rattle.opcodes.specs.Tables.{bind_row, told, part_of}
+use Rattle.opcodes.specs.Tables.{bind_row, told, part_of, reached}
 use Rattle.opcodes.specs.Binds.{binds_from, binds_in, binds_found, leaves, settled}
 use Rattle.opcodes.specs.declared.binding.Bound.{Bound}
 use Rattle.std.specs.Prelude.{Result, Ok, Err}
 use Rattle.reads.specs.declared.answer.Question.{Question}
 use Rattle.reads.specs.declared.answer.Question.TheVariants.{BindTable, FixupData}
-
--- The command that stands first.
-module _ (x y : Found) where
-  pub earlier_second : x.here ≡ false → y ≡ earlier x y
-  unfolding earlier
-  earlier_second e = sym (choose_false _ _ e)
-
-  module _ (h : x.here ≡ true) where
-    pub earlier_first : y.here ≡ false → x ≡ earlier x y
-    unfolding earlier
-    earlier_first e = sym (choose_true _ _ h ∙ choose_false _ _ e)
-
-    module _ (g : y.here ≡ true) where
-      pub earlier_below : x.at < y.at → x ≡ earlier x y
-      unfolding earlier
-      earlier_below l = sym (choose_true _ _ h ∙ choose_true _ _ g ∙ choose_true _ _ (lt-ltb x.at y.at l))
-
-      pub earlier_above : y.at ≤ x.at → y ≡ earlier x y
-      unfolding earlier
-      earlier_above l = sym (choose_true _ _ h ∙ choose_true _ _ g ∙ choose_false _ _ (le-ltb x.at y.at l))
 
 -- A number, and no binds.
 pub settled_number : (k : Question) (t : List ℕ) → leaves (refused k) t ≡ settled (refused k) t
@@ -74,6 +55,14 @@ module _ (file : List ℕ) where
       unfolding binds_from
       found_long l = sym (choose_true _ _ (le-leb 48 (cmdsize cmds r.at) l)) ∙ found_first
 
+-- The count of a walk that was lent no room: w, with the table that it leaves.
+module _ (x : Outcome Part) (w : Result (Unit {0}) Question) (p : Part) (seen : reached w p ≡ x) where
+  pub count_there : w ≡ Ok tt → length p.words ≡ 0 → part_of (Ok p.count) [] ≡ x
+  count_there e h = rw (← seen, e, nil_of p.words h)
+
+  pub count_not : (k : Question) → w ≡ Err k → refused k ≡ x
+  count_not k e = rw (← seen, e)
+
 -- Both walks. w is what the first gave: it was lent no room.
 sized : (x : Bound) → Sized bind_words (bind_row x)
 sized x = whole x.slot (x.name ∷ x.len ∷ 0 ∷ []) refl
@@ -106,13 +95,15 @@ module _ (t : List ℕ) (ht : length t < 2 ^ 64) (x : Outcome (List Bound)) (w :
     unfolding settled
     is_6 h = rw walked.1 (sym (choose_false _ _ (lt-leb _ _ (counted.short t ht h))))
 
-    pub is_filled : n ≤ length t / bind_words → (v : Result ℕ Question) (t' : List ℕ) → part_of v t' ≡ told x (part 0 t) → leaves (value n) t' ≡ settled x t
+    pub is_filled : n ≤ length t / bind_words → (v : Result (Unit {0}) Question) (p : Part) → reached v p ≡ told x (part 0 t) → leaves (value n) p.words ≡ settled x t
     unfolding settled told
-    is_filled h v t' u = rw walked.1 (go v (rw walked.1 at u))
+    is_filled h v p u = rw walked.1 (go v (rw walked.1 at u))
       where
-        go : (v' : Result ℕ Question) → part_of v' t' ≡ value (put_rows bind_row walked.0 (part 0 t)) → leaves (value n) t' ≡ settled (value walked.0) t
-        go (Ok m) q =
-            let z : part m t' ≡ put_rows bind_row walked.0 (part 0 t) = cc in
+        go : (v' : Result (Unit {0}) Question) → reached v' p ≡ value (put_rows bind_row walked.0 (part 0 t)) → leaves (value n) p.words ≡ settled (value walked.0) t
+        go (Ok u) q =
+            let m = p.count in let t' = p.words in
+            let y : p ≡ put_rows bind_row walked.0 (part 0 t) = cc in
+            let z : part m t' ≡ put_rows bind_row walked.0 (part 0 t) = y in
             let f = table_filled bind_row sized walked.0 m t' t z (counted.fits t ht h) ht in
             ap (λ (i : ℕ). leaves (value i) t') (counted.exact t ht h)
             ∙ rw f (sym (choose_true _ _ (le-leb _ _ (counted.fits t ht h))))

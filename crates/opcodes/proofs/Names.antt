@@ -1,21 +1,23 @@
 -- Every bind's name lies in the file, with its zero byte: 7 is never met of a table that was built.
-use Rattle.std.proofs.Common.{◌≡◌, ℕ, zero, suc, ◌+◌, ◌-◌, ◌*◌, ◌%◌, ◌^◌, ◌<◌, ◌≤◌, Bool, true, false, List, [], ◌∷◌, ◌++◌, length, drop, refl, ap, subst, arith, length-drop, length-take}
+use Rattle.std.proofs.Common.{◌≡◌, ℕ, zero, suc, ◌+◌, ◌-◌, ◌*◌, ◌%◌, ◌^◌, ◌<◌, ◌≤◌, Bool, true, false, Option, Some, None, List, [], ◌∷◌, ◌++◌, length, drop, refl, ap, subst, arith, length-drop, length-take}
 use Rattle.reads.specs.Outcome.{Outcome, value, refused, and_then}
 use Rattle.reads.specs.Place.{part}
 use Rattle.reads.specs.Leb128.{uleb128, sleb128}
-use Rattle.reads.proofs.Tests.{by_choose, both_true}
+use Rattle.reads.proofs.Tests.{by_choose}
 use Rattle.macho.specs.Loader.{ncmds}
 use Rattle.macho.specs.Commands.{command_bytes, asked_commands, segments_of}
 use Rattle.macho.specs.declared.command.Found.{Found}
 use Rattle.fixups.specs.Imports.{zero_from}
 use Rattle.opcodes.specs.DyldInfo.{bind_off, weak_bind_off, lazy_bind_off, stream_off, stream_size, first_info}
 use Rattle.opcodes.specs.Opcodes.{Opcode, opcode, operand, plain, numbered, with_number, symbol_at, addend, skipping, times_skipping, by_opcode, decode}
-use Rattle.opcodes.specs.Binding.{bound, unset, further, with_symbol, with_segment, bound_by, Moved, moved, run, in_segment, perform}
+use Rattle.opcodes.specs.Binding.{bound, unset, further, with_symbol, with_segment, name_of, bound_at, bound_by, Moved, moved, run, in_segment, perform}
 use Rattle.opcodes.specs.Streams.{walk, stream_at, joined, streams_at}
 use Rattle.opcodes.specs.Binds.{binds_from, binds_in, binds_found}
 use Rattle.opcodes.specs.Names.{NamesIn, none, name}
 use Rattle.opcodes.specs.declared.opcode.Instruction.{Instruction}
 use Rattle.opcodes.specs.declared.opcode.Instruction.TheVariants.{Pass, Symbol, Segment, Add, Bind}
+use Rattle.opcodes.specs.declared.binding.Place.{Place}
+use Rattle.opcodes.specs.declared.binding.Name.{Name}
 use Rattle.opcodes.specs.declared.binding.State.{State}
 use Rattle.opcodes.specs.declared.binding.Bound.{Bound}
 use Rattle.opcodes.proofs.Sizes.{then_value, Below, zero_in, Each, each_value, each_number, each_then}
@@ -28,7 +30,7 @@ names_append n (x ∷ xs) ys (name h p) q = name h (names_append n xs ys p q)
 
 -- A name that is set lies in the file.
 abbrev Good : ℕ → State → Type 0
-Good n s = s.named ≡ true → s.name + s.len < n
+Good n s = (x : Name) → s.name ≡ Some x → x.at + x.len < n
 
 -- One bind.
 module _ (n end : ℕ) (s : State) (good : Good n s) where
@@ -37,15 +39,18 @@ module _ (n end : ℕ) (s : State) (good : Good n s) where
 
   bound_lies : Lies (bound_by end s)
   unfolding bound_by Lies
-  bound_lies =
-      by_choose Lies
-      (λ t. by_choose Lies
-      (λ _. λ x e.
-      let p : bound ((s.vmaddr + s.offset) % 2 ^ 64) s.name s.len ≡ x = cc in
-      let g = good (both_true s.named s.placed t).0 in
-      omega (arith, ap (λ (y : Bound). y.name) p, ap (λ (y : Bound). y.len) p))
-      (λ _. λ x e. let z : ◌≡◌ {A = ℕ} 0 1 = cc in absurd (omega arith)))
-      (λ _. λ x e. let z : ◌≡◌ {A = ℕ} 0 1 = cc in absurd (omega arith))
+  bound_lies = go s.place s.name refl
+    where
+      go : (a : Option Place) (t : Option Name) → s.name ≡ t → Lies (bound_at end s.offset a t)
+      go (Some a) (Some t) h =
+          by_choose Lies
+          (λ _. λ x e.
+          let p : bound ((a.vmaddr + s.offset) % 2 ^ 64) t.at t.len ≡ x = cc in
+          let g = good t h in
+          omega (arith, ap (λ (y : Bound). y.name) p, ap (λ (y : Bound). y.len) p))
+          (λ _. λ x e. let z : ◌≡◌ {A = ℕ} 0 1 = cc in absurd (omega arith))
+      go (Some a) None h = λ x e. let z : ◌≡◌ {A = ℕ} 0 1 = cc in absurd (omega arith)
+      go None t h = λ x e. let z : ◌≡◌ {A = ℕ} 0 1 = cc in absurd (omega arith)
 
 -- The binds that an opcode makes, and the state after it.
 abbrev Kept : ℕ → Moved → Type 0
@@ -77,7 +82,10 @@ perform_kept : (n end : ℕ) (cmds segs : List ℕ) (x : Instruction) (s : State
     → perform end cmds segs x s ≡ value m → Kept n m
 unfolding perform
 perform_kept n end cmds segs Pass s m h g e = kept n [] s m e none g
-perform_kept n end cmds segs (Symbol at len) s m h g e = kept n [] (with_symbol at len s) m e none (λ _. h at len refl)
+perform_kept n end cmds segs (Symbol at len) s m h g e = kept n [] (with_symbol at len s) m e none (λ x f.
+    let p : name_of at len ≡ x = cc in
+    let g = h at len refl in
+    omega (arith, ap (λ (y : Name). y.at) p, ap (λ (y : Name). y.len) p))
 perform_kept n end cmds segs (Segment index offset) s m h g e =
     let p = then_value (in_segment cmds segs index offset s) (λ t. value (moved [] t)) m e in
     kept n [] p.0 m p.2 none (segment_kept n cmds segs index offset s p.0 g p.1)
@@ -171,7 +179,7 @@ stream_named file cmds segs a field parts = λ xs e.
     let o = stream_off cmds a field in
     let z = stream_size cmds a field in
     walk_named (length file) (length file) cmds segs parts o (part file o z) 0 unset xs
-    (omega (arith, length-take z (drop o file), length-drop o file)) (λ t. let w : ◌≡◌ {A = ℕ} 0 1 = cc in absurd (omega arith)) e
+    (omega (arith, length-take z (drop o file), length-drop o file)) (λ x t. let w : ◌≡◌ {A = ℕ} 0 1 = cc in absurd (omega arith)) e
 
 joined_named : (n : ℕ) (x y : Outcome (List Bound)) → Held n x → Held n y → Held n (joined x y)
 unfolding joined

@@ -1,14 +1,16 @@
 -- A run of binds that is not refused has at most as many as the file has bytes, whatever its count: each slot lies in the file, and by a stride
 -- of 8 or more below 2^64 the slots rise or, where the sum passes 2^64, fall.
-use Rattle.std.proofs.Common.{◌≡◌, ℕ, zero, suc, ◌+◌, ◌-◌, ◌*◌, ◌%◌, ◌^◌, ◌<◌, ◌≤◌, Bool, true, false, leb, ◌⊎◌, List, [], ◌∷◌, length, drop, refl, ap, inl, inr, arith, ltb-true, leb-false, leb-true}
+use Rattle.std.proofs.Common.{◌≡◌, ℕ, zero, suc, ◌+◌, ◌-◌, ◌*◌, ◌%◌, ◌^◌, ◌<◌, ◌≤◌, Bool, true, false, leb, ◌⊎◌, Option, Some, None, List, [], ◌∷◌, length, drop, refl, ap, inl, inr, arith, ltb-true, leb-false, leb-true}
 use Rattle.reads.specs.Outcome.{Outcome, value, refused}
 use Rattle.reads.proofs.Tests.{by_choose, both_true}
 use Rattle.reads.specs.Leb128.{uleb128, sleb128}
 use Rattle.fixups.specs.Imports.{zero_from}
 use Rattle.opcodes.specs.Opcodes.{Opcode, opcode, operand, plain, numbered, with_number, symbol_at, addend, skipping, times_skipping, by_opcode, decode}
-use Rattle.opcodes.specs.Binding.{further, with_symbol, inside, bound_by, Moved, moved, run, in_segment, perform}
+use Rattle.opcodes.specs.Binding.{further, with_symbol, inside, bound_at, bound_by, Moved, moved, run, in_segment, perform}
 use Rattle.opcodes.specs.declared.opcode.Instruction.{Instruction}
 use Rattle.opcodes.specs.declared.opcode.Instruction.TheVariants.{Pass, Symbol, Segment, Add, Bind}
+use Rattle.opcodes.specs.declared.binding.Place.{Place}
+use Rattle.opcodes.specs.declared.binding.Name.{Name}
 use Rattle.opcodes.specs.declared.binding.State.{State}
 use Rattle.opcodes.specs.declared.binding.Bound.{Bound}
 use Rattle.opcodes.proofs.Sizes.{then_value, Each, each_value, each_number, each_then}
@@ -20,17 +22,19 @@ module _ (end : ℕ) (s : State) where
   Low : Outcome Bound → Type 0
   Low o = (x : Bound) → o ≡ value x → s.offset + 8 ≤ end
 
-  inside_low : inside end s ≡ true → s.offset + 8 ≤ end
-  inside_low t =
-      let p = both_true (leb (s.offset + 8) s.filesize) (leb (s.fileoff + s.offset + 8) end) t in
-      omega (arith, leb-true (s.fileoff + s.offset + 8) end p.1)
+  inside_low : (a : Place) → inside end a s.offset ≡ true → s.offset + 8 ≤ end
+  inside_low a t =
+      let p = both_true (leb (s.offset + 8) a.filesize) (leb (a.fileoff + s.offset + 8) end) t in
+      omega (arith, leb-true (a.fileoff + s.offset + 8) end p.1)
 
   bound_low : Low (bound_by end s)
   unfolding bound_by Low
-  bound_low =
-      by_choose Low
-      (λ _. by_choose Low (λ t. λ x e. inside_low t) (λ _. λ x e. let z : ◌≡◌ {A = ℕ} 0 1 = cc in absurd (omega arith)))
-      (λ _. λ x e. let z : ◌≡◌ {A = ℕ} 0 1 = cc in absurd (omega arith))
+  bound_low = go s.place s.name
+    where
+      go : (p : Option Place) (n : Option Name) → Low (bound_at end s.offset p n)
+      go (Some p) (Some n) = by_choose Low (λ t. λ x e. inside_low p t) (λ _. λ x e. let z : ◌≡◌ {A = ℕ} 0 1 = cc in absurd (omega arith))
+      go (Some p) None = λ x e. let z : ◌≡◌ {A = ℕ} 0 1 = cc in absurd (omega arith)
+      go None n = λ x e. let z : ◌≡◌ {A = ℕ} 0 1 = cc in absurd (omega arith)
 
 module _ (end stride : ℕ) where
   -- The first bind of a run, and the run after it.

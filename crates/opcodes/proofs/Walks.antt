@@ -2,14 +2,15 @@
 use Rattle.std.proofs.Common.{◌≡◌, ℕ, zero, suc, ◌+◌, ◌-◌, ◌<◌, ◌≤◌, Bool, List, [], ◌∷◌, ◌++◌, length, get_or, take, drop, sym, refl, ap, ◌∙◌, ap₂, add-one, arith, length-drop, drop_of_length-le, length-take, take_all, drop-cons, drop-drop}
 use Rattle.reads.specs.Outcome.{Outcome, value, absent, refused, and_then}
 use Rattle.reads.specs.Place.{part as slice}
-use Rattle.fixups.specs.Tables.{Part, part, put_row, put_rows}
+use Rattle.fixups.specs.Tables.{Part, put_row, put_rows}
 use Rattle.opcodes.specs.Opcodes.{Opcode, decode, decoded_outcome}
 use Rattle.opcodes.specs.DyldInfo.{stream_off, stream_size}
 use Rattle.opcodes.specs.Binding.{unset, Moved, perform}
 use Rattle.opcodes.specs.Streams.{walk, stream_at, joined}
-use Rattle.opcodes.specs.Tables.{bind_row, told, part_of, told_at, told_by, ran_of, Next, next, next_of}
+use Rattle.opcodes.specs.Tables.{Kept, bind_row, told, reached, told_at, told_by, ran_of, Next, next, next_of}
 use Rattle.opcodes.specs.declared.binding.State.{State}
 use Rattle.opcodes.specs.declared.binding.Bound.{Bound}
+use Rattle.opcodes.specs.declared.binding.Binds.{Binds}
 use Rattle.opcodes.specs.declared.opcode.Instruction.{Instruction}
 use Rattle.opcodes.proofs.Sizes.{decode_within}
 use Rattle.std.specs.Prelude.{Result, Ok, Err}
@@ -31,14 +32,20 @@ told_after ys (refused k) p = refl
 abbrev after : (Opcode → Outcome Moved) → Part → Opcode → Outcome Next
 after does p d = and_then (told_by (does d) p) (λ t. value (next t d.size))
 
+pub kept : (b : Binds) → Kept b b
+kept b = record { table = refl; words = refl }
+
+pub kept_on : (a b c : Binds) → Kept a b → Kept b c → Kept a c
+kept_on a b c h g = record { table = g.table ∙ h.table; words = g.words ∙ h.words }
+
 -- One opcode, as the code sees it.
 module _ (d : Outcome Opcode) (p : Part) where
   pub step_refused : (does : Opcode → Outcome Moved) (r : Result (Instruction × ℕ) Question) (k : Question) → decoded_outcome r ≡ d → r ≡ Err k → refused k ≡ and_then d (after does p)
   step_refused does r k e g = rw (← e, g)
 
   module _ (does : Opcode → Outcome Moved) (r : Result (Instruction × ℕ) Question) (x : Instruction × ℕ) (e : decoded_outcome r ≡ d) (g : r ≡ Ok x)
-      (v : Result (State × ℕ) Question) (t : List ℕ) (seen : ran_of v t ≡ told_by (does (record { says = x.0; size = x.1 })) p) where
-    pub step_on : (m : State × ℕ) → v ≡ Ok m → value (next (told_at m.0 (part m.1 t)) x.1) ≡ and_then d (after does p)
+      (v : Result State Question) (t : Part) (seen : ran_of v t ≡ told_by (does (record { says = x.0; size = x.1 })) p) where
+    pub step_on : (m : State) → v ≡ Ok m → value (next (told_at m t) x.1) ≡ and_then d (after does p)
     step_on m f = rw (← e, g) (rw (← seen, f))
 
     pub step_not : (k : Question) → v ≡ Err k → refused k ≡ and_then d (after does p)
@@ -61,37 +68,37 @@ module _ (does : Opcode → Outcome Moved) (rest : ℕ → State → Outcome (Li
       go (absent j) q = let z : ◌≡◌ {A = ℕ} 0 1 = cc in absurd (omega arith)
       go (refused j) q = cc
 
-  goes_on : (d : Outcome Opcode) (s : State) (m n : ℕ) (t : List ℕ) → value (next (told_at s (part m t)) n) ≡ and_then d (after does p)
-      → told (onwards d does rest) p ≡ told (rest n s) (part m t)
+  goes_on : (d : Outcome Opcode) (s : State) (n : ℕ) (t : Part) → value (next (told_at s t) n) ≡ and_then d (after does p)
+      → told (onwards d does rest) p ≡ told (rest n s) t
   unfolding told_by
-  goes_on (absent r) s m n t e = let z : ◌≡◌ {A = ℕ} 0 1 = cc in absurd (omega arith)
-  goes_on (refused j) s m n t e = let z : ◌≡◌ {A = ℕ} 0 1 = cc in absurd (omega arith)
-  goes_on (value o) s m n t e = go (does o) e
+  goes_on (absent r) s n t e = let z : ◌≡◌ {A = ℕ} 0 1 = cc in absurd (omega arith)
+  goes_on (refused j) s n t e = let z : ◌≡◌ {A = ℕ} 0 1 = cc in absurd (omega arith)
+  goes_on (value o) s n t e = go (does o) e
     where
       go : (y : Outcome Moved)
-          → value (next (told_at s (part m t)) n) ≡ and_then (and_then y (λ y. value (told_at y.state (put_rows bind_row y.binds p)))) (λ t. value (next t o.size))
-          → told (and_then y (λ y. and_then (rest o.size y.state) (λ xs. value (y.binds ++ xs)))) p ≡ told (rest n s) (part m t)
+          → value (next (told_at s t) n) ≡ and_then (and_then y (λ y. value (told_at y.state (put_rows bind_row y.binds p)))) (λ t. value (next t o.size))
+          → told (and_then y (λ y. and_then (rest o.size y.state) (λ xs. value (y.binds ++ xs)))) p ≡ told (rest n s) t
       go (absent j) q = let z : ◌≡◌ {A = ℕ} 0 1 = cc in absurd (omega arith)
       go (refused j) q = let z : ◌≡◌ {A = ℕ} 0 1 = cc in absurd (omega arith)
       go (value y) q =
-          let z : next (told_at s (part m t)) n ≡ next (told_at y.state (put_rows bind_row y.binds p)) o.size = cc in
+          let z : next (told_at s t) n ≡ next (told_at y.state (put_rows bind_row y.binds p)) o.size = cc in
           told_after y.binds (rest o.size y.state) p
           ∙ sym (ap (λ (w : Next). told (rest w.size w.told.state) w.told.table) z)
 
-  size_of : (d : Outcome Opcode) (s : State) (m n : ℕ) (t : List ℕ) → value (next (told_at s (part m t)) n) ≡ and_then d (after does p)
+  size_of : (d : Outcome Opcode) (s : State) (n : ℕ) (t : Part) → value (next (told_at s t) n) ≡ and_then d (after does p)
       → (o : Opcode) × (d ≡ value o) × (n ≡ o.size)
   unfolding told_by
-  size_of (absent r) s m n t e = let z : ◌≡◌ {A = ℕ} 0 1 = cc in absurd (omega arith)
-  size_of (refused j) s m n t e = let z : ◌≡◌ {A = ℕ} 0 1 = cc in absurd (omega arith)
-  size_of (value o) s m n t e = go (does o) e
+  size_of (absent r) s n t e = let z : ◌≡◌ {A = ℕ} 0 1 = cc in absurd (omega arith)
+  size_of (refused j) s n t e = let z : ◌≡◌ {A = ℕ} 0 1 = cc in absurd (omega arith)
+  size_of (value o) s n t e = go (does o) e
     where
       go : (y : Outcome Moved)
-          → value (next (told_at s (part m t)) n) ≡ and_then (and_then y (λ y. value (told_at y.state (put_rows bind_row y.binds p)))) (λ t. value (next t o.size))
+          → value (next (told_at s t) n) ≡ and_then (and_then y (λ y. value (told_at y.state (put_rows bind_row y.binds p)))) (λ t. value (next t o.size))
           → (o' : Opcode) × (value o ≡ value o') × (n ≡ o'.size)
       go (absent j) q = let z : ◌≡◌ {A = ℕ} 0 1 = cc in absurd (omega arith)
       go (refused j) q = let z : ◌≡◌ {A = ℕ} 0 1 = cc in absurd (omega arith)
       go (value y) q =
-          let z : next (told_at s (part m t)) n ≡ next (told_at y.state (put_rows bind_row y.binds p)) o.size = cc in
+          let z : next (told_at s t) n ≡ next (told_at y.state (put_rows bind_row y.binds p)) o.size = cc in
           (o, refl, ap (λ (w : Next). w.size) z)
 
 module _ (end : ℕ) (cmds segs : List ℕ) (parts : Bool) where
@@ -127,23 +134,20 @@ module _ (end : ℕ) (cmds segs : List ℕ) (parts : Bool) where
     unfolding walk
     walk_at = rw all_rest (simp (drop-cons body i 0 h, add-one))
 
-    module _ (v : Result (State × ℕ × ℕ) Question) (t : List ℕ) (seen : next_of v t ≡ and_then here (after does p)) where
+    module _ (v : Result (State × ℕ) Question) (t : Part) (seen : next_of v t ≡ and_then here (after does p)) where
       pub walk_refused : (k : Question) → v ≡ Err k → refused k ≡ told (walk end cmds segs parts (at + i) (drop i body) 0 s) p
       walk_refused k e = goes_refused does later p here k (rw e at seen) ∙ sym (ap (λ (w : Outcome (List Bound)). told w p) walk_at)
 
-      module _ (r : State × ℕ × ℕ) (e : v ≡ Ok r) where
+      module _ (r : State × ℕ) (e : v ≡ Ok r) where
         abbrev s' : State
         s' = r.0
 
-        abbrev m : ℕ
-        m = r.1
-
         abbrev n : ℕ
-        n = r.2
+        n = r.1
 
         pub walk_size : i + 1 + n ≤ length body
         walk_size =
-            let q = size_of does later p here s' m n t (rw e at seen) in
+            let q = size_of does later p here s' n t (rw e at seen) in
             omega (
               arith,
               decode_within rest parts (at + i + 1) (get_or body i 0) q.0 q.1,
@@ -153,12 +157,12 @@ module _ (end : ℕ) (cmds segs : List ℕ) (parts : Bool) where
             )
 
         pub walk_on : told (walk end cmds segs parts (at + i) (drop i body) 0 s) p
-            ≡ told (walk end cmds segs parts (at + (i + (1 + n))) (drop (i + (1 + n)) body) 0 s') (part m t)
+            ≡ told (walk end cmds segs parts (at + (i + (1 + n))) (drop (i + (1 + n)) body) 0 s') t
         walk_on =
             let a : at + i + 1 + n ≡ at + (i + (1 + n)) = omega arith in
             let c : i + 1 + n ≡ i + (1 + n) = omega arith in
-            ap (λ (w : Outcome (List Bound)). told w p) walk_at ∙ goes_on does later p here s' m n t (rw e at seen)
-            ∙ ap (λ (w : Outcome (List Bound)). told w (part m t))
+            ap (λ (w : Outcome (List Bound)). told w p) walk_at ∙ goes_on does later p here s' n t (rw e at seen)
+            ∙ ap (λ (w : Outcome (List Bound)). told w t)
             (walk_skip (at + i + 1) rest n s'
             ∙ ap₂ (λ (k : ℕ) (l : List ℕ). walk end cmds segs parts k l 0 s') a
             (ap (λ (l : List ℕ). drop n l) all_rest ∙ drop-drop n (i + 1) body ∙ ap (λ (k : ℕ). drop k body) c))
@@ -187,9 +191,9 @@ told_joined (absent r) y p = refl
 told_joined (refused k) y p = refl
 
 -- What the code sees of the first: w, with what it leaves in the table.
-module _ (x y : Outcome (List Bound)) (p : Part) (w : Result ℕ Question) (t : List ℕ) (seen : part_of w t ≡ told x p) where
-  pub then : (n : ℕ) → w ≡ Ok n → told y (part n t) ≡ told (joined x y) p
-  then n e = sym (told_joined x y p ∙ rw (← seen, e))
+module _ (x y : Outcome (List Bound)) (p : Part) (w : Result (Unit {0}) Question) (t : Part) (seen : reached w t ≡ told x p) where
+  pub then : w ≡ Ok tt → told y t ≡ told (joined x y) p
+  then e = sym (told_joined x y p ∙ rw (← seen, e))
 
   pub stops : (k : Question) → w ≡ Err k → refused k ≡ told (joined x y) p
   stops k e = sym (told_joined x y p ∙ rw (← seen, e))

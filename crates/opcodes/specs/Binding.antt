@@ -1,9 +1,11 @@
 -- What an opcode does: the state that it sets, and the binds that it makes.
-use Rattle.std.specs.Prelude.{ℕ, zero, suc, ◌+◌, ◌%◌, ◌^◌, Bool, true, false, ◌&&◌, List, [], ◌∷◌, nat_le}
+use Rattle.std.specs.Prelude.{ℕ, zero, suc, ◌+◌, ◌%◌, ◌^◌, Bool, ◌&&◌, List, [], ◌∷◌, nat_le, Option, None, Some}
 use Rattle.reads.specs.Outcome.{Outcome, value, refused, and_then, choose}
 use Rattle.macho.specs.Loader.{vmaddr, fileoff, filesize}
 use Rattle.opcodes.specs.declared.opcode.Instruction.{Instruction}
 use Rattle.opcodes.specs.declared.opcode.Instruction.TheVariants.{Pass, Symbol, Segment, Add, Bind}
+use Rattle.opcodes.specs.declared.binding.Place.{Place}
+use Rattle.opcodes.specs.declared.binding.Name.{Name}
 use Rattle.opcodes.specs.declared.binding.State.{State}
 use Rattle.opcodes.specs.declared.binding.Bound.{Bound}
 use Rattle.reads.specs.declared.answer.Question.TheVariants.{FixupData, FixupSlot}
@@ -13,32 +15,42 @@ bound slot name len = record { slot = slot; name = name; len = len }
 
 -- Neither a segment nor a symbol is set.
 abbrev pub unset : State
-unset = record { placed = false; vmaddr = 0; fileoff = 0; filesize = 0; offset = 0; named = false; name = 0; len = 0 }
+unset = record { place = None; offset = 0; name = None }
+
+abbrev pub name_of : ℕ → ℕ → Name
+name_of at len = record { at = at; len = len }
 
 abbrev pub with_symbol : ℕ → ℕ → State → State
 with_symbol name len s =
-    record { placed = s.placed; vmaddr = s.vmaddr; fileoff = s.fileoff; filesize = s.filesize; offset = s.offset; named = true; name = name; len = len }
+    record { place = s.place; offset = s.offset; name = Some (name_of name len) }
+
+abbrev pub place_of : List ℕ → ℕ → Place
+place_of cmds a = record { vmaddr = vmaddr cmds a; fileoff = fileoff cmds a; filesize = filesize cmds a }
 
 -- The segment whose command stands at a, and the slot `offset` bytes into it.
 abbrev pub with_segment : List ℕ → ℕ → ℕ → State → State
 with_segment cmds a offset s =
-    record { placed = true; vmaddr = vmaddr cmds a; fileoff = fileoff cmds a; filesize = filesize cmds a; offset = offset; named = s.named; name = s.name; len = s.len }
+    record { place = Some (place_of cmds a); offset = offset; name = s.name }
 
 -- The slot n bytes further, modulo 2^64.
 abbrev pub further : ℕ → State → State
 further n s =
-    record { placed = s.placed; vmaddr = s.vmaddr; fileoff = s.fileoff; filesize = s.filesize; offset = (s.offset + n) % 2 ^ 64; named = s.named; name = s.name; len = s.len }
+    record { place = s.place; offset = (s.offset + n) % 2 ^ 64; name = s.name }
 
--- The slot's 8 bytes lie in its segment's part of a file of `end` bytes, and in the file.
-abbrev pub inside : ℕ → State → Bool
-inside end s = nat_le (s.offset + 8) s.filesize && nat_le (s.fileoff + s.offset + 8) end
+-- The 8 bytes of the slot at an offset in a segment lie in the segment's part of a file of `end` bytes, and in the file.
+abbrev pub inside : ℕ → Place → ℕ → Bool
+inside end p offset = nat_le (offset + 8) p.filesize && nat_le (p.fileoff + offset + 8) end
+
+-- The bind of the slot at an offset, by what is set.
+abbrev pub bound_at : ℕ → ℕ → Option Place → Option Name → Outcome Bound
+bound_at end offset (Some p) (Some n) =
+    choose (inside end p offset) (value (bound ((p.vmaddr + offset) % 2 ^ 64) n.at n.len)) (refused FixupSlot)
+bound_at end offset (Some p) None = refused FixupData
+bound_at end offset None n = refused FixupData
 
 -- The bind of the slot: 19 without a symbol or a segment, 20 outside the segment or the file.
 unfoldable pub bound_by : ℕ → State → Outcome Bound
-bound_by end s =
-    choose (s.named && s.placed)
-    (choose (inside end s) (value (bound ((s.vmaddr + s.offset) % 2 ^ 64) s.name s.len)) (refused FixupSlot))
-    (refused FixupData)
+bound_by end s = bound_at end s.offset s.place s.name
 
 -- The binds that an opcode makes, and the state after it.
 pub record Moved : Type 0 where

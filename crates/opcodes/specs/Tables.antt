@@ -1,20 +1,36 @@
 -- The words of the binds, and what a walk leaves in the lent table.
-use Rattle.std.specs.Prelude.{ℕ, List, [], ◌∷◌, Result, Ok, Err}
+use Rattle.std.specs.Prelude.{◌≡◌, ℕ, length, List, [], ◌∷◌, Result, Ok, Err}
 use Rattle.reads.specs.Outcome.{Outcome, value, refused, and_then}
 use Rattle.fixups.specs.Tables.{Part, part, put_rows}
 use Rattle.opcodes.specs.Binding.{Moved}
 use Rattle.opcodes.specs.declared.binding.State.{State}
 use Rattle.opcodes.specs.declared.binding.Bound.{Bound}
+use Rattle.opcodes.specs.declared.binding.Binds.{Binds}
 use Rattle.reads.specs.declared.answer.Question.{Question}
 
 -- The row of a bind: its name lies in file 0.
 abbrev pub bind_row : Bound → List ℕ
 bind_row x = x.slot ∷ x.name ∷ x.len ∷ 0 ∷ []
 
+-- The table under way.
+abbrev pub part_in : Binds → Part
+part_in b = part b.count b.table.now
+
+-- A table that takes binds is the same table.
+pub record Kept (o p : Binds) : Type 0 where
+  pub table : p.table.ghost_name ≡ o.table.ghost_name
+  pub words : length p.table.now ≡ length o.table.now
+
 -- What a walk that makes these binds leaves.
 unfoldable pub told : Outcome (List Bound) → Part → Outcome Part
 told x p = and_then x (λ xs. value (put_rows bind_row xs p))
 
+-- What a walk's answer says of the table that it leaves.
+abbrev pub reached : Result (Unit {0}) Question → Part → Outcome Part
+reached (Ok u) p = value p
+reached (Err k) p = refused k
+
+-- And an answer of the count.
 abbrev pub part_of : Result ℕ Question → List ℕ → Outcome Part
 part_of (Ok n) t = value (part n t)
 part_of (Err k) t = refused k
@@ -30,9 +46,9 @@ told_at s p = record { state = s; table = p }
 unfoldable pub told_by : Outcome Moved → Part → Outcome Told
 told_by x p = and_then x (λ m. value (told_at m.state (put_rows bind_row m.binds p)))
 
-abbrev pub ran_of : Result (State × ℕ) Question → List ℕ → Outcome Told
-ran_of (Ok r) t = value (told_at r.0 (part r.1 t))
-ran_of (Err k) t = refused k
+abbrev pub ran_of : Result State Question → Part → Outcome Told
+ran_of (Ok s) p = value (told_at s p)
+ran_of (Err k) p = refused k
 
 -- And with the bytes of the opcode's operands.
 pub record Next : Type 0 where
@@ -42,6 +58,6 @@ pub record Next : Type 0 where
 abbrev pub next : Told → ℕ → Next
 next t n = record { told = t; size = n }
 
-abbrev pub next_of : Result (State × ℕ × ℕ) Question → List ℕ → Outcome Next
-next_of (Ok r) t = value (next (told_at r.0 (part r.1 t)) r.2)
-next_of (Err k) t = refused k
+abbrev pub next_of : Result (State × ℕ) Question → Part → Outcome Next
+next_of (Ok r) p = value (next (told_at r.0 p) r.1)
+next_of (Err k) p = refused k

@@ -1,25 +1,34 @@
 // The binds that an opcode makes.
 ghost use Rattle.std.specs.Prelude.{◌≡◌};
-ghost use Rattle.fixups.specs.Tables.{part};
+ghost use Rattle.fixups.specs.Tables.{put_row};
 ghost use Rattle.opcodes.specs.Binding.{further, bound_by, run};
-ghost use Rattle.opcodes.specs.Tables.{told_by, ran_of};
+ghost use Rattle.opcodes.specs.Tables.{Kept, part_in, bind_row, told_by, ran_of};
 ghost use Rattle.reads.specs.Answer.{answered};
 
 use fixups::table::put_bind;
 use reads::answer::Question;
 
-// What the opcodes have set: a segment, by its command's vmaddr, fileoff and filesize, with the slot's offset in it; and a symbol, by its
-// name's offset in the file and length.
+// A segment, by its command's vmaddr, fileoff and filesize.
 #[derive(Clone, Copy)]
-pub struct State {
-    pub placed: bool,
+pub struct Place {
     pub vmaddr: u64,
     pub fileoff: u64,
     pub filesize: u64,
-    pub offset: u64,
-    pub named: bool,
-    pub name: u64,
+}
+
+// A symbol, by its name's offset in the file and length.
+#[derive(Clone, Copy)]
+pub struct Name {
+    pub at: u64,
     pub len: u64,
+}
+
+// What the opcodes have set: a segment, the slot's offset in it, and a symbol.
+#[derive(Clone, Copy)]
+pub struct State {
+    pub place: Option<Place>,
+    pub offset: u64,
+    pub name: Option<Name>,
 }
 
 // A bind: its slot, its name's offset in the file and length.
@@ -28,6 +37,23 @@ pub struct Bound {
     pub slot: u64,
     pub name: u64,
     pub len: u64,
+}
+
+// The bind table, and how many binds are counted: each is put where there is room for it.
+#[derive(Drop)]
+pub(crate) struct Binds<'a> {
+    pub(crate) table: &'a mut [u64],
+    pub(crate) count: u64,
+}
+
+impl Binds<'_> {
+    // Puts a bind.
+    fn put(&mut self, x: Bound)
+        ensures kept { Kept self.old self.new }
+        ensures put { part_in self.new ≡ put_row (bind_row x) (part_in self.old) }
+    {
+        self.count = put_bind(self.table, self.count, x.slot, x.name, x.len);
+    }
 }
 
 // The slot n bytes further.
@@ -41,52 +67,47 @@ pub(crate) fn further(n: u64, s: State) -> State
 }
 
 // The bind of the slot, in a file of `end` bytes.
+#[tactic(auto, unfolding(crate::specs::Binding::bound_by, reads::specs::Outcome::choose), using(std::proofs::lemmas::Bool::Decides::nat_tests))]
 fn bound_by(end: u64, s: State) -> Result<Bound, Question>
     ensures { answered result ≡ bound_by end s }
 {
-    if !s.named {
-        return Err(Question::FixupData);
-    }
-    if !s.placed {
-        return Err(Question::FixupData);
-    }
-    if s.filesize < 8 {
+    let place = s.place.ok_or(Question::FixupData)?;
+    let name = s.name.ok_or(Question::FixupData)?;
+    if place.filesize < 8 {
         return Err(Question::FixupSlot);
     }
-    if s.filesize - 8 < s.offset {
+    if place.filesize - 8 < s.offset {
         return Err(Question::FixupSlot);
     }
-    if end < s.fileoff {
+    if end < place.fileoff {
         return Err(Question::FixupSlot);
     }
-    if end - s.fileoff < s.offset + 8 {
+    if end - place.fileoff < s.offset + 8 {
         return Err(Question::FixupSlot);
     }
     Ok(Bound {
-        slot: s.vmaddr.wrapping_add(s.offset),
-        name: s.name,
-        len: s.len,
+        slot: place.vmaddr.wrapping_add(s.offset),
+        name: name.at,
+        len: name.len,
     })
 }
 
-// Puts `count` binds, each `stride` bytes after the one before, after the n that are in the table: the state after them, and how
-// many records there are.
+// Puts `count` binds, each `stride` bytes after the one before: the state after them.
 pub(crate) fn run(
     end: u64,
     count: u64,
     stride: u64,
     s: State,
-    n: u64,
-    binds: &mut [u64],
-) -> Result<(State, u64), Question>
-    ensures { ran_of result binds.new ≡ told_by (run end count stride s) (part n binds.old) }
+    binds: &mut Binds,
+) -> Result<State, Question>
+    ensures kept { Kept binds.old binds.new }
+    ensures told { ran_of result (part_in binds.new) ≡ told_by (run end count stride s) (part_in binds.old) }
 {
     let mut here = s;
-    let mut records = n;
     for _ in 0..count {
         let x = bound_by(end, here)?;
-        records = put_bind(binds, records, x.slot, x.name, x.len);
+        binds.put(x);
         here = further(stride, here);
     }
-    Ok((here, records))
+    Ok(here)
 }

@@ -9,6 +9,7 @@ ghost use Rattle.opcodes.specs.Tables.{told, part_of};
 ghost use Rattle.opcodes.specs.Binds.{binds_found, leaves, settled};
 ghost use Rattle.reads.specs.Answer.{answered};
 
+use crate::binding::Binds;
 use crate::dyld_info::{LC_DYLD_INFO, LC_DYLD_INFO_ONLY, SIZEOF_DYLD_INFO_COMMAND, earlier};
 use crate::stream::streams_at;
 use macho::command::{ask_commands, find};
@@ -23,7 +24,12 @@ fn count_binds(file: &[u8], cmds: &[u8], count: u64, command: u64) -> Result<u64
     ensures { part_of result [] ≡ told (streams_at (before file) (before cmds) (segments_of (before cmds) count) command) (part 0 []) }
 {
     let mut none = [0u64; 0];
-    streams_at(file, cmds, count, command, &mut none)
+    let mut binds = Binds {
+        table: &mut none,
+        count: 0,
+    };
+    streams_at(file, cmds, count, command, &mut binds)?;
+    Ok(binds.count)
 }
 
 // Counts first, then writes, if the table has room.
@@ -41,7 +47,11 @@ fn fill(
     if ((binds.len() / Bind::WORDS) as u64) < n {
         return Err(Question::BindTable);
     }
-    let _ = streams_at(file, cmds, count, command, binds);
+    let mut written = Binds {
+        table: binds,
+        count: 0,
+    };
+    let _ = streams_at(file, cmds, count, command, &mut written);
     Ok(n)
 }
 

@@ -17,6 +17,7 @@ pub(crate) const WEAK_BIND_OFF: u64 = 24;
 pub(crate) const LAZY_BIND_OFF: u64 = 32;
 
 // The one of two commands that stands first.
+#[tactic(auto, unfolding(crate::specs::DyldInfo::earlier, reads::specs::Outcome::choose), using(std::proofs::lemmas::Bool::Decides::nat_tests))]
 pub(crate) fn earlier(x: Found, y: Found) -> Found
     ensures { result ≡ earlier x y }
 {

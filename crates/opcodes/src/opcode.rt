@@ -54,6 +54,7 @@ pub enum Instruction {
 
 // An opcode without operands: what it says, and how many bytes it takes after it. Of the bytes `rest` none is read; `parts`: DONE
 // parts the entries of the stream.
+#[tactic(auto, unfolding(crate::specs::Opcodes::plain, reads::specs::Outcome::choose), using(std::proofs::lemmas::Bool::Decides::nat_tests))]
 fn plain(parts: bool, rest: &[u8], op: u8, imm: u8) -> Result<(Instruction, usize), Question>
     ensures { decoded_outcome result ≡ plain parts (before rest) op imm }
 {
@@ -86,6 +87,7 @@ fn plain(parts: bool, rest: &[u8], op: u8, imm: u8) -> Result<(Instruction, usiz
 }
 
 // Opcodes with one number.
+#[tactic(auto, unfolding(crate::specs::Opcodes::takes_number), using(std::proofs::lemmas::Bool::Decides::nat_tests))]
 fn takes_number(op: u8) -> bool
     ensures { result ≡ takes_number op }
 {
@@ -102,6 +104,7 @@ fn takes_number(op: u8) -> bool
 }
 
 // What they say with it.
+#[tactic(auto, unfolding(crate::specs::Opcodes::numbered, reads::specs::Outcome::choose), using(std::proofs::lemmas::Bool::Decides::nat_tests))]
 fn numbered(op: u8, imm: u8, n: u64) -> Instruction
     ensures { result ≡ numbered op imm n }
 {
@@ -117,63 +120,56 @@ fn numbered(op: u8, imm: u8, n: u64) -> Instruction
     Instruction::Bind(1, SIZEOF_POINTER.wrapping_add(n))
 }
 
+#[tactic(auto, unfolding(crate::specs::Opcodes::with_number), using(std::proofs::lemmas::Bool::Decides::nat_tests))]
 fn with_number(rest: &[u8], op: u8, imm: u8) -> Result<(Instruction, usize), Question>
     ensures { decoded_outcome result ≡ with_number (before rest) op imm }
 {
-    match read_uleb128(rest) {
-        Ok(u) => Ok((numbered(op, imm, u.value), u.consumed)),
-        Err(_) => Err(Question::FixupData),
-    }
+    let u = read_uleb128(rest).map_err(|_| Question::FixupData)?;
+    Ok((numbered(op, imm, u.value), u.consumed))
 }
 
 // The name from the first byte on, which stands at `place` in the file, to its zero.
 fn symbol_at(place: u64, rest: &[u8]) -> Result<(Instruction, usize), Question>
     ensures { decoded_outcome result ≡ symbol_at place (before rest) }
 {
-    match first_zero(rest) {
-        Some(n) => Ok((Instruction::Symbol(place, n as u64), n + 1)),
-        None => Err(Question::FixupData),
-    }
+    let n = first_zero(rest).ok_or(Question::FixupData)?;
+    Ok((Instruction::Symbol(place, n as u64), n + 1))
 }
 
+#[tactic(auto, unfolding(crate::specs::Opcodes::addend), using(std::proofs::lemmas::Bool::Decides::nat_tests))]
 fn addend(rest: &[u8]) -> Result<(Instruction, usize), Question>
     ensures { decoded_outcome result ≡ addend (before rest) }
 {
-    match read_sleb128(rest) {
-        Ok(s) => Ok((Instruction::Pass, s.consumed)),
-        Err(_) => Err(Question::FixupData),
-    }
+    let s = read_sleb128(rest).map_err(|_| Question::FixupData)?;
+    Ok((Instruction::Pass, s.consumed))
 }
 
 // The second number, after the n bytes of the first.
+#[tactic(auto, unfolding(crate::specs::Opcodes::skipping, reads::specs::Outcome::choose), using(std::proofs::lemmas::Bool::Decides::nat_tests))]
 fn skipping(rest: &[u8], count: u64, n: usize) -> Result<(Instruction, usize), Question>
     requires { n ≤ length rest.now }
     ensures { decoded_outcome result ≡ skipping (before rest) count n }
 {
-    match read_uleb128(&rest[n..]) {
-        Ok(u) => {
-            if 0xFFFF_FFFF_FFFF_FFF8 <= u.value {
-                return Err(Question::FixupSlot);
-            }
-            Ok((
-                Instruction::Bind(count, u.value + SIZEOF_POINTER),
-                n + u.consumed,
-            ))
-        }
-        Err(_) => Err(Question::FixupData),
+    let u = read_uleb128(&rest[n..]).map_err(|_| Question::FixupData)?;
+    if 0xFFFF_FFFF_FFFF_FFF8 <= u.value {
+        return Err(Question::FixupSlot);
     }
+    Ok((
+        Instruction::Bind(count, u.value + SIZEOF_POINTER),
+        n + u.consumed,
+    ))
 }
 
+#[tactic(auto, unfolding(crate::specs::Opcodes::times_skipping, reads::specs::Outcome::choose), using(std::proofs::lemmas::Bool::Decides::nat_tests))]
 fn times_skipping(rest: &[u8]) -> Result<(Instruction, usize), Question>
     ensures { decoded_outcome result ≡ times_skipping (before rest) }
 {
-    match read_uleb128(rest) {
-        Ok(u) => skipping(rest, u.value, u.consumed),
-        Err(_) => Err(Question::FixupData),
-    }
+    let u = read_uleb128(rest).map_err(|_| Question::FixupData)?;
+    skipping(rest, u.value, u.consumed)
 }
 
 // The opcode in a byte before the bytes `rest`, which stand at `place` in the file.
+#[tactic(auto, unfolding(crate::specs::Opcodes::decode, crate::specs::Opcodes::by_opcode, reads::specs::Outcome::choose), using(std::proofs::lemmas::Bool::Decides::nat_tests))]
 pub(crate) fn decode(
     parts: bool,
     place: u64,

@@ -5,7 +5,7 @@ ghost use Rattle.macho.specs.Commands.{segments_of};
 ghost use Rattle.opcodes.specs.Binding.{with_segment, in_segment};
 ghost use Rattle.reads.specs.Answer.{answered};
 
-use crate::binding::State;
+use crate::binding::{Place, State};
 use macho::command::commands;
 use macho::loader::{FILEOFF, FILESIZE, LC_SEGMENT_64, VMADDR};
 use reads::answer::Question;
@@ -15,11 +15,13 @@ use reads::place::u64_from;
 fn with_segment(cmds: &[u8], at: u64, offset: u64, s: State) -> State
     ensures { result ≡ with_segment (before cmds) at offset s }
 {
-    State {
-        placed: true,
+    let place = Place {
         vmaddr: u64_from(cmds, at, VMADDR),
         fileoff: u64_from(cmds, at, FILEOFF),
         filesize: u64_from(cmds, at, FILESIZE),
+    };
+    State {
+        place: Some(place),
         offset,
         ..s
     }
@@ -35,8 +37,8 @@ pub(crate) fn in_segment(
 ) -> Result<State, Question>
     ensures { answered result ≡ in_segment (before cmds) (segments_of (before cmds) count) index offset s }
 {
-    match commands(cmds, LC_SEGMENT_64, count).nth(index as usize) {
-        Some(at) => Ok(with_segment(cmds, at, offset, s)),
-        None => Err(Question::FixupData),
-    }
+    let at = commands(cmds, LC_SEGMENT_64, count)
+        .nth(index as usize)
+        .ok_or(Question::FixupData)?;
+    Ok(with_segment(cmds, at, offset, s))
 }

@@ -14,8 +14,9 @@ use Rattle.reads.specs.Outcome.{Outcome, value, refused, and_then, choose}
 use Rattle.reads.specs.Table.{records}
 use Rattle.reads.proofs.Tests.{both_true}
 use Rattle.reads.proofs.Outcomes.{on_value, on_number}
-use Rattle.pointers.specs.Tables.{tables_of, section_words, chains, section_table_words}
-use Rattle.pointers.specs.Question.{question, whole_rows, section_fits, every, section_row_fits, section_table, index_fits, asked_tables}
+use Rattle.pointers.specs.Tables.{Tables, tables_of, under, section_words, chains, section_table_words}
+use Rattle.pointers.specs.Question.{question, whole_rows, section_fits, every, section_row_fits, section_table, index_fits, asked_tables, asked_index, asked_lent}
+use Rattle.pointers.specs.declared.setting.Setting.{Setting}
 use Rattle.std.specs.Prelude.{Result, Ok, Err}
 use Rattle.reads.specs.Answer.{answered}
 use Rattle.reads.specs.declared.answer.Question.{Question}
@@ -48,14 +49,18 @@ module _ {B : Type 0} where
   pub asked_ends : (w : Result (Unit {0}) Question) (x : Outcome (Unit {0})) (f : Unit {0} → Outcome B) (k : Question) → answered w ≡ x → w ≡ Err k → refused k ≡ and_then x f
   asked_ends w x f k e g = on_number answered f e g refl
 
--- The questions 1 to 6 ask nothing of the index.
+-- The questions 1 to 6 ask nothing of the index, and none asks of the setting.
 pub asked_any_index : (files : List (List ℕ)) (segments sections info rebases binds one other : List ℕ)
     → asked_tables (tables_of files segments sections info rebases binds one) ≡ asked_tables (tables_of files segments sections info rebases binds other)
 unfolding asked_tables
 asked_any_index files segments sections info rebases binds one other = refl
 
+pub asked_set : (s : Setting) (t : Tables) → asked_lent (under s t) ≡ asked_lent t
+unfolding asked_lent asked_tables asked_index
+asked_set s t = refl
+
 -- Questions in order, and the code's answer to those before.
-pub ruleset in_order = (question_yes, question_no, after_yes, after_no, asked_on, asked_ends, asked_any_index)
+pub ruleset in_order = (question_yes, question_no, after_yes, after_no, asked_on, asked_ends)
 
 module _ (width most n : ℕ) where
   pub rows_whole : n % width ≡ 0 → leb (n / width) most ≡ whole_rows width most n

@@ -98,6 +98,7 @@ pub(crate) fn find(
     requires { (0 < width) × (heads ≤ chains) × (nexts + records width table.now < 2 ^ 64) }
     ensures { outcome result ≡ follow width (before table) heads nexts slot (before index) }
 {
+    // Not a `for`: it follows a chain of numbers.
     let mut limit = table.len() / width;
     let mut number = index_word(index, heads + chain(slot));
     while number != 0 {

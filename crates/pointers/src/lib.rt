@@ -12,3 +12,4 @@ pub mod slot;
 pub mod sorted;
 pub mod symbol;
 pub mod table;
+pub mod tables;

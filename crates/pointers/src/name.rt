@@ -4,7 +4,7 @@ ghost use Rattle.reads.specs.Reference.{before};
 ghost use Rattle.reads.specs.Files.{files_of, file_of};
 ghost use Rattle.reads.specs.Place.{part};
 
-use reads::files::is_lent;
+use reads::files::bytes_of;
 use reads::text::Text;
 
 // The bytes of a part that are there.
@@ -20,13 +20,9 @@ fn part_of(bytes: &[u8], offset: u64, len: u64) -> &[u8]
 }
 
 // The bytes of a name that are there; a file that is not lent has none.
-#[tactic(auto, using(crate::proofs::Names::lent))]
 pub(crate) fn name_bytes<'a>(files: &[&'a [u8]], name: Text) -> &'a [u8]
     ensures bytes { result.now ≡ part (file_of (files_of files) name.file) name.offset name.len }
     ensures fits { name.offset + length result.now < 2 ^ 64 }
 {
-    if is_lent(files, name.file) {
-        return part_of(files[name.file as usize], name.offset, name.len);
-    }
-    b""
+    part_of(bytes_of(files, name.file), name.offset, name.len)
 }

@@ -4,14 +4,15 @@ ghost use Rattle.reads.specs.Reference.{before};
 ghost use Rattle.reads.specs.Table.{records};
 ghost use Rattle.reads.specs.Files.{files_of};
 ghost use Rattle.reads.specs.Segment.{segment_words};
-ghost use Rattle.pointers.specs.Tables.{lent, tables_of, rebase_words, bind_words};
-ghost use Rattle.pointers.specs.Question.{question, image_fits, whole_rows, section_fits, section_table, info_whole, segment_files, name_inside, name_utf8, index_fits, asked_tables, asked, bind_files, names_inside, names_utf8};
+ghost use Rattle.pointers.specs.Tables.{rebase_words, bind_words};
+ghost use Rattle.pointers.specs.Question.{question, image_fits, whole_rows, section_fits, section_table, info_whole, segment_files, name_inside, name_utf8, index_fits, asked_tables, asked_index, asked, bind_files, names_inside, names_utf8};
 ghost use Rattle.reads.specs.Answer.{answered};
 
 use crate::index::HEADS;
 use crate::name::name_bytes;
 use crate::section::ObjcSection;
 use crate::table::{Bind, Rebase, every};
+use crate::tables::Tables;
 use reads::answer::Question;
 use reads::files::{file_len, is_lent, longest};
 use reads::segment::Segment;
@@ -151,70 +152,52 @@ pub fn index_fits(rebases: usize, binds: usize, words: usize) -> bool
 
 // 1 to 6, in order; 18 of every segment after 2.
 #[tactic(auto, unfolding(crate::specs::Question::asked_tables), using(crate::proofs::Questions::in_order))]
-pub fn ask_tables(
-    files: &[&[u8]],
-    segments: &[u64],
-    sections: &[u64],
-    info: &[u8],
-    rebases: &[u64],
-    binds: &[u64],
-) -> Result<(), Question>
-    ensures { answered result ≡ asked_tables (tables_of (files_of files) (before segments) (before sections) (before info) (before rebases) (before binds) []) }
+pub fn ask_tables(tables: &Tables) -> Result<(), Question>
+    ensures { answered result ≡ asked_tables tables.now }
 {
-    let n = longest(files);
+    let n = longest(tables.files());
     if !image_fits(n) {
         return Err(Question::FileLength);
     }
-    if !segments_whole(segments.len()) {
+    if !segments_whole(tables.segments().len()) {
         return Err(Question::SegmentTable);
     }
-    if !segment_files(files, segments) {
+    if !segment_files(tables.files(), tables.segments()) {
         return Err(Question::FileLent);
     }
-    if !section_table(sections, n) {
+    if !section_table(tables.sections(), n) {
         return Err(Question::SectionTable);
     }
-    if !info_whole(info.len()) {
+    if !info_whole(tables.info().len()) {
         return Err(Question::ImageInfoLength);
     }
-    if !rebases_whole(rebases.len()) {
+    if !rebases_whole(tables.rebases().len()) {
         return Err(Question::RebaseTable);
     }
-    if !binds_whole(binds.len()) {
+    if !binds_whole(tables.binds().len()) {
         return Err(Question::BindTable);
     }
     Ok(())
 }
 
 // 8, of the tables.
-#[tactic(auto, unfolding(crate::specs::Question::question, reads::specs::Outcome::choose))]
-pub(crate) fn ask_index(rebases: &[u64], binds: &[u64], index: &[u32]) -> Result<(), Question>
-    ensures { answered result ≡ question Question.IndexLength (index_fits (records rebase_words (before rebases)) (records bind_words (before binds)) (length (before index))) }
+#[tactic(auto, unfolding(crate::specs::Question::asked_index, crate::specs::Question::question, reads::specs::Outcome::choose))]
+pub(crate) fn ask_index(tables: &Tables) -> Result<(), Question>
+    ensures { answered result ≡ asked_index tables.now }
 {
-    let rebase_count = rebases.len() / Rebase::WORDS;
-    let bind_count = binds.len() / Bind::WORDS;
-    if index_fits(rebase_count, bind_count, index.len()) {
+    let rebase_count = tables.rebases().len() / Rebase::WORDS;
+    let bind_count = tables.binds().len() / Bind::WORDS;
+    if index_fits(rebase_count, bind_count, tables.index().len()) {
         return Ok(());
     }
     Err(Question::IndexLength)
 }
 
 // 1 to 6, 18 of every segment among them, and 8, in order: what every call after opening asks.
-#[tactic(auto, unfolding(crate::specs::Question::asked_lent, crate::specs::Question::asked_index), using(crate::proofs::Questions::in_order))]
-pub fn ask(
-    files: &[&[u8]],
-    segments: &[u64],
-    sections: &[u64],
-    info: &[u8],
-    rebases: &[u64],
-    binds: &[u64],
-    index: &[u32],
-) -> Result<(), Question>
-    ensures { let t = lent files segments sections info rebases binds index in
-        answered result ≡ asked t }
+#[tactic(auto, using(crate::proofs::Questions::in_order, std::proofs::lemmas::Result::err_from_is_err_and, crate::proofs::Questions::asked_set), unfolding(crate::specs::Question::asked_lent))]
+pub fn ask(tables: &Tables) -> Result<(), Question>
+    ensures { answered result ≡ asked tables.now }
 {
-    match ask_tables(files, segments, sections, info, rebases, binds) {
-        Ok(()) => ask_index(rebases, binds, index),
-        Err(k) => Err(k),
-    }
+    ask_tables(tables)?;
+    ask_index(tables)
 }

@@ -5,8 +5,8 @@ ghost use Rattle.reads.specs.Reference.{before};
 ghost use Rattle.reads.specs.Outcome.{or_zero};
 ghost use Rattle.reads.specs.Table.{records};
 ghost use Rattle.reads.specs.Files.{files_of};
-ghost use Rattle.reads.specs.Place.{image_of, lent_image};
-ghost use Rattle.pointers.specs.Tables.{bind_words};
+ghost use Rattle.reads.specs.Place.{image_of};
+ghost use Rattle.pointers.specs.Tables.{bind_words, image_in};
 ghost use Rattle.pointers.specs.Slot.{rebase_number, rebase_at, bind_name, bind_at, stored, rebased_or, resolve, symbol_of, pointer_at, pointer_or0_at, unrebased, is_near, word_there, resolve_near};
 ghost use Rattle.reads.specs.Answer.{outcome};
 
@@ -16,46 +16,34 @@ use crate::setting::{Lookup, Setting};
 use crate::sorted::find_sorted;
 use crate::symbol::strip_objc_symbol_prefix;
 use crate::table::{Bind, Rebase};
+use crate::tables::Tables;
 use reads::address::Address;
 use reads::answer::{Missing, Question, Reason, because, checked_add, is_absent, or_zero};
 use reads::files::is_lent;
-use reads::place::{Place, read_u64, u64_in};
+use reads::place::{Image, Place, read_u64, u64_in};
 use reads::spot::Spot;
 use reads::text::Text;
 
 // The number of a slot's rebase record, counted from 1.
-fn rebase_number(
-    rebases: &[u64],
-    index: &[u32],
-    setting: Setting,
-    slot: u64,
-) -> Result<u64, Missing>
-    ensures { outcome result ≡ rebase_number setting.lookup (before rebases) (before index) slot }
+fn rebase_number(tables: &Tables, setting: Setting, slot: u64) -> Result<u64, Missing>
+    ensures { outcome result ≡ rebase_number setting.lookup tables.now.rebases tables.now.index slot }
 {
+    let rebases = tables.rebases();
     let lookup = setting.lookup;
     match lookup {
-        Lookup::Chained => find(rebases, Rebase::WORDS, index, 0, HEADS, slot),
+        Lookup::Chained => find(rebases, Rebase::WORDS, tables.index(), 0, HEADS, slot),
         Lookup::Sorted => find_sorted(rebases, slot),
     }
 }
 
 // The target of a slot's rebase.
 #[tactic(auto, unfolding(crate::specs::Slot::rebase_at))]
-pub fn rebase_at(
-    rebases: &[u64],
-    index: &[u32],
-    setting: Setting,
-    slot: u64,
-) -> Result<u64, Missing>
-    ensures { outcome result ≡ rebase_at (before rebases) (before index) setting slot }
+pub fn rebase_at(tables: &Tables, setting: Setting, slot: u64) -> Result<u64, Missing>
+    ensures { outcome result ≡ rebase_at tables.now.rebases tables.now.index setting slot }
 {
-    match rebase_number(rebases, index, setting, slot) {
-        Ok(number) => {
-            let rebase = Rebase::at(rebases, number as usize - 1);
-            Ok(rebase.target)
-        }
-        Err(m) => Err(m),
-    }
+    let number = rebase_number(tables, setting, slot)?;
+    let rebase = Rebase::at(tables.rebases(), number as usize - 1);
+    Ok(rebase.target)
 }
 
 // The name of bind record i, counted from 0; the questions 18, 7 and 14 are asked of it.
@@ -80,119 +68,67 @@ fn bind_name(files: &[&[u8]], binds: &[u64], i: usize) -> Result<Text, Missing>
 
 // The name of a slot's bind.
 #[tactic(auto, unfolding(crate::specs::Slot::bind_at))]
-pub fn bind_at(
-    files: &[&[u8]],
-    rebases: &[u64],
-    binds: &[u64],
-    index: &[u32],
-    slot: u64,
-) -> Result<Text, Missing>
-    ensures { outcome result ≡ bind_at (files_of files) (before rebases) (before binds) (before index) slot }
+pub fn bind_at(tables: &Tables, slot: u64) -> Result<Text, Missing>
+    ensures { outcome result ≡ bind_at tables.now.files tables.now.rebases tables.now.binds tables.now.index slot }
 {
-    let nexts = HEADS + rebases.len() / Rebase::WORDS;
-    match find(binds, Bind::WORDS, index, Address::CHAINS, nexts, slot) {
-        Ok(number) => bind_name(files, binds, number as usize - 1),
-        Err(m) => Err(m),
-    }
+    let nexts = HEADS + tables.rebases().len() / Rebase::WORDS;
+    let binds = tables.binds();
+    let index = tables.index();
+    let number = find(binds, Bind::WORDS, index, Address::CHAINS, nexts, slot)?;
+    bind_name(tables.files(), binds, number as usize - 1)
 }
 
 // The word in a slot, its low 48 bits.
 #[tactic(auto, unfolding(crate::specs::Slot::stored))]
-fn stored(files: &[&[u8]], segments: &[u64], slot: u64) -> Result<u64, Missing>
-    ensures { outcome result ≡ stored (lent_image files segments) slot }
+fn stored(image: &Image, slot: u64) -> Result<u64, Missing>
+    ensures { outcome result ≡ stored image.now slot }
 {
-    match read_u64(files, segments, slot) {
-        Ok(raw) => Ok(Address::strip(raw)),
-        Err(m) => Err(m),
-    }
+    let raw = read_u64(image, slot)?;
+    Ok(Address::strip(raw))
 }
 
 // The target of a slot's rebase, else the word there.
-fn rebased_or_stored(
-    files: &[&[u8]],
-    segments: &[u64],
-    rebases: &[u64],
-    index: &[u32],
-    setting: Setting,
-    slot: u64,
-) -> Result<u64, Missing>
-    ensures { outcome result ≡ rebased_or (lent_image files segments) (before rebases) (before index) setting slot }
+fn rebased_or_stored(tables: &Tables, setting: Setting, slot: u64) -> Result<u64, Missing>
+    ensures { outcome result ≡ rebased_or (image_in tables.now) tables.now.rebases tables.now.index setting slot }
 {
-    let target = rebase_at(rebases, index, setting, slot);
+    let target = rebase_at(tables, setting, slot);
     if is_absent(target) {
-        return stored(files, segments, slot);
+        return stored(tables.image(), slot);
     }
     target
 }
 
 // The address in a pointer slot: a rebase target wins unmasked, mapped or not; else the word there; else it does not resolve.
 #[tactic(auto, unfolding(crate::specs::Slot::resolve))]
-pub fn resolve_pointer(
-    files: &[&[u8]],
-    segments: &[u64],
-    rebases: &[u64],
-    index: &[u32],
-    setting: Setting,
-    slot: u64,
-) -> Result<u64, Missing>
-    ensures { outcome result ≡ resolve (lent_image files segments) (before rebases) (before index) setting slot }
+pub fn resolve_pointer(tables: &Tables, setting: Setting, slot: u64) -> Result<u64, Missing>
+    ensures { outcome result ≡ resolve (image_in tables.now) tables.now.rebases tables.now.index setting slot }
 {
-    because(
-        rebased_or_stored(files, segments, rebases, index, setting, slot),
-        Reason::Unresolved,
-    )
+    because(rebased_or_stored(tables, setting, slot), Reason::Unresolved)
 }
 
 // The same, an absent slot counting as 0.
-pub fn slot_or_0(
-    files: &[&[u8]],
-    segments: &[u64],
-    rebases: &[u64],
-    index: &[u32],
-    setting: Setting,
-    slot: u64,
-) -> Result<u64, Missing>
-    ensures { outcome result ≡ or_zero (resolve (lent_image files segments) (before rebases) (before index) setting slot) }
+pub fn slot_or_0(tables: &Tables, setting: Setting, slot: u64) -> Result<u64, Missing>
+    ensures { outcome result ≡ or_zero (resolve (image_in tables.now) tables.now.rebases tables.now.index setting slot) }
 {
-    or_zero(resolve_pointer(files, segments, rebases, index, setting, slot))
+    or_zero(resolve_pointer(tables, setting, slot))
 }
 
 // The pointer in the field at va + k.
 #[tactic(auto, unfolding(crate::specs::Slot::pointer_at))]
-pub fn pointer(
-    files: &[&[u8]],
-    segments: &[u64],
-    rebases: &[u64],
-    index: &[u32],
-    setting: Setting,
-    va: u64,
-    k: u64,
-) -> Result<u64, Missing>
-    ensures { outcome result ≡ pointer_at (lent_image files segments) (before rebases) (before index) setting va k }
+pub fn pointer(tables: &Tables, setting: Setting, va: u64, k: u64) -> Result<u64, Missing>
+    ensures { outcome result ≡ pointer_at (image_in tables.now) tables.now.rebases tables.now.index setting va k }
 {
-    match checked_add(va, k) {
-        Ok(slot) => resolve_pointer(files, segments, rebases, index, setting, slot),
-        Err(m) => Err(m),
-    }
+    let slot = checked_add(va, k)?;
+    resolve_pointer(tables, setting, slot)
 }
 
 // The same, an absent slot counting as 0.
 #[tactic(auto, unfolding(crate::specs::Slot::pointer_or0_at))]
-pub fn pointer_or_0(
-    files: &[&[u8]],
-    segments: &[u64],
-    rebases: &[u64],
-    index: &[u32],
-    setting: Setting,
-    va: u64,
-    k: u64,
-) -> Result<u64, Missing>
-    ensures { outcome result ≡ pointer_or0_at (lent_image files segments) (before rebases) (before index) setting va k }
+pub fn pointer_or_0(tables: &Tables, setting: Setting, va: u64, k: u64) -> Result<u64, Missing>
+    ensures { outcome result ≡ pointer_or0_at (image_in tables.now) tables.now.rebases tables.now.index setting va k }
 {
-    match checked_add(va, k) {
-        Ok(slot) => slot_or_0(files, segments, rebases, index, setting, slot),
-        Err(m) => Err(m),
-    }
+    let slot = checked_add(va, k)?;
+    slot_or_0(tables, setting, slot)
 }
 
 // No rebase stands in the slot's chain; looked up by halves, nothing is known before the lookup.
@@ -229,36 +165,25 @@ fn word_there(files: &[&[u8]], s: Spot, i: u64) -> u64
 // The address in a pointer slot that lies i bytes past a spot's address: mostly without a lookup.
 #[tactic(auto, unfolding(crate::specs::Slot::resolve_near, reads::specs::Outcome::choose))]
 pub fn resolve_near(
-    files: &[&[u8]],
-    segments: &[u64],
-    rebases: &[u64],
-    index: &[u32],
+    tables: &Tables,
     setting: Setting,
     s: Spot,
     i: u64,
     slot: u64,
 ) -> Result<u64, Missing>
-    ensures { outcome result ≡ resolve_near (lent_image files segments) (before rebases) (before index) setting s i slot }
+    ensures { outcome result ≡ resolve_near (image_in tables.now) tables.now.rebases tables.now.index setting s i slot }
 {
-    if is_near(index, setting, s, i, slot) {
-        return Ok(word_there(files, s, i));
+    if is_near(tables.index(), setting, s, i, slot) {
+        return Ok(word_there(tables.files(), s, i));
     }
-    resolve_pointer(files, segments, rebases, index, setting, slot)
+    resolve_pointer(tables, setting, slot)
 }
 
 // The name of a slot's bind less its prefix.
 #[tactic(auto, unfolding(crate::specs::Slot::symbol_of))]
-pub fn symbol_at(
-    files: &[&[u8]],
-    rebases: &[u64],
-    binds: &[u64],
-    index: &[u32],
-    slot: u64,
-) -> Result<Text, Missing>
-    ensures { outcome result ≡ symbol_of (files_of files) (before rebases) (before binds) (before index) slot }
+pub fn symbol_at(tables: &Tables, slot: u64) -> Result<Text, Missing>
+    ensures { outcome result ≡ symbol_of tables.now.files tables.now.rebases tables.now.binds tables.now.index slot }
 {
-    match bind_at(files, rebases, binds, index, slot) {
-        Ok(name) => Ok(strip_objc_symbol_prefix(files, name)),
-        Err(m) => Err(m),
-    }
+    let name = bind_at(tables, slot)?;
+    Ok(strip_objc_symbol_prefix(tables.files(), name))
 }

@@ -1,4 +1,5 @@
 -- Worked examples of the text of lines, and the ◆ listing's text (document 01, "The program's listing").
+use Rattle.std.specs.Prelude.{Bool}
 use Prim.Native.Nat.{ℕ, ◌-◌, ◌^◌}
 use mathlib.Core.Bool.{true, false}
 use mathlib.Core.Path.{◌≡◌, refl}
@@ -7,8 +8,6 @@ use Rattle.reads.specs.Outcome.{choose, text_of}
 use Rattle.reads.specs.Files.{file_of}
 use Rattle.pointers.specs.Symbol.{ascii}
 use Rattle.records.specs.Row.{method_of}
-use Rattle.records.specs.declared.ivar.Aligned.{Aligned}
-use Rattle.records.specs.declared.ivar.Aligned.TheVariants as aligned
 use Rattle.records.specs.declared.method.Method.{Method}
 use Rattle.records.specs.declared.method.MethodKind.TheVariants as kind
 use Rattle.records.specs.declared.row.Row.TheVariants as row
@@ -41,7 +40,7 @@ class_line name =
 abbrev method_line : Method → ℕ → Line
 method_line m mark = line.Row (record { list = 6; row = row.Method m; mark = mark })
 
-abbrev ivar_line : Option ℕ → Option ℕ → Aligned → Line
+abbrev ivar_line : Option ℕ → Option ℕ → Option Bool → Line
 ivar_line o k a =
     line.Row
     (record {
@@ -83,22 +82,22 @@ imp_none = refl
 
 -- An ivar's offset 0 is there; an offset without its alignment; no offset; an alignment that is none.
 pub offset_zero :
-    line_text files (ivar_line (Some 0) (Some 40) aligned.Yes) ≡ ended (ascii "v 1 7:fifteen 0: 0 10 28 1")
+    line_text files (ivar_line (Some 0) (Some 40) (Some true)) ≡ ended (ascii "v 1 7:fifteen 0: 0 10 28 1")
 unfolding line_text ivar_text text_fields text_field part_field file_of string_field number_field hex_text places choose
 offset_zero = refl
 
 pub offset_unaligned :
-    line_text files (ivar_line (Some 12) (Some 3) aligned.No) ≡ ended (ascii "v 1 7:fifteen 0: c 10 3 0")
+    line_text files (ivar_line (Some 12) (Some 3) (Some false)) ≡ ended (ascii "v 1 7:fifteen 0: c 10 3 0")
 unfolding line_text ivar_text text_fields text_field part_field file_of string_field number_field hex_text places choose
 offset_unaligned = refl
 
 pub offset_none :
-    line_text files (ivar_line None (Some 3) aligned.Unknown) ≡ ended (ascii "v 1 7:fifteen 0: - 10 3 -")
+    line_text files (ivar_line None (Some 3) None) ≡ ended (ascii "v 1 7:fifteen 0: - 10 3 -")
 unfolding line_text ivar_text text_fields text_field part_field file_of string_field none_field number_field hex_text places choose
 offset_none = refl
 
 pub alignment_none :
-    line_text files (ivar_line (Some 8) None aligned.Unknown) ≡ ended (ascii "v 1 7:fifteen 0: 8 10 - -")
+    line_text files (ivar_line (Some 8) None None) ≡ ended (ascii "v 1 7:fifteen 0: 8 10 - -")
 unfolding line_text ivar_text text_fields text_field part_field file_of string_field none_field number_field hex_text places choose
 alignment_none = refl
 

@@ -1,4 +1,5 @@
 -- How long a line can be: some numbers of at most 32 digits, and at most two texts, each a part of a file.
+use Rattle.std.specs.Prelude.{Bool, true, false}
 use Prim.Native.Nat.{ℕ, zero, suc, ◌+◌, ◌-◌, ◌*◌, ◌/◌, ◌%◌, ◌≤◌, ◌^◌, min}
 use mathlib.Core.Path.{◌≡◌, refl, ◌∙◌}
 use mathlib.Core.List.{List, [], ◌∷◌}
@@ -10,8 +11,6 @@ use Rattle.reads.specs.Files.{file_of, longest}
 use Rattle.reads.proofs.LentFiles.{longest_most}
 use Rattle.reads.specs.declared.text.Text.{Text}
 use Rattle.reads.proofs.Tests.{by_choose}
-use Rattle.records.specs.declared.ivar.Aligned.{Aligned}
-use Rattle.records.specs.declared.ivar.Aligned.TheVariants as aligned
 use Rattle.records.specs.declared.row.Row.{Row}
 use Rattle.records.specs.declared.row.Row.TheVariants as row
 use Rattle.listing.specs.Listing.{Answer, says, lacks, nothing, ended}
@@ -77,10 +76,10 @@ module _ (files : List (List ℕ)) where
   alignment_short (Some k) = number_short k
   alignment_short None = none_short
 
-  aligned_short : (a : Aligned) → length (aligned_field a) ≤ 33
-  aligned_short aligned.Yes = number_short 1
-  aligned_short aligned.No = number_short 0
-  aligned_short aligned.Unknown = none_short
+  aligned_short : (a : Option Bool) → length (aligned_field a) ≤ 33
+  aligned_short (Some true) = number_short 1
+  aligned_short (Some false) = number_short 0
+  aligned_short None = none_short
 
   abbrev Short : List ℕ → Type 0
   Short text = length text ≤ 300 + 2 * longest files

@@ -18,22 +18,15 @@ use Rattle.frames.specs.Marks.{no_frames}
 use Rattle.frames.specs.declared.frames.Frames.{Frames}
 use Rattle.listing.specs.Listing.{nothing, ended}
 use Rattle.listing.specs.ListingAnswer.{said_of}
-use Rattle.listing.specs.declared.line.Line.{Line}
-use Rattle.listing.specs.declared.absence.Absence.{Absence}
 use Rattle.listing.specs.declared.listing.Said.{Said}
-use Rattle.listing.specs.declared.listing.Said.TheVariants as said
 use Rattle.pointers.specs.declared.setting.Setting.{Setting}
 use Rattle.marking.specs.MarkedListing.{marked_start, MarkedLeft, marked_step, marking_of, marked_left_of}
 use Rattle.marking.specs.declared.framed.Framed.{Framed}
 use Rattle.marking.specs.declared.marked_listing.MarkedListed.{MarkedListed}
 use Rattle.marking.specs.declared.marked_listing.MarkedListing.{MarkedListing}
-use Rattle.printing.specs.Buffer.{Puts}
-use Rattle.printing.specs.declared.buffer.Out.{Out}
-use Rattle.printing.specs.LineText.{line_text, refused_text}
-use Rattle.printing.specs.Pieces.{said_text, Standing, standing, stepped, begun, further, with_files, listable}
+use Rattle.printing.specs.Pieces.{Standing, standing, stepped, begun, further, with_files, listable}
 use Rattle.printing.specs.declared.pieces.Piece.{Piece}
 use Rattle.printing.specs.declared.pieces.Progress.{Progress}
-use Rattle.printing.proofs.Puts.{puts_nothing}
 use Rattle.std.specs.Prelude.{Result, Ok, Err}
 use Rattle.reads.specs.declared.answer.Question.{Question}
 
@@ -54,27 +47,9 @@ module _ {u : Setting} (s : MarkedListing) (w : Frames) (e : marking_of s ≡ ma
   begun_refused k h = rw (h, e, none)
 
 -- A step of the code's listing.
-pub stepped_by : (t : Tables) (s : MarkedListing) (l m : List ℕ) (r : MarkedListed) (o : Said) (n : ℕ) → marked_left_of r m ≡ marked_step t (marking_of s) l
+pub stepped_by : (t : Tables) (s : MarkedListing) (l m : List ℕ) (r : MarkedListed) (o : Result Said Question) (n : ℕ) → marked_left_of r m ≡ marked_step t (marking_of s) l
     → standing (said_of r.said) 0 (marking_of r.listing) m ≡ stepped t (standing (said_of o) n (marking_of s) l)
 stepped_by t s l m r o n e = ap (λ (x : MarkedLeft). standing x.answer 0 x.state x.ledger) e
-
--- The text of what was said.
-module _ (files : List (List ℕ)) (x : Said) (o p : Out) where
-  pub said_line : (y : Line) → x ≡ said.Line y → Puts o (line_text files y) p → Puts o (said_text files (said_of x)) p
-  said_line y g e = rw g e
-
-  pub said_refused : (k : Question) → x ≡ said.Refused k → Puts o (refused_text k) p → Puts o (said_text files (said_of x)) p
-  said_refused k g e = rw g e
-
-module _ (files : List (List ℕ)) (x : Said) (o : Out) where
-  pub said_absent : (y : Absence) → x ≡ said.Absent y → Puts o (said_text files (said_of x)) o
-  said_absent y g = rw g (puts_nothing o)
-
-  pub said_nothing : x ≡ said.Nothing → Puts o (said_text files (said_of x)) o
-  said_nothing g = rw g (puts_nothing o)
-
-  pub said_ended : x ≡ said.Ended → Puts o (said_text files (said_of x)) o
-  said_ended g = rw g (puts_nothing o)
 
 -- As many bytes more are out as the buffer took.
 pub further_by : (p : Progress) (at len k : ℕ) → len ≡ at + k

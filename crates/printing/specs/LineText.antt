@@ -9,8 +9,6 @@ use Rattle.pointers.specs.Symbol.{ascii}
 use Rattle.reads.specs.declared.text.Reading.{Reading}
 use Rattle.reads.specs.declared.text.Reading.TheVariants as reading
 use Rattle.records.specs.declared.class.ClassRo.{ClassRo}
-use Rattle.records.specs.declared.ivar.Aligned.{Aligned}
-use Rattle.records.specs.declared.ivar.Aligned.TheVariants as aligned
 use Rattle.records.specs.declared.ivar.Ivar.{Ivar}
 use Rattle.records.specs.declared.method.Method.{Method}
 use Rattle.records.specs.declared.method.MethodKind.{MethodKind}
@@ -67,10 +65,10 @@ alignment_field (Some k) = number_field k
 alignment_field None = none_field
 
 -- 1 or 0.
-abbrev pub aligned_field : Aligned → List ℕ
-aligned_field aligned.Yes = number_field 1
-aligned_field aligned.No = number_field 0
-aligned_field aligned.Unknown = none_field
+abbrev pub aligned_field : Option Bool → List ℕ
+aligned_field (Some true) = number_field 1
+aligned_field (Some false) = number_field 0
+aligned_field None = none_field
 
 -- 0 legacy, 1 indirect, 2 direct.
 abbrev pub kind_number : MethodKind → ℕ

@@ -16,7 +16,9 @@ use listing::bundle::{Counts, measure, ranges_of, words_at};
 use marking::framed::{Framed, open_framed};
 use pointers::index::HEADS;
 use pointers::section::ObjcSection;
+use pointers::tables::Tables;
 use reads::answer::Missing;
+use reads::place::Image;
 
 // The tables of a bundle of these counts.
 fn decode_counted(bytes: &[u8], counts: Counts, words: &mut [u64])
@@ -36,13 +38,9 @@ fn decode_bytes(bytes: &[u8], words: &mut [u64]) -> Result<Counts, Missing>
     ensures outcome { outcome result ≡ bundle_counts (before bytes) }
     ensures contents { words.new ≡ words_after (before bytes) words.old }
 {
-    match measure(bytes) {
-        Ok(counts) => {
-            decode_counted(bytes, counts, words);
-            Ok(counts)
-        }
-        Err(m) => Err(m),
-    }
+    let counts = measure(bytes)?;
+    decode_counted(bytes, counts, words);
+    Ok(counts)
 }
 
 // Question 13; then the words of the bundle's tables.
@@ -124,10 +122,8 @@ fn open_bytes(bytes: &[u8], words: &[u64], index: &mut [u32]) -> Result<Framed, 
     ensures outcome { outcome result ≡ opening_in (before bytes) (before words) index.old }
     ensures contents { index.new ≡ index_after (before bytes) (before words) index.old }
 {
-    match measure(bytes) {
-        Ok(counts) => open_counted(bytes, counts, words, index),
-        Err(m) => Err(m),
-    }
+    let counts = measure(bytes)?;
+    open_counted(bytes, counts, words, index)
 }
 
 // Question 13; then opening, of the tables that the words hold; then 23.
@@ -170,17 +166,18 @@ fn piece_files(
     let third = second + counts.rebase_words();
     let end = third + counts.bind_words();
     let entries = index_words(counts);
-    progress.fill(
-        files,
-        &words[0..first],
-        &words[first..second],
-        &bytes[Counts::INFO_AT..Counts::SEGMENTS_AT],
-        &words[second..third],
-        &words[third..end],
-        &index[0..entries],
-        ledger,
-        out,
-    )
+    let tables = Tables {
+        image: Image {
+            files,
+            segments: &words[0..first],
+        },
+        sections: &words[first..second],
+        info: &bytes[Counts::INFO_AT..Counts::SEGMENTS_AT],
+        rebases: &words[second..third],
+        binds: &words[third..end],
+        index: &index[0..entries],
+    };
+    progress.fill(&tables, ledger, out)
 }
 
 // The same over the bundle's own files.
@@ -213,11 +210,11 @@ fn piece_counted(
 }
 
 // The next piece; a bundle that is not accepted has no tables, and an empty file.
-fn piece_bytes(
+fn piece_bytes<'a>(
     progress: Progress,
-    bytes: &[u8],
-    words: &[u64],
-    index: &[u32],
+    bytes: &'a [u8],
+    words: &'a [u64],
+    index: &'a [u32],
     ledger: &mut [u64],
     out: &mut [u8],
 ) -> Piece
@@ -233,17 +230,18 @@ fn piece_bytes(
         Err(_) => {
             let empty = &bytes[0..0];
             let files = [empty];
-            progress.fill(
-                &files,
-                &words[0..0],
-                &words[0..0],
-                empty,
-                &words[0..0],
-                &words[0..0],
-                &index[0..0],
-                ledger,
-                out,
-            )
+            let tables = Tables {
+                image: Image {
+                    files: &files,
+                    segments: &words[0..0],
+                },
+                sections: &words[0..0],
+                info: empty,
+                rebases: &words[0..0],
+                binds: &words[0..0],
+                index: &index[0..0],
+            };
+            progress.fill(&tables, ledger, out)
         }
     }
 }

@@ -3,7 +3,7 @@ ghost use Rattle.std.specs.Prelude.{◌<◌, ◌^◌, ◌≡◌, length, drop};
 ghost use Rattle.std.proofs.Math.Seq.{paste};
 ghost use Rattle.reads.specs.Answer.{missed, outcome};
 ghost use Rattle.reads.specs.Files.{files_lent, files_of, longest};
-ghost use Rattle.pointers.specs.Tables.{lent, reading_new, reading_under};
+ghost use Rattle.pointers.specs.Tables.{reading_new, reading_under};
 ghost use Rattle.listing.specs.ListingAnswer.{said_of};
 ghost use Rattle.listing.proofs.Remaining.{goes_on};
 ghost use Rattle.printing.specs.Buffer.{Puts};
@@ -16,14 +16,16 @@ use marking::framed::Framed;
 use marking::marked_listing::MarkedListing;
 use pointers::question::image_fits;
 use pointers::setting::Setting;
-use reads::answer::Missing;
+use pointers::tables::Tables;
+use reads::answer::{Missing, Question};
 use reads::files::longest;
 use reads::text::Reading;
 
-// Where the printing of a listing stands: what the last step said, how many bytes of its text are out, and the listing after it.
+// Where the printing of a listing stands: what the last step said, or the question that refused it, how many bytes of its text are out, and the
+// listing after it.
 #[derive(Clone, Copy)]
 pub struct Progress {
-    pub said: Said,
+    pub said: Result<Said, Question>,
     pub out: usize,
     pub listing: MarkedListing,
 }
@@ -36,28 +38,25 @@ pub struct Piece {
 }
 
 // The text of what a step said.
-fn said_text(files: &[&[u8]], said: Said, out: &mut Out)
+#[tactic(auto, using(crate::proofs::Puts::puts_nothing))]
+fn said_text(files: &[&[u8]], said: Result<Said, Question>, out: &mut Out)
     ensures { Puts out.old (said_text (files_of files) (said_of said)) out.new }
 {
     match said {
-        Said::Line(line) => out.line(files, line),
-        Said::Absent(_) => {}
-        Said::Nothing => {}
-        Said::Ended => {}
-        Said::Refused(k) => out.refused(k),
+        Ok(Said::Line(line)) => out.line(files, line),
+        Ok(Said::Absent(_) | Said::Nothing | Said::Ended) => {}
+        Err(k) => out.refused(k),
     }
 }
 
 // Whether the listing goes on after what was said.
-fn goes_on(said: Said) -> bool
+fn goes_on(said: Result<Said, Question>) -> bool
     ensures { result ≡ goes_on (said_of said) }
 {
     match said {
-        Said::Line(_) => true,
-        Said::Absent(_) => true,
-        Said::Nothing => true,
-        Said::Ended => false,
-        Said::Refused(_) => false,
+        Ok(Said::Ended) => false,
+        Ok(_) => true,
+        Err(_) => false,
     }
 }
 
@@ -84,7 +83,7 @@ impl Progress {
             Ok(framed) => {
                 let frames = framed.frames;
                 Progress {
-                    said: Said::Nothing,
+                    said: Ok(Said::Nothing),
                     out: 0,
                     listing: MarkedListing::starting(setting, frames),
                 }
@@ -98,17 +97,14 @@ impl Progress {
         ensures { standing_of result ≡ begun setting (missed m) }
     {
         let listing = MarkedListing::starting(setting, Frames::none());
-        match m {
-            Missing::Absent(_) => Progress {
-                said: Said::Ended,
-                out: 0,
-                listing,
-            },
-            Missing::Refused(k) => Progress {
-                said: Said::Refused(k),
-                out: 0,
-                listing,
-            },
+        let said = match m {
+            Missing::Absent(_) => Ok(Said::Ended),
+            Missing::Refused(k) => Err(k),
+        };
+        Progress {
+            said,
+            out: 0,
+            listing,
         }
     }
 
@@ -116,35 +112,16 @@ impl Progress {
     pub fn refused(self) -> bool
         ensures { result ≡ refusing (said_of self.said) }
     {
-        let said = self.said;
-        match said {
-            Said::Line(_) => false,
-            Said::Absent(_) => false,
-            Said::Nothing => false,
-            Said::Ended => false,
-            Said::Refused(_) => true,
-        }
+        self.said.is_err()
     }
 
     // The next step of the listing.
-    fn step(
-        self,
-        files: &[&[u8]],
-        segments: &[u64],
-        sections: &[u64],
-        info: &[u8],
-        rebases: &[u64],
-        binds: &[u64],
-        index: &[u32],
-        ledger: &mut [u64],
-    ) -> Progress
-        ensures { let t = lent files segments sections info rebases binds index in
+    fn step(self, tables: &Tables, ledger: &mut [u64]) -> Progress
+        ensures { let t = tables.now in
             standing_of result ledger.new ≡ stepped t (standing_of self ledger.old) }
     {
         let listing = self.listing;
-        let listed = listing.next(
-            files, segments, sections, info, rebases, binds, index, ledger,
-        );
+        let listed = listing.next(tables, ledger);
         let said = listed.said;
         let next = listed.listing;
         Progress {
@@ -155,16 +132,16 @@ impl Progress {
     }
 
     // What waits, as far as the buffer has room after its first `at` bytes.
-    fn hand_out(self, files: &[&[u8]], out: &mut [u8], at: usize) -> Piece
-        requires { longest (files_lent files.now) < 2 ^ 32 }
-        ensures piece { result ≡ further self at (fits (files_of files) self out.old at) }
-        ensures bytes { out.new ≡ paste out.old at (drop self.out (said_text (files_of files) (said_of self.said))) (fits (files_of files) self out.old at) }
+    fn hand_out(self, tables: &Tables, out: &mut [u8], at: usize) -> Piece
+        requires { longest tables.now.files < 2 ^ 32 }
+        ensures piece { result ≡ further self at (fits tables.now.files self out.old at) }
+        ensures bytes { out.new ≡ paste out.old at (drop self.out (said_text tables.now.files (said_of self.said))) (fits tables.now.files self out.old at) }
     {
         let said = self.said;
         let skip = self.out;
         let listing = self.listing;
         let mut taker = Out { to: out, skip, at };
-        said_text(files, said, &mut taker);
+        said_text(tables.files(), said, &mut taker);
         let len = taker.at;
         Piece {
             len,
@@ -177,28 +154,18 @@ impl Progress {
     }
 
     // What waits and then what the next steps say, until the buffer is full or the listing is over.
-    pub(crate) fn fill(
-        self,
-        files: &[&[u8]],
-        segments: &[u64],
-        sections: &[u64],
-        info: &[u8],
-        rebases: &[u64],
-        binds: &[u64],
-        index: &[u32],
-        ledger: &mut [u64],
-        out: &mut [u8],
-    ) -> Piece
-        requires { longest (files_lent files.now) < 2 ^ 32 }
-        ensures piece { let t = lent files segments sections info rebases binds index in
+    pub(crate) fn fill(self, tables: &Tables, ledger: &mut [u64], out: &mut [u8]) -> Piece
+        requires { longest tables.now.files < 2 ^ 32 }
+        ensures piece { let t = tables.now in
             handed_of result ledger.new out.new ≡ piece_of t (standing_of self ledger.old) (length out.old) out.old }
-        ensures rest { let t = lent files segments sections info rebases binds index in
+        ensures rest { let t = tables.now in
             to_come t (standing_of result.progress ledger.new) ≡ drop (length out.old) (to_come t (standing_of self ledger.old)) }
     {
         let mut progress = self;
         let mut at = 0;
+        // Not a `for`: what a step said tells whether another comes.
         loop {
-            let piece = progress.hand_out(files, out, at);
+            let piece = progress.hand_out(tables, out, at);
             let next = piece.progress;
             at = piece.len;
             if out.len() <= at {
@@ -208,40 +175,24 @@ impl Progress {
             if !goes_on(said) {
                 return piece;
             }
-            progress = next.step(
-                files, segments, sections, info, rebases, binds, index, ledger,
-            );
+            progress = next.step(tables, ledger);
         }
     }
 
     // The next piece of a listing over these tables: its length, 0 where nothing is still to come, and where the printing stands after it.
     // Over files that question 1 refuses no listing is begun; they count as one empty file.
-    pub fn next_piece(
-        self,
-        files: &[&[u8]],
-        segments: &[u64],
-        sections: &[u64],
-        info: &[u8],
-        rebases: &[u64],
-        binds: &[u64],
-        index: &[u32],
-        ledger: &mut [u64],
-        out: &mut [u8],
-    ) -> Piece
-        ensures piece { let t = listable (lent files segments sections info rebases binds index) in
+    pub fn next_piece(self, tables: &Tables, ledger: &mut [u64], out: &mut [u8]) -> Piece
+        ensures piece { let t = listable tables.now in
             handed_of result ledger.new out.new ≡ piece_of t (standing_of self ledger.old) (length out.old) out.old }
-        ensures rest { let t = listable (lent files segments sections info rebases binds index) in
+        ensures rest { let t = listable tables.now in
             to_come t (standing_of result.progress ledger.new) ≡ drop (length out.old) (to_come t (standing_of self ledger.old)) }
     {
+        let files = tables.files();
         if !image_fits(longest(files)) {
-            let empty = &info[0..0];
+            let empty = &tables.info()[0..0];
             let none = [empty];
-            return self.fill(
-                &none, segments, sections, info, rebases, binds, index, ledger, out,
-            );
+            return self.fill(&tables.over(&none), ledger, out);
         }
-        self.fill(
-            files, segments, sections, info, rebases, binds, index, ledger, out,
-        )
+        self.fill(tables, ledger, out)
     }
 }

@@ -12,7 +12,7 @@ use reads::answer::Question;
 use reads::files::is_lent;
 use reads::text::Text;
 use records::class::ClassRo;
-use records::ivar::{Aligned, Ivar};
+use records::ivar::Ivar;
 use records::method::Method;
 use records::property::Property;
 use records::protocol::ObjcProtocol;
@@ -135,13 +135,13 @@ impl Out<'_> {
     }
 
     // 1 where an ivar's offset is aligned, 0 where it is not, none where that is unknown.
-    fn aligned(&mut self, aligned: Aligned)
+    fn aligned(&mut self, aligned: Option<bool>)
         ensures { Puts self.old (aligned_field aligned) self.new }
     {
         match aligned {
-            Aligned::Yes => self.number(1),
-            Aligned::No => self.number(0),
-            Aligned::Unknown => self.none(),
+            Some(true) => self.number(1),
+            Some(false) => self.number(0),
+            None => self.none(),
         }
     }
 

@@ -30,6 +30,7 @@ pub fn write_pieces(
         (result.whole ≡ true → to_come t (standing_of result.progress ledger.new) ≡ []) }
 {
     let mut progress = start;
+    // Not a `for`: each piece begins where the last one left the listing, until one is empty or a write fails.
     loop {
         let piece = next_piece(progress, input, n, words, index, ledger, out);
         let len = piece.len;

@@ -1,7 +1,7 @@
 -- Laws of a sweep: one for each branch of its code, and what is put out when bytes are passed.
-use Prim.Native.Nat.{ℕ, zero, suc, ◌+◌, ◌-◌, ◌*◌, ◌/◌, ◌≤◌, ◌<◌, ◌^◌, min, max}
+use Prim.Native.Nat.{ℕ, zero, suc, ◌+◌, ◌-◌, ◌*◌, ◌/◌, ◌≤◌, ◌<◌, ◌^◌, min}
 use mathlib.Core.Path.{◌≡◌, refl, ap, sym, ◌∙◌}
-use mathlib.Core.Bool.{Bool, true, false}
+use mathlib.Core.Bool.{Bool}
 use mathlib.Core.List.{List, [], ◌∷◌, ◌++◌, append_assoc}
 use native.Mathlib.Numerals.{add-one, add-two}
 use native.Mathlib.Omega.{arith}
@@ -11,9 +11,9 @@ use borrow.Rule.Slice.PartMut.{put_mid, Post-is}
 use borrow.Author.Tests.{lt-ltb, le-ltb}
 use Rattle.reads.specs.Outcome.{choose}
 use Rattle.ranges.specs.Range.{Range, range}
-use Rattle.ranges.specs.Runs.{run, ended, begun, runs}
-use Rattle.ranges.specs.Sheet.{window, sheet_next, marked_at, shown}
-use Rattle.ranges.specs.Sweep.{more, Output, output, put_at, tell, Progress, progress_of, closed_at, passed, swept, leapt, reached_at, over_window}
+use Rattle.ranges.specs.Runs.{run, runs}
+use Rattle.ranges.specs.Sheet.{marked_at, shown}
+use Rattle.ranges.specs.Sweep.{more, Output, output, put_at, tell, Progress, progress_of, closed_at, passed, swept, leapt}
 
 pub put_room : (out : List ℕ) (i file offset len : ℕ) → i < length out / 3 → {part : List ℕ} → part ≡ file ∷ offset ∷ len ∷ []
     → put_mid (i * 3) (i * 3 + 3 - i * 3) out part ≡ put_at out i (range file offset len)
@@ -36,15 +36,6 @@ pub closed_none : (file b start count : ℕ) (out : List ℕ) → b ≤ start �
 unfolding closed_at tell run choose
 closed_none file b start count out h = rw (le-ltb start b h)
 
-pub passed_used : (file : ℕ) (used : Bool) (b : ℕ) (p : Progress) → used ≡ true → p ≡ passed file used b p
-unfolding passed begun ended tell
-passed_used file used b p e = rw e
-
-pub passed_unused : (file : ℕ) (used : Bool) (b count : ℕ) (out : List ℕ) (p : Progress) → used ≡ false → output count out ≡ closed_at file b p
-    → progress_of (b + 1) (output count out) ≡ passed file used b p
-unfolding passed begun ended closed_at
-passed_unused file used b count out p e h = rw (e, h, add-one)
-
 pub leapt_far : (file at n next count : ℕ) (out : List ℕ) (p : Progress) → n < next → output count out ≡ closed_at file (at + n) p
     → progress_of (at + next) (output count out) ≡ leapt file at n next p
 unfolding leapt choose
@@ -66,13 +57,6 @@ swept_more file u from n k p p' h e =
     let left : n - k ≡ suc (n - (k + 1)) = omega arith in
     let here : from + (k + 1) ≡ suc (from + k) = omega arith in
     rw (left, here, e)
-
--- A window, by the numbers that the code computes.
-pub window_over : (size file at left n next far start count : ℕ) (m words : List ℕ) (p p' : Progress) → left ≡ size - at → n ≡ min window left → next ≡ min (sheet_next m) left
-    → far ≡ max n next → p' ≡ swept file (shown at m) n at p → progress_of start (output count words) ≡ leapt file at n next p'
-    → reached_at file (at + far) (progress_of start (output count words)) ≡ over_window size m (reached_at file at p)
-unfolding over_window
-window_over size file at left n next far start count m words p p' a b c d e f = rw (← a, ← b, ← c, ← d, ← e) (ap (reached_at file (at + far)) f)
 
 -- What a sweep puts out, its last run too, is the runs.
 pub tell_append : (rs ss : List Range) (o : Output) → tell (rs ++ ss) o ≡ tell ss (tell rs o)

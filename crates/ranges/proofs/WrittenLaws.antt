@@ -6,10 +6,9 @@ use native.Mathlib.Omega.{arith}
 use lib.ListN.{length, set, drop, length-set}
 use lib.Seq.{sets, sets-eq}
 use borrow.Author.Tests.{lt-ltb, le-leb, lt-leb, leb-true, leb-false}
-use Rattle.reads.specs.Answer.{missed, outcome}
+use Rattle.reads.specs.Answer.{answered}
 use Rattle.reads.specs.Outcome.{value, refused, choose}
-use Rattle.reads.specs.declared.answer.Missing.{Missing}
-use Rattle.reads.specs.declared.answer.Missing.TheVariants as missing
+use Rattle.reads.specs.declared.answer.Question.{Question}
 use Rattle.reads.proofs.Tests.{by_choose}
 use Rattle.ranges.specs.Range.{Range, range_words}
 use Rattle.ranges.specs.Sweep.{more, Output, output, put_at, tell}
@@ -71,19 +70,18 @@ module _ (rs : List Range) (out none left : List ℕ) (count : ℕ) (counted : o
   all_counted : count ≡ min (length rs) (2 ^ 64 - 1)
   all_counted = ap (λ o. o.count) counted ∙ tell_count rs (output 0 none) (omega arith) ∙ omega arith
 
-  pub written_none : (a : Result ℕ Missing) (m : Missing) → outcome a ≡ room_for count out → a ≡ Err m → result_of a out ≡ written rs out
+  pub written_none : (a : Result ℕ Question) (k : Question) → answered a ≡ room_for count out → a ≡ Err k → result_of a out ≡ written rs out
   unfolding written
-  written_none a m e d =
+  written_none a k e d =
       by_choose (λ r. result_of a out ≡ r)
       (λ t. let l = leb-true (length rs * 3) (length out) t in
-      a_value count m (sym (ap outcome d) ∙ e ∙ sym (room_some count out (omega (arith, all_counted)))))
+      a_value count k (sym (ap answered d) ∙ e ∙ sym (room_some count out (omega (arith, all_counted)))))
       (λ t. let l = leb-false (length rs * 3) (length out) t in ap (λ o. result o out) (e ∙ sym (room_none count out (omega (arith, all_counted)))))
     where
-      a_value : (n : ℕ) (k : Missing) {x y : Settled} → missed k ≡ value n → x ≡ y
-      a_value n (missing.Absent r) i = cc
-      a_value n (missing.Refused r) i = cc
+      a_value : (n : ℕ) (k : Question) {x y : Settled} → refused k ≡ value n → x ≡ y
+      a_value n k i = cc
 
-  pub written_all : (a : Result ℕ Missing) (n : ℕ) (c' : ℕ) (out' : List ℕ) → outcome a ≡ room_for count out → a ≡ Ok n
+  pub written_all : (a : Result ℕ Question) (n : ℕ) (c' : ℕ) (out' : List ℕ) → answered a ≡ room_for count out → a ≡ Ok n
       → output c' out' ≡ tell rs (output 0 out) → result_of a out' ≡ written rs out
   unfolding written
   written_all a n c' out' e d w =
@@ -93,7 +91,7 @@ module _ (rs : List Range) (out none left : List ℕ) (count : ℕ) (counted : o
       let told : out' ≡ range_words rs ++ drop (length rs * 3) out = ap (λ o. o.words) w ∙ tell_words rs out l long in
       ap (λ o. result o out') (e ∙ sym (room_some count out (omega (arith, all_counted))) ∙ ap value same) ∙ ap (result (value (length rs))) told)
       (λ t. let l = leb-false (length rs * 3) (length out) t in
-      is_number n (sym (ap outcome d) ∙ e ∙ sym (room_none count out (omega (arith, all_counted)))))
+      is_number n (sym (ap answered d) ∙ e ∙ sym (room_none count out (omega (arith, all_counted)))))
     where
       is_number : (k : ℕ) {x y : Settled} → value k ≡ refused RangeRoom → x ≡ y
       is_number k i = cc

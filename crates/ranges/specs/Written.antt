@@ -1,10 +1,10 @@
 -- Ranges written into a lent buffer (document 02, note 13), or 24 where it is too short.
 use Rattle.std.specs.Prelude.{ℕ, ◌*◌, List, ◌++◌, leb, length, drop, Result}
-use Rattle.reads.specs.Answer.{outcome}
+use Rattle.reads.specs.Answer.{answered}
 use Rattle.reads.specs.Outcome.{Outcome, value, refused, choose}
 use Rattle.ranges.specs.Range.{Range, range_words}
 use Rattle.ranges.specs.Runs.{merged}
-use Rattle.reads.specs.declared.answer.Missing.{Missing}
+use Rattle.reads.specs.declared.answer.Question.{Question}
 use Rattle.reads.specs.declared.answer.Question.TheVariants.{RangeRoom}
 
 -- The answer, and the buffer as it is left.
@@ -15,8 +15,8 @@ pub record Settled : Type 0 where
 abbrev pub result : Outcome ℕ → List ℕ → Settled
 result answer words = record { answer = answer; words = words }
 
-abbrev pub result_of : Result ℕ Missing → List ℕ → Settled
-result_of r words = result (outcome r) words
+abbrev pub result_of : Result ℕ Question → List ℕ → Settled
+result_of r words = result (answered r) words
 
 -- A number of ranges, three words each, or 24 where a buffer has no room for them.
 unfoldable pub room_for : ℕ → List ℕ → Outcome ℕ

@@ -5,7 +5,7 @@ ghost use Rattle.ranges.specs.Range.{range};
 ghost use Rattle.ranges.specs.Sheet.{window, shown, headed};
 ghost use Rattle.ranges.specs.Sweep.{output, progress, put_at, closed_at, passed, swept, leapt, first_byte, reached, over_window, over_end};
 
-use crate::sheet::{WINDOW, WORDS, marked};
+use crate::sheet::{FILE, FROM, NEXT, WINDOW, WORDS, marked};
 
 // All bytes from `start` on are used, and belong to a run that is not yet put out; `count` runs are.
 #[derive(Clone, Copy)]
@@ -23,6 +23,7 @@ pub struct Sweep {
 }
 
 // Puts a range out as number i, three words, if there is room.
+#[tactic(auto, using(crate::proofs::SweepLaws::put_room, crate::proofs::SweepLaws::put_full))]
 fn put(out: &mut [u64], i: u64, file: u64, offset: u64, len: u64)
     ensures { out.new ≡ put_at out.old i (range file offset len) }
 {
@@ -30,59 +31,6 @@ fn put(out: &mut [u64], i: u64, file: u64, offset: u64, len: u64)
     if i < room {
         let k = i as usize * 3;
         out[k..k + 3].copy_from_slice(&[file, offset, len]);
-    }
-}
-
-// The run that ends before byte b is put out, if it has a byte; how many are.
-fn close(out: &mut [u64], file: u64, run: Open, b: u64) -> u64
-    ensures { output result out.new ≡ closed_at file b (progress run out.old) }
-{
-    if run.start < b {
-        put(out, run.count, file, run.start, b - run.start);
-        return run.count.saturating_add(1);
-    }
-    run.count
-}
-
-// Byte b is passed.
-fn pass(out: &mut [u64], file: u64, run: Open, b: u64, used: bool) -> Open
-    requires { b + 1 < 2 ^ 64 }
-    ensures { progress result out.new ≡ passed file used b (progress run out.old) }
-{
-    if used {
-        return run;
-    }
-    let count = close(out, file, run, b);
-    Open {
-        start: b + 1,
-        count,
-    }
-}
-
-// The first n bytes of the window at `from` are passed.
-fn scan(sheet: &[u64; WORDS], file: u64, from: u64, n: u64, run: Open, out: &mut [u64]) -> Open
-    requires { (n ≤ window) × (from + n < 2 ^ 64) }
-    ensures { progress result out.new ≡ swept file (shown from (before sheet)) n from (progress run out.old) }
-{
-    let mut run = run;
-    for k in 0..n {
-        run = pass(out, file, run, from + k, marked(sheet, k));
-    }
-    run
-}
-
-// From byte at + n to at + next, where none is used.
-fn leap(out: &mut [u64], file: u64, run: Open, at: u64, n: u64, next: u64) -> Open
-    requires { at + next < 2 ^ 64 }
-    ensures { progress result out.new ≡ leapt file at n next (progress run out.old) }
-{
-    if next <= n {
-        return run;
-    }
-    let count = close(out, file, run, at + n);
-    Open {
-        start: at + next,
-        count,
     }
 }
 
@@ -99,29 +47,86 @@ impl Sweep {
         }
     }
 
+    // The run that ends before byte b is put out, if it has a byte; how many are.
+    #[tactic(auto, using(crate::proofs::SweepLaws::closed_run, crate::proofs::SweepLaws::closed_none))]
+    fn close(self, b: u64, out: &mut [u64]) -> u64
+        ensures { output result out.new ≡ closed_at self.file b (progress self.run out.old) }
+    {
+        let run = self.run;
+        if run.start < b {
+            put(out, run.count, self.file, run.start, b - run.start);
+            return run.count.saturating_add(1);
+        }
+        run.count
+    }
+
+    // Byte b is passed.
+    #[tactic(auto, unfolding(crate::specs::Sweep::passed, crate::specs::Sweep::closed_at, crate::specs::Sweep::tell, crate::specs::Runs::begun, crate::specs::Runs::ended))]
+    fn pass(self, b: u64, used: bool, out: &mut [u64]) -> Open
+        requires { b + 1 < 2 ^ 64 }
+        ensures { progress result out.new ≡ passed self.file used b (progress self.run out.old) }
+    {
+        if used {
+            return self.run;
+        }
+        let count = self.close(b, out);
+        Open {
+            start: b + 1,
+            count,
+        }
+    }
+
+    // The first n bytes of the window that comes next are passed.
+    #[tactic(auto, using(crate::proofs::SweepLaws::swept_more, crate::proofs::SweepLaws::shown_at), unfolding(crate::specs::Sweep::swept))]
+    fn scan(self, sheet: &[u64; WORDS], n: u64, out: &mut [u64]) -> Open
+        requires { (n ≤ window) × (self.at + n < 2 ^ 64) }
+        ensures { progress result out.new ≡ swept self.file (shown self.at (before sheet)) n self.at (progress self.run out.old) }
+    {
+        let mut run = self.run;
+        for k in 0..n {
+            run = Sweep { run, ..self }.pass(self.at + k, marked(sheet, k), out);
+        }
+        run
+    }
+
+    // From n to `next` bytes on, where none is used.
+    #[tactic(auto, using(std::proofs::lemmas::Bool::Decides::nat_tests), unfolding(crate::specs::Sweep::leapt, reads::specs::Outcome::choose))]
+    fn leap(self, n: u64, next: u64, out: &mut [u64]) -> Open
+        requires { self.at + next < 2 ^ 64 }
+        ensures { progress result out.new ≡ leapt self.file self.at n next (progress self.run out.old) }
+    {
+        if next <= n {
+            return self.run;
+        }
+        let count = self.close(self.at + n, out);
+        Open {
+            start: self.at + next,
+            count,
+        }
+    }
+
     // Begins the sheet of the window that comes next, of a file of `size` bytes.
     #[tactic(auto, unfolding(crate::specs::Sheet::headed))]
     pub fn begin(self, size: u64, sheet: &mut [u64; WORDS])
         ensures { sheet.new ≡ headed self.file self.at (size - self.at) sheet.old }
     {
-        sheet[0] = self.file;
-        sheet[1] = self.at;
-        sheet[2] = size.saturating_sub(self.at);
+        sheet[FILE] = self.file;
+        sheet[FROM] = self.at;
+        sheet[NEXT] = size.saturating_sub(self.at);
     }
 
     // Passes that window, and the bytes past it to the next that the sheet knows to be used.
+    #[tactic(auto, unfolding(crate::specs::Sweep::over_window))]
     pub fn over_window(self, size: u64, sheet: &[u64; WORDS], out: &mut [u64]) -> Sweep
         ensures { reached result out.new ≡ over_window size (before sheet) (reached self out.old) }
     {
-        let file = self.file;
-        let at = self.at;
-        let left = size.saturating_sub(at);
+        let left = size.saturating_sub(self.at);
         let n = WINDOW.min(left);
-        let next = sheet[2].min(left);
-        let run = scan(sheet, file, at, n, self.run, out);
-        let run = leap(out, file, run, at, n, next);
-        let at = at + n.max(next);
-        Sweep { file, at, run }
+        let next = sheet[NEXT].min(left);
+        let run = self.scan(sheet, n, out);
+        let run = Sweep { run, ..self }.leap(n, next, out);
+        let at = self.at + n.max(next);
+        Sweep { at, run, ..self }
     }
 
     // Passes the end of a file of `size` bytes: a run ends with its file.
@@ -129,7 +134,7 @@ impl Sweep {
     pub fn over_end(self, size: u64, out: &mut [u64]) -> Sweep
         ensures { reached result out.new ≡ over_end size (reached self out.old) }
     {
-        let count = close(out, self.file, self.run, size);
+        let count = self.close(size, out);
         let run = Open { start: 0, count };
         let file = self.file.saturating_add(1);
         Sweep { file, at: 0, run }

@@ -1,4 +1,5 @@
 -- Both readings give a string alike exactly if a zero byte ends it, or if there is none under either (document 02, note 12).
+use Rattle.std.specs.Prelude.{Ok, Err}
 use Rattle.std.proofs.Common.{◌≡◌, ℕ, zero, suc, ◌+◌, ◌-◌, ◌<◌, ◌≤◌, min, Bool, true, false, eqb, leb, List, [], ◌∷◌, length, get_or, drop, sym, refl, ap, ◌∙◌, arith, length-drop, get_or-drop, ltb-true, lt-ltb, eqb-true, le-leb}
 use native.Mathlib.Decide.{dec_le}
 use borrow.Author.Tests.{eqb-false}
@@ -7,13 +8,11 @@ use Rattle.reads.specs.Files.{file_of}
 use Rattle.reads.specs.Segment.{rows, lookup}
 use Rattle.reads.specs.Place.{Image}
 use Rattle.reads.specs.Text.{text, scan_of, if_good, good_text, ended, if_ended, text_from, text_at, text_in}
-use Rattle.reads.specs.Utf8.{verdict}
+use Rattle.reads.specs.Utf8.{Verdict, verdict}
 use Rattle.reads.specs.Endings.{ZeroFrom, StringEnds}
 use Rattle.reads.specs.declared.place.Place.{Place}
 use Rattle.reads.specs.declared.answer.Reason.TheVariants.{NullAddress, PastEnd, Unterminated}
 use Rattle.reads.specs.declared.text.Reading.TheVariants.{Old, New}
-use Rattle.reads.specs.declared.text.Verdict.{Verdict}
-use Rattle.reads.specs.declared.text.Verdict.TheVariants.{Good, Bad}
 use Rattle.reads.proofs.Outcomes.{nonzero_else}
 use Rattle.reads.proofs.Passes.{text_zero}
 use Rattle.reads.proofs.Texts.{text_beyond}
@@ -63,8 +62,8 @@ module _ (bytes : List ℕ) (p : Place) where
 
   -- The old reading never says that a text has no end.
   never_endless : (v : Verdict) (n : ℕ) → and_then (if_good v n) (λ k. value (text_of p.file p.offset k)) ≡ absent Unterminated → ⊥
-  never_endless Good n e = let z : ◌≡◌ {A = ℕ} 0 1 = cc in omega arith
-  never_endless (Bad k) n e = let z : ◌≡◌ {A = ℕ} 0 1 = cc in omega arith
+  never_endless (Ok u) n e = let z : ◌≡◌ {A = ℕ} 0 1 = cc in omega arith
+  never_endless (Err k) n e = let z : ◌≡◌ {A = ℕ} 0 1 = cc in omega arith
 
   pub same_zero : p.offset ≤ length bytes → text_from Old bytes p ≡ text_from New bytes p → ZeroFrom bytes p.offset
   unfolding text_from choose

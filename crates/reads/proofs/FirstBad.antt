@@ -1,16 +1,14 @@
--- What `Bad k` says of a text: k is the offset of the first byte that no text of the grammar continues with, or the length
+-- What `Err k` says of a text: k is the offset of the first byte that no text of the grammar continues with, or the length
 -- of a text that ends inside a character.
 use Rattle.std.proofs.Common.{◌≡◌, ℕ, suc, ◌+◌, ◌-◌, ◌<◌, ◌≤◌, Bool, true, false, leb, ◌↔◌, List, [], ◌∷◌, ◌++◌, length, take, drop, sym, refl, ap, ◌∙◌, subst, true≢false, append_assoc, arith, take-add, leb-true}
 use native.Mathlib.Decide.{dec_le}
 use Rattle.reads.proofs.Tests.{both_true}
 use Rattle.reads.specs.Outcome.{choose}
-use Rattle.reads.specs.Utf8.{Range, ◌to◌, inside, chars, Octets, FirstBad, due_after, go_on, judge, verdict, is_good, utf8}
-use Rattle.reads.specs.declared.text.Verdict.{Verdict}
-use Rattle.reads.specs.declared.text.Verdict.TheVariants.{Good, Bad}
+use Rattle.reads.specs.Utf8.{Verdict, Range, ◌to◌, inside, chars, Octets, FirstBad, due_after, go_on, judge, verdict, is_good, utf8}
 use Rattle.reads.proofs.Rows.{inside_between, all, begun_all}
 use Rattle.reads.proofs.Grammar.{accepts, utf8_accepts, octets_accepts, utf8_octets}
 use Rattle.reads.proofs.Options.{none_not_some, some_same}
-use Rattle.std.specs.Prelude.{Option, None, Some}
+use Rattle.std.specs.Prelude.{Option, None, Some, Ok, Err}
 
 -- Each range holds a byte, so what is due can always come
 abbrev filled : Range → Bool
@@ -43,7 +41,7 @@ record BadAt (at : ℕ) (w : List Range) (s : List ℕ) (k : ℕ) : Type 0 where
   goes : (t : List ℕ) × (accepts w (take j s ++ t) ≡ true)
   stops : j < length s → (t : List ℕ) → accepts w (take (suc j) s ++ t) ≡ false
 
-bad_at : (s : List ℕ) (at : ℕ) (w : List Range) (k : ℕ) → all filled w ≡ true → judge at w s ≡ Bad k → BadAt at w s k
+bad_at : (s : List ℕ) (at : ℕ) (w : List Range) (k : ℕ) → all filled w ≡ true → judge at w s ≡ Err k → BadAt at w s k
 unfolding judge accepts
 bad_at [] at [] k a e = let z : ◌≡◌ {A = ℕ} 0 1 = cc in absurd (omega arith)
 bad_at [] at (r ∷ w) k a e =
@@ -57,8 +55,8 @@ bad_at [] at (r ∷ w) k a e =
     }
 bad_at (b ∷ s) at w k a e = go (due_after w b) refl e (λ w' a' e'. bad_at s (suc at) w' k a' e')
   where
-    go : (o : Option (List Range)) → due_after w b ≡ o → go_on o (Bad at) (λ w'. judge (suc at) w' s) ≡ Bad k
-        → ((w' : List Range) → all filled w' ≡ true → judge (suc at) w' s ≡ Bad k → BadAt (suc at) w' s k) → BadAt at w (b ∷ s) k
+    go : (o : Option (List Range)) → due_after w b ≡ o → go_on o (Err at) (λ w'. judge (suc at) w' s) ≡ Err k
+        → ((w' : List Range) → all filled w' ≡ true → judge (suc at) w' s ≡ Err k → BadAt (suc at) w' s k) → BadAt at w (b ∷ s) k
     go None q e' f =
         let z : at ≡ k = cc in
         record {
@@ -86,7 +84,7 @@ longer s t j k h f o =
     let e : take j s ≡ take (suc k) s ++ more = subst (λ (m : ℕ). take m s ≡ take (suc k) s ++ more) n (take-add (suc k) (j - suc k) s) in
     f (more ++ t) (subst Octets (ap (λ (l : List ℕ). l ++ t) e ∙ append_assoc (take (suc k) s) more t) o)
 
-bad_is_first : (s : List ℕ) (k : ℕ) → verdict s ≡ Bad k → FirstBad s k
+bad_is_first : (s : List ℕ) (k : ℕ) → verdict s ≡ Err k → FirstBad s k
 unfolding utf8
 bad_is_first s k e =
     let m = bad_at s 0 [] k refl e in
@@ -114,10 +112,10 @@ first_is_one s j k a b =
       | no f ↦ elim (dec_le (suc k) j) [ yes h ↦ absurd (b.longest j h a.within a.beginning) | no g ↦ omega arith ]
     ]
 
--- `Bad k` is said exactly where k is the first bad offset.
-pub verdict_first_bad : (s : List ℕ) (k : ℕ) → (verdict s ≡ Bad k) ↔ FirstBad s k
+-- `Err k` is said exactly where k is the first bad offset.
+pub verdict_first_bad : (s : List ℕ) (k : ℕ) → (verdict s ≡ Err k) ↔ FirstBad s k
 verdict_first_bad s k = (bad_is_first s k, λ b. go b (verdict s) refl)
   where
-    go : FirstBad s k → (v : Verdict) → verdict s ≡ v → v ≡ Bad k
-    go b Good e = absurd (b.not ((utf8_octets s).0 (unfold utf8 in ap is_good e)))
-    go b (Bad j) e = ap Bad (first_is_one s j k (bad_is_first s j e) b)
+    go : FirstBad s k → (v : Verdict) → verdict s ≡ v → v ≡ Err k
+    go b (Ok u) e = absurd (b.not ((utf8_octets s).0 (unfold utf8 in ap is_good e)))
+    go b (Err j) e = ap Err (first_is_one s j k (bad_is_first s j e) b)

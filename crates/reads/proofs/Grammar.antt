@@ -4,10 +4,9 @@ use mathlib.Core.Bool.{false≢true}
 use mathlib.Core.List.{Memᴰ}
 use Rattle.reads.specs.Outcome.{choose}
 use Rattle.reads.specs.Utf8.{Range, inside, chars, Fit, fit_none, fit_more, Octets, octets_none, octets_more, due_after, go_on, judge, is_good, utf8}
-use Rattle.reads.specs.declared.text.Verdict.TheVariants.{Bad}
 use Rattle.reads.proofs.Rows.{begun_unique, begun_some}
 use Rattle.reads.proofs.Options.{none_not_some}
-use Rattle.std.specs.Prelude.{Option, None, Some}
+use Rattle.std.specs.Prelude.{Option, None, Some, Err}
 
 -- What is accepted, without the offsets
 abbrev pub onward : Option (List Range) → (List Range → Bool) → Bool
@@ -27,7 +26,7 @@ judge_accepts [] at (r ∷ w) = refl
 judge_accepts (b ∷ s) at w = go (due_after w b) (λ w'. judge_accepts s (suc at) w')
   where
     go : (o : Option (List Range)) → ((w' : List Range) → is_good (judge (suc at) w' s) ≡ accepts w' s)
-        → is_good (go_on o (Bad at) (λ w'. judge (suc at) w' s)) ≡ onward o (λ w'. accepts w' s)
+        → is_good (go_on o (Err at) (λ w'. judge (suc at) w' s)) ≡ onward o (λ w'. accepts w' s)
     go None f = refl
     go (Some w') f = f w'
 

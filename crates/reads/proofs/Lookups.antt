@@ -1,5 +1,5 @@
 -- What a segment answers, by the tests that the code makes, and the walk over the rows from row i on.
-use Rattle.std.proofs.Common.{◌≡◌, ℕ, suc, ◌+◌, ◌-◌, ◌^◌, ◌<◌, ◌≤◌, true, false, ◌&&◌, eqb, ltb, leb, List, arith, ltb-true, le-ltb, le-leb, leb-false, leb-true}
+use Rattle.std.proofs.Common.{◌≡◌, ℕ, ◌+◌, ◌-◌, ◌^◌, ◌<◌, ◌≤◌, true, false, ◌&&◌, eqb, ltb, leb, List, arith, ltb-true, le-ltb, le-leb, leb-false, leb-true}
 use mathlib.Core.Bool.{and-false}
 use borrow.Author.Tests.{lt-leb}
 use Rattle.reads.specs.Outcome.{value, absent, because, choose, sum64}
@@ -9,12 +9,7 @@ use Rattle.reads.specs.Segment.{segment_words, segment_at, ends, holds, place_at
 use Rattle.reads.specs.declared.segment.Segment.{Segment}
 use Rattle.reads.proofs.Outcomes.{sum_fits, sum_over}
 use Rattle.reads.proofs.SegmentRows.{rows_from, rows_read, rows_none}
-use Rattle.reads.proofs.Tests.{le_same, both_true}
-
--- A number in [from, from + size), as the code tests it.
-pub inside_by : (from size x : ℕ) → from ≤ x → ltb (x - from) size ≡ leb from x && ltb x (from + size)
-inside_by from size x h =
-    simp (le-leb from x h) (le_same (suc (x - from)) size (suc x) (from + size) (λ u. omega arith) (λ u. omega arith))
+use Rattle.reads.proofs.Tests.{both_true}
 
 module _ (s : Segment) where
   pub ends_not : ends s ≡ false → s.vmaddr + s.vmsize < 2 ^ 64

@@ -182,10 +182,10 @@ pub answer_at_room : (w : Result Place Missing) (n : ℕ) (q : Place) (k : ℕ) 
 answer_at_room w n q k p e g = (readable_at_room n q k p (rw (← e, g))).1
 
 -- The file of a place that was found for some bytes is lent, and holds them.
-module _ (w : Result Place Missing) (fs : List (Bor (List ℕ))) (ws : List ℕ) (va k : ℕ) (p : Place) (e : outcome w ≡ readable (image_of (files_lent fs) ws) va k)
-    (g : w ≡ Ok p) (some : 0 < k) where
+module _ (w : Result Place Missing) (m : Image) (fs : List (Bor (List ℕ))) (ws : List ℕ) (va k : ℕ) (p : Place) (v : image_of (files_lent fs) ws ≡ m)
+    (e : outcome w ≡ readable m va k) (g : w ≡ Ok p) (some : 0 < k) where
   found_room : p.offset + k ≤ length (file_of (files_lent fs) p.file)
-  found_room = readable_room (image_of (files_lent fs) ws) va k p (rw (← e, g))
+  found_room = readable_room (image_of (files_lent fs) ws) va k p (rw (v, ← e, g))
 
   found_number : p.file < length (files_lent fs)
   found_number = lent_by_bytes fs p.file (omega (arith, found_room))
@@ -193,11 +193,14 @@ module _ (w : Result Place Missing) (fs : List (Bor (List ℕ))) (ws : List ℕ)
   pub found_lent : p.file < length fs
   found_lent = lent_below fs p.file found_number
 
-  pub found_file : (d : Bor (List ℕ)) → (get_or fs p.file d).now ≡ file_of (files_lent fs) p.file
-  found_file d = file_lent fs p.file d found_number
+  file_found : (d : Bor (List ℕ)) → (get_or fs p.file d).now ≡ file_of (files_lent fs) p.file
+  file_found d = file_lent fs p.file d found_number
+
+  pub found_file : (d : Bor (List ℕ)) → (get_or fs p.file d).now ≡ file_of m.files p.file
+  found_file d = rw (← v) (file_found d)
 
   pub found_holds : (d : Bor (List ℕ)) → p.offset + k ≤ length (get_or fs p.file d).now
-  found_holds d = rw (found_file d) found_room
+  found_holds d = rw (file_found d) found_room
 
 -- Numbers of one slice.
 module _ (bs : List ℕ) (k offset : ℕ) where

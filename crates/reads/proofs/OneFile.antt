@@ -1,6 +1,8 @@
 -- One file with number 0 everywhere gives what one image gave (document 02, note 6): lookups, reads and texts. Other files may be lent beside
 -- it: no lookup leads there.
+use Rattle.std.specs.Prelude.{Ok, Err}
 use Rattle.std.proofs.Common.{◌≡◌, ℕ, zero, suc, ◌+◌, ◌-◌, ◌<◌, ◌≤◌, Bool, true, false, leb, List, [], ◌∷◌, map, length, drop, refl, ap, ◌∙◌, arith}
+use Rattle.reads.specs.Utf8.{Verdict}
 use Rattle.reads.specs.Outcome.{Outcome, value, absent, refused, and_then, because, or_else, choose, sum64, nonzero, text_of}
 use Rattle.reads.specs.Table.{records, word_of, tabulate}
 use Rattle.reads.specs.Files.{file_of}
@@ -14,8 +16,6 @@ use Rattle.reads.specs.declared.segment.Segment.{Segment}
 use Rattle.reads.specs.declared.text.Reading.{Reading}
 use Rattle.reads.specs.declared.text.Reading.TheVariants.{Old, New}
 use Rattle.reads.specs.declared.text.Text.{Text}
-use Rattle.reads.specs.declared.text.Verdict.{Verdict}
-use Rattle.reads.specs.declared.text.Verdict.TheVariants.{Good, Bad}
 use Rattle.reads.proofs.OneImage as one
 
 -- A table whose records have one word more than they had, a file number that is 0.
@@ -143,10 +143,10 @@ module _ {old new : List ℕ} (w : Widened 4 old new) where
         go : (b : Bool) (r : Reading) (e : Bool) (v : Verdict) (n : ℕ)
             → choose b (if_ended r e (and_then (if_good v n) (λ m. value (text_of 0 offset m)))) (absent PastEnd)
             ≡ texts_in_file (choose b (if_ended r e (and_then (if_good v n) (λ m. value (record { offset = offset; len = m })))) (absent PastEnd))
-        go true Old e Good n = unfold choose in refl
-        go true Old e (Bad k) n = unfold choose in refl
-        go true New true Good n = unfold choose in refl
-        go true New true (Bad k) n = unfold choose in refl
+        go true Old e (Ok u) n = unfold choose in refl
+        go true Old e (Err k) n = unfold choose in refl
+        go true New true (Ok u) n = unfold choose in refl
+        go true New true (Err k) n = unfold choose in refl
         go true New false v n = unfold choose in refl
         go false r e v n = unfold choose in refl
 

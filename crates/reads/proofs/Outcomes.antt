@@ -86,17 +86,6 @@ module _ {B : Type 0} where
       → outcome w ≡ x → w ≡ Err m → missed m ≡ and_then x f
   text_missing w x f m e g = on_missing outcome f m e g refl
 
--- A second lookup where the first is absent.
-module _ {W A : Type 0} (out : W → Outcome A) (y : Outcome A) where
-  pub else_value : {w v : W} {x : Outcome A} {a : A} → out w ≡ x → w ≡ v → out v ≡ value a → value a ≡ or_else x y
-  else_value e g h = rw (← e, g, h)
-
-  pub else_absent : {w v : W} {x z : Outcome A} {r : Reason} → out w ≡ x → w ≡ v → out v ≡ absent r → z ≡ y → z ≡ or_else x y
-  else_absent e g h k = rw (← e, g, h) k
-
-  pub else_number : {w v : W} {x : Outcome A} {k : Question} → out w ≡ x → w ≡ v → out v ≡ refused k → refused k ≡ or_else x y
-  else_number e g h = rw (← e, g, h)
-
 -- A second lookup where the first is absent, whose reason stands.
 module _ {W A : Type 0} (out : W → Outcome A) (y : Outcome A) where
   pub first_value_lem : {w v : W} {x : Outcome A} {a : A} → out w ≡ x → w ≡ v → out v ≡ value a → value a ≡ or_first x y
@@ -135,12 +124,8 @@ or_zero_of r w x e g = e ∙ ap or_zero g
 pub or_empty_of : (r w : Result Text Missing) (x : Outcome Text) → outcome r ≡ or_empty (outcome w) → outcome w ≡ x → outcome r ≡ or_empty x
 or_empty_of r w x e g = e ∙ ap or_empty g
 
-pub because_of : (r w : Result ℕ Missing) (why : Reason) (x : Outcome ℕ) → outcome r ≡ because why (outcome w) → outcome w ≡ x
+pub because_of : {A : Type 0} (r w : Result A Missing) (why : Reason) (x : Outcome A) → outcome r ≡ because why (outcome w) → outcome w ≡ x
     → outcome r ≡ because why x
 because_of r w why x e g = e ∙ ap (because why) g
 
-pub text_because_of : (r w : Result Text Missing) (why : Reason) (x : Outcome Text) → outcome r ≡ because why (outcome w) → outcome w ≡ x
-    → outcome r ≡ because why x
-text_because_of r w why x e g = e ∙ ap (because why) g
-
-pub ruleset outcomes = (or_zero_of, or_empty_of, because_of, text_because_of, word_value, word_missing, place_value, place_missing, text_value, text_missing)
+pub ruleset outcomes = (or_zero_of, or_empty_of, because_of, word_value, word_missing, place_value, place_missing, text_value, text_missing)

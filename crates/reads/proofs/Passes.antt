@@ -8,10 +8,9 @@ use Rattle.reads.specs.Text.{text}
 use Rattle.reads.specs.Pass.{byte_after, due, follow, follow_all, follow_row, character}
 use Rattle.reads.specs.declared.text.ByteRead.{ByteRead}
 use Rattle.reads.specs.declared.text.Step.{Step}
-use Rattle.reads.specs.declared.text.Verdict.TheVariants.{Bad}
 use Rattle.reads.proofs.Tests.{both_true}
 use Rattle.reads.proofs.Rows.{all, begun_all, inside_between, inside_over, multi_row, multi_under, multi_over}
-use Rattle.std.specs.Prelude.{Option, None, Some}
+use Rattle.std.specs.Prelude.{Option, None, Some, Err}
 
 module _ (b : ℕ) (s : List ℕ) where
   pub text_zero : b ≡ 0 → text (b ∷ s) ≡ []
@@ -64,7 +63,7 @@ pub record Left (z : Bool) (s : List ℕ) (w : List Range) (i : ℕ) : Type 0 wh
 pub record FoundBad (z : Bool) (s : List ℕ) (k : ℕ) : Type 0 where
   pub within : k ≤ length s
   pub long : k + length (up_to z (drop k s)) ≡ length (up_to z s)
-  pub judged : Bad k ≡ verdict (up_to z s)
+  pub judged : Err k ≡ verdict (up_to z s)
 
 -- At offset i, by the byte that stands there.
 module _ {z : Bool} {s : List ℕ} {w : List Range} {i : ℕ} (l : Left z s w i) where
@@ -73,10 +72,10 @@ module _ {z : Bool} {s : List ℕ} {w : List Range} {i : ℕ} (l : Left z s w i)
     next_judged = ap (up_to z) (drop-cons s i 0 h) ∙ up_to_next z (get_or s i 0) (drop (suc i) s) n
 
     by_due : (o : Option (List Range)) → due_after w (get_or s i 0) ≡ o
-        → go_on o (Bad i) (λ v. judge (suc i) v (up_to z (drop (suc i) s))) ≡ verdict (up_to z s)
+        → go_on o (Err i) (λ v. judge (suc i) v (up_to z (drop (suc i) s))) ≡ verdict (up_to z s)
     unfolding judge
     by_due o e =
-        ap (λ (q : Option (List Range)). go_on q (Bad i) (λ v. judge (suc i) v (up_to z (drop (suc i) s)))) (sym e)
+        ap (λ (q : Option (List Range)). go_on q (Err i) (λ v. judge (suc i) v (up_to z (drop (suc i) s)))) (sym e)
         ∙ ap (judge i w) (sym next_judged) ∙ l.judged
 
     pub left_on : (v : List Range) → due_after w (get_or s i 0) ≡ Some v → Left z s v (byte_after s i).read
@@ -88,16 +87,16 @@ module _ {z : Bool} {s : List ℕ} {w : List Range} {i : ℕ} (l : Left z s w i)
     left_bad e = record { within = l.within; long = l.long; judged = by_due None e }
 
 -- A byte that is not the one due is bad, and so is a zero byte that ends the text, and the end.
-judge_misfit_front : (z : Bool) (i : ℕ) (r : Range) (w : List Range) (b : ℕ) (s : List ℕ) → inside r b ≡ false → judge i (r ∷ w) (up_to z (b ∷ s)) ≡ Bad i
+judge_misfit_front : (z : Bool) (i : ℕ) (r : Range) (w : List Range) (b : ℕ) (s : List ℕ) → inside r b ≡ false → judge i (r ∷ w) (up_to z (b ∷ s)) ≡ Err i
 unfolding judge text choose
 judge_misfit_front false i r w b s e = simp e
 judge_misfit_front true i r w b s e = go (eqb b 0)
   where
-    go : (x : Bool) → judge i (r ∷ w) (choose x [] (b ∷ text s)) ≡ Bad i
+    go : (x : Bool) → judge i (r ∷ w) (choose x [] (b ∷ text s)) ≡ Err i
     go true = refl
     go false = simp e
 
-judge_misfit : (z : Bool) (s : List ℕ) (i : ℕ) (r : Range) (w : List Range) → inside r (get_or s i 0) ≡ false → judge i (r ∷ w) (up_to z (drop i s)) ≡ Bad i
+judge_misfit : (z : Bool) (s : List ℕ) (i : ℕ) (r : Range) (w : List Range) → inside r (get_or s i 0) ≡ false → judge i (r ∷ w) (up_to z (drop i s)) ≡ Err i
 unfolding judge
 judge_misfit z s i r w e =
     elim (dec_le (length s) i) [

@@ -1,4 +1,5 @@
 -- Worked cases of the definitions of texts; the bytes are of RFC 3629, sections 3, 4 and 10, and of ASCII.
+use Rattle.std.specs.Prelude.{Err}
 use Rattle.std.proofs.Common.{◌≡◌, ℕ, List, [], ◌∷◌, refl}
 use Rattle.reads.specs.Outcome.{value, absent, choose, sum64, nonzero, text_of}
 use Rattle.reads.specs.Files.{file_of}
@@ -7,7 +8,6 @@ use Rattle.reads.specs.Place.{Image, image_of}
 use Rattle.reads.specs.Utf8.{judge, verdict, utf8}
 use Rattle.reads.specs.declared.answer.Reason.TheVariants.{PastEnd, Unterminated, NotUtf8}
 use Rattle.reads.specs.declared.text.Reading.TheVariants.{Old, New}
-use Rattle.reads.specs.declared.text.Verdict.TheVariants.{Bad}
 use Rattle.reads.specs.Text.{text, text_from, text_in, read_from, read_in, fixed_length}
 
 -- "\0Hub\0x": the text at 1 is "Hub", at 5 "x" runs to the file's end, at 6 it is empty, and above 6 it is absent.
@@ -65,7 +65,7 @@ cut_by_zero : text_from Old (0xE2 ∷ 0x89 ∷ 0x00 ∷ 0xA2 ∷ []) (place_at 0
 unfolding text_from text judge choose
 cut_by_zero = refl
 
-first_bad : verdict (0x41 ∷ 0xED ∷ 0xA0 ∷ 0x80 ∷ []) ≡ Bad 2
+first_bad : verdict (0x41 ∷ 0xED ∷ 0xA0 ∷ 0x80 ∷ []) ≡ Err 2
 unfolding judge choose
 first_bad = refl
 

@@ -1,4 +1,5 @@
 -- The text in front of a list: where a pass over it ends, and what the answers come to.
+use Rattle.std.specs.Prelude.{Ok, Err}
 use Rattle.std.proofs.Common.{◌≡◌, ℕ, suc, ◌+◌, ◌<◌, ◌≤◌, min, Bool, true, false, eqb, leb, List, [], ◌∷◌, length, get_or, drop, sym, refl, ap, ◌∙◌, subst, arith, length-drop, drop_of_length-le, drop-cons, leb-true}
 use native.Mathlib.Decide.{dec_le}
 use borrow.Author.Tests.{lt-leb}
@@ -7,15 +8,13 @@ use Rattle.reads.specs.Files.{file_of}
 use Rattle.reads.specs.Segment.{rows, lookup}
 use Rattle.reads.specs.Place.{Image}
 use Rattle.reads.specs.declared.place.Place.{Place}
-use Rattle.reads.specs.Utf8.{judge, verdict}
+use Rattle.reads.specs.Utf8.{Verdict, judge, verdict}
 use Rattle.reads.specs.Text.{text, scanned, scan_of, if_good, good_text, ended, if_ended, text_from, text_at, text_in}
 use Rattle.reads.specs.Pass.{byte_after, broken_at}
 use Rattle.reads.specs.declared.text.ByteRead.{ByteRead}
 use Rattle.reads.specs.declared.text.Reading.{Reading}
 use Rattle.reads.specs.declared.text.Reading.TheVariants.{Old, New}
 use Rattle.reads.specs.declared.text.Text.{Text}
-use Rattle.reads.specs.declared.text.Verdict.{Verdict}
-use Rattle.reads.specs.declared.text.Verdict.TheVariants.{Good, Bad}
 use Rattle.reads.specs.declared.answer.Reason.TheVariants.{PastEnd}
 use Rattle.reads.proofs.Passes.{text_zero, text_next, stands_inside, read_there, read_of_all, Left, FoundBad}
 
@@ -53,22 +52,22 @@ module _ {s : List ℕ} {k : ℕ} {b : ByteRead} (l : Ahead s k b) where
         record { is = refl; within = h; long = omega (arith, l.long, ap length goes) }
 
   -- Where it is one, or nothing is left, the text ends before it.
-  pub ahead_ends : b.byte ≡ 0 → record { len = b.at; read = b.read; verdict = Bad k } ≡ broken_at s k
+  pub ahead_ends : b.byte ≡ 0 → record { len = b.at; read = b.read; verdict = Err k } ≡ broken_at s k
   ahead_ends z =
       let e = ends_there s b.at (sym (ap (λ (x : ByteRead). x.byte) l.is) ∙ z) in
       let n : b.at ≡ k + length (text (drop k s)) = omega (arith, l.long, ap length e) in
       let r : b.read ≡ min (suc b.at) (length s) = ap (λ (x : ByteRead). x.read) l.is ∙ read_of_all s b.at l.within in
-      ap (λ (x : ℕ). record { len = b.at; read = x; verdict = Bad k }) r ∙ ap (λ (x : ℕ). scanned s x (Bad k)) n
+      ap (λ (x : ℕ). record { len = b.at; read = x; verdict = Err k }) r ∙ ap (λ (x : ℕ). scanned s x (Err k)) n
 
 -- A pass that came to the end of the text, and one that did not find it UTF-8.
 pub scan_good : {s : List ℕ} {i : ℕ} {b : ByteRead} → Left true s [] i → b ≡ byte_after s i → b.byte ≡ 0
-    → record { len = b.at; read = b.read; verdict = Good } ≡ scan_of s
+    → record { len = b.at; read = b.read; verdict = Ok tt } ≡ scan_of s
 unfolding judge
 scan_good {s} {i} {b} l q z =
     let e = ends_there s i (sym (ap (λ (x : ByteRead). x.byte) q) ∙ z) in
     let n : i ≡ length (text s) = omega (arith, l.long, ap length e) in
-    let v : Good ≡ verdict (text s) = ap (judge i []) (sym e) ∙ l.judged in
-    ap (λ (x : ByteRead). record { len = x.at; read = x.read; verdict = Good }) q ∙ rw (read_of_all s i l.within, n, v)
+    let v : Ok tt ≡ verdict (text s) = ap (judge i []) (sym e) ∙ l.judged in
+    ap (λ (x : ByteRead). record { len = x.at; read = x.read; verdict = Ok tt }) q ∙ rw (read_of_all s i l.within, n, v)
 
 pub scan_broken : {s : List ℕ} {k : ℕ} → FoundBad true s k → broken_at s k ≡ scan_of s
 scan_broken {s} {k} b = rw (b.long, b.judged)
@@ -109,13 +108,13 @@ text_inside r bytes p t e =
     go : (x : Bool) → leb p.offset (length bytes) ≡ x → (v : Verdict)
         → value t ≡ choose x (and_then (if_good v (length (text (drop p.offset bytes)))) (λ n. value (text_of p.file p.offset n))) (absent PastEnd)
         → (t.file ≡ p.file) × (t.offset + t.len ≤ length bytes)
-    go true h Good q =
+    go true h (Ok u) q =
         let same : t ≡ text_of p.file p.offset (length (text (drop p.offset bytes))) = unfold choose in cc in
         let i = leb-true p.offset (length bytes) h in (
           ap (λ (u : Text). u.file) same,
           omega (arith, ap (λ (u : Text). u.offset) same, ap (λ (u : Text). u.len) same, text_short (drop p.offset bytes), length-drop p.offset bytes),
         )
-    go true h (Bad k) q = let z : ◌≡◌ {A = ℕ} 0 1 = unfold choose in cc in absurd (omega arith)
+    go true h (Err k) q = let z : ◌≡◌ {A = ℕ} 0 1 = unfold choose in cc in absurd (omega arith)
     go false h v q = let z : ◌≡◌ {A = ℕ} 0 1 = unfold choose in cc in absurd (omega arith)
 
 -- A text handed out at an address lies inside its file too.

@@ -1,5 +1,7 @@
 -- The reads ask no question: none of them gives a number. What is made of unrefused outcomes is unrefused.
+use Rattle.std.specs.Prelude.{Ok, Err}
 use Rattle.std.proofs.Common.{◌≡◌, ℕ, ◌+◌, ◌-◌, Bool, true, false, List, [], ◌∷◌, length, drop, refl}
+use Rattle.reads.specs.Utf8.{Verdict}
 use Rattle.reads.specs.Outcome.{Outcome, value, Unrefused, a_value, an_absence, and_then, because, or_else, or_first, or_zero, or_empty, choose, sum64, nonzero, text_of}
 use Rattle.reads.specs.Files.{file_of}
 use Rattle.reads.specs.Segment.{rows, place_at, placed, lookup}
@@ -13,8 +15,6 @@ use Rattle.reads.specs.declared.text.Reading.{Reading}
 use Rattle.reads.specs.declared.text.Reading.TheVariants.{Old, New}
 use Rattle.reads.specs.declared.text.Scan.{Scan}
 use Rattle.reads.specs.declared.text.Text.{Text}
-use Rattle.reads.specs.declared.text.Verdict.{Verdict}
-use Rattle.reads.specs.declared.text.Verdict.TheVariants.{Good, Bad}
 use Rattle.reads.specs.declared.segment.Segment.{Segment}
 use Rattle.reads.proofs.Tests.{by_choose}
 
@@ -86,8 +86,8 @@ module _ (m : Image) where
       (λ p. a_value (le (part (file_of m.files p.file) p.offset k)))
 
 if_good_unrefused : (v : Verdict) (n : ℕ) → Unrefused (if_good v n)
-if_good_unrefused Good n = a_value n
-if_good_unrefused (Bad k) n = an_absence (NotUtf8 k)
+if_good_unrefused (Ok u) n = a_value n
+if_good_unrefused (Err k) n = an_absence (NotUtf8 k)
 
 good_text_unrefused : (p : Place) (c : Scan) → Unrefused (good_text p c)
 good_text_unrefused p c =

@@ -1,12 +1,11 @@
 -- One pass over bytes (document 02, note 4), a byte at a time: what its steps read. proofs/Passes.antt has what they say of a text.
-use Rattle.std.specs.Prelude.{ℕ, suc, ◌+◌, true, false, List, [], ◌∷◌, length, drop, nat_lt, slice_index, Option, None, Some}
+use Rattle.std.specs.Prelude.{ℕ, suc, ◌+◌, true, false, List, [], ◌∷◌, length, drop, nat_lt, slice_index, Option, None, Some, Err}
 use Rattle.reads.specs.Outcome.{choose}
 use Rattle.reads.specs.Utf8.{Range, inside, multi, begun}
 use Rattle.reads.specs.Text.{text, scanned}
 use Rattle.reads.specs.declared.text.ByteRead.{ByteRead}
 use Rattle.reads.specs.declared.text.Scan.{Scan}
 use Rattle.reads.specs.declared.text.Step.{Step}
-use Rattle.reads.specs.declared.text.Verdict.TheVariants.{Bad}
 
 -- The byte after n bytes of s that were read, and the count raised by it. Where no byte is left 0 stands for it, and the count stays.
 abbrev pub byte_after : List ℕ → ℕ → ByteRead
@@ -36,4 +35,4 @@ character s first = follow_row s first (begun multi first.byte)
 
 -- What a pass over s finds that met the first bad byte at k.
 abbrev pub broken_at : List ℕ → ℕ → Scan
-broken_at s k = scanned s (k + length (text (drop k s))) (Bad k)
+broken_at s k = scanned s (k + length (text (drop k s))) (Err k)

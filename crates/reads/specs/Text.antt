@@ -1,19 +1,17 @@
 -- Texts in the files of an image (document 01, Reading rules, third point; document 02, notes 2, 4, 6 and 12; util.rs, read_cstr_at and
 -- cstr_from_fixed).
-use Rattle.std.specs.Prelude.{ℕ, suc, ◌+◌, min, Bool, true, false, List, [], ◌∷◌, length, drop, ◌==◌, nat_le, nat_lt}
+use Rattle.std.specs.Prelude.{ℕ, suc, ◌+◌, min, Bool, true, false, List, [], ◌∷◌, length, drop, ◌==◌, nat_le, nat_lt, Ok, Err}
 use Rattle.reads.specs.Outcome.{Outcome, value, absent, refused, and_then, choose, nonzero, text_of}
 use Rattle.reads.specs.Files.{file_of}
 use Rattle.reads.specs.Segment.{rows, lookup}
 use Rattle.reads.specs.Place.{Image}
-use Rattle.reads.specs.Utf8.{verdict, utf8}
+use Rattle.reads.specs.Utf8.{Verdict, verdict, utf8}
 use Rattle.reads.specs.declared.answer.Reason.TheVariants.{PastEnd, Unterminated, NotUtf8}
 use Rattle.reads.specs.declared.place.Place.{Place}
 use Rattle.reads.specs.declared.text.Reading.{Reading}
 use Rattle.reads.specs.declared.text.Reading.TheVariants.{Old, New}
 use Rattle.reads.specs.declared.text.Scan.{Scan}
 use Rattle.reads.specs.declared.text.Text.{Text}
-use Rattle.reads.specs.declared.text.Verdict.{Verdict}
-use Rattle.reads.specs.declared.text.Verdict.TheVariants.{Good, Bad}
 
 -- The bytes before the first zero byte, all of them where there is none.
 unfoldable pub text : List ℕ → List ℕ
@@ -29,8 +27,8 @@ scan_of s = scanned s (length (text s)) (verdict (text s))
 
 -- A length, absent unless UTF-8.
 abbrev pub if_good : Verdict → ℕ → Outcome ℕ
-if_good Good n = value n
-if_good (Bad k) n = absent (NotUtf8 k)
+if_good (Ok u) n = value n
+if_good (Err k) n = absent (NotUtf8 k)
 
 -- The text that a scan from a place found, absent unless UTF-8.
 abbrev pub good_text : Place → Scan → Outcome Text

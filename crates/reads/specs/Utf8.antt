@@ -1,9 +1,7 @@
 -- UTF-8 by the ABNF of RFC 3629, section 4. Each alternative of a rule is a row of ranges, in the RFC's order.
-use Rattle.std.specs.Prelude.{◌≡◌, ℕ, suc, ◌<◌, ◌≤◌, Bool, true, false, ◌&&◌, List, [], ◌∷◌, ◌++◌, length, take, nat_le, Option, None, Some}
+use Rattle.std.specs.Prelude.{◌≡◌, ℕ, suc, ◌<◌, ◌≤◌, Bool, true, false, ◌&&◌, List, [], ◌∷◌, ◌++◌, length, take, nat_le, Option, None, Some, Result, Ok, Err}
 use mathlib.Core.List.{Memᴰ}
 use Rattle.reads.specs.Outcome.{choose}
-use Rattle.reads.specs.declared.text.Verdict.{Verdict}
-use Rattle.reads.specs.declared.text.Verdict.TheVariants.{Good, Bad}
 
 infix 90 ◌to◌
 -- %xLO-HI
@@ -84,9 +82,14 @@ abbrev pub due_after : List Range → ℕ → Option (List Range)
 due_after [] b = begun chars b
 due_after (r ∷ rs) b = choose (inside r b) (Some rs) None
 
+-- Bytes are UTF-8 (`Ok tt`), or they are not: the offset of the first byte that no well-formed text can continue, or their count
+-- where they end inside a character.
+abbrev pub Verdict : Type 0
+Verdict = Result (Unit {0}) ℕ
+
 abbrev pub stopped : List Range → ℕ → Verdict
-stopped [] at = Good
-stopped (r ∷ rs) at = Bad at
+stopped [] at = Ok tt
+stopped (r ∷ rs) at = Err at
 
 abbrev pub go_on : Option (List Range) → Verdict → (List Range → Verdict) → Verdict
 go_on None v f = v
@@ -96,15 +99,15 @@ go_on (Some w) v f = f w
 -- the grammar continues with, or at its length where it ends inside a character.
 unfoldable pub judge : ℕ → List Range → List ℕ → Verdict
 judge at w [] = stopped w at
-judge at w (b ∷ s) = go_on (due_after w b) (Bad at) (λ w'. judge (suc at) w' s)
+judge at w (b ∷ s) = go_on (due_after w b) (Err at) (λ w'. judge (suc at) w' s)
 
--- proofs/FirstBad.antt shows that it is `Bad k` exactly where `FirstBad s k`.
+-- proofs/FirstBad.antt shows that it is `Err k` exactly where `FirstBad s k`.
 abbrev pub verdict : List ℕ → Verdict
 verdict s = judge 0 [] s
 
 abbrev pub is_good : Verdict → Bool
-is_good Good = true
-is_good (Bad k) = false
+is_good (Ok u) = true
+is_good (Err k) = false
 
 -- UTF8-octets, as a test; proofs/Grammar.antt shows that it accepts exactly `Octets`.
 unfoldable pub utf8 : List ℕ → Bool

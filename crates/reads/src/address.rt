@@ -27,6 +27,7 @@ impl Address {
     pub const CHAINS: usize = 4096;
 
     // A pointer word without its signature: strip_signature.
+    #[tactic(auto, using(crate::proofs::Masks::va_mask))]
     pub fn strip(raw: u64) -> u64
         ensures { result ≡ stripped raw }
     {
@@ -38,24 +39,21 @@ impl Address {
     pub fn mapped(segments: &[u64], va: u64) -> Result<u64, Missing>
         ensures { outcome result ≡ mapped (before segments) va }
     {
-        match vm_to_file_offset_in(segments, va) {
-            Ok(_) => Ok(va),
-            Err(m) => Err(m),
-        }
+        vm_to_file_offset_in(segments, va)?;
+        Ok(va)
     }
 
     // The data address by the wide mask.
+    #[tactic(auto, using(std::proofs::lemmas::Result::err_from_is_err_and, crate::proofs::Masks::fast_data_mask_arm64e, crate::proofs::Outcomes::word_value, crate::proofs::Outcomes::word_missing), unfolding(crate::specs::Address::picked_wide))]
     fn pick_wide(segments: &[u64], word: u64) -> Result<u64, Missing>
         ensures { outcome result ≡ picked_wide (before segments) word }
     {
-        match nonzero(word & Address::FAST_DATA_MASK_ARM64E) {
-            Ok(va) => Address::mapped(segments, va),
-            Err(m) => Err(m),
-        }
+        let va = nonzero(word & Address::FAST_DATA_MASK_ARM64E)?;
+        Address::mapped(segments, va)
     }
 
     // The data address by the wide mask, else by the other.
-    #[tactic(auto, using(crate::proofs::Outcomes::outcomes), unfolding(crate::specs::Address::picked_wide))]
+    #[tactic(auto, using(crate::proofs::Outcomes::outcomes, crate::proofs::Masks::fast_data_mask_64, crate::proofs::Outcomes::when_absent), unfolding(crate::specs::Address::picked_wide))]
     fn pick_either(segments: &[u64], word: u64) -> Result<u64, Missing>
         ensures { outcome result ≡ picked_either (before segments) word }
     {

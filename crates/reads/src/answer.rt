@@ -82,6 +82,17 @@ pub enum Missing {
     Refused(Question),
 }
 
+// A question that says no is handed on by `?`.
+impl From<Question> for Missing {
+    ghost use Rattle.reads.specs.declared.answer.Missing.TheVariants.{Refused};
+
+    ghost from_gives = { λ k m. m ≡ Refused k };
+
+    fn from(question: Question) -> Missing {
+        Missing::Refused(question)
+    }
+}
+
 impl Missing {
     // An absence gets this reason.
     pub fn because(self, why: Reason) -> Missing
@@ -98,33 +109,24 @@ impl Missing {
 pub fn is_absent(w: Result<u64, Missing>) -> bool
     ensures { result ≡ is_absent (outcome w) }
 {
-    match w {
-        Ok(_) => false,
-        Err(m) => match m {
-            Missing::Absent(_) => true,
-            Missing::Refused(_) => false,
-        },
-    }
+    matches!(w, Err(Missing::Absent(_)))
 }
 
-// An absent number gets this reason.
-pub fn because(w: Result<u64, Missing>, why: Reason) -> Result<u64, Missing>
+// What is absent gets this reason.
+pub fn because<T>(w: Result<T, Missing>, why: Reason) -> Result<T, Missing>
     ensures { outcome result ≡ because why (outcome w) }
 {
-    match w {
-        Ok(n) => Ok(n),
-        Err(m) => Err(m.because(why)),
-    }
+    w.map_err(|m| m.because(why))
 }
 
 // "or 0": an absent number counts as 0.
 pub fn or_zero(w: Result<u64, Missing>) -> Result<u64, Missing>
     ensures { outcome result ≡ or_zero (outcome w) }
 {
-    if is_absent(w) {
-        return Ok(0);
+    match w {
+        Err(Missing::Absent(_)) => Ok(0),
+        w => w,
     }
-    w
 }
 
 // The address of a field, absent over 64 bits: checked_add.
@@ -132,10 +134,8 @@ pub fn or_zero(w: Result<u64, Missing>) -> Result<u64, Missing>
 pub fn checked_add(a: u64, b: u64) -> Result<u64, Missing>
     ensures { outcome result ≡ sum64 a b }
 {
-    if 0xFFFF_FFFF_FFFF_FFFF - a < b {
-        return Err(Missing::Absent(Reason::FieldOverflow));
-    }
-    Ok(a + b)
+    a.checked_add(b)
+        .ok_or(Missing::Absent(Reason::FieldOverflow))
 }
 
 // An address that is not 0.

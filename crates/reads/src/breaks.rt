@@ -1,13 +1,14 @@
 // The breakpoints of an image: between two of them it does not change whether bytes can be read.
 ghost use Rattle.std.specs.Prelude.{◌≡◌};
-ghost use Rattle.reads.specs.Place.{lent_image};
 ghost use Rattle.reads.specs.Breaks.{readable_part, breaks_of, lower, next_break};
 
 use crate::files::file_len;
+use crate::place::Image;
 use crate::segment::Segment;
 
 // How many addresses of the segment, from its first on, lie in its file part and have `least` bytes from there on in a
 // file of n bytes.
+#[tactic(auto, using(crate::proofs::BreakSteps::part_by), unfolding(crate::specs::Segment::mapped_size))]
 fn readable_part(s: Segment, n: u64, least: u64) -> u64
     ensures { result ≡ readable_part n least s }
 {
@@ -42,16 +43,16 @@ fn lower(va: u64, best: Option<u64>, b: u64) -> Option<u64>
 
 // The least breakpoint above an address: until there, `least` bytes can be read everywhere or nowhere. The segments may
 // overlap, and may stand in any order.
-pub fn next_break(files: &[&[u8]], segments: &[u64], least: u64, va: u64) -> Option<u64>
-    ensures { result ≡ next_break (breaks_of (lent_image files segments) least) va }
+pub fn next_break(image: &Image, least: u64, va: u64) -> Option<u64>
+    ensures { result ≡ next_break (breaks_of image.now least) va }
 {
     let mut best = None;
-    for i in 0..segments.len() / Segment::WORDS {
-        let s = Segment::at(segments, i);
+    for i in 0..image.segments.len() / Segment::WORDS {
+        let s = Segment::at(image.segments, i);
         if s.ends() {
             return best;
         }
-        let n = file_len(files, s.file);
+        let n = file_len(image.files, s.file);
         let size = readable_part(s, n, least);
         best = lower(va, best, s.vmaddr);
         best = lower(va, best, s.vmaddr + size);

@@ -34,6 +34,7 @@ pub fn file_len(files: &[&[u8]], f: u64) -> u64
 }
 
 // The length of the longest file that is lent.
+#[tactic(auto, using(crate::proofs::LentFiles::longest_past, crate::proofs::LentFiles::longest_step))]
 pub fn longest(files: &[&[u8]]) -> u64
     ensures { result ≡ longest (files_of files) }
 {

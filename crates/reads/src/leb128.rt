@@ -21,6 +21,7 @@ pub struct Sleb {
 }
 
 // How many bytes the digits are, the last being the first byte without bit 7.
+#[tactic(auto, using(crate::proofs::LebLaws::counted_start, crate::proofs::LebLaws::counted_last, crate::proofs::LebLaws::counted_more, crate::proofs::LebLaws::counted_end))]
 fn digit_count(bytes: &[u8]) -> Result<u64, Missing>
     ensures { outcome result ≡ digit_count (before bytes) }
 {
@@ -33,6 +34,7 @@ fn digit_count(bytes: &[u8]) -> Result<u64, Missing>
 }
 
 // The seven bits of a digit, complemented where the number is negative.
+#[tactic(auto, unfolding(crate::specs::Leb128::digit))]
 fn digit(b: u8, negative: bool) -> u64
     ensures { result ≡ digit negative b }
 {
@@ -74,13 +76,11 @@ fn by_sign(negative: bool, m: u64) -> i64
 fn uleb_of(digits: &[u8]) -> Result<Uleb, Missing>
     ensures { outcome result ≡ uleb_of (before digits) }
 {
-    match magnitude(digits, false) {
-        Ok(value) => Ok(Uleb {
-            value,
-            consumed: digits.len(),
-        }),
-        Err(m) => Err(m),
-    }
+    let value = magnitude(digits, false)?;
+    Ok(Uleb {
+        value,
+        consumed: digits.len(),
+    })
 }
 
 // The signed number of the digits, by its sign and magnitude: bit 6 of the last digit is the sign.
@@ -91,16 +91,12 @@ fn sleb_of(digits: &[u8]) -> Result<Sleb, Missing>
     let consumed = digits.len();
     let last = digits[consumed - 1];
     let negative = last / 64 % 2 == 1;
-    match magnitude(digits, negative) {
-        Ok(m) => {
-            if 0x8000_0000_0000_0000 <= m {
-                return Err(Missing::Absent(Reason::Malformed));
-            }
-            let value = by_sign(negative, m);
-            Ok(Sleb { value, consumed })
-        }
-        Err(m) => Err(m),
+    let m = magnitude(digits, negative)?;
+    if 0x8000_0000_0000_0000 <= m {
+        return Err(Missing::Absent(Reason::Malformed));
     }
+    let value = by_sign(negative, m);
+    Ok(Sleb { value, consumed })
 }
 
 // The unsigned number that bytes begin with.
@@ -108,13 +104,9 @@ fn sleb_of(digits: &[u8]) -> Result<Sleb, Missing>
 pub fn read_uleb128(bytes: &[u8]) -> Result<Uleb, Missing>
     ensures { outcome result ≡ uleb128 (before bytes) }
 {
-    match digit_count(bytes) {
-        Ok(k) => {
-            let end = k as usize;
-            uleb_of(&bytes[..end])
-        }
-        Err(m) => Err(m),
-    }
+    let k = digit_count(bytes)?;
+    let end = k as usize;
+    uleb_of(&bytes[..end])
 }
 
 // The signed number that bytes begin with.
@@ -122,11 +114,7 @@ pub fn read_uleb128(bytes: &[u8]) -> Result<Uleb, Missing>
 pub fn read_sleb128(bytes: &[u8]) -> Result<Sleb, Missing>
     ensures { outcome result ≡ sleb128 (before bytes) }
 {
-    match digit_count(bytes) {
-        Ok(k) => {
-            let end = k as usize;
-            sleb_of(&bytes[..end])
-        }
-        Err(m) => Err(m),
-    }
+    let k = digit_count(bytes)?;
+    let end = k as usize;
+    sleb_of(&bytes[..end])
 }

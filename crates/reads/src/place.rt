@@ -2,12 +2,29 @@
 ghost use Rattle.std.specs.Prelude.{◌≡◌, ◌+◌, ◌^◌, ◌<◌, ◌≤◌, length, nat_le};
 ghost use Rattle.reads.specs.Reference.{before};
 ghost use Rattle.reads.specs.Files.{files_of};
-ghost use Rattle.reads.specs.Place.{lent_image, le, be, part, readable_at, readable, le_at, be_at, word, word_in, le_in};
+ghost use Rattle.reads.specs.Place.{le, be, part, readable_at, readable, le_at, be_at, word, word_in, le_in};
 ghost use Rattle.reads.specs.Answer.{outcome};
 
-use crate::answer::{Missing, Reason};
+use crate::answer::{Missing, Reason, because};
 use crate::files::{bytes_of, file_len};
 use crate::segment::vm_to_file_offset_in;
+use std::marker::Model;
+
+// An image, as the reads are lent it: its files, at most four of them, and the words of its segment table.
+#[derive(Drop)]
+pub struct Image<'a> {
+    pub files: &'a [&'a [u8]],
+    pub segments: &'a [u64],
+}
+
+impl<'a> Model for Image<'a> {
+    ghost use Rattle.reads.specs.Files.{files_lent};
+    ghost use Rattle.reads.specs.Place.{Image as SpecImage, image_of};
+
+    ghost Value = { SpecImage };
+
+    ghost view = { λ a. image_of (files_lent a.files.now) a.segments.now };
+}
 
 // A place in the image: a file, and the offset of a byte in it.
 #[derive(Clone, Copy)]
@@ -31,13 +48,11 @@ pub fn readable_at(n: u64, p: Place, k: u64) -> Result<Place, Missing>
 
 // The place of an address, if k bytes can be read there: only the first byte is looked up.
 #[tactic(auto, using(crate::proofs::Outcomes::outcomes), unfolding(crate::specs::Place::readable))]
-pub fn readable(files: &[&[u8]], segments: &[u64], va: u64, k: u64) -> Result<Place, Missing>
-    ensures { outcome result ≡ readable (lent_image files segments) va k }
+pub fn readable(image: &Image, va: u64, k: u64) -> Result<Place, Missing>
+    ensures { outcome result ≡ readable image.now va k }
 {
-    match vm_to_file_offset_in(segments, va) {
-        Ok(p) => readable_at(file_len(files, p.file), p, k),
-        Err(m) => Err(m.because(Reason::Unreadable)),
-    }
+    let p = because(vm_to_file_offset_in(image.segments, va), Reason::Unreadable)?;
+    readable_at(file_len(image.files, p.file), p, k)
 }
 
 // The number of N bytes that lie in the slice, in little-endian order.
@@ -52,6 +67,7 @@ pub(crate) fn le<const N: usize>(bytes: &[u8], at: usize) -> u64
 }
 
 // The number of N bytes that lie in the slice, in big-endian order.
+#[tactic(auto, using(crate::proofs::Numbers::be_copied))]
 fn be<const N: usize>(bytes: &[u8], at: usize) -> u64
     requires fits { N ≤ 8 }
     requires inside { at + N ≤ length bytes.now }
@@ -68,10 +84,8 @@ pub(crate) fn read_le_at<const N: usize>(bytes: &[u8], offset: u64) -> Result<u6
     requires { N ≤ 8 }
     ensures { outcome result ≡ le_at (before bytes) N offset }
 {
-    match readable_at(bytes.len() as u64, Place { file: 0, offset }, N as u64) {
-        Ok(p) => Ok(le::<N>(bytes, p.offset as usize)),
-        Err(m) => Err(m),
-    }
+    let p = readable_at(bytes.len() as u64, Place { file: 0, offset }, N as u64)?;
+    Ok(le::<N>(bytes, p.offset as usize))
 }
 
 // The same in big-endian order. Not one function with read_le_at over the order: its contract would have to choose between
@@ -81,31 +95,22 @@ pub(crate) fn read_be_at<const N: usize>(bytes: &[u8], offset: u64) -> Result<u6
     requires { N ≤ 8 }
     ensures { outcome result ≡ be_at (before bytes) N offset }
 {
-    match readable_at(bytes.len() as u64, Place { file: 0, offset }, N as u64) {
-        Ok(p) => Ok(be::<N>(bytes, p.offset as usize)),
-        Err(m) => Err(m),
-    }
+    let p = readable_at(bytes.len() as u64, Place { file: 0, offset }, N as u64)?;
+    Ok(be::<N>(bytes, p.offset as usize))
 }
 
 // The number of N bytes at an address.
-#[tactic(auto, using(crate::proofs::Outcomes::outcomes, crate::proofs::Numbers::found_file, crate::proofs::Numbers::found_holds), unfolding(crate::specs::Place::word))]
-pub(crate) fn read<const N: usize>(
-    files: &[&[u8]],
-    segments: &[u64],
-    va: u64,
-) -> Result<u64, Missing>
+#[tactic(auto, using(crate::proofs::Outcomes::outcomes), unfolding(crate::specs::Place::word))]
+pub(crate) fn read<const N: usize>(image: &Image, va: u64) -> Result<u64, Missing>
     requires some { 0 < N }
     requires fits { N ≤ 8 }
-    ensures { outcome result ≡ word (lent_image files segments) N va }
+    ensures { outcome result ≡ word image.now N va }
 {
-    match readable(files, segments, va, N as u64) {
-        Ok(p) => {
-            let f = p.file as usize;
-            let bytes = files[f];
-            Ok(le::<N>(bytes, p.offset as usize))
-        }
-        Err(m) => Err(m),
-    }
+    let files = image.files;
+    let p = readable(image, va, N as u64)?;
+    let f = p.file as usize;
+    let bytes = files[f];
+    Ok(le::<N>(bytes, p.offset as usize))
 }
 
 // The number of two bytes at an offset of one slice.
@@ -144,24 +149,24 @@ pub fn read_u64_be_at(bytes: &[u8], offset: u64) -> Result<u64, Missing>
 }
 
 // The number of two bytes at an address.
-pub fn read_u16(files: &[&[u8]], segments: &[u64], va: u64) -> Result<u64, Missing>
-    ensures { outcome result ≡ word (lent_image files segments) 2 va }
+pub fn read_u16(image: &Image, va: u64) -> Result<u64, Missing>
+    ensures { outcome result ≡ word image.now 2 va }
 {
-    read::<2>(files, segments, va)
+    read::<2>(image, va)
 }
 
 // The number of four bytes at an address.
-pub fn read_u32(files: &[&[u8]], segments: &[u64], va: u64) -> Result<u64, Missing>
-    ensures { outcome result ≡ word (lent_image files segments) 4 va }
+pub fn read_u32(image: &Image, va: u64) -> Result<u64, Missing>
+    ensures { outcome result ≡ word image.now 4 va }
 {
-    read::<4>(files, segments, va)
+    read::<4>(image, va)
 }
 
 // The number of eight bytes at an address.
-pub fn read_u64(files: &[&[u8]], segments: &[u64], va: u64) -> Result<u64, Missing>
-    ensures { outcome result ≡ word (lent_image files segments) 8 va }
+pub fn read_u64(image: &Image, va: u64) -> Result<u64, Missing>
+    ensures { outcome result ≡ word image.now 8 va }
 {
-    read::<8>(files, segments, va)
+    read::<8>(image, va)
 }
 
 // Whether k bytes at i bytes from an offset lie in n bytes.

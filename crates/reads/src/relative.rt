@@ -9,6 +9,7 @@ use crate::answer::Missing;
 use crate::place::{Place, le, readable_at, u32_in};
 
 // The signed number of 32 bits.
+#[tactic(auto, using(crate::proofs::TwosLaws::cast_signed32))]
 pub fn signed(x: u32) -> i32
     ensures { result ≡ signed32 x }
 {
@@ -20,13 +21,8 @@ pub fn signed(x: u32) -> i32
 pub fn read_i32_le_at(bytes: &[u8], offset: u64) -> Result<i32, Missing>
     ensures { outcome result ≡ signed_at (before bytes) offset }
 {
-    match readable_at(bytes.len() as u64, Place { file: 0, offset }, 4) {
-        Ok(p) => {
-            let at = p.offset as usize;
-            Ok(signed(le::<4>(bytes, at) as u32))
-        }
-        Err(m) => Err(m),
-    }
+    let p = readable_at(bytes.len() as u64, Place { file: 0, offset }, 4)?;
+    Ok(signed(le::<4>(bytes, p.offset as usize) as u32))
 }
 
 // The signed number of four bytes at i bytes from a place; 0 where they do not lie in its file.
@@ -38,6 +34,7 @@ pub fn i32_in(files: &[&[u8]], p: Place, i: u64) -> i32
 }
 
 // The address that a signed offset at base_va refers to.
+#[tactic(auto, using(crate::proofs::Modulo::extended, crate::proofs::Modulo::modulo64_of_sum), unfolding(crate::specs::Relative::relative))]
 pub fn relative_pointer(base_va: u64, offset: i32) -> u64
     ensures { result ≡ relative base_va offset }
 {
@@ -45,6 +42,7 @@ pub fn relative_pointer(base_va: u64, offset: i32) -> u64
 }
 
 // The address of slot k of a section at vmaddr: 8 * k wraps too.
+#[tactic(auto, using(crate::proofs::Modulo::slot_modulo))]
 pub fn slot_address(vmaddr: u64, k: u64) -> u64
     ensures { result ≡ slot_address vmaddr k }
 {

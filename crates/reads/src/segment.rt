@@ -87,6 +87,7 @@ impl Segment {
 
 // The place of an address. Segments count in order: one that exceeds 64 bits ends the lookup, the first that holds the
 // address decides. What is absent is Unmapped, whatever ends the lookup.
+#[tactic(auto, using(crate::proofs::SegmentRows::rows_all, crate::proofs::Lookups::holds_is, crate::proofs::Lookups::lookup_ends, crate::proofs::Lookups::lookup_holds, crate::proofs::Lookups::lookup_on, crate::proofs::Lookups::lookup_out))]
 pub fn vm_to_file_offset_in(segments: &[u64], va: u64) -> Result<Place, Missing>
     ensures { outcome result ≡ lookup (rows (before segments)) va }
 {
@@ -135,6 +136,7 @@ impl Segment {
 }
 
 // The address of an offset of a file: the inverse of `vm_to_file_offset_in`. The first segment that maps the offset decides.
+#[tactic(auto, using(crate::proofs::Outcomes::because_of, crate::proofs::SegmentRows::rows_all, crate::proofs::Lookups::carries_is, crate::proofs::Lookups::address_ends, crate::proofs::Lookups::address_carries, crate::proofs::Lookups::address_on, crate::proofs::Lookups::address_out))]
 pub fn file_offset_to_vm_in(segments: &[u64], file: u64, offset: u64) -> Result<u64, Missing>
     ensures { outcome result ≡ address_of (rows (before segments)) file offset }
 {

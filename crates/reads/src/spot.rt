@@ -1,14 +1,13 @@
 // Spots: the place of an address together with its room, so that what lies near it is read without another lookup.
 ghost use Rattle.std.specs.Prelude.{◌≡◌, ◌<◌, true, false};
 ghost use Rattle.reads.specs.Reference.{before};
-ghost use Rattle.reads.specs.Place.{lent_image};
 ghost use Rattle.reads.specs.Segment.{ends, holds};
 ghost use Rattle.reads.specs.Spot.{distance, nowhere, spot_at, spot_in, readable_spot, spot_place};
 ghost use Rattle.reads.specs.Answer.{outcome};
 
 use crate::answer::{Missing, Reason};
 use crate::files::file_len;
-use crate::place::Place;
+use crate::place::{Image, Place};
 use crate::segment::Segment;
 
 // Where an address looks up, and its room: for how many bytes from it on the place moves with the address. A room of 0: the address is in
@@ -53,6 +52,7 @@ fn holds_at(s: Segment, va: u64, d: u64) -> bool
 }
 
 // The spot of an address that the segment holds, at this distance; the segments before it lie at most `far` behind the address.
+#[tactic(auto, using(crate::proofs::Spots::held_inside, crate::proofs::Spots::spot_past, crate::proofs::Spots::spot_over, crate::proofs::Spots::spot_there, crate::proofs::Spots::sum_within), unfolding(crate::specs::Segment::mapped_size))]
 fn spot_at(s: Segment, far: u64, va: u64, d: u64) -> Spot
     requires va_value { holds s va ≡ true }
     requires d_value { d ≡ distance s va }
@@ -74,6 +74,7 @@ fn spot_at(s: Segment, far: u64, va: u64, d: u64) -> Spot
 }
 
 // The spot of an address. Segments count in order: one that exceeds 64 bits ends the lookup, the first that holds the address decides.
+#[tactic(auto, using(crate::proofs::SegmentRows::rows_all, crate::proofs::Spots::spot_ends, crate::proofs::Spots::spot_holds, crate::proofs::Spots::spot_on, crate::proofs::Spots::spot_out))]
 fn spot_in(segments: &[u64], va: u64) -> Spot
     ensures { result ≡ spot_in (before segments) va }
 {
@@ -94,11 +95,11 @@ fn spot_in(segments: &[u64], va: u64) -> Spot
 
 // The spot of an address, if k bytes can be read there.
 #[tactic(auto, using(std::proofs::lemmas::Bool::Decides::nat_tests), unfolding(crate::specs::Spot::readable_spot, crate::specs::Outcome::choose))]
-pub fn readable_spot(files: &[&[u8]], segments: &[u64], va: u64, k: u64) -> Spot
-    ensures { result ≡ readable_spot (lent_image files segments) va k }
+pub fn readable_spot(image: &Image, va: u64, k: u64) -> Spot
+    ensures { result ≡ readable_spot image.now va k }
 {
-    let s = spot_in(segments, va);
-    let n = file_len(files, s.file);
+    let s = spot_in(image.segments, va);
+    let n = file_len(image.files, s.file);
     if s.offset <= n {
         if k <= n - s.offset {
             return s;

@@ -2,19 +2,18 @@
 // which raises the count of the bytes read.
 ghost use Rattle.std.specs.Prelude.{◌≡◌, ◌≤◌, length};
 ghost use Rattle.reads.specs.Reference.{before};
-ghost use Rattle.reads.specs.Outcome.{because, or_empty};
+ghost use Rattle.reads.specs.Outcome.{and_then, nonzero, or_empty};
 ghost use Rattle.reads.specs.Utf8.{◌to◌, tail, verdict, utf8};
 ghost use Rattle.reads.specs.Pass.{byte_after, due, follow, character, broken_at};
 ghost use Rattle.reads.specs.Files.{files_of};
-ghost use Rattle.reads.specs.Segment.{place_at};
-ghost use Rattle.reads.specs.Place.{lent_image};
+ghost use Rattle.reads.specs.Segment.{rows, lookup, place_at};
 ghost use Rattle.reads.specs.declared.text.Reading.TheVariants.{Old};
 ghost use Rattle.reads.specs.Text.{ended, scan_of, good_text, text_of_scan, text_from, read_from, text_at, read_at, text_in, read_in, fixed_length, length_plus_one};
 ghost use Rattle.reads.specs.Answer.{outcome};
 
 use crate::answer::{Missing, Reason, nonzero};
 use crate::files::{bytes_of, is_lent};
-use crate::place::Place;
+use crate::place::{Image, Place};
 use crate::segment::vm_to_file_offset_in;
 
 // A text: a part of a file of the image.
@@ -32,20 +31,12 @@ pub enum Reading {
     New,
 }
 
-// Bytes are UTF-8, or they are not: the offset of the first byte that no well-formed text can continue, or their count where
-// they end inside a character.
-#[derive(Clone, Copy)]
-pub enum Verdict {
-    Good,
-    Bad(u64),
-}
-
 // What one pass over a text finds: its length, how many bytes were read for it, and whether it is UTF-8.
 #[derive(Clone, Copy)]
 pub struct Scan {
     pub len: u64,
     pub read: u64,
-    pub verdict: Verdict,
+    pub verdict: Result<(), u64>,
 }
 
 // A text or none, and how many bytes were read for it: the count is raised at each byte.
@@ -75,25 +66,12 @@ pub fn or_empty(t: Result<Text, Missing>) -> Result<Text, Missing>
     ensures { outcome result ≡ or_empty (outcome t) }
 {
     match t {
-        Ok(s) => Ok(s),
-        Err(m) => match m {
-            Missing::Absent(_) => Ok(Text {
-                file: 0,
-                offset: 0,
-                len: 0,
-            }),
-            Missing::Refused(k) => Err(Missing::Refused(k)),
-        },
-    }
-}
-
-// An absent text gets this reason.
-pub fn text_because(t: Result<Text, Missing>, why: Reason) -> Result<Text, Missing>
-    ensures { outcome result ≡ because why (outcome t) }
-{
-    match t {
-        Ok(s) => Ok(s),
-        Err(m) => Err(m.because(why)),
+        Err(Missing::Absent(_)) => Ok(Text {
+            file: 0,
+            offset: 0,
+            len: 0,
+        }),
+        t => t,
     }
 }
 
@@ -166,8 +144,9 @@ fn character(s: &[u8], first: ByteRead) -> Step
     }
 }
 
-// Whether the bytes are UTF-8, and where not.
-pub fn utf8_verdict(s: &[u8]) -> Verdict
+// Whether the bytes are UTF-8, and where not: the offset of the first byte that no well-formed text can continue, or their count
+// where they end inside a character.
+pub fn utf8_verdict(s: &[u8]) -> Result<(), u64>
     ensures { result ≡ verdict (before s) }
 {
     // Not a `for`: `read` moves by the bytes of a character.
@@ -183,11 +162,11 @@ pub fn utf8_verdict(s: &[u8]) -> Verdict
         let step = character(s, first);
         let last = step.last;
         if !step.fits {
-            return Verdict::Bad(last.at as u64);
+            return Err(last.at as u64);
         }
         read = last.read;
     }
-    Verdict::Good
+    Ok(())
 }
 
 // The bytes are UTF-8.
@@ -195,17 +174,16 @@ pub fn utf8_verdict(s: &[u8]) -> Verdict
 pub fn utf8(s: &[u8]) -> bool
     ensures { result ≡ utf8 (before s) }
 {
-    match utf8_verdict(s) {
-        Verdict::Good => true,
-        Verdict::Bad(_) => false,
-    }
+    utf8_verdict(s).is_ok()
 }
 
 // A text whose byte `bad` no well-formed text continues with: the pass goes on to its end.
+#[tactic(auto, using(crate::proofs::Texts::ahead_on, crate::proofs::Texts::ahead_ends, crate::proofs::Texts::read_next))]
 fn broken(s: &[u8], bad: ByteRead) -> Scan
     requires { (bad.at ≤ length s.now) × (bad ≡ byte_after s.now bad.at) }
     ensures { result ≡ broken_at (before s) bad.at }
 {
+    // Not a `for`: it goes on to the zero byte, or to the end that stands for it.
     let mut b = bad;
     while 0 < b.byte {
         b = read_byte(s, b.read);
@@ -213,7 +191,7 @@ fn broken(s: &[u8], bad: ByteRead) -> Scan
     Scan {
         len: b.at as u64,
         read: b.read as u64,
-        verdict: Verdict::Bad(bad.at as u64),
+        verdict: Err(bad.at as u64),
     }
 }
 
@@ -221,6 +199,7 @@ fn broken(s: &[u8], bad: ByteRead) -> Scan
 pub fn scan_text(s: &[u8]) -> Scan
     ensures { result ≡ scan_of (before s) }
 {
+    // Not a `for`: `read` moves by the bytes of a character.
     let mut read = 0;
     loop {
         let b = read_byte(s, read);
@@ -235,7 +214,7 @@ pub fn scan_text(s: &[u8]) -> Scan
             return Scan {
                 len: b.at as u64,
                 read: b.read as u64,
-                verdict: Verdict::Good,
+                verdict: Ok(()),
             };
         }
         let first = b;
@@ -259,15 +238,13 @@ fn ended(scan: Scan) -> bool
 fn good_text(p: Place, scan: Scan) -> Result<Text, Missing>
     ensures { outcome result ≡ good_text p scan }
 {
-    let verdict = scan.verdict;
-    match verdict {
-        Verdict::Good => Ok(Text {
-            file: p.file,
-            offset: p.offset,
-            len: scan.len,
-        }),
-        Verdict::Bad(k) => Err(Missing::Absent(Reason::NotUtf8(k))),
-    }
+    scan.verdict
+        .map_err(|k| Missing::Absent(Reason::NotUtf8(k)))?;
+    Ok(Text {
+        file: p.file,
+        offset: p.offset,
+        len: scan.len,
+    })
 }
 
 // The same under a reading: that it has no end goes before that it is not UTF-8.
@@ -304,6 +281,7 @@ fn read_cstr_in(bytes: &[u8], reading: Reading, p: Place) -> CstrRead
 }
 
 // The text at a place, and how many bytes were read: a file that is not lent has no bytes.
+#[tactic(auto, using(crate::proofs::LentFiles::file_not_lent, crate::proofs::LentFiles::said_not))]
 pub fn read_cstr_at(files: &[&[u8]], reading: Reading, p: Place) -> CstrRead
     ensures { (outcome result.text ≡ text_at reading (files_of files) p) × (result.read ≡ read_at (files_of files) p) }
 {
@@ -314,19 +292,22 @@ pub fn read_cstr_at(files: &[&[u8]], reading: Reading, p: Place) -> CstrRead
     read_cstr_in(bytes_of(files, p.file), reading, p)
 }
 
-// The text at an address, and how many bytes were read: absent at 0 and where nothing is mapped, and then none.
-#[tactic(auto, using(crate::proofs::Outcomes::outcomes), unfolding(crate::specs::Text::text_in, crate::specs::Text::read_in))]
-pub fn read_cstr_counted(files: &[&[u8]], segments: &[u64], reading: Reading, va: u64) -> CstrRead
-    ensures { let m = lent_image files segments in (outcome result.text ≡ text_in reading m va) × (result.read ≡ read_in m va) }
+// The place of the text at an address: absent at 0 and where nothing is mapped.
+#[tactic(auto, using(crate::proofs::Outcomes::outcomes))]
+fn text_place(image: &Image, va: u64) -> Result<Place, Missing>
+    ensures { outcome result ≡ and_then (nonzero va) (λ a. lookup (rows image.now.words) a) }
 {
-    match nonzero(va) {
-        Ok(a) => match vm_to_file_offset_in(segments, a) {
-            Ok(p) => read_cstr_at(files, reading, p),
-            Err(m) => CstrRead {
-                text: Err(m),
-                read: 0,
-            },
-        },
+    let a = nonzero(va)?;
+    vm_to_file_offset_in(image.segments, a)
+}
+
+// The text at an address, and how many bytes were read: absent at 0 and where nothing is mapped, and then none.
+#[tactic(auto, using(crate::proofs::Outcomes::outcomes, crate::proofs::Outcomes::then_then), unfolding(crate::specs::Text::text_in, crate::specs::Text::read_in))]
+pub fn read_cstr_counted(image: &Image, reading: Reading, va: u64) -> CstrRead
+    ensures { (outcome result.text ≡ text_in reading image.now va) × (result.read ≡ read_in image.now va) }
+{
+    match text_place(image, va) {
+        Ok(p) => read_cstr_at(image.files, reading, p),
         Err(m) => CstrRead {
             text: Err(m),
             read: 0,
@@ -335,28 +316,18 @@ pub fn read_cstr_counted(files: &[&[u8]], segments: &[u64], reading: Reading, va
 }
 
 // The same without the count.
-pub fn read_cstr(
-    files: &[&[u8]],
-    segments: &[u64],
-    reading: Reading,
-    va: u64,
-) -> Result<Text, Missing>
-    ensures { outcome result ≡ text_in reading (lent_image files segments) va }
+pub fn read_cstr(image: &Image, reading: Reading, va: u64) -> Result<Text, Missing>
+    ensures { outcome result ≡ text_in reading image.now va }
 {
-    let r = read_cstr_counted(files, segments, reading, va);
+    let r = read_cstr_counted(image, reading, va);
     r.text
 }
 
 // The same, an absent text counting as the empty one.
-pub fn read_cstr_or_empty(
-    files: &[&[u8]],
-    segments: &[u64],
-    reading: Reading,
-    va: u64,
-) -> Result<Text, Missing>
-    ensures { outcome result ≡ or_empty (text_in reading (lent_image files segments) va) }
+pub fn read_cstr_or_empty(image: &Image, reading: Reading, va: u64) -> Result<Text, Missing>
+    ensures { outcome result ≡ or_empty (text_in reading image.now va) }
 {
-    or_empty(read_cstr(files, segments, reading, va))
+    or_empty(read_cstr(image, reading, va))
 }
 
 // The length of the text in a field of 16 bytes, as segname and sectname: 0 where it is not UTF-8.
@@ -367,14 +338,14 @@ pub fn cstr_from_fixed(bytes: &[u8; 16]) -> u64
     let scan = scan_text(bytes);
     let verdict = scan.verdict;
     match verdict {
-        Verdict::Good => scan.len,
-        Verdict::Bad(_) => 0,
+        Ok(()) => scan.len,
+        Err(_) => 0,
     }
 }
 
 // For callers in C or Rust: one more than the length of the text at an offset of one file under the old reading, 0 where there is none.
 #[unsafe(no_mangle)]
-#[tactic(auto, unfolding(crate::specs::Text::length_plus_one))]
+#[tactic(auto, using(crate::proofs::Texts::text_inside), unfolding(crate::specs::Text::length_plus_one))]
 pub extern "C" fn reads_cstr_length_plus_one(bytes: &[u8], offset: u64) -> u64
     ensures { result ≡ length_plus_one (text_from Old (before bytes) (place_at 0 offset)) }
 {

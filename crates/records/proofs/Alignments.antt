@@ -8,9 +8,7 @@ use lib.Count.{count_trailing_zeros, under}
 use lib.Dec.{leb, eqb, leb-zero, leb-suc-zero, leb-suc-suc, eqb-suc-zero}
 use lib.Pow.{mod-pow-add, shr_lt}
 use borrow.Author.Tests.{eq-eqb, ne_eqb}
-use Rattle.reads.specs.Outcome.{choose}
 use Rattle.records.specs.Row.{aligned_of}
-use Rattle.records.specs.declared.ivar.Aligned.TheVariants.{Yes, No}
 use Rattle.std.specs.Prelude.{Some}
 
 -- The remainder by 2 ^ (k + 1): that of the number's half by 2 ^ k, and the lowest bit.
@@ -35,7 +33,7 @@ zeros_divide (suc d) (suc k) n p h = go (n % 2) (omega arith) (λ q. zeros_divid
         leb-suc-suc k (count_trailing_zeros d (n / 2)) ∙ half (omega arith) ∙ doubled (n / 2 % 2 ^ k) ∙ ap (λ (x : ℕ). eqb x 0) even
     go (suc r) e half = leb-suc-zero k ∙ sym (ne_eqb (n % 2 ^ suc k) 0 (λ z. omega (arith, lowest_apart n k)))
 
-pub aligned_divides : (n k : ℕ) → n < 2 ^ 32 → aligned_of (Some n) (Some k) ≡ choose (eqb (n % 2 ^ k) 0) Yes No
+pub aligned_divides : (n k : ℕ) → n < 2 ^ 32 → aligned_of (Some n) (Some k) ≡ Some (eqb (n % 2 ^ k) 0)
 unfolding aligned_of
 aligned_divides zero k h = rw (zero-mod (2 ^ k))
 aligned_divides (suc n) k h = rw (eqb-suc-zero n, zeros_divide 32 k (suc n) (omega arith) h)

@@ -9,7 +9,8 @@ use Rattle.reads.specs.Spot.{readable_spot, spot_place}
 use Rattle.reads.specs.declared.place.Place.{Place}
 use Rattle.reads.specs.declared.spot.Spot.{Spot}
 use Rattle.reads.proofs.Tests.{by_choose}
-use Rattle.reads.proofs.Spots.{placed_has_room}
+use Rattle.reads.specs.Place.{readable}
+use Rattle.reads.proofs.Spots.{placed_has_room, spot_place_readable}
 use Rattle.pointers.specs.declared.setting.Setting.{Setting}
 use Rattle.pointers.specs.Slot.{resolve, resolve_near}
 use Rattle.pointers.proofs.NearSlots.{near_resolved}
@@ -22,6 +23,9 @@ sum_is a b c = by_choose (λ (o : Outcome ℕ). value c ≡ o → c ≡ a + b) (
 -- The spot that was found for so many bytes.
 pub near_placed : (m : Image) (va size reach : ℕ) (s : Spot) {p : Place} → s ≡ readable_spot m va size → spot_place s ≡ value p → reach ≤ size → Near m va s reach
 near_placed m va size reach s is e h = record { size = size; is = is; some = placed_has_room s e; within = h }
+
+pub near_found : (m : Image) (va size reach : ℕ) (s : Spot) {p : Place} → va < 2 ^ 64 → s ≡ readable_spot m va size → readable m va size ≡ value p → reach ≤ size → Near m va s reach
+near_found m va size reach s {p} w is e h = near_placed m va size reach s is (spot_place_readable m va size w s is ∙ e) h
 
 pub near_less : {m : Image} {va reach less : ℕ} {s : Spot} → Near m va s reach → less ≤ reach → Near m va s less
 near_less n h = record { size = n.size; is = n.is; some = n.some; within = omega (arith, n.within) }

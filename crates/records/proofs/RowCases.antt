@@ -1,4 +1,5 @@
 -- Worked records and rows, from the definitions.
+use Rattle.std.specs.Prelude.{Option, Bool, true, false}
 use Prim.Native.Nat.{ℕ, ◌-◌, ◌^◌}
 use mathlib.Core.Path.{◌≡◌, refl}
 use mathlib.Core.List.{List, [], ◌∷◌, ◌++◌, map}
@@ -22,8 +23,6 @@ use Rattle.pointers.specs.Tables.{Tables, tables_of}
 use Rattle.records.specs.Category.{category_at, decode_category_properties, decode_category_lists, decode_category_of, decode_category}
 use Rattle.records.specs.Row.{small_imp, alignment_of, aligned_of}
 use Rattle.records.specs.declared.category.ObjcCategory.{ObjcCategory}
-use Rattle.records.specs.declared.ivar.Aligned.{Aligned}
-use Rattle.records.specs.declared.ivar.Aligned.TheVariants.{Yes, No, Unknown}
 use Rattle.std.specs.Prelude.{Some, None}
 
 -- A small method's imp is none exactly if its offset is 0: one that is masked to 0 is there.
@@ -45,23 +44,23 @@ unfolding alignment_of choose
 alignment_words = refl
 
 -- The offsets 0, 1, 8 and 0x80000000, which have 32, 0, 3 and 31 trailing zero bits.
-abbrev offsets_under : ℕ → List Aligned
+abbrev offsets_under : ℕ → List (Option Bool)
 offsets_under k = map (λ n. aligned_of (Some n) (Some k)) (0 ∷ 1 ∷ 8 ∷ 0x80000000 ∷ [])
 
 pub aligned_offsets : map offsets_under (0 ∷ 3 ∷ 31 ∷ 32 ∷ 40 ∷ 63 ∷ [])
-    ≡ (Yes ∷ Yes ∷ Yes ∷ Yes ∷ [])
-    ∷ (Yes ∷ No ∷ Yes ∷ Yes ∷ [])
-    ∷ (Yes ∷ No ∷ No ∷ Yes ∷ [])
-    ∷ (Yes ∷ No ∷ No ∷ No ∷ [])
-    ∷ (Yes ∷ No ∷ No ∷ No ∷ [])
-    ∷ (Yes ∷ No ∷ No ∷ No ∷ [])
+    ≡ ((Some true) ∷ (Some true) ∷ (Some true) ∷ (Some true) ∷ [])
+    ∷ ((Some true) ∷ (Some false) ∷ (Some true) ∷ (Some true) ∷ [])
+    ∷ ((Some true) ∷ (Some false) ∷ (Some false) ∷ (Some true) ∷ [])
+    ∷ ((Some true) ∷ (Some false) ∷ (Some false) ∷ (Some false) ∷ [])
+    ∷ ((Some true) ∷ (Some false) ∷ (Some false) ∷ (Some false) ∷ [])
+    ∷ ((Some true) ∷ (Some false) ∷ (Some false) ∷ (Some false) ∷ [])
     ∷ []
 unfolding aligned_of count_trailing_zeros choose
 aligned_offsets = refl
 
 -- Without the one or the other it is unknown.
 pub unknown_aligned :
-    aligned_of (Some 8) None ∷ aligned_of None (Some 3) ∷ [] ≡ Unknown ∷ Unknown ∷ []
+    aligned_of (Some 8) None ∷ aligned_of None (Some 3) ∷ [] ≡ None ∷ None ∷ []
 unfolding aligned_of
 unknown_aligned = refl
 

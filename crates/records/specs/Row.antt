@@ -17,8 +17,6 @@ use Rattle.records.specs.declared.list.RowKind.TheVariants as rows
 use Rattle.records.specs.declared.method.Method.{Method}
 use Rattle.records.specs.declared.method.MethodKind.{MethodKind}
 use Rattle.records.specs.declared.method.MethodKind.TheVariants as kind
-use Rattle.records.specs.declared.ivar.Aligned.{Aligned}
-use Rattle.records.specs.declared.ivar.Aligned.TheVariants as aligned
 use Rattle.records.specs.declared.ivar.Ivar.{Ivar}
 use Rattle.records.specs.declared.property.Property.{Property}
 
@@ -93,16 +91,18 @@ alignment_of raw =
     choose (eqb raw 0xFFFFFFFF) (Some 3) (choose (leb raw 63) (Some raw) None)
 
 -- Whether an offset has at least as many trailing zero bits as the alignment; offset 0 always does. Unknown where one of the two is none.
-unfoldable pub aligned_of : Option ℕ → Option ℕ → Aligned
-aligned_of (Some n) (Some k) = choose (eqb n 0 || leb k (count_trailing_zeros 32 n)) aligned.Yes aligned.No
-aligned_of (Some n) None = aligned.Unknown
-aligned_of None a = aligned.Unknown
+unfoldable pub aligned_of : Option ℕ → Option ℕ → Option Bool
+aligned_of (Some n) (Some k) = Some (eqb n 0 || leb k (count_trailing_zeros 32 n))
+aligned_of (Some n) None = None
+aligned_of None a = None
 
 -- An ivar's offset: the four bytes at the pointed place, none if the pointer is 0 or they cannot be read.
+abbrev pub decode_offset_there : ℕ → Decode (Option ℕ)
+decode_offset_there place = then (nonzero place) (λ a. then (readable a 4) (λ p. then (u32_in p 0) (λ n. done (Some n))))
+
+-- None where that is absent.
 unfoldable pub decode_offset : ℕ → Decode (Option ℕ)
-decode_offset place =
-    else (then (nonzero place) (λ a. then (readable a 4) (λ p. then (u32_in p 0) (λ n. done (Some n)))))
-    (done None)
+decode_offset place = else (decode_offset_there place) (done None)
 
 abbrev pub offset_at : Tables → ℕ → Outcome (Option ℕ)
 offset_at t place = run t (decode_offset place)

@@ -1,7 +1,7 @@
 // Calls: each asks 1 to 6 and 8 of what it is lent, and then decodes. What the other modules of this crate decode, they decode without asking.
 ghost use Rattle.std.specs.Prelude.{◌≡◌};
 ghost use Rattle.pointers.specs.Question.{guarded};
-ghost use Rattle.pointers.specs.Tables.{lent, under};
+ghost use Rattle.pointers.specs.Tables.{under};
 ghost use Rattle.records.specs.Category.{category_at, category_class_name};
 ghost use Rattle.records.specs.Class.{class_at, class_ro_at, ro_of, class_name_at, superclass_name};
 ghost use Rattle.records.specs.Protocol.{protocol_at};
@@ -14,204 +14,95 @@ use crate::class::{
 use crate::protocol::{ObjcProtocol, protocol_at};
 use pointers::question::ask;
 use pointers::setting::Setting;
+use pointers::tables::Tables;
 use reads::answer::Missing;
 use reads::text::Text;
 
 // The class at an address.
 #[tactic(auto, using(reads::proofs::Outcomes::missed_then))]
 pub fn decode_class(
-    files: &[&[u8]],
-    segments: &[u64],
-    sections: &[u64],
-    info: &[u8],
-    rebases: &[u64],
-    binds: &[u64],
-    index: &[u32],
+    tables: &Tables,
     setting: Setting,
     va: u64,
     is_meta: bool,
 ) -> Result<ObjcClass, Missing>
-    ensures { let t = under setting (lent files segments sections info rebases binds index) in
+    ensures { let t = under setting tables.now in
         outcome result ≡ guarded t (class_at t va is_meta) }
 {
-    ask(files, segments, sections, info, rebases, binds, index).map_err(Missing::Refused)?;
-    class_at(
-        files, segments, sections, info, rebases, binds, index, setting, va, is_meta,
-    )
+    ask(tables)?;
+    class_at(tables, setting, va, is_meta)
 }
 
 // The class_ro_t at an address.
 #[tactic(auto, using(reads::proofs::Outcomes::missed_then))]
-pub fn decode_class_ro(
-    files: &[&[u8]],
-    segments: &[u64],
-    sections: &[u64],
-    info: &[u8],
-    rebases: &[u64],
-    binds: &[u64],
-    index: &[u32],
-    setting: Setting,
-    va: u64,
-) -> Result<ClassRo, Missing>
-    ensures { let t = under setting (lent files segments sections info rebases binds index) in
+pub fn decode_class_ro(tables: &Tables, setting: Setting, va: u64) -> Result<ClassRo, Missing>
+    ensures { let t = under setting tables.now in
         outcome result ≡ guarded t (class_ro_at t va) }
 {
-    ask(files, segments, sections, info, rebases, binds, index).map_err(Missing::Refused)?;
-    class_ro_at(
-        files, segments, sections, info, rebases, binds, index, setting, va,
-    )
+    ask(tables)?;
+    class_ro_at(tables, setting, va)
 }
 
 // The name of the class at an address.
 #[tactic(auto, using(reads::proofs::Outcomes::missed_then))]
-pub fn decode_class_name(
-    files: &[&[u8]],
-    segments: &[u64],
-    sections: &[u64],
-    info: &[u8],
-    rebases: &[u64],
-    binds: &[u64],
-    index: &[u32],
-    setting: Setting,
-    va: u64,
-) -> Result<Text, Missing>
-    ensures { let t = under setting (lent files segments sections info rebases binds index) in
+pub fn decode_class_name(tables: &Tables, setting: Setting, va: u64) -> Result<Text, Missing>
+    ensures { let t = under setting tables.now in
         outcome result ≡ guarded t (class_name_at t va) }
 {
-    ask(files, segments, sections, info, rebases, binds, index).map_err(Missing::Refused)?;
-    class_name_at(
-        files, segments, sections, info, rebases, binds, index, setting, va,
-    )
+    ask(tables)?;
+    class_name_at(tables, setting, va)
 }
 
 impl ObjcClass {
     // The superclass's name: decoded, or by the bind at +8.
     #[tactic(auto, using(reads::proofs::Outcomes::missed_then))]
-    pub fn superclass_name(
-        self,
-        files: &[&[u8]],
-        segments: &[u64],
-        sections: &[u64],
-        info: &[u8],
-        rebases: &[u64],
-        binds: &[u64],
-        index: &[u32],
-        setting: Setting,
-    ) -> Result<Text, Missing>
-        ensures { let t = under setting (lent files segments sections info rebases binds index) in
+    pub fn superclass_name(self, tables: &Tables, setting: Setting) -> Result<Text, Missing>
+        ensures { let t = under setting tables.now in
             outcome result ≡ guarded t (superclass_name t self) }
     {
-        ask(files, segments, sections, info, rebases, binds, index).map_err(Missing::Refused)?;
-        class_name_of(
-            files,
-            segments,
-            sections,
-            info,
-            rebases,
-            binds,
-            index,
-            setting,
-            self.address,
-            self.superclass_address,
-        )
+        ask(tables)?;
+        class_name_of(tables, setting, self.address, self.superclass_address)
     }
 
     // The class_ro_t, picked again from the bits.
     #[tactic(auto, using(reads::proofs::Outcomes::missed_then))]
-    pub fn ro(
-        self,
-        files: &[&[u8]],
-        segments: &[u64],
-        sections: &[u64],
-        info: &[u8],
-        rebases: &[u64],
-        binds: &[u64],
-        index: &[u32],
-        setting: Setting,
-    ) -> Result<ClassRo, Missing>
-        ensures { let t = under setting (lent files segments sections info rebases binds index) in
+    pub fn ro(self, tables: &Tables, setting: Setting) -> Result<ClassRo, Missing>
+        ensures { let t = under setting tables.now in
             outcome result ≡ guarded t (ro_of t self) }
     {
-        ask(files, segments, sections, info, rebases, binds, index).map_err(Missing::Refused)?;
-        ro_of(
-            files, segments, sections, info, rebases, binds, index, setting, self,
-        )
+        ask(tables)?;
+        ro_of(tables, setting, self)
     }
 }
 
 // The protocol at an address.
 #[tactic(auto, using(reads::proofs::Outcomes::missed_then))]
-pub fn decode_protocol(
-    files: &[&[u8]],
-    segments: &[u64],
-    sections: &[u64],
-    info: &[u8],
-    rebases: &[u64],
-    binds: &[u64],
-    index: &[u32],
-    setting: Setting,
-    va: u64,
-) -> Result<ObjcProtocol, Missing>
-    ensures { let t = under setting (lent files segments sections info rebases binds index) in
+pub fn decode_protocol(tables: &Tables, setting: Setting, va: u64) -> Result<ObjcProtocol, Missing>
+    ensures { let t = under setting tables.now in
         outcome result ≡ guarded t (protocol_at t va) }
 {
-    ask(files, segments, sections, info, rebases, binds, index).map_err(Missing::Refused)?;
-    protocol_at(
-        files, segments, sections, info, rebases, binds, index, setting, va,
-    )
+    ask(tables)?;
+    protocol_at(tables, setting, va)
 }
 
 // The category at an address.
 #[tactic(auto, using(reads::proofs::Outcomes::missed_then))]
-pub fn decode_category(
-    files: &[&[u8]],
-    segments: &[u64],
-    sections: &[u64],
-    info: &[u8],
-    rebases: &[u64],
-    binds: &[u64],
-    index: &[u32],
-    setting: Setting,
-    va: u64,
-) -> Result<ObjcCategory, Missing>
-    ensures { let t = under setting (lent files segments sections info rebases binds index) in
+pub fn decode_category(tables: &Tables, setting: Setting, va: u64) -> Result<ObjcCategory, Missing>
+    ensures { let t = under setting tables.now in
         outcome result ≡ guarded t (category_at t va) }
 {
-    ask(files, segments, sections, info, rebases, binds, index).map_err(Missing::Refused)?;
-    category_at(
-        files, segments, sections, info, rebases, binds, index, setting, va,
-    )
+    ask(tables)?;
+    category_at(tables, setting, va)
 }
 
 impl ObjcCategory {
     // The host class's name: decoded, or by the bind at +8.
     #[tactic(auto, using(reads::proofs::Outcomes::missed_then))]
-    pub fn class_name(
-        self,
-        files: &[&[u8]],
-        segments: &[u64],
-        sections: &[u64],
-        info: &[u8],
-        rebases: &[u64],
-        binds: &[u64],
-        index: &[u32],
-        setting: Setting,
-    ) -> Result<Text, Missing>
-        ensures { let t = under setting (lent files segments sections info rebases binds index) in
+    pub fn class_name(self, tables: &Tables, setting: Setting) -> Result<Text, Missing>
+        ensures { let t = under setting tables.now in
             outcome result ≡ guarded t (category_class_name t self) }
     {
-        ask(files, segments, sections, info, rebases, binds, index).map_err(Missing::Refused)?;
-        class_name_of(
-            files,
-            segments,
-            sections,
-            info,
-            rebases,
-            binds,
-            index,
-            setting,
-            self.address,
-            self.class_address,
-        )
+        ask(tables)?;
+        class_name_of(tables, setting, self.address, self.class_address)
     }
 }

@@ -1,8 +1,8 @@
 // Categories (objc-runtime-new.h, category_t).
 ghost use Rattle.std.specs.Prelude.{◌≡◌};
 ghost use Rattle.reads.specs.Outcome.{choose};
-ghost use Rattle.reads.specs.Place.{lent_image, readable};
-ghost use Rattle.pointers.specs.Tables.{lent, under};
+ghost use Rattle.reads.specs.Place.{readable};
+ghost use Rattle.pointers.specs.Tables.{under};
 ghost use Rattle.records.specs.Header.{category_size, category_size_with_class_properties};
 ghost use Rattle.records.specs.Category.{category_lists_at, category_properties_at, category_of, category_at};
 ghost use Rattle.reads.specs.Answer.{outcome};
@@ -10,8 +10,9 @@ ghost use Rattle.reads.specs.Answer.{outcome};
 use pointers::imageinfo::ImageInfo;
 use pointers::setting::Setting;
 use pointers::slot::{pointer_or_0, resolve_pointer};
+use pointers::tables::Tables;
 use reads::answer::Missing;
-use reads::place::{Place, readable};
+use reads::place::{Image, Place, readable};
 use reads::text::{Text, read_cstr};
 
 // A category: name, host class, and the addresses of its lists; class_properties is 0 where it has none.
@@ -57,81 +58,41 @@ struct CategoryLists {
 }
 
 // category_t is wider where it has the field for class properties.
-fn whole_category(files: &[&[u8]], segments: &[u64], va: u64, wide: bool) -> Result<Place, Missing>
-    ensures { outcome result ≡ readable (lent_image files segments) va (choose wide category_size_with_class_properties category_size) }
+fn whole_category(image: &Image, va: u64, wide: bool) -> Result<Place, Missing>
+    ensures { outcome result ≡ readable image.now va (choose wide category_size_with_class_properties category_size) }
 {
     if wide {
-        return readable(files, segments, va, SIZE_WITH_CLASS_PROPERTIES);
+        return readable(image, va, SIZE_WITH_CLASS_PROPERTIES);
     }
-    readable(files, segments, va, ObjcCategory::SIZE)
+    readable(image, va, ObjcCategory::SIZE)
 }
 
 // _classProperties where the image has the field; or 0.
 fn category_properties_at(
-    files: &[&[u8]],
-    segments: &[u64],
-    sections: &[u64],
-    info: &[u8],
-    rebases: &[u64],
-    binds: &[u64],
-    index: &[u32],
+    tables: &Tables,
     setting: Setting,
     va: u64,
     wide: bool,
 ) -> Result<u64, Missing>
-    ensures { let t = under setting (lent files segments sections info rebases binds index) in
+    ensures { let t = under setting tables.now in
         outcome result ≡ category_properties_at t va wide }
 {
     if wide {
-        return pointer_or_0(
-            files,
-            segments,
-            rebases,
-            index,
-            setting,
-            va,
-            CLASS_PROPERTIES,
-        );
+        return pointer_or_0(tables, setting, va, CLASS_PROPERTIES);
     }
     Ok(0)
 }
 
 // The lists of a category_t but its class properties; each or 0.
 #[tactic(auto, using(reads::proofs::Outcomes::missed_then), unfolding(crate::specs::Category::decode_category_lists))]
-fn category_lists_at(
-    files: &[&[u8]],
-    segments: &[u64],
-    sections: &[u64],
-    info: &[u8],
-    rebases: &[u64],
-    binds: &[u64],
-    index: &[u32],
-    setting: Setting,
-    va: u64,
-) -> Result<CategoryLists, Missing>
-    ensures { let t = under setting (lent files segments sections info rebases binds index) in
+fn category_lists_at(tables: &Tables, setting: Setting, va: u64) -> Result<CategoryLists, Missing>
+    ensures { let t = under setting tables.now in
         outcome result ≡ category_lists_at t va }
 {
-    let instance_methods = pointer_or_0(
-        files,
-        segments,
-        rebases,
-        index,
-        setting,
-        va,
-        INSTANCE_METHODS,
-    )?;
-    let class_methods = pointer_or_0(files, segments, rebases, index, setting, va, CLASS_METHODS)?;
-    let protocols = pointer_or_0(files, segments, rebases, index, setting, va, PROTOCOLS)?;
-    let instance_properties = pointer_or_0(
-        files,
-        segments,
-        rebases,
-        index,
-        setting,
-        va,
-        INSTANCE_PROPERTIES,
-    )?;
+    let instance_methods = pointer_or_0(tables, setting, va, INSTANCE_METHODS)?;
+    let class_methods = pointer_or_0(tables, setting, va, CLASS_METHODS)?;
+    let protocols = pointer_or_0(tables, setting, va, PROTOCOLS)?;
+    let instance_properties = pointer_or_0(tables, setting, va, INSTANCE_PROPERTIES)?;
     Ok(CategoryLists {
         instance_methods,
         class_methods,
@@ -143,31 +104,21 @@ fn category_lists_at(
 // category_t, its fields in the order of category.rs, the name's text last.
 #[tactic(auto, using(reads::proofs::Outcomes::missed_then), unfolding(crate::specs::Category::decode_category_of))]
 fn category_of(
-    files: &[&[u8]],
-    segments: &[u64],
-    sections: &[u64],
-    info: &[u8],
-    rebases: &[u64],
-    binds: &[u64],
-    index: &[u32],
+    tables: &Tables,
     setting: Setting,
     va: u64,
     wide: bool,
 ) -> Result<ObjcCategory, Missing>
-    ensures { let t = under setting (lent files segments sections info rebases binds index) in
+    ensures { let t = under setting tables.now in
         outcome result ≡ category_of t va wide }
 {
-    whole_category(files, segments, va, wide)?;
-    let name_va = resolve_pointer(files, segments, rebases, index, setting, va)?;
-    let class_address = pointer_or_0(files, segments, rebases, index, setting, va, CLS)?;
-    let lists = category_lists_at(
-        files, segments, sections, info, rebases, binds, index, setting, va,
-    )?;
-    let class_properties = category_properties_at(
-        files, segments, sections, info, rebases, binds, index, setting, va, wide,
-    )?;
+    whole_category(tables.image(), va, wide)?;
+    let name_va = resolve_pointer(tables, setting, va)?;
+    let class_address = pointer_or_0(tables, setting, va, CLS)?;
+    let lists = category_lists_at(tables, setting, va)?;
+    let class_properties = category_properties_at(tables, setting, va, wide)?;
     let reading = setting.reading;
-    let name = read_cstr(files, segments, reading, name_va)?;
+    let name = read_cstr(tables.image(), reading, name_va)?;
     Ok(ObjcCategory {
         address: va,
         name,
@@ -182,23 +133,11 @@ fn category_of(
 
 // The category at an address, by bit 6 of the image info's flags.
 #[tactic(auto, using(reads::proofs::Outcomes::missed_then), unfolding(crate::specs::Category::decode_category))]
-pub fn category_at(
-    files: &[&[u8]],
-    segments: &[u64],
-    sections: &[u64],
-    info: &[u8],
-    rebases: &[u64],
-    binds: &[u64],
-    index: &[u32],
-    setting: Setting,
-    va: u64,
-) -> Result<ObjcCategory, Missing>
-    ensures { let t = under setting (lent files segments sections info rebases binds index) in
+pub fn category_at(tables: &Tables, setting: Setting, va: u64) -> Result<ObjcCategory, Missing>
+    ensures { let t = under setting tables.now in
         outcome result ≡ category_at t va }
 {
-    let image_info = ImageInfo::parse(info)?;
+    let image_info = ImageInfo::parse(tables.info())?;
     let wide = image_info.has_category_class_properties();
-    category_of(
-        files, segments, sections, info, rebases, binds, index, setting, va, wide,
-    )
+    category_of(tables, setting, va, wide)
 }

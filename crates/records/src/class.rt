@@ -1,23 +1,22 @@
 // Classes and their read-only records (objc-runtime-new.h, class_t and class_ro_t).
 ghost use Rattle.std.specs.Prelude.{◌≡◌};
 ghost use Rattle.reads.specs.Outcome.{or_zero};
-ghost use Rattle.reads.specs.Files.{files_lent};
-ghost use Rattle.reads.specs.Place.{image_of, lent_image};
 ghost use Rattle.pointers.specs.ImageInfo.{bit};
-ghost use Rattle.pointers.specs.Tables.{lent, under};
+ghost use Rattle.pointers.specs.Tables.{under, image_in};
 ghost use Rattle.records.specs.Near.{Near};
 ghost use Rattle.records.specs.Class.{bits_of, data_at, class_at, ro_lists_at, class_ro_at, ro_of, ro_data_at, class_name_at, bound_name, decoded_name, class_name_of, fast_flags, is_swift};
 ghost use Rattle.records.specs.Ask.{picked_in};
 ghost use Rattle.reads.specs.Answer.{outcome};
 
-use crate::near::{field, field_or_0};
+use crate::near::{field, field_or_0, readable_near};
 use pointers::setting::Setting;
 use pointers::slot::{pointer, rebase_at, slot_or_0, symbol_at};
+use pointers::tables::Tables;
 use reads::address::Address;
-use reads::answer::{Missing, checked_add, is_absent, nonzero, or_zero};
-use reads::place::{read_u64, readable, u32_in};
-use reads::spot::{Spot, readable_spot, spot_place};
-use reads::text::{Text, read_cstr, text_because};
+use reads::answer::{Missing, because, checked_add, is_absent, nonzero, or_zero};
+use reads::place::{Image, read_u64, readable, u32_in};
+use reads::spot::Spot;
+use reads::text::{Text, read_cstr};
 
 // A class or metaclass.
 #[derive(Clone, Copy)]
@@ -84,75 +83,43 @@ fn bits_of(target: u64, raw: u64) -> u64
 }
 
 // The data address: the rebase target of the bits word, else the pick of the stored word.
-fn data_at(
-    files: &[&[u8]],
-    segments: &[u64],
-    sections: &[u64],
-    info: &[u8],
-    rebases: &[u64],
-    binds: &[u64],
-    index: &[u32],
-    setting: Setting,
-    slot: u64,
-    raw: u64,
-) -> Result<u64, Missing>
-    ensures { let t = under setting (lent files segments sections info rebases binds index) in
+fn data_at(tables: &Tables, setting: Setting, slot: u64, raw: u64) -> Result<u64, Missing>
+    ensures { let t = under setting tables.now in
         outcome result ≡ data_at t slot raw }
 {
-    let target = rebase_at(rebases, index, setting, slot);
+    let target = rebase_at(tables, setting, slot);
     if is_absent(target) {
-        return Address::pick(segments, raw);
+        return Address::pick(tables.segments(), raw);
     }
     target
 }
 
 // The same, or 0.
-fn data_or_0(
-    files: &[&[u8]],
-    segments: &[u64],
-    sections: &[u64],
-    info: &[u8],
-    rebases: &[u64],
-    binds: &[u64],
-    index: &[u32],
-    setting: Setting,
-    slot: u64,
-    raw: u64,
-) -> Result<u64, Missing>
-    ensures { let t = under setting (lent files segments sections info rebases binds index) in
+fn data_or_0(tables: &Tables, setting: Setting, slot: u64, raw: u64) -> Result<u64, Missing>
+    ensures { let t = under setting tables.now in
         outcome result ≡ or_zero (data_at t slot raw) }
 {
-    or_zero(data_at(
-        files, segments, sections, info, rebases, binds, index, setting, slot, raw,
-    ))
+    or_zero(data_at(tables, setting, slot, raw))
 }
 
 // class_t: both field addresses are tested before the first lookup.
 #[tactic(auto, using(reads::proofs::Outcomes::missed_then), unfolding(crate::specs::Class::decode_class))]
 pub fn class_at(
-    files: &[&[u8]],
-    segments: &[u64],
-    sections: &[u64],
-    info: &[u8],
-    rebases: &[u64],
-    binds: &[u64],
-    index: &[u32],
+    tables: &Tables,
     setting: Setting,
     va: u64,
     is_meta: bool,
 ) -> Result<ObjcClass, Missing>
-    ensures { let t = under setting (lent files segments sections info rebases binds index) in
+    ensures { let t = under setting tables.now in
         outcome result ≡ class_at t va is_meta }
 {
-    readable(files, segments, va, ObjcClass::SIZE)?;
+    readable(tables.image(), va, ObjcClass::SIZE)?;
     let super_slot = checked_add(va, ObjcClass::SUPERCLASS)?;
     let bits_slot = checked_add(va, ObjcClass::BITS)?;
-    let isa = slot_or_0(files, segments, rebases, index, setting, va)?;
-    let superclass = slot_or_0(files, segments, rebases, index, setting, super_slot)?;
-    let raw = read_u64(files, segments, bits_slot)?;
-    let target = data_or_0(
-        files, segments, sections, info, rebases, binds, index, setting, bits_slot, raw,
-    )?;
+    let isa = slot_or_0(tables, setting, va)?;
+    let superclass = slot_or_0(tables, setting, super_slot)?;
+    let raw = read_u64(tables.image(), bits_slot)?;
+    let target = data_or_0(tables, setting, bits_slot, raw)?;
     Ok(ObjcClass {
         address: va,
         isa,
@@ -163,78 +130,17 @@ pub fn class_at(
 }
 
 // What stands behind the name of a class_ro_t: its lists, and the weak ivar layout among them; each or 0.
-fn ro_lists_at(
-    files: &[&[u8]],
-    segments: &[u64],
-    sections: &[u64],
-    info: &[u8],
-    rebases: &[u64],
-    binds: &[u64],
-    index: &[u32],
-    setting: Setting,
-    s: Spot,
-    va: u64,
-) -> Result<RoLists, Missing>
-    requires { Near (image_of (files_lent files.now) segments.now) va s 72 }
-    ensures { let t = under setting (lent files segments sections info rebases binds index) in
+#[tactic(auto, using(reads::proofs::Outcomes::missed_then, crate::proofs::NearFields::near_less), unfolding(crate::specs::Class::decode_ro_lists))]
+fn ro_lists_at(tables: &Tables, setting: Setting, s: Spot, va: u64) -> Result<RoLists, Missing>
+    requires { Near (image_in tables.now) va s 72 }
+    ensures { let t = under setting tables.now in
         outcome result ≡ ro_lists_at t va }
 {
-    let methods = match field_or_0(
-        files,
-        segments,
-        rebases,
-        index,
-        setting,
-        s,
-        va,
-        BASE_METHODS,
-    ) {
-        Ok(methods) => methods,
-        Err(m) => return Err(m),
-    };
-    let protocols = match field_or_0(
-        files,
-        segments,
-        rebases,
-        index,
-        setting,
-        s,
-        va,
-        BASE_PROTOCOLS,
-    ) {
-        Ok(protocols) => protocols,
-        Err(m) => return Err(m),
-    };
-    let ivars = match field_or_0(files, segments, rebases, index, setting, s, va, IVARS) {
-        Ok(ivars) => ivars,
-        Err(m) => return Err(m),
-    };
-    let weak_ivar_layout = match field_or_0(
-        files,
-        segments,
-        rebases,
-        index,
-        setting,
-        s,
-        va,
-        WEAK_IVAR_LAYOUT,
-    ) {
-        Ok(weak_ivar_layout) => weak_ivar_layout,
-        Err(m) => return Err(m),
-    };
-    let properties = match field_or_0(
-        files,
-        segments,
-        rebases,
-        index,
-        setting,
-        s,
-        va,
-        BASE_PROPERTIES,
-    ) {
-        Ok(properties) => properties,
-        Err(m) => return Err(m),
-    };
+    let methods = field_or_0(tables, setting, s, va, BASE_METHODS)?;
+    let protocols = field_or_0(tables, setting, s, va, BASE_PROTOCOLS)?;
+    let ivars = field_or_0(tables, setting, s, va, IVARS)?;
+    let weak_ivar_layout = field_or_0(tables, setting, s, va, WEAK_IVAR_LAYOUT)?;
+    let properties = field_or_0(tables, setting, s, va, BASE_PROPERTIES)?;
     Ok(RoLists {
         methods,
         protocols,
@@ -245,58 +151,23 @@ fn ro_lists_at(
 }
 
 // class_ro_t: the pointers in the order of class.rs, the name's text last.
-pub fn class_ro_at(
-    files: &[&[u8]],
-    segments: &[u64],
-    sections: &[u64],
-    info: &[u8],
-    rebases: &[u64],
-    binds: &[u64],
-    index: &[u32],
-    setting: Setting,
-    va: u64,
-) -> Result<ClassRo, Missing>
-    ensures { let t = under setting (lent files segments sections info rebases binds index) in
+#[tactic(auto, using(reads::proofs::Outcomes::missed_then, crate::proofs::NearFields::near_found), unfolding(crate::specs::Class::decode_class_ro))]
+pub fn class_ro_at(tables: &Tables, setting: Setting, va: u64) -> Result<ClassRo, Missing>
+    ensures { let t = under setting tables.now in
         outcome result ≡ class_ro_at t va }
 {
-    let s = readable_spot(files, segments, va, ClassRo::SIZE);
-    let p = match spot_place(s) {
-        Ok(p) => p,
-        Err(m) => return Err(m),
-    };
-    let ivar_layout = match field_or_0(
-        files,
-        segments,
-        rebases,
-        index,
-        setting,
-        s,
-        va,
-        IVAR_LAYOUT,
-    ) {
-        Ok(ivar_layout) => ivar_layout,
-        Err(m) => return Err(m),
-    };
-    let name_va = match field(files, segments, rebases, index, setting, s, va, NAME) {
-        Ok(name_va) => name_va,
-        Err(m) => return Err(m),
-    };
-    let lists = match ro_lists_at(
-        files, segments, sections, info, rebases, binds, index, setting, s, va,
-    ) {
-        Ok(lists) => lists,
-        Err(m) => return Err(m),
-    };
+    let (s, place) = readable_near(tables, va, ClassRo::SIZE);
+    let p = place?;
+    let ivar_layout = field_or_0(tables, setting, s, va, IVAR_LAYOUT)?;
+    let name_va = field(tables, setting, s, va, NAME)?;
+    let lists = ro_lists_at(tables, setting, s, va)?;
     let reading = setting.reading;
-    let name = match read_cstr(files, segments, reading, name_va) {
-        Ok(name) => name,
-        Err(m) => return Err(m),
-    };
+    let name = read_cstr(tables.image(), reading, name_va)?;
     Ok(ClassRo {
         address: va,
-        flags: u32_in(files, p, FLAGS),
-        instance_start: u32_in(files, p, INSTANCE_START),
-        instance_size: u32_in(files, p, INSTANCE_SIZE),
+        flags: u32_in(tables.files(), p, FLAGS),
+        instance_start: u32_in(tables.files(), p, INSTANCE_START),
+        instance_size: u32_in(tables.files(), p, INSTANCE_SIZE),
         name,
         ivar_layout_address: ivar_layout,
         methods: lists.methods,
@@ -309,153 +180,84 @@ pub fn class_ro_at(
 
 // The class_ro_t of a class: picked again from its bits.
 #[tactic(auto, using(reads::proofs::Outcomes::missed_then), unfolding(crate::specs::Class::decode_ro_of))]
-pub fn ro_of(
-    files: &[&[u8]],
-    segments: &[u64],
-    sections: &[u64],
-    info: &[u8],
-    rebases: &[u64],
-    binds: &[u64],
-    index: &[u32],
-    setting: Setting,
-    class: ObjcClass,
-) -> Result<ClassRo, Missing>
-    ensures { let t = under setting (lent files segments sections info rebases binds index) in
+pub fn ro_of(tables: &Tables, setting: Setting, class: ObjcClass) -> Result<ClassRo, Missing>
+    ensures { let t = under setting tables.now in
         outcome result ≡ ro_of t class }
 {
-    let va = Address::pick(segments, class.bits)?;
-    class_ro_at(
-        files, segments, sections, info, rebases, binds, index, setting, va,
-    )
+    let va = Address::pick(tables.segments(), class.bits)?;
+    class_ro_at(tables, setting, va)
 }
 
 // The class_ro_t of the bits word in a slot: a rebase target is not picked from.
-fn ro_data_at(
-    files: &[&[u8]],
-    segments: &[u64],
-    sections: &[u64],
-    info: &[u8],
-    rebases: &[u64],
-    binds: &[u64],
-    index: &[u32],
-    setting: Setting,
-    slot: u64,
-) -> Result<u64, Missing>
-    ensures { let t = under setting (lent files segments sections info rebases binds index) in
+fn ro_data_at(tables: &Tables, setting: Setting, slot: u64) -> Result<u64, Missing>
+    ensures { let t = under setting tables.now in
         outcome result ≡ ro_data_at t slot }
 {
-    let target = rebase_at(rebases, index, setting, slot);
+    let target = rebase_at(tables, setting, slot);
     if is_absent(target) {
-        return picked_at(files, segments, slot);
+        return picked_at(tables.image(), slot);
     }
     target
 }
 
 // The pick of the word in a slot.
 #[tactic(auto, using(reads::proofs::Outcomes::missed_then), unfolding(crate::specs::Ask::picked_in))]
-fn picked_at(files: &[&[u8]], segments: &[u64], slot: u64) -> Result<u64, Missing>
-    ensures { outcome result ≡ picked_in (lent_image files segments) slot }
+fn picked_at(image: &Image, slot: u64) -> Result<u64, Missing>
+    ensures { outcome result ≡ picked_in image.now slot }
 {
-    let raw = read_u64(files, segments, slot)?;
-    Address::pick(segments, raw)
+    let raw = read_u64(image, slot)?;
+    Address::pick(image.segments, raw)
 }
 
 // The name of the class at an address, by its class_ro_t's name slot alone.
 #[tactic(auto, using(reads::proofs::Outcomes::missed_then), unfolding(crate::specs::Class::decode_class_name))]
-pub fn class_name_at(
-    files: &[&[u8]],
-    segments: &[u64],
-    sections: &[u64],
-    info: &[u8],
-    rebases: &[u64],
-    binds: &[u64],
-    index: &[u32],
-    setting: Setting,
-    va: u64,
-) -> Result<Text, Missing>
-    ensures { let t = under setting (lent files segments sections info rebases binds index) in
+pub fn class_name_at(tables: &Tables, setting: Setting, va: u64) -> Result<Text, Missing>
+    ensures { let t = under setting tables.now in
         outcome result ≡ class_name_at t va }
 {
-    readable(files, segments, va, ObjcClass::SIZE)?;
+    readable(tables.image(), va, ObjcClass::SIZE)?;
     let bits_slot = checked_add(va, ObjcClass::BITS)?;
-    let ro_va = ro_data_at(
-        files, segments, sections, info, rebases, binds, index, setting, bits_slot,
-    )?;
-    let name_va = pointer(files, segments, rebases, index, setting, ro_va, NAME)?;
+    let ro_va = ro_data_at(tables, setting, bits_slot)?;
+    let name_va = pointer(tables, setting, ro_va, NAME)?;
     let reading = setting.reading;
-    read_cstr(files, segments, reading, name_va)
+    read_cstr(tables.image(), reading, name_va)
 }
 
 // The bind of the slot at +8, where both class_t.superclass and category_t.cls stand, less its prefix.
 #[tactic(auto, using(reads::proofs::Outcomes::missed_then), unfolding(crate::specs::Class::decode_bound_name))]
-fn bound_name(
-    files: &[&[u8]],
-    segments: &[u64],
-    sections: &[u64],
-    info: &[u8],
-    rebases: &[u64],
-    binds: &[u64],
-    index: &[u32],
-    setting: Setting,
-    address: u64,
-) -> Result<Text, Missing>
-    ensures { let t = under setting (lent files segments sections info rebases binds index) in
+fn bound_name(tables: &Tables, setting: Setting, address: u64) -> Result<Text, Missing>
+    ensures { let t = under setting tables.now in
         outcome result ≡ bound_name t address }
 {
     let slot = checked_add(address, ObjcClass::SUPERCLASS)?;
-    symbol_at(files, rebases, binds, index, slot)
+    symbol_at(tables, slot)
 }
 
 // The decoded name of a class that is not 0.
 #[tactic(auto, using(reads::proofs::Outcomes::missed_then), unfolding(crate::specs::Class::decode_nonzero_class_name))]
-fn decoded_name(
-    files: &[&[u8]],
-    segments: &[u64],
-    sections: &[u64],
-    info: &[u8],
-    rebases: &[u64],
-    binds: &[u64],
-    index: &[u32],
-    setting: Setting,
-    class_va: u64,
-) -> Result<Text, Missing>
-    ensures { let t = under setting (lent files segments sections info rebases binds index) in
+fn decoded_name(tables: &Tables, setting: Setting, class_va: u64) -> Result<Text, Missing>
+    ensures { let t = under setting tables.now in
         outcome result ≡ decoded_name t class_va }
 {
     let va = nonzero(class_va)?;
-    class_name_at(
-        files, segments, sections, info, rebases, binds, index, setting, va,
-    )
+    class_name_at(tables, setting, va)
 }
 
 // The name of the class in the slot at +8 of a record: a class that decodes goes before the bind, and where both are absent its
 // reason stands.
 pub fn class_name_of(
-    files: &[&[u8]],
-    segments: &[u64],
-    sections: &[u64],
-    info: &[u8],
-    rebases: &[u64],
-    binds: &[u64],
-    index: &[u32],
+    tables: &Tables,
     setting: Setting,
     address: u64,
     class_va: u64,
 ) -> Result<Text, Missing>
-    ensures { let t = under setting (lent files segments sections info rebases binds index) in
+    ensures { let t = under setting tables.now in
         outcome result ≡ class_name_of t address class_va }
 {
-    match decoded_name(
-        files, segments, sections, info, rebases, binds, index, setting, class_va,
-    ) {
+    match decoded_name(tables, setting, class_va) {
         Ok(name) => Ok(name),
         Err(m) => match m {
-            Missing::Absent(why) => text_because(
-                bound_name(
-                    files, segments, sections, info, rebases, binds, index, setting, address,
-                ),
-                why,
-            ),
+            Missing::Absent(why) => because(bound_name(tables, setting, address), why),
             Missing::Refused(k) => Err(Missing::Refused(k)),
         },
     }

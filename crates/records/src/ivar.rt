@@ -1,24 +1,16 @@
 // Rows of ivar lists (objc-runtime-new.h, ivar_t).
-ghost use Rattle.std.specs.Prelude.{◌≡◌, None};
-ghost use Rattle.reads.specs.Answer.{missed, outcome};
-ghost use Rattle.reads.specs.Outcome.{value, or_else};
-ghost use Rattle.pointers.specs.Tables.{lent, under};
-ghost use Rattle.records.specs.Row.{alignment_of, aligned_of, offset_at, ivar_at};
+ghost use Rattle.std.specs.Prelude.{◌≡◌};
+ghost use Rattle.reads.specs.Answer.{outcome};
+ghost use Rattle.pointers.specs.Tables.{under};
+ghost use Rattle.records.specs.Row.{alignment_of, aligned_of, decode_offset_there, offset_at, ivar_at};
+ghost use Rattle.records.specs.Decode.{run};
 
-use crate::near::{field, field_or_0, first_slot_or_0};
+use crate::near::{field, field_or_0, first_slot_or_0, readable_near};
 use pointers::setting::Setting;
+use pointers::tables::Tables;
 use reads::answer::{Missing, nonzero};
 use reads::place::{readable, u32_in};
-use reads::spot::{readable_spot, spot_place};
 use reads::text::{Text, read_cstr, read_cstr_or_empty};
-
-// Whether an ivar's offset is aligned; unknown without an offset or an alignment.
-#[derive(Clone, Copy)]
-pub enum Aligned {
-    Yes,
-    No,
-    Unknown,
-}
 
 // A row of an ivar list.
 #[derive(Clone, Copy)]
@@ -28,7 +20,7 @@ pub struct Ivar {
     pub offset: Option<u32>,
     pub size: u32,
     pub log2_alignment: Option<u8>,
-    pub aligned: Aligned,
+    pub aligned: Option<bool>,
 }
 
 impl Ivar {
@@ -59,111 +51,59 @@ fn alignment_of(raw: u32) -> Option<u8>
 
 // Whether the offset has at least as many trailing zero bits as the alignment. Offset 0 has a test of its own: it always does, but its count
 // is 32, and alignments go to 63.
-fn aligned_of(offset: Option<u32>, alignment: Option<u8>) -> Aligned
+#[tactic(auto, using(std::proofs::lemmas::Bool::Decides::nat_tests), unfolding(crate::specs::Row::aligned_of))]
+fn aligned_of(offset: Option<u32>, alignment: Option<u8>) -> Option<bool>
     ensures { result ≡ aligned_of offset alignment }
 {
-    let Some(n) = offset else {
-        return Aligned::Unknown;
-    };
-    let Some(log2) = alignment else {
-        return Aligned::Unknown;
-    };
-    if n == 0 {
-        return Aligned::Yes;
-    }
-    if u32::trailing_zeros(n) < log2 as u32 {
-        return Aligned::No;
-    }
-    Aligned::Yes
+    let n = offset?;
+    let log2 = alignment?;
+    Some(n == 0 || log2 as u32 <= u32::trailing_zeros(n))
 }
 
-// No offset, where it is absent.
-fn or_none(m: Missing) -> Result<Option<u32>, Missing>
-    ensures { outcome result ≡ or_else (missed m) (value None) }
+// The four bytes at the pointed place.
+#[tactic(auto, using(reads::proofs::Outcomes::missed_then))]
+fn offset_there(tables: &Tables, setting: Setting, place: u64) -> Result<Option<u32>, Missing>
+    ensures { let t = under setting tables.now in
+        outcome result ≡ run t (decode_offset_there place) }
 {
-    match m {
-        Missing::Absent(_) => Ok(None),
-        Missing::Refused(k) => Err(Missing::Refused(k)),
-    }
+    let va = nonzero(place)?;
+    let p = readable(tables.image(), va, 4)?;
+    Ok(Some(u32_in(tables.files(), p, 0)))
 }
 
 // The offset in the four bytes at the pointed place, none if the pointer is 0 or they cannot be read.
-fn offset_at(
-    files: &[&[u8]],
-    segments: &[u64],
-    sections: &[u64],
-    info: &[u8],
-    rebases: &[u64],
-    binds: &[u64],
-    index: &[u32],
-    setting: Setting,
-    place: u64,
-) -> Result<Option<u32>, Missing>
-    ensures { let t = under setting (lent files segments sections info rebases binds index) in
+#[tactic(auto, unfolding(crate::specs::Row::decode_offset))]
+fn offset_at(tables: &Tables, setting: Setting, place: u64) -> Result<Option<u32>, Missing>
+    ensures { let t = under setting tables.now in
         outcome result ≡ offset_at t place }
 {
-    match nonzero(place) {
-        Ok(va) => match readable(files, segments, va, 4) {
-            Ok(p) => Ok(Some(u32_in(files, p, 0))),
-            Err(m) => or_none(m),
-        },
-        Err(m) => or_none(m),
+    match offset_there(tables, setting, place) {
+        Err(Missing::Absent(_)) => Ok(None),
+        offset => offset,
     }
 }
 
 // ivar_t; the offset's place is read last.
-pub(crate) fn ivar_at(
-    files: &[&[u8]],
-    segments: &[u64],
-    sections: &[u64],
-    info: &[u8],
-    rebases: &[u64],
-    binds: &[u64],
-    index: &[u32],
-    setting: Setting,
-    va: u64,
-) -> Result<Ivar, Missing>
-    ensures { let t = under setting (lent files segments sections info rebases binds index) in
+#[tactic(auto, using(reads::proofs::Outcomes::missed_then, crate::proofs::NearFields::near_found), unfolding(crate::specs::Row::decode_ivar))]
+pub(crate) fn ivar_at(tables: &Tables, setting: Setting, va: u64) -> Result<Ivar, Missing>
+    ensures { let t = under setting tables.now in
         outcome result ≡ ivar_at t va }
 {
-    let s = readable_spot(files, segments, va, Ivar::SIZE);
-    let p = match spot_place(s) {
-        Ok(p) => p,
-        Err(m) => return Err(m),
-    };
-    let place = match first_slot_or_0(files, segments, rebases, index, setting, s, va) {
-        Ok(place) => place,
-        Err(m) => return Err(m),
-    };
-    let name_va = match field(files, segments, rebases, index, setting, s, va, Ivar::NAME) {
-        Ok(name_va) => name_va,
-        Err(m) => return Err(m),
-    };
-    let type_va = match field_or_0(files, segments, rebases, index, setting, s, va, Ivar::TYPE) {
-        Ok(type_va) => type_va,
-        Err(m) => return Err(m),
-    };
+    let (s, place) = readable_near(tables, va, Ivar::SIZE);
+    let p = place?;
+    let offset_va = first_slot_or_0(tables, setting, s, va)?;
+    let name_va = field(tables, setting, s, va, Ivar::NAME)?;
+    let type_va = field_or_0(tables, setting, s, va, Ivar::TYPE)?;
     let reading = setting.reading;
-    let name = match read_cstr(files, segments, reading, name_va) {
-        Ok(name) => name,
-        Err(m) => return Err(m),
-    };
-    let type_encoding = match read_cstr_or_empty(files, segments, reading, type_va) {
-        Ok(type_encoding) => type_encoding,
-        Err(m) => return Err(m),
-    };
-    let offset = match offset_at(
-        files, segments, sections, info, rebases, binds, index, setting, place,
-    ) {
-        Ok(offset) => offset,
-        Err(m) => return Err(m),
-    };
-    let log2_alignment = alignment_of(u32_in(files, p, Ivar::ALIGNMENT_RAW));
+    let name = read_cstr(tables.image(), reading, name_va)?;
+    let type_encoding = read_cstr_or_empty(tables.image(), reading, type_va)?;
+    let offset = offset_at(tables, setting, offset_va)?;
+    let log2_alignment = alignment_of(u32_in(tables.files(), p, Ivar::ALIGNMENT_RAW));
     Ok(Ivar {
         name,
         type_encoding,
         offset,
-        size: u32_in(files, p, Ivar::OWN_SIZE),
+        size: u32_in(tables.files(), p, Ivar::OWN_SIZE),
         log2_alignment,
         aligned: aligned_of(offset, log2_alignment),
     })

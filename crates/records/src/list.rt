@@ -3,9 +3,7 @@ ghost use Rattle.std.specs.Prelude.{◌≡◌, ◌<◌};
 ghost use Rattle.reads.specs.Reference.{before};
 ghost use Rattle.reads.specs.Breaks.{can_read};
 ghost use Rattle.reads.specs.Outcome.{value, choose};
-ghost use Rattle.reads.specs.Files.{files_lent};
-ghost use Rattle.reads.specs.Place.{image_of, lent_image};
-ghost use Rattle.pointers.specs.Tables.{lent, under};
+ghost use Rattle.pointers.specs.Tables.{under};
 ghost use Rattle.records.specs.Ask.{even_list, entry_size};
 ghost use Rattle.records.specs.List.{least, method_rows, rows_of, size_of, must_be_even, list_at};
 ghost use Rattle.records.specs.Search.{first_readable, search_budget};
@@ -16,9 +14,10 @@ use crate::ivar::Ivar;
 use crate::method::Method;
 use crate::property::Property;
 use pointers::setting::Setting;
+use pointers::tables::Tables;
 use reads::answer::{Missing, Reason, checked_add, nonzero};
 use reads::breaks::next_break;
-use reads::place::{readable, u32_in};
+use reads::place::{Image, readable, u32_in};
 use reads::segment::Segment;
 
 // Bits of a method list's first word that are not its entry size (objc-runtime-new.h, entsize_list_tt<method_t, ..>).
@@ -153,24 +152,18 @@ fn list_address(kind: ListKind, va: u64) -> Result<u64, Missing>
 // The list at an address: an 8-byte header of entry size and count, then the entries.
 #[tactic(auto, using(reads::proofs::Outcomes::missed_then), unfolding(crate::specs::List::decode_list))]
 pub fn list_at(
-    files: &[&[u8]],
-    segments: &[u64],
-    sections: &[u64],
-    info: &[u8],
-    rebases: &[u64],
-    binds: &[u64],
-    index: &[u32],
+    tables: &Tables,
     setting: Setting,
     kind: ListKind,
     va: u64,
 ) -> Result<Layout, Missing>
-    ensures { let t = under setting (lent files segments sections info rebases binds index) in
+    ensures { let t = under setting tables.now in
         outcome result ≡ list_at t kind va }
 {
     nonzero(va)?;
     list_address(kind, va)?;
-    let p = readable(files, segments, va, Layout::HEADER_SIZE)?;
-    let w = u32_in(files, p, Layout::ENTSIZE_AND_FLAGS);
+    let p = readable(tables.image(), va, Layout::HEADER_SIZE)?;
+    let w = u32_in(tables.files(), p, Layout::ENTSIZE_AND_FLAGS);
     let rows = rows_of(kind, w);
     let size = size_of(kind, w);
     entry_size(least(rows), size)?;
@@ -178,25 +171,22 @@ pub fn list_at(
     Ok(Layout {
         base,
         size,
-        count: u32_in(files, p, Layout::COUNT),
+        count: u32_in(tables.files(), p, Layout::COUNT),
         kind: rows,
     })
 }
 
 // Whether k bytes can be read at an address.
-fn can_read(files: &[&[u8]], segments: &[u64], k: u64, va: u64) -> bool
-    ensures { result ≡ can_read (lent_image files segments) k va }
+fn can_read(image: &Image, k: u64, va: u64) -> bool
+    ensures { result ≡ can_read image.now k va }
 {
-    match readable(files, segments, va, k) {
-        Ok(p) => true,
-        Err(m) => false,
-    }
+    readable(image, va, k).is_ok()
 }
 
 // Tries index i: the entry there is the answer, or none from there on is, or the search goes on at the first entry whose
 // address reaches the next breakpoint.
-fn try_at(files: &[&[u8]], segments: &[u64], h: Layout, i: u64) -> Try
-    ensures { Leads (lent_image files segments) h i result }
+fn try_at(image: &Image, h: Layout, i: u64) -> Try
+    ensures { Leads image.now h i result }
 {
     let count = h.count as u64;
     if count <= i {
@@ -211,10 +201,10 @@ fn try_at(files: &[&[u8]], segments: &[u64], h: Layout, i: u64) -> Try
     let va = h.base + way;
     let rows = h.kind;
     let k = least(rows);
-    if can_read(files, segments, k, va) {
+    if can_read(image, k, va) {
         return Try::Stop(Some(i));
     }
-    let Some(b) = next_break(files, segments, k, va) else {
+    let Some(b) = next_break(image, k, va) else {
         return Try::Stop(None);
     };
     // Entries of size 0 all have one address.
@@ -230,15 +220,16 @@ fn try_at(files: &[&[u8]], segments: &[u64], h: Layout, i: u64) -> Try
 }
 
 // Spends one of the budget at each index tried. Each try leaves fewer breakpoints ahead, so the budget does not run out.
-fn search(files: &[&[u8]], segments: &[u64], h: Layout, from: u64, budget: u64) -> Option<u64>
-    requires { ahead (image_of (files_lent files.now) segments.now) h from < budget }
-    ensures { result ≡ first_readable (lent_image files segments) h from }
+fn search(image: &Image, h: Layout, from: u64, budget: u64) -> Option<u64>
+    requires { ahead image.now h from < budget }
+    ensures { result ≡ first_readable image.now h from }
 {
     let mut i = from;
     let mut left = budget;
+    // Not a `for`: a try says where the next one begins, past the entries below a breakpoint.
     loop {
         left -= 1;
-        match try_at(files, segments, h, i) {
+        match try_at(image, h, i) {
             Try::Stop(entry) => {
                 return entry;
             }
@@ -257,9 +248,9 @@ fn search_budget(segments: &[u64]) -> u64
 }
 
 // The first entry from an index on, below the count, that can be read.
-pub fn first_readable(files: &[&[u8]], segments: &[u64], h: Layout, from: u32) -> Option<u64>
-    ensures { result ≡ first_readable (lent_image files segments) h from }
+pub fn first_readable(image: &Image, h: Layout, from: u32) -> Option<u64>
+    ensures { result ≡ first_readable image.now h from }
 {
-    let budget = search_budget(segments);
-    search(files, segments, h, from as u64, budget)
+    let budget = search_budget(image.segments);
+    search(image, h, from as u64, budget)
 }

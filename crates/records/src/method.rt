@@ -2,18 +2,18 @@
 ghost use Rattle.std.specs.Prelude.{◌≡◌};
 ghost use Rattle.reads.specs.Relative.{relative, signed_in};
 ghost use Rattle.reads.specs.Files.{files_of};
-ghost use Rattle.pointers.specs.Tables.{lent, under};
+ghost use Rattle.pointers.specs.Tables.{under};
 ghost use Rattle.records.specs.Row.{legacy_imp, legacy_method_at, small_imp, selector_at, types_at, small_kind, small_method_at, is_small};
 ghost use Rattle.reads.specs.Answer.{outcome};
 
-use crate::near::{field, field_or_0, first_slot};
+use crate::near::{field, field_or_0, first_slot, readable_near};
 use pointers::setting::Setting;
 use pointers::slot::resolve_pointer;
+use pointers::tables::Tables;
 use reads::address::Address;
 use reads::answer::{Missing, checked_add};
 use reads::place::{Place, readable, u32_in};
 use reads::relative::{i32_in, relative_pointer, signed};
-use reads::spot::{readable_spot, spot_place};
 use reads::text::{Text, read_cstr, read_cstr_or_empty};
 
 // Which form of method_t a row came from.
@@ -74,55 +74,23 @@ fn legacy_imp(va: u64) -> Option<u64>
 }
 
 // method_t::big.
+#[tactic(auto, using(reads::proofs::Outcomes::missed_then, crate::proofs::NearFields::near_found), unfolding(crate::specs::Row::decode_legacy_method))]
 pub(crate) fn legacy_method_at(
-    files: &[&[u8]],
-    segments: &[u64],
-    sections: &[u64],
-    info: &[u8],
-    rebases: &[u64],
-    binds: &[u64],
-    index: &[u32],
+    tables: &Tables,
     setting: Setting,
     va: u64,
 ) -> Result<Method, Missing>
-    ensures { let t = under setting (lent files segments sections info rebases binds index) in
+    ensures { let t = under setting tables.now in
         outcome result ≡ legacy_method_at t va }
 {
-    let s = readable_spot(files, segments, va, Method::SIZE);
-    let _p = match spot_place(s) {
-        Ok(p) => p,
-        Err(m) => return Err(m),
-    };
-    let name_va = match first_slot(files, segments, rebases, index, setting, s, va) {
-        Ok(name_va) => name_va,
-        Err(m) => return Err(m),
-    };
-    let types_va = match field(
-        files,
-        segments,
-        rebases,
-        index,
-        setting,
-        s,
-        va,
-        Method::TYPES,
-    ) {
-        Ok(types_va) => types_va,
-        Err(m) => return Err(m),
-    };
-    let imp_va = match field_or_0(files, segments, rebases, index, setting, s, va, Method::IMP) {
-        Ok(imp_va) => imp_va,
-        Err(m) => return Err(m),
-    };
+    let (s, place) = readable_near(tables, va, Method::SIZE);
+    place?;
+    let name_va = first_slot(tables, setting, s, va)?;
+    let types_va = field(tables, setting, s, va, Method::TYPES)?;
+    let imp_va = field_or_0(tables, setting, s, va, Method::IMP)?;
     let reading = setting.reading;
-    let selector = match read_cstr(files, segments, reading, name_va) {
-        Ok(selector) => selector,
-        Err(m) => return Err(m),
-    };
-    let types = match read_cstr_or_empty(files, segments, reading, types_va) {
-        Ok(types) => types,
-        Err(m) => return Err(m),
-    };
+    let selector = read_cstr(tables.image(), reading, name_va)?;
+    let types = read_cstr_or_empty(tables.image(), reading, types_va)?;
     Ok(Method {
         selector,
         types,
@@ -158,95 +126,60 @@ fn target_of(files: &[&[u8]], p: Place, i: u64, field: u64) -> u64
 }
 
 // A small method's selector: its offset's target itself, or indirect, through one slot.
+#[tactic(auto, unfolding(crate::specs::Row::decode_selector, reads::specs::Outcome::choose))]
 fn selector_at(
-    files: &[&[u8]],
-    segments: &[u64],
-    sections: &[u64],
-    info: &[u8],
-    rebases: &[u64],
-    binds: &[u64],
-    index: &[u32],
+    tables: &Tables,
     setting: Setting,
     direct: bool,
     field: u64,
     p: Place,
 ) -> Result<u64, Missing>
-    ensures { let t = under setting (lent files segments sections info rebases binds index) in
+    ensures { let t = under setting tables.now in
         outcome result ≡ selector_at t direct field p }
 {
-    let target = target_of(files, p, Method::SMALL_NAME, field);
+    let target = target_of(tables.files(), p, Method::SMALL_NAME, field);
     if direct {
         return Ok(target);
     }
-    resolve_pointer(files, segments, rebases, index, setting, target)
+    resolve_pointer(tables, setting, target)
 }
 
 // A small method's types: the text at its offset's target.
-fn types_at(
-    files: &[&[u8]],
-    segments: &[u64],
-    sections: &[u64],
-    info: &[u8],
-    rebases: &[u64],
-    binds: &[u64],
-    index: &[u32],
-    setting: Setting,
-    field: u64,
-    p: Place,
-) -> Result<Text, Missing>
-    ensures { let t = under setting (lent files segments sections info rebases binds index) in
+#[tactic(auto, unfolding(crate::specs::Row::decode_types))]
+fn types_at(tables: &Tables, setting: Setting, field: u64, p: Place) -> Result<Text, Missing>
+    ensures { let t = under setting tables.now in
         outcome result ≡ types_at t field p }
 {
     let reading = setting.reading;
     read_cstr_or_empty(
-        files,
-        segments,
+        tables.image(),
         reading,
-        target_of(files, p, Method::SMALL_TYPES, field),
+        target_of(tables.files(), p, Method::SMALL_TYPES, field),
     )
 }
 
 // method_t::small: both field addresses are tested before the first lookup.
 #[tactic(auto, using(reads::proofs::Outcomes::missed_then), unfolding(crate::specs::Row::decode_small_method))]
 pub(crate) fn small_method_at(
-    files: &[&[u8]],
-    segments: &[u64],
-    sections: &[u64],
-    info: &[u8],
-    rebases: &[u64],
-    binds: &[u64],
-    index: &[u32],
+    tables: &Tables,
     setting: Setting,
     va: u64,
     direct: bool,
 ) -> Result<Method, Missing>
-    ensures { let t = under setting (lent files segments sections info rebases binds index) in
+    ensures { let t = under setting tables.now in
         outcome result ≡ small_method_at t va direct }
 {
-    let p = readable(files, segments, va, Method::SMALL_SIZE)?;
+    let p = readable(tables.image(), va, Method::SMALL_SIZE)?;
     let types_field = checked_add(va, Method::SMALL_TYPES)?;
     let imp_field = checked_add(va, Method::SMALL_IMP)?;
-    let name_va = selector_at(
-        files, segments, sections, info, rebases, binds, index, setting, direct, va, p,
-    )?;
+    let name_va = selector_at(tables, setting, direct, va, p)?;
     let reading = setting.reading;
-    let selector = read_cstr(files, segments, reading, name_va)?;
-    let types = types_at(
-        files,
-        segments,
-        sections,
-        info,
-        rebases,
-        binds,
-        index,
-        setting,
-        types_field,
-        p,
-    )?;
+    let selector = read_cstr(tables.image(), reading, name_va)?;
+    let types = types_at(tables, setting, types_field, p)?;
     Ok(Method {
         selector,
         types,
-        implementation: small_imp(u32_in(files, p, Method::SMALL_IMP), imp_field),
+        implementation: small_imp(u32_in(tables.files(), p, Method::SMALL_IMP), imp_field),
         kind: small_kind(direct),
     })
 }

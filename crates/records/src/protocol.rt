@@ -1,11 +1,12 @@
 // Protocols (objc-runtime-new.h, protocol_t).
 ghost use Rattle.std.specs.Prelude.{◌≡◌};
-ghost use Rattle.pointers.specs.Tables.{lent, under};
+ghost use Rattle.pointers.specs.Tables.{under};
 ghost use Rattle.records.specs.Protocol.{protocol_lists_at, class_properties_at, trailing_at, protocol_at};
 ghost use Rattle.reads.specs.Answer.{outcome};
 
 use pointers::setting::Setting;
 use pointers::slot::{pointer, pointer_or_0, slot_or_0};
+use pointers::tables::Tables;
 use reads::answer::{Missing, checked_add};
 use reads::place::{Place, readable, u32_in};
 use reads::text::{Text, read_cstr};
@@ -67,103 +68,39 @@ struct ProtocolLists {
 
 // _classProperties: its 8 bytes must be readable, even where a rebase fills the slot; or 0.
 #[tactic(auto, using(reads::proofs::Outcomes::missed_then), unfolding(crate::specs::Protocol::decode_trailing))]
-fn trailing_at(
-    files: &[&[u8]],
-    segments: &[u64],
-    sections: &[u64],
-    info: &[u8],
-    rebases: &[u64],
-    binds: &[u64],
-    index: &[u32],
-    setting: Setting,
-    va: u64,
-) -> Result<u64, Missing>
-    ensures { let t = under setting (lent files segments sections info rebases binds index) in
+fn trailing_at(tables: &Tables, setting: Setting, va: u64) -> Result<u64, Missing>
+    ensures { let t = under setting tables.now in
         outcome result ≡ trailing_at t va }
 {
     let slot = checked_add(va, CLASS_PROPERTIES)?;
-    readable(files, segments, slot, 8)?;
-    slot_or_0(files, segments, rebases, index, setting, slot)
+    readable(tables.image(), slot, 8)?;
+    slot_or_0(tables, setting, slot)
 }
 
 // The class properties, 0 where the protocol is too short to have them.
-fn class_properties_at(
-    files: &[&[u8]],
-    segments: &[u64],
-    sections: &[u64],
-    info: &[u8],
-    rebases: &[u64],
-    binds: &[u64],
-    index: &[u32],
-    setting: Setting,
-    va: u64,
-    p: Place,
-) -> Result<u64, Missing>
-    ensures { let t = under setting (lent files segments sections info rebases binds index) in
+#[tactic(auto, using(std::proofs::lemmas::Bool::Decides::nat_tests), unfolding(crate::specs::Protocol::decode_class_properties, reads::specs::Outcome::choose))]
+fn class_properties_at(tables: &Tables, setting: Setting, va: u64, p: Place) -> Result<u64, Missing>
+    ensures { let t = under setting tables.now in
         outcome result ≡ class_properties_at t va p }
 {
-    if SIZE_WITH_CLASS_PROPERTIES <= u32_in(files, p, OWN_SIZE) {
-        return trailing_at(
-            files, segments, sections, info, rebases, binds, index, setting, va,
-        );
+    if SIZE_WITH_CLASS_PROPERTIES <= u32_in(tables.files(), p, OWN_SIZE) {
+        return trailing_at(tables, setting, va);
     }
     Ok(0)
 }
 
 // The lists of a protocol_t but its class properties; each or 0.
 #[tactic(auto, using(reads::proofs::Outcomes::missed_then), unfolding(crate::specs::Protocol::decode_protocol_lists))]
-fn protocol_lists_at(
-    files: &[&[u8]],
-    segments: &[u64],
-    sections: &[u64],
-    info: &[u8],
-    rebases: &[u64],
-    binds: &[u64],
-    index: &[u32],
-    setting: Setting,
-    va: u64,
-) -> Result<ProtocolLists, Missing>
-    ensures { let t = under setting (lent files segments sections info rebases binds index) in
+fn protocol_lists_at(tables: &Tables, setting: Setting, va: u64) -> Result<ProtocolLists, Missing>
+    ensures { let t = under setting tables.now in
         outcome result ≡ protocol_lists_at t va }
 {
-    let protocols = pointer_or_0(files, segments, rebases, index, setting, va, PROTOCOLS)?;
-    let instance_methods = pointer_or_0(
-        files,
-        segments,
-        rebases,
-        index,
-        setting,
-        va,
-        INSTANCE_METHODS,
-    )?;
-    let class_methods = pointer_or_0(files, segments, rebases, index, setting, va, CLASS_METHODS)?;
-    let optional_instance_methods = pointer_or_0(
-        files,
-        segments,
-        rebases,
-        index,
-        setting,
-        va,
-        OPTIONAL_INSTANCE_METHODS,
-    )?;
-    let optional_class_methods = pointer_or_0(
-        files,
-        segments,
-        rebases,
-        index,
-        setting,
-        va,
-        OPTIONAL_CLASS_METHODS,
-    )?;
-    let instance_properties = pointer_or_0(
-        files,
-        segments,
-        rebases,
-        index,
-        setting,
-        va,
-        INSTANCE_PROPERTIES,
-    )?;
+    let protocols = pointer_or_0(tables, setting, va, PROTOCOLS)?;
+    let instance_methods = pointer_or_0(tables, setting, va, INSTANCE_METHODS)?;
+    let class_methods = pointer_or_0(tables, setting, va, CLASS_METHODS)?;
+    let optional_instance_methods = pointer_or_0(tables, setting, va, OPTIONAL_INSTANCE_METHODS)?;
+    let optional_class_methods = pointer_or_0(tables, setting, va, OPTIONAL_CLASS_METHODS)?;
+    let instance_properties = pointer_or_0(tables, setting, va, INSTANCE_PROPERTIES)?;
     Ok(ProtocolLists {
         protocols,
         instance_methods,
@@ -176,30 +113,16 @@ fn protocol_lists_at(
 
 // protocol_t: the name's text is read before _classProperties.
 #[tactic(auto, using(reads::proofs::Outcomes::missed_then), unfolding(crate::specs::Protocol::decode_protocol))]
-pub fn protocol_at(
-    files: &[&[u8]],
-    segments: &[u64],
-    sections: &[u64],
-    info: &[u8],
-    rebases: &[u64],
-    binds: &[u64],
-    index: &[u32],
-    setting: Setting,
-    va: u64,
-) -> Result<ObjcProtocol, Missing>
-    ensures { let t = under setting (lent files segments sections info rebases binds index) in
+pub fn protocol_at(tables: &Tables, setting: Setting, va: u64) -> Result<ObjcProtocol, Missing>
+    ensures { let t = under setting tables.now in
         outcome result ≡ protocol_at t va }
 {
-    let p = readable(files, segments, va, ObjcProtocol::SIZE)?;
-    let name_va = pointer(files, segments, rebases, index, setting, va, MANGLED_NAME)?;
-    let lists = protocol_lists_at(
-        files, segments, sections, info, rebases, binds, index, setting, va,
-    )?;
+    let p = readable(tables.image(), va, ObjcProtocol::SIZE)?;
+    let name_va = pointer(tables, setting, va, MANGLED_NAME)?;
+    let lists = protocol_lists_at(tables, setting, va)?;
     let reading = setting.reading;
-    let name = read_cstr(files, segments, reading, name_va)?;
-    let class_properties = class_properties_at(
-        files, segments, sections, info, rebases, binds, index, setting, va, p,
-    )?;
+    let name = read_cstr(tables.image(), reading, name_va)?;
+    let class_properties = class_properties_at(tables, setting, va, p)?;
     Ok(ObjcProtocol {
         address: va,
         name,
@@ -210,7 +133,7 @@ pub fn protocol_at(
         optional_class_methods: lists.optional_class_methods,
         instance_properties: lists.instance_properties,
         class_properties,
-        size: u32_in(files, p, OWN_SIZE),
-        flags: u32_in(files, p, FLAGS),
+        size: u32_in(tables.files(), p, OWN_SIZE),
+        flags: u32_in(tables.files(), p, FLAGS),
     })
 }

@@ -1,7 +1,7 @@
 // A row of any of the three lists.
 ghost use Rattle.std.specs.Prelude.{true, false, ◌≡◌};
 ghost use Rattle.reads.specs.Outcome.{and_then};
-ghost use Rattle.pointers.specs.Tables.{lent, under};
+ghost use Rattle.pointers.specs.Tables.{under};
 ghost use Rattle.records.specs.Row.{method_row, ivar_row, property_row, row_at};
 ghost use Rattle.reads.specs.Answer.{outcome};
 
@@ -10,6 +10,7 @@ use crate::list::RowKind;
 use crate::method::{Method, legacy_method_at, small_method_at};
 use crate::property::{Property, property_at};
 use pointers::setting::Setting;
+use pointers::tables::Tables;
 use reads::answer::Missing;
 
 #[derive(Clone, Copy)]
@@ -44,36 +45,15 @@ fn property_row(a: Result<Property, Missing>) -> Result<Row, Missing>
 }
 
 // The row at an entry's address, by what the entries are.
-pub fn row_at(
-    files: &[&[u8]],
-    segments: &[u64],
-    sections: &[u64],
-    info: &[u8],
-    rebases: &[u64],
-    binds: &[u64],
-    index: &[u32],
-    setting: Setting,
-    kind: RowKind,
-    va: u64,
-) -> Result<Row, Missing>
-    ensures { let t = under setting (lent files segments sections info rebases binds index) in
+pub fn row_at(tables: &Tables, setting: Setting, kind: RowKind, va: u64) -> Result<Row, Missing>
+    ensures { let t = under setting tables.now in
         outcome result ≡ row_at t kind va }
 {
     match kind {
-        RowKind::Legacy => method_row(legacy_method_at(
-            files, segments, sections, info, rebases, binds, index, setting, va,
-        )),
-        RowKind::SmallIndirect => method_row(small_method_at(
-            files, segments, sections, info, rebases, binds, index, setting, va, false,
-        )),
-        RowKind::SmallDirect => method_row(small_method_at(
-            files, segments, sections, info, rebases, binds, index, setting, va, true,
-        )),
-        RowKind::Ivar => ivar_row(ivar_at(
-            files, segments, sections, info, rebases, binds, index, setting, va,
-        )),
-        RowKind::Property => property_row(property_at(
-            files, segments, sections, info, rebases, binds, index, setting, va,
-        )),
+        RowKind::Legacy => method_row(legacy_method_at(tables, setting, va)),
+        RowKind::SmallIndirect => method_row(small_method_at(tables, setting, va, false)),
+        RowKind::SmallDirect => method_row(small_method_at(tables, setting, va, true)),
+        RowKind::Ivar => ivar_row(ivar_at(tables, setting, va)),
+        RowKind::Property => property_row(property_at(tables, setting, va)),
     }
 }

@@ -4,11 +4,9 @@
 #![tactic(auto)]
 
 ghost use Rattle.std.specs.Prelude.{◌≤◌, length};
-ghost use Rattle.replay.specs.Parts.{size_of};
+ghost use Rattle.std.specs.Result.{IfOk};
 
 use printing::write::write_under;
-use reads::answer::Missing;
-use reads::place::read_u64_le_at;
 use reads::text::Reading;
 use std::fs::File;
 use std::io::Read;
@@ -18,63 +16,50 @@ const STDOUT: i32 = 1;
 
 const STDERR: i32 = 2;
 
-// A part of the file, read to the front of a buffer: so many bytes, or cut, since the file ends before or the buffer is too short.
+// Why no more cases are written: the file ends before, or a buffer is too short for a part; or a write failed.
 #[derive(Clone, Copy)]
-enum Part {
-    Bytes(usize),
-    Cut,
-}
-
-// Whether cases were there and written: the file ends before, or a write failed.
-#[derive(Clone, Copy)]
-enum Replayed {
-    Whole,
+enum Failure {
     Cut,
     Unwritten,
 }
 
-// The next word of the file, absent where the file ends before.
-fn read_word(file: &mut File) -> Result<u64, Missing> {
+// The next word of the file.
+fn read_word(file: &mut File) -> Result<u64, Failure> {
     let mut word = [0u8; 8];
     match file.read_exact(&mut word) {
-        Ok(()) => read_u64_le_at(&word, 0),
-        Err(_) => read_u64_le_at(&[], 0),
+        Ok(()) => Ok(u64::from_le_bytes(word)),
+        Err(_) => Err(Failure::Cut),
     }
 }
 
-// The next n bytes of the file.
-fn fill(file: &mut File, n: u64, to: &mut [u8]) -> Part
-    ensures { size_of result ≤ length to.new }
+// The next title or bundle of the file, to the front of a buffer: how many bytes.
+fn read_part(file: &mut File, to: &mut [u8]) -> Result<usize, Failure>
+    ensures { IfOk result (λ n. n ≤ length to.new) }
 {
+    let n = read_word(file)?;
     if n > to.len() as u64 {
-        return Part::Cut;
+        return Err(Failure::Cut);
     }
     let k = n as usize;
     match file.read_exact(&mut to[0..k]) {
-        Ok(()) => Part::Bytes(k),
-        Err(_) => Part::Cut,
+        Ok(()) => Ok(k),
+        Err(_) => Err(Failure::Cut),
     }
 }
 
-// The next title or bundle of the file.
-fn read_part(file: &mut File, to: &mut [u8]) -> Part
-    ensures { size_of result ≤ length to.new }
-{
-    match read_word(file) {
-        Ok(n) => fill(file, n, to),
-        Err(_) => Part::Cut,
+// An answer of whether a write went well.
+fn written(whole: bool) -> Result<(), Failure> {
+    if !whole {
+        return Err(Failure::Unwritten);
     }
+    Ok(())
 }
 
-// A case's first line: whether it was written.
-fn write_title(title: &[u8]) -> bool {
-    if !io::write_all(STDOUT, b"# ") {
-        return false;
-    }
-    if !io::write_all(STDOUT, title) {
-        return false;
-    }
-    io::write_all(STDOUT, b"\n")
+// A case's first line.
+fn write_title(title: &[u8]) -> Result<(), Failure> {
+    written(io::write_all(STDOUT, b"# "))?;
+    written(io::write_all(STDOUT, title))?;
+    written(io::write_all(STDOUT, b"\n"))
 }
 
 // Both listings of a bundle, first under the old reading.
@@ -85,14 +70,12 @@ fn write_listings(
     index: &mut [u32; 10240],
     ledger: &mut [u64; 8192],
     out: &mut [u8; 4096],
-) -> Replayed {
+) -> Result<(), Failure> {
     for reading in [Reading::Old, Reading::New] {
-        let written = write_under(STDOUT, reading, input, n, words, index, ledger, out);
-        if !written.whole {
-            return Replayed::Unwritten;
-        }
+        let listed = write_under(STDOUT, reading, input, n, words, index, ledger, out);
+        written(listed.whole)?;
     }
-    Replayed::Whole
+    Ok(())
 }
 
 // A case after its title.
@@ -103,24 +86,15 @@ fn replay_bundle(
     index: &mut [u32; 10240],
     ledger: &mut [u64; 8192],
     out: &mut [u8; 4096],
-) -> Replayed {
-    match read_part(file, input) {
-        Part::Bytes(n) => write_listings(input, n, words, index, ledger, out),
-        Part::Cut => Replayed::Cut,
-    }
+) -> Result<(), Failure> {
+    let n = read_part(file, input)?;
+    write_listings(input, n, words, index, ledger, out)
 }
 
 // The next title, and its line.
-fn replay_title(file: &mut File, title: &mut [u8]) -> Replayed {
-    match read_part(file, title) {
-        Part::Bytes(n) => {
-            if write_title(&title[0..n]) {
-                return Replayed::Whole;
-            }
-            Replayed::Unwritten
-        }
-        Part::Cut => Replayed::Cut,
-    }
+fn replay_title(file: &mut File, title: &mut [u8]) -> Result<(), Failure> {
+    let n = read_part(file, title)?;
+    write_title(&title[0..n])
 }
 
 // So many cases. The lent buffers go from case to case as they are.
@@ -132,56 +106,48 @@ fn replay_all(
     index: &mut [u32; 10240],
     ledger: &mut [u64; 8192],
     out: &mut [u8; 4096],
-) -> Replayed {
+) -> Result<(), Failure> {
     for _ in 0..count {
-        let title = replay_title(file, input);
-        let Replayed::Whole = title else {
-            return title;
-        };
-        let bundle = replay_bundle(file, input, words, index, ledger, out);
-        let Replayed::Whole = bundle else {
-            return bundle;
-        };
+        replay_title(file, input)?;
+        replay_bundle(file, input, words, index, ledger, out)?;
     }
-    Replayed::Whole
+    Ok(())
 }
 
 // The whole file.
-fn replay_file(file: &mut File) -> Replayed {
+fn replay_file(file: &mut File) -> Result<(), Failure> {
+    let count = read_word(file)?;
     let mut input = [0u8; 32769];
     let mut words = [0u64; 4096];
     let mut index = [0u32; 10240];
     let mut ledger = [0u64; 8192];
     let mut out = [0u8; 4096];
-    match read_word(file) {
-        Ok(count) => replay_all(
-            file,
-            count,
-            &mut input,
-            &mut words,
-            &mut index,
-            &mut ledger,
-            &mut out,
-        ),
-        Err(_) => Replayed::Cut,
-    }
+    replay_all(
+        file,
+        count,
+        &mut input,
+        &mut words,
+        &mut index,
+        &mut ledger,
+        &mut out,
+    )
 }
 
 // The cases that stand where the program runs; where they cannot be opened none is there.
-fn replay(rt: &HostRuntime) -> Replayed {
+fn replay(rt: &HostRuntime) -> Result<(), Failure> {
     match File::open(rt, "cases") {
         Ok(mut file) => replay_file(&mut file),
-        Err(_) => Replayed::Cut,
+        Err(_) => Err(Failure::Cut),
     }
 }
 
 fn main(rt: HostRuntime) {
     match replay(&rt) {
-        Replayed::Whole => {}
-        Replayed::Cut => {
+        Ok(()) => {}
+        Err(Failure::Cut) => {
             io::write_all(STDOUT, b"cases end early\n");
         }
-        Replayed::Unwritten => {
+        Err(Failure::Unwritten) => {
             io::write_all(STDERR, b"replay: standard output\n");
         }
     }

@@ -2,6 +2,5 @@
 pub mod Numbers
 pub mod Tables
 pub mod Searches
-pub mod Answers
 pub mod Told
 pub mod Cases

@@ -1,71 +1,77 @@
 -- The entry that is looked for, by the tests that the code makes.
-use Prim.Native.Nat.{ℕ, suc, ◌+◌, ◌-◌, ◌/◌, ◌%◌, ◌≤◌, ◌<◌}
-use mathlib.Core.Path.{◌≡◌, sym, ◌∙◌, ap}
-use mathlib.Core.Bool.{Bool, true, false}
+use Prim.Native.Nat.{ℕ, zero, suc, ◌+◌, ◌-◌, ◌≤◌, ◌<◌}
+use mathlib.Core.Path.{◌≡◌, sym, refl, ◌∙◌, ap}
+use mathlib.Core.Bool.{Bool, true, false, true≢false}
 use mathlib.Core.List.{List}
 use native.Mathlib.Omega.{arith}
-use lib.Dec.{eqb}
-use borrow.Author.Tests.{lt-ltb, le-ltb, eq-eqb, ne_eqb}
 use Rattle.reads.specs.Outcome.{choose}
 use Rattle.reads.proofs.Tests.{choose_true, choose_false}
 use Rattle.universal.specs.Fat.{arch_at}
-use Rattle.universal.specs.Architecture.{arm64, is_arch, is_sought, first_arch, chosen}
+use Rattle.std.specs.Prelude.{Option, None, Some, is_some}
+use Rattle.universal.specs.Architecture.{without, arm64, is_arch, is_abi64, first_arch, chosen}
 use Rattle.universal.specs.declared.fat.Part.{Part}
 use Rattle.universal.specs.declared.arch.Arch.{Arch}
 use Rattle.universal.specs.declared.arch.Wanted.{Wanted}
 use Rattle.universal.specs.declared.arch.Wanted.TheVariants as wanted
-use Rattle.universal.specs.declared.arch.Sought.{Sought}
-use Rattle.universal.specs.declared.arch.Sought.TheVariants as sought
 
-module _ (a : Arch) (p : Part) where
-  pub other_cputype : (p.cputype ≡ a.cputype → ⊥) → false ≡ is_arch a p
-  unfolding is_arch
-  other_cputype h = simp (ne_eqb p.cputype a.cputype h)
-
-  module _ (h : p.cputype ≡ a.cputype) where
-    pub any_subtype : a.cpusubtype ≡ 0xFFFFFFFF → true ≡ is_arch a p
-    unfolding is_arch
-    any_subtype e = simp (eq-eqb p.cputype a.cputype h, eq-eqb a.cpusubtype 0xFFFFFFFF e)
-
-    pub by_subtype : (a.cpusubtype ≡ 0xFFFFFFFF → ⊥) → eqb (p.cpusubtype % 0x1000000) (a.cpusubtype % 0x1000000) ≡ is_arch a p
-    unfolding is_arch
-    by_subtype e = simp (eq-eqb p.cputype a.cputype h, ne_eqb a.cpusubtype 0xFFFFFFFF e)
-
-module _ (s : Sought) (p : Part) where
-  pub sought_arch : (a : Arch) → s ≡ sought.Arch a → is_arch a p ≡ is_sought s p
-  unfolding is_sought
-  sought_arch a e = rw e
-
-  pub sought_abi64 : s ≡ sought.Abi64 → eqb (p.cputype / 0x1000000 % 2) 1 ≡ is_sought s p
-  unfolding is_sought
-  sought_abi64 e = rw e
-
-module _ (file : List ℕ) (wide : Bool) (s : Sought) (k i : ℕ) where
-  pub first_end : k ≤ 0 → i ≡ first_arch file wide s k i
+module _ (file : List ℕ) (wide : Bool) (test : Part → Bool) (k i : ℕ) where
+  pub first_end : k ≤ 0 → None ≡ first_arch file wide test k i
   unfolding first_arch
   first_end h = let e : k ≡ 0 = omega arith in rw e
 
   module _ (h : 0 < k) where
-    first_more : first_arch file wide s k i ≡ choose (is_sought s (arch_at file wide i)) i (first_arch file wide s (k - 1) (i + 1))
+    first_more : first_arch file wide test k i ≡ choose (test (arch_at file wide i)) (Some i) (first_arch file wide test (k - 1) (i + 1))
     unfolding first_arch
-    first_more = let e : k ≡ suc (k - 1) = omega arith in ap (λ n. first_arch file wide s n i) e
+    first_more = let e : k ≡ suc (k - 1) = omega arith in ap (λ n. first_arch file wide test n i) e
 
-    pub first_here : is_sought s (arch_at file wide i) ≡ true → i ≡ first_arch file wide s k i
+    pub first_here : test (arch_at file wide i) ≡ true → Some i ≡ first_arch file wide test k i
     first_here e = sym (first_more ∙ choose_true _ _ e)
 
-    pub first_on : (j : ℕ) → j ≡ k - 1 → is_sought s (arch_at file wide i) ≡ false → first_arch file wide s k i ≡ first_arch file wide s j (i + 1)
+    pub first_on : (j : ℕ) → j ≡ k - 1 → test (arch_at file wide i) ≡ false → first_arch file wide test k i ≡ first_arch file wide test j (i + 1)
     first_on j g e = rw g (first_more ∙ choose_false _ _ e)
 
-module _ (file : List ℕ) (wide : Bool) (count : ℕ) (w : Wanted) where
-  pub chosen_arch : (a : Arch) (i : ℕ) → w ≡ wanted.Arch a → i ≡ first_arch file wide (sought.Arch a) count 0 → i ≡ chosen file wide count w
+-- The entry that is found is one of the table's.
+module _ (file : List ℕ) (wide : Bool) where
+  first_below : (test : Part → Bool) (k i j : ℕ) → first_arch file wide test k i ≡ Some j → j < i + k
+  unfolding first_arch choose
+  first_below test zero i j e = let z : ◌≡◌ {A = ℕ} 0 1 = cc in absurd (omega arith)
+  first_below test (suc k) i j e = go (test (arch_at file wide i)) e (λ f. first_below test k (i + 1) j f)
+    where
+      go : (t : Bool) → choose t (Some i) (first_arch file wide test k (i + 1)) ≡ Some j
+          → (first_arch file wide test k (i + 1) ≡ Some j → j < i + 1 + k) → j < i + suc k
+      go true f later = let z : i ≡ j = cc in omega arith
+      go false f later = omega (arith, later f)
+
+  without_below : (count j : ℕ) (a b : Option ℕ) → (a ≡ Some j → j < count) → (b ≡ Some j → j < count) → without a b ≡ Some j → j < count
+  without_below count j None b f g e = g e
+  without_below count j (Some i) b f g e = f e
+
+  pub chosen_below : (count : ℕ) (w : Wanted) (j : ℕ) → chosen file wide count w ≡ Some j → j < count
   unfolding chosen
-  chosen_arch a i e f = rw e f
+  chosen_below count (wanted.Arch a) j e = omega (arith, first_below (is_arch a) count 0 j e)
+  chosen_below count wanted.Default j e =
+      without_below count j _ _ (λ f. omega (arith, first_below (is_arch arm64) count 0 j f)) (λ f. omega (arith, first_below is_abi64 count 0 j f)) e
 
-  module _ (e : w ≡ wanted.Default) (i : ℕ) (f : i ≡ first_arch file wide (sought.Arch arm64) count 0) where
-    pub chosen_arm64 : i < count → i ≡ chosen file wide count w
-    unfolding chosen
-    chosen_arm64 h = rw (e, ← f) (sym (choose_true _ _ (lt-ltb i count h)))
+module _ (file : List ℕ) (wide : Bool) (count : ℕ) (w : Wanted) where
+  pub chosen_arch : (a : Arch) (o : Option ℕ) → w ≡ wanted.Arch a → o ≡ first_arch file wide (is_arch a) count 0 → o ≡ chosen file wide count w
+  unfolding chosen
+  chosen_arch a o e f = rw e f
 
-    pub chosen_64 : count ≤ i → (j : ℕ) → j ≡ first_arch file wide sought.Abi64 count 0 → j ≡ chosen file wide count w
+  module _ (e : w ≡ wanted.Default) (o : Option ℕ) (f : o ≡ first_arch file wide (is_arch arm64) count 0) where
+    chosen_default : without o (first_arch file wide is_abi64 count 0) ≡ chosen file wide count w
     unfolding chosen
-    chosen_64 h j g = rw (e, ← f, ← g) (sym (choose_false _ _ (le-ltb i count h)))
+    chosen_default = rw (e, ← f) refl
+
+    pub chosen_arm64 : is_some o ≡ true → o ≡ chosen file wide count w
+    chosen_arm64 h = go o h ∙ chosen_default
+      where
+        go : (o' : Option ℕ) → is_some o' ≡ true → o' ≡ without o' (first_arch file wide is_abi64 count 0)
+        go (Some i) h = refl
+        go None h = absurd (true≢false (sym h))
+
+    pub chosen_64 : is_some o ≡ false → (r : Option ℕ) → r ≡ first_arch file wide is_abi64 count 0 → r ≡ chosen file wide count w
+    chosen_64 h r g = g ∙ go o h ∙ chosen_default
+      where
+        go : (o' : Option ℕ) → is_some o' ≡ false → first_arch file wide is_abi64 count 0 ≡ without o' (first_arch file wide is_abi64 count 0)
+        go (Some i) h = absurd (true≢false h)
+        go None h = refl

@@ -1,13 +1,11 @@
 -- Architectures (machine.h), and the entry of a universal file's table that is looked for.
-use Rattle.std.specs.Prelude.{ℕ, zero, suc, ◌+◌, ◌/◌, ◌%◌, ◌^◌, Bool, ◌&&◌, ◌||◌, List, ltb, eqb}
+use Rattle.std.specs.Prelude.{ℕ, zero, suc, ◌+◌, ◌/◌, ◌%◌, ◌^◌, Bool, ◌&&◌, ◌||◌, List, eqb, Option, None, Some}
 use Rattle.reads.specs.Outcome.{choose}
 use Rattle.universal.specs.Fat.{arch_at}
 use Rattle.universal.specs.declared.fat.Part.{Part}
 use Rattle.universal.specs.declared.arch.Arch.{Arch}
 use Rattle.universal.specs.declared.arch.Wanted.{Wanted}
 use Rattle.universal.specs.declared.arch.Wanted.TheVariants as wanted
-use Rattle.universal.specs.declared.arch.Sought.{Sought}
-use Rattle.universal.specs.declared.arch.Sought.TheVariants as sought
 
 abbrev pub arch_of : ℕ → ℕ → Arch
 arch_of cputype cpusubtype = record { cputype = cputype; cpusubtype = cpusubtype }
@@ -23,18 +21,21 @@ is_arch a p =
     eqb p.cputype a.cputype && (eqb a.cpusubtype 0xFFFFFFFF || eqb (p.cpusubtype % 2 ^ 24) (a.cpusubtype % 2 ^ 24))
 
 -- A 64-bit part: bit 24 of the cputype, CPU_ARCH_ABI64, is set.
-unfoldable pub is_sought : Sought → Part → Bool
-is_sought (sought.Arch a) p = is_arch a p
-is_sought sought.Abi64 p = eqb (p.cputype / 2 ^ 24 % 2) 1
+unfoldable pub is_abi64 : Part → Bool
+is_abi64 p = eqb (p.cputype / 2 ^ 24 % 2) 1
 
--- The first of the k entries from number i on that is sought; i + k where none is.
-unfoldable pub first_arch : List ℕ → Bool → Sought → ℕ → ℕ → ℕ
-first_arch file wide s zero i = i
-first_arch file wide s (suc k) i = choose (is_sought s (arch_at file wide i)) i (first_arch file wide s k (i + 1))
+-- The first of the k entries from number i on that passes a test, if one does.
+unfoldable pub first_arch : List ℕ → Bool → (Part → Bool) → ℕ → ℕ → Option ℕ
+first_arch file wide test zero i = None
+first_arch file wide test (suc k) i = choose (test (arch_at file wide i)) (Some i) (first_arch file wide test k (i + 1))
+
+-- An entry, without it another.
+abbrev pub without : Option ℕ → Option ℕ → Option ℕ
+without None other = other
+without (Some i) other = Some i
 
 -- The entry that is wanted, of `count` entries: the first of an architecture; or the first of arm64, without it the first 64-bit one.
-unfoldable pub chosen : List ℕ → Bool → ℕ → Wanted → ℕ
-chosen file wide count (wanted.Arch a) = first_arch file wide (sought.Arch a) count 0
+unfoldable pub chosen : List ℕ → Bool → ℕ → Wanted → Option ℕ
+chosen file wide count (wanted.Arch a) = first_arch file wide (is_arch a) count 0
 chosen file wide count wanted.Default =
-    let i = first_arch file wide (sought.Arch arm64) count 0 in
-    choose (ltb i count) i (first_arch file wide sought.Abi64 count 0)
+    without (first_arch file wide (is_arch arm64) count 0) (first_arch file wide is_abi64 count 0)

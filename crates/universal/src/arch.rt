@@ -1,10 +1,10 @@
 // Architectures (machine.h), and the entry of a universal file's table that is looked for.
-ghost use Rattle.std.specs.Prelude.{◌≡◌, ◌≤◌, length};
-ghost use Rattle.reads.specs.Reference.{before};
+ghost use Rattle.std.specs.Prelude.{◌≡◌, ◌≤◌, Bool, length};
 ghost use Rattle.universal.specs.Fat.{arch_offset};
-ghost use Rattle.universal.specs.Architecture.{is_arch, is_sought, first_arch, chosen};
+ghost use Rattle.universal.specs.Architecture.{is_arch, is_abi64, first_arch, chosen};
+ghost use Rattle.universal.specs.declared.fat.Part.{Part};
 
-use crate::fat::{Part, arch_at};
+use crate::fat::{Part, Table, arch_at};
 
 // machine.h: the bit of a 64-bit cputype; the lowest of a cpusubtype's capability bits (CPU_SUBTYPE_MASK, the top byte).
 const CPU_ARCH_ABI64: u64 = 0x0100_0000;
@@ -32,14 +32,8 @@ pub enum Wanted {
     Arch(Arch),
 }
 
-// What an entry is looked for by.
-#[derive(Clone, Copy)]
-pub enum Sought {
-    Arch(Arch),
-    Abi64,
-}
-
 // Whether a part is of an architecture: of its cputype, and of its cpusubtype, if it is not any, without the capability bits.
+#[tactic(auto, using(std::proofs::lemmas::Bool::Decides::nat_tests), unfolding(crate::specs::Architecture::is_arch))]
 pub(crate) fn is_arch(a: Arch, p: Part) -> bool
     ensures { result ≡ is_arch a p }
 {
@@ -52,45 +46,45 @@ pub(crate) fn is_arch(a: Arch, p: Part) -> bool
     p.cpusubtype % CPU_SUBTYPE_CAPABILITY == a.cpusubtype % CPU_SUBTYPE_CAPABILITY
 }
 
-fn is_sought(s: Sought, p: Part) -> bool
-    ensures { result ≡ is_sought s p }
+// Whether a part is of a 64-bit architecture.
+#[tactic(auto, unfolding(crate::specs::Architecture::is_abi64))]
+fn is_abi64(p: Part) -> bool
+    ensures { result ≡ is_abi64 p }
 {
-    match s {
-        Sought::Arch(a) => is_arch(a, p),
-        Sought::Abi64 => p.cputype / CPU_ARCH_ABI64 % 2 == 1,
-    }
+    p.cputype / CPU_ARCH_ABI64 % 2 == 1
 }
 
-// The first entry that is sought, of a table that lies in the file; `count` where there is none.
-fn first_arch(file: &[u8], wide: bool, count: u64, s: Sought) -> u64
-    requires { arch_offset wide count ≤ length file.now }
-    ensures { result ≡ first_arch (before file) wide s count 0 }
+// The first entry that passes a test, of a table that lies in the file.
+fn first_arch<F: Fn(Part) -> bool>(table: Table, count: u64, passes: F) -> Option<u64>
+    requires inside { arch_offset table.wide count ≤ length table.file.now }
+    requires callable { F.IsAlwaysCallable passes }
+    ensures { (test : Part → Bool) → ((p : Part) (r : Bool) → F.post passes p r → r ≡ test p) → result ≡ first_arch table.entry.file.now table.entry.wide test count 0 }
 {
     for i in 0..count {
-        if is_sought(s, arch_at(file, wide, i)) {
-            return i;
+        if passes(arch_at(table, i)) {
+            return Some(i);
         }
     }
-    count
+    None
 }
 
 // The entry that is wanted.
-pub(crate) fn chosen(file: &[u8], wide: bool, count: u64, wanted: Wanted) -> u64
-    requires { arch_offset wide count ≤ length file.now }
-    ensures { result ≡ chosen (before file) wide count wanted }
+pub(crate) fn chosen(table: Table, count: u64, wanted: Wanted) -> Option<u64>
+    requires { arch_offset table.wide count ≤ length table.file.now }
+    ensures { result ≡ chosen table.entry.file.now table.entry.wide count wanted }
 {
     match wanted {
-        Wanted::Arch(a) => first_arch(file, wide, count, Sought::Arch(a)),
+        Wanted::Arch(a) => first_arch(table, count, |p| is_arch(a, p)),
         Wanted::Default => {
             let arm64 = Arch {
                 cputype: CPU_TYPE_ARM64,
                 cpusubtype: CPU_SUBTYPE_ARM64_ALL,
             };
-            let i = first_arch(file, wide, count, Sought::Arch(arm64));
-            if i < count {
-                return i;
+            let first = first_arch(table, count, |p| is_arch(arm64, p));
+            if first.is_some() {
+                return first;
             }
-            first_arch(file, wide, count, Sought::Abi64)
+            first_arch(table, count, is_abi64)
         }
     }
 }

@@ -49,6 +49,7 @@ pub enum Kind {
 }
 
 // The kind of a file, by its magic.
+#[tactic(auto, using(std::proofs::lemmas::Bool::Decides::nat_tests), unfolding(crate::specs::Fat::kind_of, reads::specs::Outcome::choose))]
 pub(crate) fn kind_of(file: &[u8]) -> Kind
     ensures { result ≡ kind_of (before file) }
 {
@@ -62,7 +63,8 @@ pub(crate) fn kind_of(file: &[u8]) -> Kind
     Kind::Thin
 }
 
-// The fat_arch at an offset.
+// The fat_arch at an offset. Two functions and no generic one: fat.h has two structs, and each line gives a field of one with its width.
+#[tactic(auto, unfolding(crate::specs::Fat::fat_arch))]
 fn fat_arch(file: &[u8], at: u64) -> Part
     requires { at + 20 ≤ length file.now }
     ensures { result ≡ fat_arch (before file) at }
@@ -76,6 +78,7 @@ fn fat_arch(file: &[u8], at: u64) -> Part
 }
 
 // The fat_arch_64 at an offset.
+#[tactic(auto, unfolding(crate::specs::Fat::fat_arch64))]
 fn fat_arch_64(file: &[u8], at: u64) -> Part
     requires { at + 32 ≤ length file.now }
     ensures { result ≡ fat_arch64 (before file) at }
@@ -88,28 +91,37 @@ fn fat_arch_64(file: &[u8], at: u64) -> Part
     }
 }
 
-// Entry i of the table, which is of fat_arch_64 where it is wide.
-pub(crate) fn arch_at(file: &[u8], wide: bool, i: u64) -> Part
-    requires { arch_offset wide (i + 1) ≤ length file.now }
-    ensures { result ≡ arch_at (before file) wide i }
-{
-    if wide {
-        return fat_arch_64(file, SIZEOF_FAT_HEADER + SIZEOF_FAT_ARCH_64 * i);
-    }
-    fat_arch(file, SIZEOF_FAT_HEADER + SIZEOF_FAT_ARCH * i)
+// The table of a file: of fat_arch_64 where it is wide.
+#[derive(Clone, Copy)]
+pub(crate) struct Table<'a> {
+    pub(crate) file: &'a [u8],
+    pub(crate) wide: bool,
 }
 
-// 16, of the table: does it lie in the file?
-pub(crate) fn table_fits(file: &[u8], wide: bool) -> bool
-    ensures { result ≡ table_fits (before file) wide }
+// Entry i of a table.
+#[tactic(auto, using(crate::proofs::Tables::room_wide, crate::proofs::Tables::room_narrow), unfolding(crate::specs::Fat::arch_at))]
+pub(crate) fn arch_at(table: Table, i: u64) -> Part
+    requires { arch_offset table.wide (i + 1) ≤ length table.file.now }
+    ensures { result ≡ arch_at table.entry.file.now table.entry.wide i }
 {
-    let n = file.len() as u64;
+    if table.wide {
+        return fat_arch_64(table.file, SIZEOF_FAT_HEADER + SIZEOF_FAT_ARCH_64 * i);
+    }
+    fat_arch(table.file, SIZEOF_FAT_HEADER + SIZEOF_FAT_ARCH * i)
+}
+
+// 16, of a table: does it lie in the file?
+#[tactic(auto, using(crate::proofs::Tables::table_short, crate::proofs::Tables::table_wide, crate::proofs::Tables::table_narrow))]
+pub(crate) fn table_fits(table: Table) -> bool
+    ensures { result ≡ table_fits table.entry.file.now table.entry.wide }
+{
+    let n = table.file.len() as u64;
     if n < SIZEOF_FAT_HEADER {
         return false;
     }
     let room = n - SIZEOF_FAT_HEADER;
-    let count = be32(file, NFAT_ARCH);
-    if wide {
+    let count = be32(table.file, NFAT_ARCH);
+    if table.wide {
         return count <= room / SIZEOF_FAT_ARCH_64;
     }
     count <= room / SIZEOF_FAT_ARCH

@@ -6,21 +6,17 @@ ghost use Rattle.universal.specs.Number.{be_in};
 use reads::place::{read_u32_be_at, read_u64_be_at};
 
 // The number of four bytes.
+#[tactic(auto, using(crate::proofs::Numbers::be_or_zero))]
 pub(crate) fn be32(bytes: &[u8], at: u64) -> u64
     ensures { result ≡ be_in (before bytes) 4 at }
 {
-    match read_u32_be_at(bytes, at) {
-        Ok(n) => n,
-        Err(_) => 0,
-    }
+    read_u32_be_at(bytes, at).unwrap_or(0)
 }
 
 // The number of eight.
+#[tactic(auto, using(crate::proofs::Numbers::be_or_zero))]
 pub(crate) fn be64(bytes: &[u8], at: u64) -> u64
     ensures { result ≡ be_in (before bytes) 8 at }
 {
-    match read_u64_be_at(bytes, at) {
-        Ok(n) => n,
-        Err(_) => 0,
-    }
+    read_u64_be_at(bytes, at).unwrap_or(0)
 }

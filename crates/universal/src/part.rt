@@ -1,21 +1,14 @@
-// The part of a file that is the image, and what parts there are. A thin file is one part, the whole file.
+// The part of a file that is the image, and what parts there are. A thin file is one part, the whole file. An answer is a part, or none
+// where there is no such part, or the question that says no.
 ghost use Rattle.std.specs.Prelude.{◌≡◌};
 ghost use Rattle.reads.specs.Reference.{before};
-ghost use Rattle.universal.specs.Parts.{thin_part, thin_wanted, in_file, fat_wanted, part_wanted, fat_at, part_at};
+ghost use Rattle.universal.specs.Parts.{thin_part, thin_wanted, in_file, entries, fat_wanted, part_wanted, fat_at, part_at};
 
 use crate::arch::{Wanted, chosen, is_arch};
-use crate::fat::{Kind, NFAT_ARCH, Part, arch_at, kind_of, table_fits};
+use crate::fat::{Kind, NFAT_ARCH, Part, Table, arch_at, kind_of, table_fits};
 use crate::number::be32;
 use reads::answer::Question;
 use reads::place::u32_from;
-
-// A part; or that there is none; or the number of the question that says no.
-#[derive(Clone, Copy)]
-pub enum PartAnswer {
-    Found(Part),
-    Absent,
-    Refused(Question),
-}
 
 // mach_header_64 (loader.h)
 const MH_MAGIC_64: u32 = 0xFEED_FACF;
@@ -37,88 +30,98 @@ fn thin_part(file: &[u8]) -> Part
 }
 
 // A thin file, but for one with a header of another architecture than the wanted.
-fn thin_wanted(file: &[u8], wanted: Wanted) -> PartAnswer
+#[tactic(auto, using(std::proofs::lemmas::Bool::Decides::nat_tests), unfolding(crate::specs::Parts::thin_wanted, reads::specs::Outcome::choose))]
+fn thin_wanted(file: &[u8], wanted: Wanted) -> Option<Part>
     ensures { result ≡ thin_wanted (before file) wanted }
 {
     let p = thin_part(file);
     match wanted {
-        Wanted::Default => PartAnswer::Found(p),
+        Wanted::Default => Some(p),
         Wanted::Arch(a) => {
             if u32_from(file, 0, 0) != MH_MAGIC_64 {
-                return PartAnswer::Found(p);
+                return Some(p);
             }
             if is_arch(a, p) {
-                return PartAnswer::Found(p);
+                return Some(p);
             }
-            PartAnswer::Absent
+            None
         }
     }
 }
 
 // 16, of a part: does it lie in a file of n bytes?
-fn in_file(n: u64, p: Part) -> PartAnswer
+#[tactic(auto, using(std::proofs::lemmas::Bool::Decides::nat_tests), unfolding(crate::specs::Parts::in_file, reads::specs::Outcome::choose))]
+fn in_file(n: u64, p: Part) -> Result<Option<Part>, Question>
     ensures { result ≡ in_file n p }
 {
     if n < p.offset {
-        return PartAnswer::Refused(Question::LoadCommands);
+        return Err(Question::LoadCommands);
     }
     if n - p.offset < p.size {
-        return PartAnswer::Refused(Question::LoadCommands);
+        return Err(Question::LoadCommands);
     }
-    PartAnswer::Found(p)
+    Ok(Some(p))
+}
+
+// How many entries a table has; 16 where it does not lie in the file.
+#[tactic(auto, unfolding(crate::specs::Parts::entries, reads::specs::Outcome::choose))]
+fn entries(table: Table) -> Result<u64, Question>
+    ensures { result ≡ entries table.entry.file.now table.entry.wide }
+{
+    if !table_fits(table) {
+        return Err(Question::LoadCommands);
+    }
+    Ok(be32(table.file, NFAT_ARCH))
 }
 
 // The wanted part of a universal file: 16 of the table, then of that part.
-fn fat_wanted(file: &[u8], wide: bool, wanted: Wanted) -> PartAnswer
-    ensures { result ≡ fat_wanted (before file) wide wanted }
+#[tactic(auto, using(std::proofs::lemmas::Bool::Decides::nat_tests, crate::proofs::Tables::table_room, crate::proofs::Searches::chosen_below, crate::proofs::Tables::entry_inside, crate::proofs::Tables::entries_fit, crate::proofs::Tables::entries_cut, std::proofs::lemmas::Result::err_from_is_err_and), unfolding(crate::specs::Parts::fat_wanted, reads::specs::Outcome::choose))]
+fn fat_wanted(table: Table, wanted: Wanted) -> Result<Option<Part>, Question>
+    ensures { result ≡ fat_wanted table.entry.file.now table.entry.wide wanted }
 {
-    if !table_fits(file, wide) {
-        return PartAnswer::Refused(Question::LoadCommands);
+    let count = entries(table)?;
+    match chosen(table, count, wanted) {
+        Some(i) => in_file(table.file.len() as u64, arch_at(table, i)),
+        None => Ok(None),
     }
-    let count = be32(file, NFAT_ARCH);
-    let i = chosen(file, wide, count, wanted);
-    if count <= i {
-        return PartAnswer::Absent;
-    }
-    in_file(file.len() as u64, arch_at(file, wide, i))
 }
 
 // The part of a file that is the image.
-pub fn find_part(file: &[u8], wanted: Wanted) -> PartAnswer
+#[tactic(auto, unfolding(crate::specs::Parts::part_wanted))]
+pub fn find_part(file: &[u8], wanted: Wanted) -> Result<Option<Part>, Question>
     ensures { result ≡ part_wanted (before file) wanted }
 {
     match kind_of(file) {
-        Kind::Thin => thin_wanted(file, wanted),
-        Kind::Fat => fat_wanted(file, false, wanted),
-        Kind::Fat64 => fat_wanted(file, true, wanted),
+        Kind::Thin => Ok(thin_wanted(file, wanted)),
+        Kind::Fat => fat_wanted(Table { file, wide: false }, wanted),
+        Kind::Fat64 => fat_wanted(Table { file, wide: true }, wanted),
     }
 }
 
 // Part i of a universal file, wherever its range lies.
-fn fat_at(file: &[u8], wide: bool, i: u64) -> PartAnswer
-    ensures { result ≡ fat_at (before file) wide i }
+#[tactic(auto, using(std::proofs::lemmas::Bool::Decides::nat_tests, crate::proofs::Tables::entry_inside, crate::proofs::Tables::entries_fit, crate::proofs::Tables::entries_cut, std::proofs::lemmas::Result::err_from_is_err_and), unfolding(crate::specs::Parts::fat_at, reads::specs::Outcome::choose))]
+fn fat_at(table: Table, i: u64) -> Result<Option<Part>, Question>
+    ensures { result ≡ fat_at table.entry.file.now table.entry.wide i }
 {
-    if !table_fits(file, wide) {
-        return PartAnswer::Refused(Question::LoadCommands);
+    if entries(table)? <= i {
+        return Ok(None);
     }
-    if be32(file, NFAT_ARCH) <= i {
-        return PartAnswer::Absent;
-    }
-    PartAnswer::Found(arch_at(file, wide, i))
+    Ok(Some(arch_at(table, i)))
 }
 
 // Part i of a file, in table order; absent past the last.
-pub fn part_at(file: &[u8], i: u64) -> PartAnswer
+#[tactic(auto, using(std::proofs::lemmas::Bool::Decides::nat_tests), unfolding(crate::specs::Parts::part_at, reads::specs::Outcome::choose))]
+pub fn part_at(file: &[u8], i: u64) -> Result<Option<Part>, Question>
     ensures { result ≡ part_at (before file) i }
 {
     match kind_of(file) {
         Kind::Thin => {
             if i == 0 {
-                return PartAnswer::Found(thin_part(file));
+                return Ok(Some(thin_part(file)));
             }
-            PartAnswer::Absent
+            Ok(None)
         }
-        Kind::Fat => fat_at(file, false, i),
-        Kind::Fat64 => fat_at(file, true, i),
+        Kind::Fat => fat_at(Table { file, wide: false }, i),
+        Kind::Fat64 => fat_at(Table { file, wide: true }, i),
     }
 }

@@ -1,5 +1,5 @@
 -- Laws of the names of a protocol list that are noted one by one, and of the lists of a record.
-use Prim.Native.Nat.{ℕ, zero, suc, ◌+◌, ◌-◌, ◌<◌, ◌^◌}
+use Prim.Native.Nat.{ℕ, zero, suc, ◌+◌, ◌-◌, ◌≤◌, ◌<◌, ◌^◌}
 use mathlib.Core.Path.{◌≡◌, refl, sym, ap, ◌∙◌}
 use mathlib.Core.Bool.{Bool, true, false}
 use mathlib.Core.List.{List, [], ◌∷◌, ◌++◌, append-nil}
@@ -50,6 +50,11 @@ module _ (l : ProtocolList) (i : ℕ) (b : Bool) (said : b ≡ has_slot l i) whe
       none : (k : ℕ) → slots_use t l i k ≡ []
       none zero = unfold slots_use in refl
       none (suc k) = unfold slots_use in choose_false (used t (decode_name_in (slot_in l i)) ++ slots_use t l (i + 1) k) [] (sym said ∙ e)
+
+-- The count is reached.
+pub slots_done : (t : Tables) (l : ProtocolList) (i : ℕ) (s w : List ℕ) → l.count ≤ i → noted_all (slots_use t l i (l.count - i)) s ≡ w → s ≡ w
+unfolding slots_use noted_all
+slots_done t l i s w h g = let none : l.count - i ≡ 0 = omega arith in sym (ap (λ k. noted_all (slots_use t l i k) s) none) ∙ g
 
 pub slots_all : (t : Tables) (l : ProtocolList) (s : List ℕ) → noted_all (slots_use t l 0 (l.count - 0)) s ≡ noted_all (slots_use t l 0 l.count) s
 slots_all t l s = let all : l.count - 0 ≡ l.count = omega arith in rw all refl

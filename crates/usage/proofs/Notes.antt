@@ -1,12 +1,10 @@
 -- A sheet on which the bytes that a definition uses are noted, taken question by question, as the code takes it.
 use Prim.Native.Nat.{ℕ}
 use mathlib.Core.Path.{◌≡◌, refl, sym, ap, ◌∙◌}
-use mathlib.Core.Bool.{Bool, true, false, not, true≢false}
+use mathlib.Core.Bool.{Bool, true, false, true≢false}
 use mathlib.Core.List.{List, [], ◌∷◌, ◌++◌}
 use Rattle.reads.specs.Answer.{missed, outcome}
 use Rattle.reads.specs.Outcome as outcomes
-use Rattle.reads.specs.Place as places
-use Rattle.reads.specs.Place.{Image}
 use Rattle.reads.specs.declared.answer.Reason.TheVariants.{NullAddress}
 use Rattle.reads.proofs.Outcomes.{nonzero_zero, nonzero_else}
 use Rattle.reads.specs.Breaks.{is_value}
@@ -21,13 +19,14 @@ use Rattle.records.specs.Ask as ask
 use Rattle.records.specs.Ask.{picked_in, Ask, answer}
 use Rattle.records.specs.Class.{decode_data, decode_ro_data, decode_class_name, decode_nonzero_class_name}
 use Rattle.records.specs.Asks.{if_value, if_absent}
-use Rattle.records.specs.Decode.{Decode, asked, run, done, then, else, else_first, when, or0, sum64, nonzero, even, at_least, readable, u32_in, i32_in, u64_in, u64_at, slot, pointer, pointer_or0, string, symbol}
+use Rattle.records.specs.Decode.{Decode, asked, run, done, then, else, else_first, when, or0, sum64, nonzero, readable, u32_in, u64_at, slot, pointer, pointer_or0, string, symbol}
 use Rattle.ranges.specs.Range.{Range}
 use Rattle.ranges.specs.Sheet.{noted_all}
 use Rattle.used.specs.Used.{uses, used, uses_field, uses_word, uses_slot, uses_pointer, uses_text, uses_symbol}
 use Rattle.used.proofs.UsedParts.{used_done, used_asked, used_then, used_else, used_else_first, used_when}
-use Rattle.usage.specs.Traced.{traced, trace, going, going_on, going_after, lacks_after}
-use Rattle.std.specs.Prelude.{Result}
+use Rattle.usage.proofs.Leaves.{both_are}
+use Rattle.usage.specs.Traced.{traced, trace, going, going_after, lacks_after}
+use Rattle.std.specs.Prelude.{Result, Ok, Err}
 use Rattle.reads.specs.declared.text.Text.{Text}
 
 pub noted_append : (rs ss : List Range) (m : List ℕ) → noted_all (rs ++ ss) m ≡ noted_all ss (noted_all rs m)
@@ -57,6 +56,14 @@ or0_uses t a = used_else t (slot a) (done 0) ∙ whole (slots.slot t a)
     whole (value x) = append_none (used t (slot a)) ∙ used_asked t (ask.slot a)
     whole (absent r) = ap (λ (l : List Range). used t (slot a) ++ l) (used_done t 0) ∙ append_none (used t (slot a)) ∙ used_asked t (ask.slot a)
     whole (refused k) = append_none (used t (slot a)) ∙ used_asked t (ask.slot a)
+
+-- A slot or 0, as a definition.
+module _ (t : Tables) (m : List ℕ) where
+  pub pointer_traced : (va k : ℕ) {o : Outcome ℕ} {m' : List ℕ} → traced o m' ≡ traced (slots.pointer_or0 t va k) (noted_all (uses_pointer t va k) m) → traced o m' ≡ trace t (pointer_or0 va k) m
+  pointer_traced va k e = e ∙ ap (λ (l : List Range). traced (slots.pointer_or0 t va k) (noted_all l m)) (sym (used_asked t (ask.pointer_or0 va k)))
+
+  pub slot_traced : (a : ℕ) {o : Outcome ℕ} {m' : List ℕ} → traced o m' ≡ traced (or_zero (slots.slot t a)) (noted_all (uses_slot t a) m) → traced o m' ≡ trace t (or0 (slot a)) m
+  slot_traced a e = e ∙ ap (λ (l : List Range). traced (or_zero (slots.slot t a)) (noted_all l m)) (sym (or0_uses t a))
 
 module _ (t : Tables) {m : List ℕ} where
   -- After the first part, which gives a value; and where that gives none.
@@ -100,6 +107,14 @@ module _ (t : Tables) {m : List ℕ} where
   pub sure : {A B : Type 0} {d : Decode A} {f : A → Decode B} {a : A} {m' n : List ℕ} → run t d ≡ value a → m' ≡ noted_all (used t d) m → Notes t (f a) m' n → Notes t (then d f) m n
   sure {d = d} {f = f} {a = a} e h next = past d f a e h next
 
+  -- A part that is answered with the sheet.
+  module _ {A B : Type 0} {d : Decode A} {f : A → Decode B} {w : Result A Missing} {m' : List ℕ} (e : traced (outcome w) m' ≡ trace t d m) where
+    pub trace_value : (a : A) {n : List ℕ} → w ≡ Ok a → Notes t (f a) m' n → Notes t (then d f) m n
+    trace_value a q next = past d f a (sym (ap (λ x. x.outcome) e) ∙ ap outcome q) (ap (λ x. x.sheet) e) next
+
+    pub trace_stop : (k : Missing) → w ≡ Err k → Notes t (then d f) m m'
+    trace_stop k q = stops d f k (sym (ap (λ x. x.outcome) e) ∙ ap outcome q) (ap (λ x. x.sheet) e)
+
   -- A part of which only whether it gives a value is known.
   module _ {A B : Type 0} {d : Decode A} {f : A → Decode B} {b : Bool} {m' : List ℕ} where
     pub goes_value : {n : List ℕ} → Goes t d m m' b → b ≡ true → ((a : A) → Notes t (f a) m' n) → Notes t (then d f) m n
@@ -128,44 +143,42 @@ module _ (t : Tables) {m : List ℕ} where
         go (absent r) e = stops d f (Absent r) e h
         go (refused k) e = stops d f (Refused k) e h
 
-  pub pointer_goes : {va k : ℕ} {b : Bool} {m' : List ℕ} → going b m' ≡ going_on (slots.pointer_or0 t va k) (noted_all (uses_pointer t va k) m) → Goes t (pointer_or0 va k) m m' b
-  pointer_goes {va} {k} {b} {m'} e = record { is = e ∙ ap (λ (l : List Range). going_on (slots.pointer_or0 t va k) (noted_all l m)) (sym (used_asked t (ask.pointer_or0 va k))) }
-
-  pub slot_goes : {a : ℕ} {b : Bool} {m' : List ℕ} → going b m' ≡ going_on (or_zero (slots.slot t a)) (noted_all (uses_slot t a) m) → Goes t (or0 (slot a)) m m' b
-  slot_goes {a} {b} {m'} e =
-      record { is = e ∙ ap (λ (l : List Range). going_on (or_zero (slots.slot t a)) (noted_all l m)) (sym (or0_uses t a)) }
-
   -- A definition that is itself a part, by the sheet and by whether it gives a value.
   both : {A : Type 0} (d : Decode A) {n : List ℕ} {c : Bool} → Notes t d m n → c ≡ is_value (run t d) → Goes t d m n c
   both d {n} h e = record { is = ap (λ (x : Bool). going x n) e ∙ ap (going (is_value (run t d))) h.noted }
 
-  module _ {A B : Type 0} {d : Decode A} {f : A → Decode B} {b : Bool} {m' : List ℕ} where
-    pub part_value : {c : Bool} {n : List ℕ} → Goes t d m m' b → b ≡ true → ((a : A) → Goes t (f a) m' n c) → Goes t (then d f) m n c
-    part_value {c} {n} g h next =
-        both (then d f) (goes_value g h (λ a. record { noted = ap (λ x. x.sheet) (next a).is })) (go (run t d) refl)
-      where
-        go : (o : Outcome A) → run t d ≡ o → c ≡ is_value (and_then o (λ a. run t (f a)))
-        go (value a) e = ap (λ x. x.on) (next a).is
-        go (absent r) e = absurd (true≢false (sym h ∙ ap (λ x. x.on) g.is ∙ ap is_value e))
-        go (refused k) e = absurd (true≢false (sym h ∙ ap (λ x. x.on) g.is ∙ ap is_value e))
+  -- Its end.
+  pub part_done : {A : Type 0} {a : A} → Goes t (done a) m m true
+  part_done {a = a} = both (done a) ends refl
 
-    pub part_stop : Goes t d m m' b → b ≡ false → Goes t (then d f) m m' false
-    part_stop g h = both (then d f) (goes_stop g h) (go (run t d) refl)
-      where
-        go : (o : Outcome A) → run t d ≡ o → false ≡ is_value (and_then o (λ a. run t (f a)))
-        go (value a) e = absurd (true≢false (sym (ap is_value e) ∙ sym (ap (λ x. x.on) g.is) ∙ h))
-        go (absent r) e = refl
-        go (refused k) e = refl
+  -- A part whose answer `?` hands on.
+  module _ {A B : Type 0} {d : Decode A} {f : A → Decode B} {w : Result A Missing} {m' : List ℕ} (e : traced (outcome w) m' ≡ trace t d m) where
+    pub part_ok : (a : A) {c : Bool} {n : List ℕ} → w ≡ Ok a → Goes t (f a) m' n c → Goes t (then d f) m n c
+    part_ok a q g =
+        let r : run t d ≡ value a = sym (ap (λ x. x.outcome) e) ∙ ap outcome q in
+        both (then d f) (past d f a r (ap (λ x. x.sheet) e) (record { noted = ap (λ x. x.sheet) g.is }))
+        (ap (λ x. x.on) g.is ∙ sym (ap (λ (o : Outcome A). is_value (and_then o (λ y. run t (f y)))) r))
 
-  -- Its last question.
-  pub part_last : {A B : Type 0} {d : Decode A} {f : A → B} {b : Bool} {n : List ℕ} → Goes t d m n b → Goes t (then d (λ a. done (f a))) m n b
-  part_last {A} {B} {d} {f} {b} {n} g =
-      both (then d (λ a. done (f a))) (goes_last (ap (λ x. x.sheet) g.is) (λ a. used_done t (f a))) (ap (λ x. x.on) g.is ∙ go (run t d))
-    where
-      go : (o : Outcome A) → is_value o ≡ is_value (and_then o (λ a. value (f a)))
-      go (value a) = refl
-      go (absent r) = refl
-      go (refused k) = refl
+    pub part_err : (C : Type 0) (k : Missing) → w ≡ Err k → Goes t (then d f) m m' (is_value {A = C} (missed k))
+    part_err C k q =
+        let r : run t d ≡ missed k = sym (ap (λ x. x.outcome) e) ∙ ap outcome q in
+        both (then d f) (stops d f k r (ap (λ x. x.sheet) e)) (same k ∙ sym (ap (λ (o : Outcome A). is_value (and_then o (λ y. run t (f y)))) r))
+      where
+        same : (k : Missing) → is_value {A = C} (missed k) ≡ is_value (and_then (missed {A = A} k) (λ y. run t (f y)))
+        same (Absent r) = refl
+        same (Refused j) = refl
+
+  -- A part of which the call says only whether it is there.
+  module _ {A B C : Type 0} {d : Decode A} {f : A → Decode B} {w : Result C Missing} {m' : List ℕ} (g : Goes t d m m' (is_value (outcome w))) where
+    pub list_value : {n : List ℕ} (x : C) → w ≡ Ok x → ((a : A) → Notes t (f a) m' n) → Notes t (then d f) m n
+    list_value x e next = goes_value g (ap (λ o. is_value (outcome o)) e) next
+
+    pub list_stop : (k : Missing) → w ≡ Err k → Notes t (then d f) m m'
+    list_stop k e = goes_stop g (ap (λ o. is_value (outcome o)) e ∙ none k)
+      where
+        none : (k : Missing) → is_value {A = C} (missed k) ≡ false
+        none (Absent r) = refl
+        none (Refused j) = refl
 
 pub noted_of : (t : Tables) {A : Type 0} (d : Decode A) {m n : List ℕ} → Notes t d m n → n ≡ noted_all (used t d) m
 noted_of t d h = h.noted
@@ -199,15 +212,6 @@ data_uses t a raw f =
     used_then t (or0 (else (asked (ask.rebase a)) (asked (ask.picked raw)))) (λ x. done (f x))
     ∙ rw whole (nothing_first t (run t (or0 (else (asked (ask.rebase a)) (asked (ask.picked raw))))) (λ x. used t (done (f x))) (λ x. used_done t (f x)))
 
--- A test of a call's answer.
-pub not_true : {b : Bool} → not b ≡ true → b ≡ false
-not_true {b = true} e = absurd (true≢false (sym e))
-not_true {b = false} e = refl
-
-pub not_false : {b : Bool} → not b ≡ false → b ≡ true
-not_false {b = true} e = refl
-not_false {b = false} e = absurd (true≢false e)
-
 -- Questions that use nothing, and the others, each with its bytes.
 module _ (t : Tables) where
   pub no_readable : (va k : ℕ) → used t (readable va k) ≡ []
@@ -215,15 +219,6 @@ module _ (t : Tables) where
 
   pub no_sum : (va k : ℕ) → used t (sum64 va k) ≡ []
   no_sum va k = used_asked t (ask.sum64 va k)
-
-  pub no_nonzero : (x : ℕ) → used t (nonzero x) ≡ []
-  no_nonzero x = used_asked t (ask.nonzero x)
-
-  pub no_even : (va : ℕ) → used t (even va) ≡ []
-  no_even va = used_asked t (ask.even va)
-
-  pub no_least : (least size : ℕ) → used t (at_least least size) ≡ []
-  no_least least size = used_asked t (ask.at_least least size)
 
 module _ (t : Tables) (m : List ℕ) where
   pub slot_noted : (a : ℕ) {n : List ℕ} → n ≡ noted_all (uses_slot t a) m → n ≡ noted_all (used t (slot a)) m
@@ -234,12 +229,6 @@ module _ (t : Tables) (m : List ℕ) where
 
   pub u32_noted : (p : Place) (i : ℕ) {n : List ℕ} → n ≡ noted_all (uses_field t.files 4 p i) m → n ≡ noted_all (used t (u32_in p i)) m
   u32_noted p i h = one t m (ask.u32_in p i) h
-
-  pub i32_noted : (p : Place) (i : ℕ) {n : List ℕ} → n ≡ noted_all (uses_field t.files 4 p i) m → n ≡ noted_all (used t (i32_in p i)) m
-  i32_noted p i h = one t m (ask.i32_in p i) h
-
-  pub u64_noted : (p : Place) (i : ℕ) {n : List ℕ} → n ≡ noted_all (uses_field t.files 8 p i) m → n ≡ noted_all (used t (u64_in p i)) m
-  u64_noted p i h = one t m (ask.u64_in p i) h
 
   pub word_noted : (va : ℕ) {n : List ℕ} → n ≡ noted_all (uses_word (image_in t) va) m → n ≡ noted_all (used t (u64_at va)) m
   word_noted va h = one t m (ask.u64_at va) h
@@ -263,14 +252,14 @@ when_true t {b = b} {d = d} {e = e} {m = m} h g = record { noted = g.noted ∙ a
 pub when_false : (t : Tables) {A : Type 0} {b : Bool} {d e : Decode A} {m n : List ℕ} → b ≡ false → Notes t e m n → Notes t (when b d e) m n
 when_false t {b = b} {d = d} {e = e} {m = m} h g = record { noted = g.noted ∙ ap (λ (l : List Range). noted_all l m) (sym (used_when t b d e ∙ choose_false (used t d) (used t e) h)) }
 
-pub goes_when_true : (t : Tables) {A : Type 0} {b c : Bool} {d e : Decode A} {m n : List ℕ} → b ≡ true → Goes t d m n c → Goes t (when b d e) m n c
-goes_when_true t {b = b} {d = d} {e = e} {m = m} h g =
-    record { is = g.is ∙ sym (ap (λ (l : List Range). going_on (run t (when b d e)) (noted_all l m)) (used_when t b d e ∙ choose_true (used t d) (used t e) h) ∙ ap (λ (o : Outcome _). going_on o (noted_all (used t d) m)) (choose_true (run t d) (run t e) h)) }
+pub traced_when_true : (t : Tables) {A : Type 0} (d e : Decode A) (m : List ℕ) {b : Bool} {o : Outcome A} {n : List ℕ} → b ≡ true → traced o n ≡ trace t d m → traced o n ≡ trace t (when b d e) m
+traced_when_true t d e m {b} h g =
+    g ∙ sym (both_are (choose_true (run t d) (run t e) h) (ap (λ (l : List Range). noted_all l m) (used_when t b d e ∙ choose_true (used t d) (used t e) h)))
 
-pub goes_when_false : (t : Tables) {A : Type 0} {b : Bool} {d : Decode A} {a : A} {m : List ℕ} → b ≡ false → Goes t (when b d (done a)) m m true
+pub traced_when_false : (t : Tables) {A : Type 0} (d : Decode A) (a : A) (m : List ℕ) {b : Bool} → b ≡ false → traced (value a) m ≡ trace t (when b d (done a)) m
 unfolding noted_all
-goes_when_false t {b = b} {d = d} {a = a} {m = m} h =
-    record { is = sym (ap (λ (l : List Range). going_on (run t (when b d (done a))) (noted_all l m)) (used_when t b d (done a) ∙ choose_false (used t d) (used t (done a)) h ∙ used_done t a) ∙ ap (λ (o : Outcome _). going_on o m) (choose_false (run t d) (value a) h)) }
+traced_when_false t d a m {b} h =
+    sym (both_are (choose_false (run t d) (value a) h) (ap (λ (l : List Range). noted_all l m) (used_when t b d (done a) ∙ choose_false (used t d) (used t (done a)) h ∙ used_done t a)))
 
 -- The second where the first is absent.
 pub first_absent : (t : Tables) {A : Type 0} (d e : Decode A) (m : List ℕ) {b : Bool} {m' n : List ℕ} → going b m' ≡ going (is_absent (run t d)) (noted_all (used t d) m) → b ≡ true → n ≡ noted_all (used t e) m'
@@ -359,10 +348,6 @@ module _ (t : Tables) (va : ℕ) (m : List ℕ) where
       let some : outcomes.nonzero va ≡ value va = nonzero_else va h in
       ap (going b) (past t {m = m} (nonzero va) decode_class_name va some (one t m (ask.nonzero va) (none_noted m)) (record { noted = s })).noted
       ∙ ap (λ (x : Bool). going x (noted_all (used t (then (nonzero va) decode_class_name)) m)) (g ∙ ap is_absent e ∙ sym (ap (λ (o : Outcome ℕ). is_absent (and_then o (λ a. run t (decode_class_name a)))) some))
-
--- So many bytes, said in two ways.
-pub readable_size : (img : Image) (va k l : ℕ) {x : Outcome Place} → x ≡ places.readable img va k → k ≡ l → x ≡ places.readable img va l
-readable_size img va k l e q = e ∙ ap (λ (n : ℕ). places.readable img va n) q
 
 -- Whether a definition is absent: after 0, and after another address; after a slot; by its first part.
 module _ (t : Tables) (m : List ℕ) {B : Type 0} where

@@ -3,9 +3,9 @@ use Prim.Native.Nat.{ℕ}
 use mathlib.Core.Path.{◌≡◌, refl, sym, ap, ◌∙◌}
 use mathlib.Core.Bool.{Bool, true, false, true≢false}
 use mathlib.Core.List.{List, [], ◌++◌, append-nil}
-use Rattle.reads.specs.Answer.{missed, outcome}
+use Rattle.reads.specs.Answer.{missed}
 use Rattle.reads.specs.Breaks.{is_value}
-use Rattle.reads.specs.Outcome.{Outcome, value, absent, refused, Unrefused, a_value, an_absence, and_then, or_zero, choose, text_of}
+use Rattle.reads.specs.Outcome.{Outcome, value, absent, refused, Unrefused, a_value, an_absence, or_zero, choose, text_of}
 use Rattle.reads.specs.Outcome.{or_empty as or_empty_of}
 use Rattle.reads.proofs.Unrefused.{text_in_unrefused}
 use Rattle.reads.specs.declared.answer.Missing.{Missing}
@@ -26,9 +26,9 @@ use Rattle.ranges.specs.Sheet.{noted_all}
 use Rattle.ranges.proofs.SheetLaws.{noted_append}
 use Rattle.used.specs.Used.{uses, used}
 use Rattle.used.proofs.UsedParts.{used_done, used_asked, used_then, used_else, used_when}
-use Rattle.usage.specs.Traced.{traced, trace, going, going_on}
+use Rattle.usage.specs.Traced.{traced, trace}
 use Rattle.usage.proofs.Leaves.{both_are}
-use Rattle.std.specs.Prelude.{Result, Some, None}
+use Rattle.std.specs.Prelude.{Some, None}
 
 module _ (t : Tables) {A B : Type 0} (d : Decode A) (f : A → Decode B) where
   -- After a value the rest is noted on the sheet on which the first part was.
@@ -61,20 +61,6 @@ module _ (t : Tables) {A B : Type 0} (d : Decode A) (f : A → Decode B) where
       go (absent r) q = noted_stop m (ap is_value q) g
       go (refused k) q = noted_stop m (ap is_value q) g
 
-  -- By an answer that says whether to go on.
-  pub going_next : {on : Bool} (m : List ℕ) {m₁ m₂ : List ℕ} → going on m₁ ≡ going_on (run t d) (noted_all (used t d) m) → on ≡ true
-      → ((a : A) → m₂ ≡ noted_all (used t (f a)) m₁) → m₂ ≡ noted_all (used t (then d f)) m
-  going_next {on} m {m₁} {m₂} e g h = go (run t d) refl (sym (ap (λ x. x.on) e) ∙ g)
-    where
-      go : (o : Outcome A) → run t d ≡ o → is_value (run t d) ≡ true → m₂ ≡ noted_all (used t (then d f)) m
-      go (value a) q n = noted_next a m q (ap (λ x. x.sheet) e) (h a)
-      go (absent r) q n = absurd (true≢false (sym n ∙ ap is_value q))
-      go (refused k) q n = absurd (true≢false (sym n ∙ ap is_value q))
-
-  pub going_stop : {on : Bool} (m : List ℕ) {m₁ : List ℕ} → going on m₁ ≡ going_on (run t d) (noted_all (used t d) m) → on ≡ false
-      → m₁ ≡ noted_all (used t (then d f)) m
-  going_stop m e g = noted_stop m (sym (ap (λ x. x.on) e) ∙ g) (ap (λ x. x.sheet) e)
-
 module _ (t : Tables) {B : Type 0} (q : Ask) (f : Answer q → Decode B) where
   asked_same : (m : List ℕ) {m₁ : List ℕ} → m₁ ≡ noted_all (uses t q) m → m₁ ≡ noted_all (used t (asked q)) m
   asked_same m g = g ∙ ap (λ l. noted_all l m) (sym (used_asked t q))
@@ -87,14 +73,6 @@ module _ (t : Tables) {B : Type 0} (q : Ask) (f : Answer q → Decode B) where
   pub field_next : (a : Answer q) (m : List ℕ) {m₁ m₂ : List ℕ} → m₁ ≡ noted_all (uses t q) m → answer t q ≡ value a → m₂ ≡ noted_all (used t (f a)) m₁
       → m₂ ≡ noted_all (used t (then (asked q) f)) m
   field_next a m g e h = noted_next t (asked q) f a m e (asked_same m g) h
-
-  pub asked_going : {on : Bool} (m : List ℕ) {m₁ m₂ : List ℕ} → going on m₁ ≡ going_on (answer t q) (noted_all (uses t q) m) → on ≡ true
-      → ((a : Answer q) → m₂ ≡ noted_all (used t (f a)) m₁) → m₂ ≡ noted_all (used t (then (asked q) f)) m
-  asked_going m e g h = going_next t (asked q) f m (e ∙ ap (λ l. going_on (answer t q) (noted_all l m)) (sym (used_asked t q))) g h
-
-  pub asked_ends : {on : Bool} (m : List ℕ) {m₁ : List ℕ} → going on m₁ ≡ going_on (answer t q) (noted_all (uses t q) m) → on ≡ false
-      → m₁ ≡ noted_all (used t (then (asked q) f)) m
-  asked_ends m e g = going_stop t (asked q) f m (e ∙ ap (λ l. going_on (answer t q) (noted_all l m)) (sym (used_asked t q))) g
 
   -- By an answer of the code, with the sheet or, for a test, which uses no byte, without.
   module _ {W : Type 0} (out : W → Outcome (Answer q)) {w v : W} (is : w ≡ v) where
@@ -197,26 +175,6 @@ module _ (t : Tables) {B : Type 0} (s : ℕ) (f : ℕ → Decode B) {W : Type 0}
 pub field_last : (t : Tables) {B : Type 0} (q : Ask) (f : Answer q → Decode B) (m : List ℕ) {m₁ : List ℕ} → m₁ ≡ noted_all (uses t q) m → ((a : Answer q) → used t (f a) ≡ [])
     → m₁ ≡ noted_all (used t (then (asked q) f)) m
 field_last t q f m g none = noted_last t (asked q) f m (g ∙ ap (λ l. noted_all l m) (sym (used_asked t q))) none
-
--- Nothing is used of what is missing.
-pub missing_both : {A B : Type 0} (k : Missing) (f : A → Outcome B) (g : A → List Range) (m : List ℕ)
-    → traced (missed k) m ≡ traced (and_then (missed k) f) (noted_all (if_value (missed k) g) m)
-unfolding noted_all
-missing_both (Absent r) f g m = refl
-missing_both (Refused j) f g m = refl
-
-pub missing_ends : {A B : Type 0} (k : Missing) (f : A → Outcome B) (g : A → List Range) (m : List ℕ)
-    → going false m ≡ going_on (and_then (missed k) f) (noted_all (if_value (missed k) g) m)
-unfolding noted_all
-missing_ends (Absent r) f g m = refl
-missing_ends (Refused j) f g m = refl
-
-pub missing_none : (k : Missing) → false ≡ is_value {A = Text} (missed k)
-missing_none (Absent r) = refl
-missing_none (Refused j) = refl
-
-pub going_text : {b : Bool} {o : Outcome Text} {m n : List ℕ} (w : Result Text Missing) → outcome w ≡ o → b ≡ is_value (outcome w) → m ≡ n → going b m ≡ going_on o n
-going_text w e i f = rw (i, f, ← e) refl
 
 -- A small method's selector: the target of its offset, or what the slot there holds.
 module _ (t : Tables) (direct : Bool) (field : ℕ) (p : Place) (m : List ℕ) {m₁ : List ℕ} (target : ℕ)

@@ -1,39 +1,47 @@
 // Reads that are noted on a sheet: each notes the bytes that the question of the same name uses (used/specs/Used.antt), and some answer it.
+ghost use Rattle.pointers.specs.Tables.{image_in};
 ghost use Rattle.std.specs.Prelude.{◌≡◌};
-ghost use Rattle.reads.specs.Reference.{before};
-ghost use Rattle.reads.specs.Outcome.{or_zero};
-ghost use Rattle.reads.specs.Files.{files_of};
-ghost use Rattle.reads.specs.Place.{lent_image};
+ghost use Rattle.reads.specs.Outcome.{and_then, is_absent, nonzero, or_zero};
+ghost use Rattle.reads.specs.Segment.{lookup, rows};
 ghost use Rattle.pointers.specs.Slot.{resolve, pointer_at, pointer_or0_at};
 ghost use Rattle.ranges.specs.Sheet.{noted_all};
 ghost use Rattle.used.specs.Used.{uses_word, uses_field, uses_slot_in, uses_pointer_in, uses_text, uses_symbol_in};
-ghost use Rattle.usage.specs.Traced.{traced, going, going_on};
+ghost use Rattle.usage.specs.Traced.{traced};
 ghost use Rattle.reads.specs.Answer.{outcome};
 
 use pointers::setting::Setting;
-use pointers::slot::{bind_at, rebase_at, resolve_pointer, slot_or_0};
+use pointers::slot::{bind_at, rebase_at, resolve_pointer};
+use pointers::tables::Tables;
 use ranges::sheet::{WORDS, note};
-use reads::answer::{Missing, checked_add, is_absent, nonzero};
+use reads::answer::{Missing, checked_add, is_absent, nonzero, or_zero};
 use reads::files::file_len;
 use reads::place::{Place, readable};
 use reads::segment::vm_to_file_offset_in;
 use reads::text::{Reading, read_cstr_at};
 
-// The word of 8 bytes at an address.
-pub fn note_word(files: &[&[u8]], segments: &[u64], va: u64, sheet: &mut [u64; WORDS])
-    ensures { sheet.new ≡ noted_all (uses_word (lent_image files segments) va) sheet.old }
+// Neither there nor refused.
+pub fn lacks<T: Copy>(w: Result<T, Missing>) -> bool
+    ensures { result ≡ is_absent (outcome w) }
 {
-    match readable(files, segments, va, 8) {
-        Ok(p) => note(sheet, p.file, p.offset, 8),
-        Err(_) => {}
+    matches!(w, Err(Missing::Absent(_)))
+}
+
+// The word of 8 bytes at an address.
+#[tactic(auto, using(crate::proofs::Leaves::uses_some, crate::proofs::Leaves::uses_none, crate::proofs::Leaves::noted_one), unfolding(used::specs::Used::uses_word))]
+pub fn note_word(tables: &Tables, va: u64, sheet: &mut [u64; WORDS])
+    ensures { sheet.new ≡ noted_all (uses_word (image_in tables.now) va) sheet.old }
+{
+    if let Ok(p) = readable(tables.image(), va, 8) {
+        note(sheet, p.file, p.offset, 8);
     }
 }
 
 // k bytes at i bytes from a place, where they lie in its file.
-pub fn note_field(files: &[&[u8]], p: Place, i: u64, k: u64, sheet: &mut [u64; WORDS])
-    ensures { sheet.new ≡ noted_all (uses_field (files_of files) k p i) sheet.old }
+#[tactic(auto, using(crate::proofs::Leaves::field_outside, crate::proofs::Leaves::field_inside))]
+pub fn note_field(tables: &Tables, p: Place, i: u64, k: u64, sheet: &mut [u64; WORDS])
+    ensures { sheet.new ≡ noted_all (uses_field tables.now.files k p i) sheet.old }
 {
-    let n = file_len(files, p.file);
+    let n = file_len(tables.files(), p.file);
     if n < p.offset {
         return;
     }
@@ -47,132 +55,103 @@ pub fn note_field(files: &[&[u8]], p: Place, i: u64, k: u64, sheet: &mut [u64; W
 }
 
 // The word in a slot that has no rebase.
-pub fn note_stored(
-    files: &[&[u8]],
-    segments: &[u64],
-    rebases: &[u64],
-    index: &[u32],
-    setting: Setting,
-    slot: u64,
-    sheet: &mut [u64; WORDS],
-)
-    ensures { sheet.new ≡ noted_all (uses_slot_in (lent_image files segments) (before rebases) (before index) setting slot) sheet.old }
+#[tactic(auto, using(crate::proofs::Leaves::uses_else, crate::proofs::Leaves::uses_present), unfolding(used::specs::Used::uses_slot_in))]
+pub fn note_stored(tables: &Tables, setting: Setting, slot: u64, sheet: &mut [u64; WORDS])
+    ensures { sheet.new ≡ noted_all (uses_slot_in (image_in tables.now) tables.now.rebases tables.now.index setting slot) sheet.old }
 {
-    if is_absent(rebase_at(rebases, index, setting, slot)) {
-        note_word(files, segments, slot, sheet);
+    if is_absent(rebase_at(tables, setting, slot)) {
+        note_word(tables, slot, sheet);
     }
 }
 
 // A pointer slot, and the address in it.
 pub fn note_slot(
-    files: &[&[u8]],
-    segments: &[u64],
-    rebases: &[u64],
-    index: &[u32],
+    tables: &Tables,
     setting: Setting,
     slot: u64,
     sheet: &mut [u64; WORDS],
 ) -> Result<u64, Missing>
     ensures { traced (outcome result) sheet.new
-        ≡ traced (resolve (lent_image files segments) (before rebases) (before index) setting slot)
-        (noted_all (uses_slot_in (lent_image files segments) (before rebases) (before index) setting slot) sheet.old) }
+        ≡ traced (resolve (image_in tables.now) tables.now.rebases tables.now.index setting slot)
+        (noted_all (uses_slot_in (image_in tables.now) tables.now.rebases tables.now.index setting slot) sheet.old) }
 {
-    note_stored(files, segments, rebases, index, setting, slot, sheet);
-    resolve_pointer(files, segments, rebases, index, setting, slot)
+    note_stored(tables, setting, slot, sheet);
+    resolve_pointer(tables, setting, slot)
 }
 
-// The same where an absent slot counts as 0: whether it is there.
+// The same, an absent slot counting as 0.
 pub fn note_slot_or_0(
-    files: &[&[u8]],
-    segments: &[u64],
-    rebases: &[u64],
-    index: &[u32],
+    tables: &Tables,
     setting: Setting,
     slot: u64,
     sheet: &mut [u64; WORDS],
-) -> bool
-    ensures { going result sheet.new
-        ≡ going_on (or_zero (resolve (lent_image files segments) (before rebases) (before index) setting slot))
-        (noted_all (uses_slot_in (lent_image files segments) (before rebases) (before index) setting slot) sheet.old) }
+) -> Result<u64, Missing>
+    ensures { traced (outcome result) sheet.new
+        ≡ traced (or_zero (resolve (image_in tables.now) tables.now.rebases tables.now.index setting slot))
+        (noted_all (uses_slot_in (image_in tables.now) tables.now.rebases tables.now.index setting slot) sheet.old) }
 {
-    note_stored(files, segments, rebases, index, setting, slot, sheet);
-    match slot_or_0(files, segments, rebases, index, setting, slot) {
-        Ok(_) => true,
-        Err(_) => false,
-    }
+    or_zero(note_slot(tables, setting, slot, sheet))
 }
 
 // The pointer in the field at va + k, and the address in it.
+#[tactic(auto, using(crate::proofs::Leaves::traced_ok, crate::proofs::Leaves::traced_err), unfolding(pointers::specs::Slot::pointer_at, used::specs::Used::uses_pointer_in))]
 pub fn note_pointer(
-    files: &[&[u8]],
-    segments: &[u64],
-    rebases: &[u64],
-    index: &[u32],
+    tables: &Tables,
     setting: Setting,
     va: u64,
     k: u64,
     sheet: &mut [u64; WORDS],
 ) -> Result<u64, Missing>
     ensures { traced (outcome result) sheet.new
-        ≡ traced (pointer_at (lent_image files segments) (before rebases) (before index) setting va k)
-        (noted_all (uses_pointer_in (lent_image files segments) (before rebases) (before index) setting va k) sheet.old) }
+        ≡ traced (pointer_at (image_in tables.now) tables.now.rebases tables.now.index setting va k)
+        (noted_all (uses_pointer_in (image_in tables.now) tables.now.rebases tables.now.index setting va k) sheet.old) }
 {
-    match checked_add(va, k) {
-        Ok(slot) => note_slot(files, segments, rebases, index, setting, slot, sheet),
-        Err(m) => Err(m),
-    }
+    let slot = checked_add(va, k)?;
+    note_slot(tables, setting, slot, sheet)
 }
 
-// The same where an absent slot counts as 0: whether the field is there.
+// The same, an absent slot counting as 0.
+#[tactic(auto, using(crate::proofs::Leaves::traced_ok, crate::proofs::Leaves::traced_err), unfolding(pointers::specs::Slot::pointer_or0_at, used::specs::Used::uses_pointer_in))]
 pub fn note_pointer_or_0(
-    files: &[&[u8]],
-    segments: &[u64],
-    rebases: &[u64],
-    index: &[u32],
+    tables: &Tables,
     setting: Setting,
     va: u64,
     k: u64,
     sheet: &mut [u64; WORDS],
-) -> bool
-    ensures { going result sheet.new
-        ≡ going_on (pointer_or0_at (lent_image files segments) (before rebases) (before index) setting va k)
-        (noted_all (uses_pointer_in (lent_image files segments) (before rebases) (before index) setting va k) sheet.old) }
+) -> Result<u64, Missing>
+    ensures { traced (outcome result) sheet.new
+        ≡ traced (pointer_or0_at (image_in tables.now) tables.now.rebases tables.now.index setting va k)
+        (noted_all (uses_pointer_in (image_in tables.now) tables.now.rebases tables.now.index setting va k) sheet.old) }
 {
-    match checked_add(va, k) {
-        Ok(slot) => note_slot_or_0(files, segments, rebases, index, setting, slot, sheet),
-        Err(_) => false,
-    }
+    let slot = checked_add(va, k)?;
+    note_slot_or_0(tables, setting, slot, sheet)
+}
+
+// The place of the text at an address.
+#[tactic(auto, using(reads::proofs::Outcomes::outcomes))]
+pub fn text_place(tables: &Tables, va: u64) -> Result<Place, Missing>
+    ensures { outcome result ≡ and_then (nonzero va) (λ a. lookup (rows tables.now.segments) a) }
+{
+    let a = nonzero(va)?;
+    vm_to_file_offset_in(tables.segments(), a)
 }
 
 // The text at an address, with the zero byte that ends it.
-pub fn note_text(files: &[&[u8]], segments: &[u64], va: u64, sheet: &mut [u64; WORDS])
-    ensures { sheet.new ≡ noted_all (uses_text (lent_image files segments) va) sheet.old }
+pub fn note_text(tables: &Tables, va: u64, sheet: &mut [u64; WORDS])
+    ensures { sheet.new ≡ noted_all (uses_text (image_in tables.now) va) sheet.old }
 {
-    match nonzero(va) {
-        Ok(a) => match vm_to_file_offset_in(segments, a) {
-            Ok(p) => {
-                let r = read_cstr_at(files, Reading::Old, p);
-                note(sheet, p.file, p.offset, r.read);
-            }
-            Err(_) => {}
-        },
-        Err(_) => {}
+    if let Ok(p) = text_place(tables, va) {
+        let r = read_cstr_at(tables.files(), Reading::Old, p);
+        note(sheet, p.file, p.offset, r.read);
     }
 }
 
 // The name of a slot's bind.
-pub fn note_symbol(
-    files: &[&[u8]],
-    rebases: &[u64],
-    binds: &[u64],
-    index: &[u32],
-    slot: u64,
-    sheet: &mut [u64; WORDS],
-)
-    ensures { sheet.new ≡ noted_all (uses_symbol_in (files_of files) (before rebases) (before binds) (before index) slot) sheet.old }
+#[tactic(auto, using(crate::proofs::Leaves::uses_some, crate::proofs::Leaves::uses_none, crate::proofs::Leaves::noted_one), unfolding(used::specs::Used::uses_symbol_in))]
+pub fn note_symbol(tables: &Tables, slot: u64, sheet: &mut [u64; WORDS])
+    ensures { sheet.new ≡ noted_all (uses_symbol_in tables.now.files tables.now.rebases tables.now.binds tables.now.index slot) sheet.old }
 {
-    match bind_at(files, rebases, binds, index, slot) {
-        Ok(name) => note(sheet, name.file, name.offset, name.len),
-        Err(_) => {}
+    if let Ok(name) = bind_at(tables, slot) {
+        note(sheet, name.file, name.offset, name.len);
     }
 }

@@ -31,7 +31,6 @@ use Rattle.records.proofs.Asks.{each_left, each_right, asks_decide}
 use Rattle.ranges.specs.Range.{Range, range}
 use Rattle.used.specs.Used.{place_range, uses_field, uses_word, uses_slot_in, uses_slot, uses_pointer_in, uses_pointer, uses_text, name_range, uses_symbol_in, uses_symbol, uses, used}
 use Rattle.used.proofs.SameScans.{scan_same}
-use Rattle.reads.specs.Answer.{outcome, answered}
 
 -- The same tables with other files and another index.
 abbrev pub over : Tables → List (List ℕ) → List ℕ → Tables

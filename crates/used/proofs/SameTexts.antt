@@ -7,20 +7,19 @@ use native.Mathlib.Omega.{arith}
 use lib.Dec.{leb}
 use lib.ListN.{length, take, drop, length-drop}
 use lib.Seq.{take-nil, drop-nil, take-take, drop-drop}
+use Rattle.std.specs.Prelude.{Ok, Err}
 use Rattle.reads.specs.Outcome as outcomes
 use Rattle.reads.specs.Outcome.{value, absent, and_then, choose, text_of}
 use Rattle.reads.specs.Files.{file_of}
 use Rattle.reads.specs.Place.{part}
 use Rattle.reads.specs.Segment.{rows, lookup}
 use Rattle.reads.specs.Text.{text, scan_of, if_good, ended, if_ended, text_from, text_at, text_in, read_from, read_at}
-use Rattle.reads.specs.Utf8.{verdict}
+use Rattle.reads.specs.Utf8.{Verdict, verdict}
 use Rattle.reads.specs.declared.answer.Reason.TheVariants.{PastEnd}
 use Rattle.reads.specs.declared.place.Place.{Place}
 use Rattle.reads.specs.declared.text.Reading.{Reading}
 use Rattle.reads.specs.declared.text.Reading.TheVariants.{Old, New}
 use Rattle.reads.specs.declared.text.Text.{Text}
-use Rattle.reads.specs.declared.text.Verdict.{Verdict}
-use Rattle.reads.specs.declared.text.Verdict.TheVariants.{Good, Bad}
 use Rattle.reads.proofs.Outcomes.{then_came}
 use Rattle.reads.proofs.Texts.{text_inside}
 use Rattle.pointers.specs.Slot.{bind_at, symbol_of}
@@ -66,10 +65,10 @@ text_found r bytes p x e =
     go : (r : Reading) (e b : Bool) (v : Verdict)
         → choose b (if_ended r e (and_then (if_good v (length (text (drop p.offset bytes)))) (λ n. value (text_of p.file p.offset n)))) (absent PastEnd) ≡ value x
         → x ≡ text_of p.file p.offset (scan_of (drop p.offset bytes)).len
-    go Old e true Good q = unfold choose in cc
-    go Old e true (Bad k) q = let z : ◌≡◌ {A = ℕ} 0 1 = unfold choose in cc in absurd (omega arith)
-    go New true true Good q = unfold choose in cc
-    go New true true (Bad k) q = let z : ◌≡◌ {A = ℕ} 0 1 = unfold choose in cc in absurd (omega arith)
+    go Old e true (Ok u) q = unfold choose in cc
+    go Old e true (Err k) q = let z : ◌≡◌ {A = ℕ} 0 1 = unfold choose in cc in absurd (omega arith)
+    go New true true (Ok u) q = unfold choose in cc
+    go New true true (Err k) q = let z : ◌≡◌ {A = ℕ} 0 1 = unfold choose in cc in absurd (omega arith)
     go New false true v q = let z : ◌≡◌ {A = ℕ} 0 1 = unfold choose in cc in absurd (omega arith)
     go Old e false v q = let z : ◌≡◌ {A = ℕ} 0 1 = unfold choose in cc in absurd (omega arith)
     go New true false v q = let z : ◌≡◌ {A = ℕ} 0 1 = unfold choose in cc in absurd (omega arith)

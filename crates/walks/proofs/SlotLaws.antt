@@ -98,7 +98,7 @@ slots_fit ws i a e h = rw e (fits ws i h)
     fits : (ws : List ℕ) (i : ℕ) → ((j : ℕ) → get_or ws j 0 < 2 ^ 64) → (section_at ws i).slots < 2 ^ 61
     fits ws i h = unfold section_at in by_choose (λ (s : ObjcSection). s.slots < 2 ^ 61) (λ e. omega (arith, h (i * 3 + 2))) (λ e. omega arith)
 
-slots_few : (lists : Lists) (ws : List ℕ) → ((j : ℕ) → get_or ws j 0 < 2 ^ 64) → length (slots_of lists ws) < 2 ^ 62
+pub slots_few : (lists : Lists) (ws : List ℕ) → ((j : ℕ) → get_or ws j 0 < 2 ^ 64) → length (slots_of lists ws) < 2 ^ 62
 slots_few Classes ws h = omega (arith, pair_length ws 0 1, slots_fit ws 0 _ refl h, slots_fit ws 1 _ refl h)
 slots_few Categories ws h = omega (arith, pair_length ws 2 3, slots_fit ws 2 _ refl h, slots_fit ws 3 _ refl h)
 slots_few Protocols ws h = omega (arith, section_length ws 4, slots_fit ws 4 _ refl h)
@@ -322,7 +322,7 @@ module _ (t : Tables) (slots : List ℕ) (slot : ℕ) where
   unfolding slot_taken
   taken_there = by_choose (λ (x : TakenSlot). takes x ≡ true → slot ≡ length slots → ⊥) (λ e h. absurd (true≢false (sym h))) (λ e h. eqb-false slot (length slots) e)
 
-  next_there : {r v : SlotStep} → slot_outcome r ≡ next_slot t slots slot → r ≡ v → takes (slot_outcome v) ≡ true → slot < length slots
+  next_there : {r v : Result SlotStep Question} → slot_outcome r ≡ next_slot t slots slot → r ≡ v → takes (slot_outcome v) ≡ true → slot < length slots
   unfolding next_slot
   next_there e f g = go refl (slot_answered t slots slot 0) (rw (← e, f) g)
     where
@@ -331,7 +331,7 @@ module _ (t : Tables) (slots : List ℕ) (slot : ℕ) where
       go e (answered_value u) h = let r = slot_room slots t slot 0 e in let n = taken_there h in omega (arith, r.0, n)
       go e (answered_number k) h = absurd (true≢false (sym h))
 
-  new_there : (used highest : ℕ) (l : List ℕ) {r v : SlotStep} → slot_outcome r ≡ next_new t slots slot used highest l → r ≡ v → takes (slot_outcome v) ≡ true
+  new_there : (used highest : ℕ) (l : List ℕ) {r v : Result SlotStep Question} → slot_outcome r ≡ next_new t slots slot used highest l → r ≡ v → takes (slot_outcome v) ≡ true
       → (slot < length slots) × (used ≤ slot) × (length slots ≤ length l)
   unfolding next_new
   new_there used highest l e f g = go refl (ledger_answered t slots slot used (length l)) (rw (← e, f) g)
@@ -345,15 +345,14 @@ module _ (t : Tables) (slots : List ℕ) (slot : ℕ) where
           (omega (arith, r.0, n), r.1, r.2)
       go e (answered_number k) h = absurd (true≢false (sym h))
 
--- So there is room to go on, where the section table has words of 64 bits.
-pub new_room : (t : Tables) (lists : Lists) (w : SlotWalk) (l : List ℕ) {r v : SlotStep}
+-- So there is room to go on, where the lists have so few slots.
+pub new_room : (t : Tables) (lists : Lists) (w : SlotWalk) (l : List ℕ) {r v : Result SlotStep Question}
     → slot_outcome r ≡ next_new t (slots_of lists t.sections) w.slot w.used w.highest l → r ≡ v → takes (slot_outcome v) ≡ true
-    → ((j : ℕ) → get_or t.sections j 0 < 2 ^ 64) → Room w (length l)
-new_room t lists w l e f g h =
+    → length (slots_of lists t.sections) < 2 ^ 62 → Room w (length l)
+new_room t lists w l e f g few =
     let there = new_there t (slots_of lists t.sections) w.slot w.used w.highest l e f g in
-    let few = slots_few lists t.sections h in
     record { further = omega (arith, there.0, few); in_use = there.1; free = omega (arith, there.0, there.1, there.2) }
 
-pub next_room : (t : Tables) (lists : Lists) (slot : ℕ) {r v : SlotStep} → slot_outcome r ≡ next_slot t (slots_of lists t.sections) slot → r ≡ v
-    → takes (slot_outcome v) ≡ true → ((j : ℕ) → get_or t.sections j 0 < 2 ^ 64) → slot + 1 < 2 ^ 64
-next_room t lists slot e f g h = omega (arith, next_there t (slots_of lists t.sections) slot e f g, slots_few lists t.sections h)
+pub next_room : (t : Tables) (lists : Lists) (slot : ℕ) {r v : Result SlotStep Question} → slot_outcome r ≡ next_slot t (slots_of lists t.sections) slot → r ≡ v
+    → takes (slot_outcome v) ≡ true → length (slots_of lists t.sections) < 2 ^ 62 → slot + 1 < 2 ^ 64
+next_room t lists slot e f g few = omega (arith, next_there t (slots_of lists t.sections) slot e f g, few)

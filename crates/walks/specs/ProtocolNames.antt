@@ -1,5 +1,7 @@
 -- Protocol names (objc-runtime-new.h, protocol_list_t; document 01, Protocol names and Steps; protocol.rs, protocol_name_iter).
-use Rattle.std.specs.Prelude.{ℕ, zero, suc, ◌+◌, ◌*◌, ◌^◌, min, Bool, ◌&&◌, List, [], ◌∷◌, ltb}
+use Rattle.reads.specs.Answer.{missed}
+use Rattle.reads.specs.declared.answer.Missing.{Missing}
+use Rattle.std.specs.Prelude.{ℕ, zero, suc, ◌+◌, ◌*◌, ◌^◌, min, Bool, ◌&&◌, List, [], ◌∷◌, ltb, Result, Ok, Err}
 use Rattle.reads.specs.Outcome.{Outcome, value, absent, refused, choose}
 use Rattle.reads.specs.declared.answer.Reason.{Reason}
 use Rattle.reads.specs.declared.text.Text.{Text}
@@ -14,8 +16,6 @@ use Rattle.walks.specs.Handed.{unless_refused, Handed, hands, hands_back, from_c
 use Rattle.walks.specs.declared.protocol_names.ProtocolList.{ProtocolList}
 use Rattle.walks.specs.declared.protocol_names.NameStep.{NameStep}
 use Rattle.walks.specs.declared.protocol_names.NameStep.TheVariants as step
-use Rattle.walks.specs.declared.protocol_names.ProtocolNamesWalked.{ProtocolNamesWalked}
-use Rattle.walks.specs.declared.protocol_names.ProtocolNamesWalked.TheVariants as walked
 use Rattle.walks.specs.declared.protocol_names.ProtocolNameWalk.{ProtocolNameWalk}
 use Rattle.walks.specs.declared.protocol_names.ProtocolNameStepped.{ProtocolNameStepped}
 
@@ -104,15 +104,14 @@ abbrev pub next_name : Tables → ProtocolNameWalk → NameLeft
 next_name t w = next_name_under (under w.setting t) w
 
 -- Document 01's meaning of each case of the code's answers.
-abbrev pub name_answer : NameStep → Outcome ReachedName
-name_answer (step.Name name) = value (name_reached name)
-name_answer (step.Passed r) = value (name_passed r)
-name_answer step.Finished = value names_finished
-name_answer (step.Refused k) = refused k
+abbrev pub name_step : NameStep → ReachedName
+name_step (step.Name name) = name_reached name
+name_step (step.Passed r) = name_passed r
+name_step step.Finished = names_finished
 
-abbrev pub names_answer : ProtocolNamesWalked → Outcome ReachedName
-names_answer (walked.Step s) = name_answer s
-names_answer (walked.Absent r) = absent r
+abbrev pub names_answer : Result NameStep Missing → Outcome ReachedName
+names_answer (Ok s) = value (name_step s)
+names_answer (Err m) = missed m
 
 abbrev pub name_left : ProtocolNameStepped → NameLeft
 name_left r = hands (names_answer r.walked) r.walk

@@ -1,8 +1,6 @@
 -- The walks over the section lists (document 01, Section walk and Steps; class.rs, category.rs, protocol.rs).
 use Rattle.std.specs.Prelude.{ℕ, ◌+◌, max, Bool, true, false, ◌≡◌, List, Result, Ok, Err, eqb, length, take, set}
 use Rattle.reads.specs.Outcome.{Outcome, value, absent, refused, choose}
-use Rattle.reads.specs.Answer.{missed}
-use Rattle.reads.specs.declared.answer.Missing.{Missing}
 use Rattle.reads.specs.declared.answer.Reason.{Reason}
 use Rattle.pointers.specs.Tables.{Tables}
 use Rattle.records.specs.Class.{class_at}
@@ -164,23 +162,22 @@ protocol_slots w = walk w.slot 0 0 0
 abbrev pub protocol_walk : RecordWalk ProtocolSlots → Walk
 protocol_walk w = protocol_slots w.slots
 
-abbrev pub record_step : {R : Type 0} → RecordStep R → Outcome (Step R)
-record_step (step.Record r) = value (found r)
-record_step (step.Passed r) = value (passed r)
-record_step step.Dropped = value dropped
-record_step step.Finished = value finished
-record_step (step.Refused k) = refused k
+abbrev pub record_step : {R : Type 0} → RecordStep R → Step R
+record_step (step.Record r) = found r
+record_step (step.Passed r) = passed r
+record_step step.Dropped = dropped
+record_step step.Finished = finished
 
--- What is decoded, and what a step leaves, by where the walk stands then.
-abbrev pub given : {R : Type 0} → Result R Missing → Outcome R
-given (Ok r) = value r
-given (Err m) = missed m
+abbrev pub record_answer : {R : Type 0} → Result (RecordStep R) Question → Outcome (Step R)
+record_answer (Ok s) = value (record_step s)
+record_answer (Err k) = refused k
 
+-- What a step leaves, by where the walk stands then.
 abbrev pub slot_left : {R : Type 0} → SlotTaken R → List ℕ → Left R
-slot_left r ledger = leaves (record_step r.step) (walk r.slots.slot r.slots.used r.slots.highest r.waiting) ledger
+slot_left r ledger = leaves (record_answer r.step) (walk r.slots.slot r.slots.used r.slots.highest r.waiting) ledger
 
 abbrev pub record_taken : {R S : Type 0} → (S → Walk) → RecordTaken R S → List ℕ → Left R
-record_taken state r ledger = leaves (record_step r.step) (state r.slots) ledger
+record_taken state r ledger = leaves (record_answer r.step) (state r.slots) ledger
 
 abbrev pub record_left : {R S : Type 0} → (S → Walk) → RecordStepped R S → List ℕ → Left R
-record_left state r ledger = leaves (record_step r.step) (state r.walk.slots) ledger
+record_left state r ledger = leaves (record_answer r.step) (state r.walk.slots) ledger

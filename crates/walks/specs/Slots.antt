@@ -1,5 +1,5 @@
 -- The slots of the section lists, taken one by one (document 01, Section walk, questions 10 and 11): what the section walks share.
-use Rattle.std.specs.Prelude.{ℕ, zero, suc, ◌+◌, ◌^◌, ◌≤◌, ◌<◌, max, Bool, false, ◌&&◌, ◌||◌, List, [], ◌∷◌, ◌++◌, leb, eqb, length, get_or, take}
+use Rattle.std.specs.Prelude.{ℕ, zero, suc, ◌+◌, ◌^◌, ◌≤◌, ◌<◌, max, Bool, false, ◌&&◌, ◌||◌, List, [], ◌∷◌, ◌++◌, leb, eqb, length, get_or, take, Result, Ok, Err}
 use Rattle.reads.specs.Outcome.{Outcome, value, absent, refused, and_then, choose}
 use Rattle.reads.specs.Relative.{slot_address}
 use Rattle.pointers.specs.Tables.{Tables}
@@ -105,11 +105,14 @@ next_new t slots slot used highest ledger =
     (first_met (met_below highest (take used ledger)) (slot_taken t slots slot))
 
 -- Document 01's meaning of each case of the code's answer.
-abbrev pub slot_outcome : SlotStep → TakenSlot
-slot_outcome (step.Address a) = address a
-slot_outcome step.Dropped = slot_dropped
-slot_outcome step.Finished = no_slot
-slot_outcome (step.Refused k) = slot_refused k
+abbrev pub slot_step : SlotStep → TakenSlot
+slot_step (step.Address a) = address a
+slot_step step.Dropped = slot_dropped
+slot_step step.Finished = no_slot
+
+abbrev pub slot_outcome : Result SlotStep Question → TakenSlot
+slot_outcome (Ok s) = slot_step s
+slot_outcome (Err k) = slot_refused k
 
 abbrev pub slot_walk : ℕ → ℕ → ℕ → SlotWalk
 slot_walk slot used highest = record { slot = slot; used = used; highest = highest }

@@ -1,5 +1,7 @@
 -- List walks (document 01, Lists and Steps): what a step answers, and the walk after it.
-use Rattle.std.specs.Prelude.{ℕ, suc, Option, None, Some}
+use Rattle.reads.specs.Answer.{missed}
+use Rattle.reads.specs.declared.answer.Missing.{Missing}
+use Rattle.std.specs.Prelude.{ℕ, suc, Option, None, Some, Result, Ok, Err}
 use Rattle.reads.specs.Outcome.{Outcome, value, absent, refused}
 use Rattle.reads.specs.declared.answer.Reason.{Reason}
 use Rattle.pointers.specs.Tables.{Tables, image_in, under}
@@ -15,8 +17,6 @@ use Rattle.records.specs.declared.row.Row.{Row}
 use Rattle.walks.specs.declared.list_walk.ListWalk.{ListWalk}
 use Rattle.walks.specs.declared.list_walk.ListStep.{ListStep}
 use Rattle.walks.specs.declared.list_walk.ListStep.TheVariants as step
-use Rattle.walks.specs.declared.list_walk.ListWalked.{ListWalked}
-use Rattle.walks.specs.declared.list_walk.ListWalked.TheVariants as walked
 use Rattle.walks.specs.declared.list_walk.ListStepped.{ListStepped}
 
 -- A walk over a list, under the setting that it began with.
@@ -67,15 +67,14 @@ abbrev pub next_of : Tables → ListWalk → RowLeft
 next_of t w = next_under (under w.setting t) w
 
 -- Document 01's meaning of each case of the code's answers.
-abbrev pub step_answer : ListStep → Outcome ReachedRow
-step_answer (step.Row r) = value (row_reached r)
-step_answer (step.Skipped j r) = value (row_skipped j r)
-step_answer step.Finished = value rows_finished
-step_answer (step.Refused k) = refused k
+abbrev pub row_step : ListStep → ReachedRow
+row_step (step.Row r) = row_reached r
+row_step (step.Skipped j r) = row_skipped j r
+row_step step.Finished = rows_finished
 
-abbrev pub list_answer : ListWalked → Outcome ReachedRow
-list_answer (walked.Step s) = step_answer s
-list_answer (walked.Absent r) = absent r
+abbrev pub list_answer : Result ListStep Missing → Outcome ReachedRow
+list_answer (Ok s) = value (row_step s)
+list_answer (Err m) = missed m
 
 abbrev pub row_left : ListStepped → RowLeft
 row_left r = hands (list_answer r.walked) r.walk

@@ -1,15 +1,16 @@
 // Walks over method, ivar and property lists: each step settles the next entry that can be read.
 ghost use Rattle.std.specs.Prelude.{◌≡◌, ◌<◌, ◌^◌};
-ghost use Rattle.pointers.specs.Tables.{lent, under, reading_new, reading_under};
+ghost use Rattle.pointers.specs.Tables.{under, reading_new, reading_under};
 ghost use Rattle.reads.specs.Answer.{missed};
 ghost use Rattle.reads.specs.Outcome.{value};
 ghost use Rattle.walks.specs.Handed.{hands, hands_back};
-ghost use Rattle.walks.specs.Walk.{walk_of, moved, settles, over_rows, next_of, step_answer, row_left};
+ghost use Rattle.walks.specs.Walk.{walk_of, moved, settles, over_rows, next_of, row_step, row_left};
 ghost use Rattle.records.specs.List.{list_at, entry_address};
 ghost use Rattle.records.specs.Row.{row_at};
 
 use pointers::question::ask;
 use pointers::setting::Setting;
+use pointers::tables::Tables;
 use reads::answer::{Missing, Question, Reason};
 use reads::text::Reading;
 use records::list::{Layout, ListKind, first_readable, list_at};
@@ -24,27 +25,18 @@ pub struct ListWalk {
     pub cursor: u32,
 }
 
-// A step's answer: the row reached, or the index of an entry whose row is skipped and why, or finished, or the number of the
-// question that refuses.
+// What a step reaches: a row, or an entry whose row is skipped, its index and why, or the end.
 #[derive(Clone, Copy)]
 pub enum ListStep {
     Row(Row),
     Skipped(u32, Reason),
     Finished,
-    Refused(Question),
 }
 
-// A list that is absent has no steps: why it is.
-#[derive(Clone, Copy)]
-pub enum ListWalked {
-    Step(ListStep),
-    Absent(Reason),
-}
-
-// The answer, with the walk to go on with.
+// The answer, with the walk to go on with. A list that is absent has no steps, only the reason for which it is.
 #[derive(Clone, Copy)]
 pub struct ListStepped {
-    pub walked: ListWalked,
+    pub walked: Result<ListStep, Missing>,
     pub walk: ListWalk,
 }
 
@@ -77,116 +69,74 @@ impl ListWalk {
 
     // A step, with the walk at another cursor.
     fn at(self, step: ListStep, cursor: u32) -> ListStepped
-        ensures { row_left result ≡ hands (step_answer step) (moved self cursor) }
+        ensures { row_left result ≡ hands (value (row_step step)) (moved self cursor) }
     {
         ListStepped {
-            walked: ListWalked::Step(step),
+            walked: Ok(step),
             walk: ListWalk { cursor, ..self },
         }
     }
 
-    // The walk as given, with a number.
-    fn refused(self, k: Question) -> ListStepped
-        ensures { row_left result ≡ hands_back self k }
+    // The walk as given, where the list is missing or a question refuses.
+    fn missing(self, m: Missing) -> ListStepped
+        ensures { row_left result ≡ hands (missed m) self }
     {
         ListStepped {
-            walked: ListWalked::Step(ListStep::Refused(k)),
+            walked: Err(m),
             walk: self,
         }
     }
 
-    // The walk as given, where the list is missing.
-    fn missing(self, m: Missing) -> ListStepped
-        ensures { row_left result ≡ hands (missed m) self }
+    // The walk as given, with the number of a question.
+    fn refused(self, k: Question) -> ListStepped
+        ensures { row_left result ≡ hands_back self k }
     {
-        match m {
-            Missing::Absent(why) => ListStepped {
-                walked: ListWalked::Absent(why),
-                walk: self,
-            },
-            Missing::Refused(k) => self.refused(k),
-        }
+        self.missing(Missing::Refused(k))
     }
 
     // Settles entry j, which can be read.
-    fn settle(
-        self,
-        files: &[&[u8]],
-        segments: &[u64],
-        sections: &[u64],
-        info: &[u8],
-        rebases: &[u64],
-        binds: &[u64],
-        index: &[u32],
-        h: Layout,
-        j: u64,
-    ) -> ListStepped
+    fn settle(self, tables: &Tables, h: Layout, j: u64) -> ListStepped
         requires { (j < h.count) × (entry_address h j < 2 ^ 64) }
-        ensures { let t = under self.setting (lent files segments sections info rebases binds index) in
+        ensures { let t = under self.setting tables.now in
             row_left result ≡ settles self j (row_at t h.kind (entry_address h j)) }
     {
         let kind = h.kind;
         let setting = self.setting;
         let va = h.base + j * (h.size as u64);
-        match row_at(
-            files, segments, sections, info, rebases, binds, index, setting, kind, va,
-        ) {
+        match row_at(tables, setting, kind, va) {
             Ok(row) => self.at(ListStep::Row(row), j as u32 + 1),
-            Err(m) => match m {
-                Missing::Absent(why) => self.at(ListStep::Skipped(j as u32, why), j as u32 + 1),
-                Missing::Refused(k) => self.refused(k),
-            },
+            Err(Missing::Absent(why)) => { self.at(ListStep::Skipped(j as u32, why), j as u32 + 1) }
+            Err(m) => self.missing(m),
         }
     }
 
     // A step over a list: 10, then the next entry that can be read.
     #[tactic(auto, unfolding(crate::specs::Walk::over_rows), using(crate::proofs::Steps::list_past, crate::proofs::Steps::list_on))]
-    fn over_list(
-        self,
-        files: &[&[u8]],
-        segments: &[u64],
-        sections: &[u64],
-        info: &[u8],
-        rebases: &[u64],
-        binds: &[u64],
-        index: &[u32],
-        h: Layout,
-    ) -> ListStepped
-        ensures { let t = under self.setting (lent files segments sections info rebases binds index) in
+    fn over_list(self, tables: &Tables, h: Layout) -> ListStepped
+        ensures { let t = under self.setting tables.now in
             row_left result ≡ over_rows t self (value h) }
     {
         if h.count < self.cursor {
             return self.refused(Question::WalkState);
         }
         let cursor = self.cursor;
-        match first_readable(files, segments, h, cursor) {
-            Some(j) => self.settle(files, segments, sections, info, rebases, binds, index, h, j),
+        match first_readable(tables.image(), h, cursor) {
+            Some(j) => self.settle(tables, h, j),
             None => self.at(ListStep::Finished, h.count),
         }
     }
 
     // A step over tables that no question refuses, for a caller that has asked: 10 past the first entry of a list that is missing.
     #[tactic(auto, using(crate::proofs::Steps::missing_past, crate::proofs::Steps::missing_on), unfolding(crate::specs::Walk::over_rows))]
-    pub fn walked_list(
-        self,
-        files: &[&[u8]],
-        segments: &[u64],
-        sections: &[u64],
-        info: &[u8],
-        rebases: &[u64],
-        binds: &[u64],
-        index: &[u32],
-    ) -> ListStepped
-        ensures { let t = under self.setting (lent files segments sections info rebases binds index) in
+    pub fn walked_list(self, tables: &Tables) -> ListStepped
+        ensures { let t = under self.setting tables.now in
             row_left result ≡ over_rows t self (list_at t self.kind self.list) }
     {
         let kind = self.kind;
         let list = self.list;
         let setting = self.setting;
-        match list_at(
-            files, segments, sections, info, rebases, binds, index, setting, kind, list,
-        ) {
-            Ok(h) => self.over_list(files, segments, sections, info, rebases, binds, index, h),
+        match list_at(tables, setting, kind, list) {
+            Ok(h) => self.over_list(tables, h),
             Err(m) => {
                 if 0 < self.cursor {
                     return self.refused(Question::WalkState);
@@ -198,21 +148,12 @@ impl ListWalk {
 
     // The next step: 1 to 6 and 8 are asked, then 10; then the next entry that can be read is settled.
     #[tactic(auto, unfolding(crate::specs::Walk::next_under))]
-    pub fn next(
-        self,
-        files: &[&[u8]],
-        segments: &[u64],
-        sections: &[u64],
-        info: &[u8],
-        rebases: &[u64],
-        binds: &[u64],
-        index: &[u32],
-    ) -> ListStepped
-        ensures { let t = lent files segments sections info rebases binds index in
+    pub fn next(self, tables: &Tables) -> ListStepped
+        ensures { let t = tables.now in
             row_left result ≡ next_of t self }
     {
-        match ask(files, segments, sections, info, rebases, binds, index) {
-            Ok(()) => self.walked_list(files, segments, sections, info, rebases, binds, index),
+        match ask(tables) {
+            Ok(()) => self.walked_list(tables),
             Err(k) => self.refused(k),
         }
     }

@@ -1,16 +1,18 @@
 // Protocol names: the walk over a protocol_list_t (objc-runtime-new.h; protocol.rs, protocol_name_iter).
 ghost use Rattle.std.specs.Prelude.{◌≡◌, ◌+◌, ◌^◌, ◌<◌, min};
 ghost use Rattle.reads.specs.Answer.{missed, outcome};
-ghost use Rattle.pointers.specs.Tables.{lent, under, reading_new, reading_under};
+ghost use Rattle.pointers.specs.Tables.{under, reading_new, reading_under};
+ghost use Rattle.reads.specs.Outcome.{value};
 ghost use Rattle.walks.specs.Handed.{hands, hands_back};
-ghost use Rattle.walks.specs.ProtocolNames.{protocol_list_at, has_slot, protocol_name_at, protocol_name_in, name_in, walk_at, named, step_in, over_names, next_name, name_answer, name_left};
+ghost use Rattle.walks.specs.ProtocolNames.{protocol_list_at, has_slot, protocol_name_at, protocol_name_in, name_in, walk_at, named, step_in, over_names, next_name, name_step, name_left};
 
 use pointers::question::ask;
 use pointers::setting::Setting;
 use pointers::slot::{resolve_pointer, symbol_at};
-use reads::answer::{Missing, Question, Reason, checked_add, nonzero};
+use pointers::tables::Tables;
+use reads::answer::{Missing, Question, Reason, because, checked_add, nonzero};
 use reads::place::{readable, u64_in};
-use reads::text::{Reading, Text, text_because};
+use reads::text::{Reading, Text};
 use records::list::even_list;
 use records::protocol::protocol_at;
 
@@ -36,26 +38,18 @@ pub struct ProtocolNameWalk {
     pub setting: Setting,
 }
 
-// What a step reached: a name, a slot that gives none and why, the end, or the number of the question that refuses.
+// What a step reaches: a name, a slot that gives none and why, or the end.
 #[derive(Clone, Copy)]
 pub enum NameStep {
     Name(Text),
     Passed(Reason),
     Finished,
-    Refused(Question),
 }
 
-// A step, or the list is absent.
-#[derive(Clone, Copy)]
-pub enum ProtocolNamesWalked {
-    Step(NameStep),
-    Absent(Reason),
-}
-
-// What a step says, and the walk to give to the next.
+// What a step says, and the walk to give to the next. A list that is absent has no steps, only the reason for which it is.
 #[derive(Clone, Copy)]
 pub struct ProtocolNameStepped {
-    pub walked: ProtocolNamesWalked,
+    pub walked: Result<NameStep, Missing>,
     pub walk: ProtocolNameWalk,
 }
 
@@ -70,45 +64,24 @@ fn capped(count: u64) -> u64
 }
 
 // protocol_list_t: a u64 count, then the slots.
-fn protocol_list_at(
-    files: &[&[u8]],
-    segments: &[u64],
-    sections: &[u64],
-    info: &[u8],
-    rebases: &[u64],
-    binds: &[u64],
-    index: &[u32],
-    setting: Setting,
-    va: u64,
-) -> Result<ProtocolList, Missing>
-    ensures { let t = under setting (lent files segments sections info rebases binds index) in
+#[tactic(auto, using(reads::proofs::Outcomes::missed_then), unfolding(crate::specs::ProtocolNames::decode_protocol_list))]
+pub fn protocol_list_at(tables: &Tables, setting: Setting, va: u64) -> Result<ProtocolList, Missing>
+    ensures { let t = under setting tables.now in
         outcome result ≡ protocol_list_at t va }
 {
-    match nonzero(va) {
-        Ok(_) => {}
-        Err(m) => return Err(m),
-    }
-    match even_list(va) {
-        Ok(_) => {}
-        Err(m) => return Err(m),
-    }
-    let p = match readable(files, segments, va, ProtocolList::HEADER_SIZE) {
-        Ok(p) => p,
-        Err(m) => return Err(m),
-    };
-    let base = match checked_add(va, ProtocolList::HEADER_SIZE) {
-        Ok(base) => base,
-        Err(m) => return Err(m),
-    };
+    nonzero(va)?;
+    even_list(va)?;
+    let p = readable(tables.image(), va, ProtocolList::HEADER_SIZE)?;
+    let base = checked_add(va, ProtocolList::HEADER_SIZE)?;
     Ok(ProtocolList {
         base,
-        count: capped(u64_in(files, p, ProtocolList::COUNT)),
+        count: capped(u64_in(tables.files(), p, ProtocolList::COUNT)),
     })
 }
 
 // Whether slot i is below the count, and its address within 64 bits.
 #[tactic(auto, using(crate::proofs::ProtocolLists::no_slot_from_count, crate::proofs::ProtocolLists::has_slot_by_division))]
-fn has_slot(list: ProtocolList, i: u64) -> bool
+pub fn has_slot(list: ProtocolList, i: u64) -> bool
     ensures { result ≡ has_slot list i }
 {
     if list.count <= i {
@@ -118,88 +91,36 @@ fn has_slot(list: ProtocolList, i: u64) -> bool
 }
 
 // The name of the protocol at an address that is not 0.
-#[tactic(auto, using(reads::proofs::Outcomes::on_value, reads::proofs::Outcomes::on_missing), unfolding(crate::specs::ProtocolNames::decode_protocol_name))]
-fn protocol_name_at(
-    files: &[&[u8]],
-    segments: &[u64],
-    sections: &[u64],
-    info: &[u8],
-    rebases: &[u64],
-    binds: &[u64],
-    index: &[u32],
-    setting: Setting,
-    va: u64,
-) -> Result<Text, Missing>
-    ensures { let t = under setting (lent files segments sections info rebases binds index) in
+#[tactic(auto, using(reads::proofs::Outcomes::missed_then), unfolding(crate::specs::ProtocolNames::decode_protocol_name))]
+fn protocol_name_at(tables: &Tables, setting: Setting, va: u64) -> Result<Text, Missing>
+    ensures { let t = under setting tables.now in
         outcome result ≡ protocol_name_at t va }
 {
-    let proto_va = match nonzero(va) {
-        Ok(proto_va) => proto_va,
-        Err(m) => return Err(m),
-    };
-    match protocol_at(
-        files, segments, sections, info, rebases, binds, index, setting, proto_va,
-    ) {
-        Ok(p) => {
-            let name = p.name;
-            Ok(name)
-        }
-        Err(m) => Err(m),
-    }
+    let proto_va = nonzero(va)?;
+    let p = protocol_at(tables, setting, proto_va)?;
+    Ok(p.name)
 }
 
 // The name of the protocol whose address a slot holds.
-#[tactic(auto, using(reads::proofs::Outcomes::on_value, reads::proofs::Outcomes::on_missing), unfolding(crate::specs::ProtocolNames::decode_protocol_name_in))]
-fn protocol_name_in(
-    files: &[&[u8]],
-    segments: &[u64],
-    sections: &[u64],
-    info: &[u8],
-    rebases: &[u64],
-    binds: &[u64],
-    index: &[u32],
-    setting: Setting,
-    slot: u64,
-) -> Result<Text, Missing>
-    ensures { let t = under setting (lent files segments sections info rebases binds index) in
+#[tactic(auto, using(reads::proofs::Outcomes::missed_then), unfolding(crate::specs::ProtocolNames::decode_protocol_name_in))]
+fn protocol_name_in(tables: &Tables, setting: Setting, slot: u64) -> Result<Text, Missing>
+    ensures { let t = under setting tables.now in
         outcome result ≡ protocol_name_in t slot }
 {
-    match resolve_pointer(files, segments, rebases, index, setting, slot) {
-        Ok(va) => protocol_name_at(
-            files, segments, sections, info, rebases, binds, index, setting, va,
-        ),
-        Err(m) => Err(m),
-    }
+    let va = resolve_pointer(tables, setting, slot)?;
+    protocol_name_at(tables, setting, va)
 }
 
 // The name of a slot: of the protocol that it holds, else its bind's less the prefix. Where both are absent the reason is the
 // protocol's.
-#[tactic(auto, using(reads::proofs::Outcomes::first_absent, reads::proofs::Outcomes::first_number, reads::proofs::Outcomes::first_value_lem, reads::proofs::Outcomes::text_because_of), unfolding(crate::specs::ProtocolNames::decode_name_in))]
-fn name_in(
-    files: &[&[u8]],
-    segments: &[u64],
-    sections: &[u64],
-    info: &[u8],
-    rebases: &[u64],
-    binds: &[u64],
-    index: &[u32],
-    setting: Setting,
-    slot: u64,
-) -> Result<Text, Missing>
-    ensures { let t = under setting (lent files segments sections info rebases binds index) in
+#[tactic(auto, using(reads::proofs::Outcomes::first_absent, reads::proofs::Outcomes::first_number, reads::proofs::Outcomes::first_value_lem, reads::proofs::Outcomes::because_of), unfolding(crate::specs::ProtocolNames::decode_name_in))]
+fn name_in(tables: &Tables, setting: Setting, slot: u64) -> Result<Text, Missing>
+    ensures { let t = under setting tables.now in
         outcome result ≡ name_in t slot }
 {
-    match protocol_name_in(
-        files, segments, sections, info, rebases, binds, index, setting, slot,
-    ) {
-        Ok(name) => Ok(name),
-        Err(m) => match m {
-            Missing::Absent(why) => text_because(
-                symbol_at(files, rebases, binds, index, slot),
-                why,
-            ),
-            Missing::Refused(k) => Err(Missing::Refused(k)),
-        },
+    match protocol_name_in(tables, setting, slot) {
+        Err(Missing::Absent(why)) => because(symbol_at(tables, slot), why),
+        name => name,
     }
 }
 
@@ -236,35 +157,29 @@ impl ProtocolNameWalk {
         self.cursor
     }
 
-    // The walk as given, with a number.
-    fn refused(self, k: Question) -> ProtocolNameStepped
-        ensures { name_left result ≡ hands_back self k }
+    // The walk as given, where the list is missing or a question refuses.
+    fn missing(self, m: Missing) -> ProtocolNameStepped
+        ensures { name_left result ≡ hands (missed m) self }
     {
         ProtocolNameStepped {
-            walked: ProtocolNamesWalked::Step(NameStep::Refused(k)),
+            walked: Err(m),
             walk: self,
         }
     }
 
-    // The walk as given, where the list is missing.
-    fn missing(self, m: Missing) -> ProtocolNameStepped
-        ensures { name_left result ≡ hands (missed m) self }
+    // The walk as given, with the number of a question.
+    fn refused(self, k: Question) -> ProtocolNameStepped
+        ensures { name_left result ≡ hands_back self k }
     {
-        match m {
-            Missing::Absent(why) => ProtocolNameStepped {
-                walked: ProtocolNamesWalked::Absent(why),
-                walk: self,
-            },
-            Missing::Refused(k) => self.refused(k),
-        }
+        self.missing(Missing::Refused(k))
     }
 
     // A step, with the walk at another cursor.
     fn at(self, step: NameStep, cursor: u64) -> ProtocolNameStepped
-        ensures { name_left result ≡ hands (name_answer step) (walk_at self.setting self.list cursor) }
+        ensures { name_left result ≡ hands (value (name_step step)) (walk_at self.setting self.list cursor) }
     {
         ProtocolNameStepped {
-            walked: ProtocolNamesWalked::Step(step),
+            walked: Ok(step),
             walk: ProtocolNameWalk { cursor, ..self },
         }
     }
@@ -276,35 +191,21 @@ impl ProtocolNameWalk {
     {
         match name {
             Ok(text) => self.at(NameStep::Name(text), self.cursor + 1),
-            Err(m) => match m {
-                Missing::Absent(why) => self.at(NameStep::Passed(why), self.cursor + 1),
-                Missing::Refused(k) => self.refused(k),
-            },
+            Err(Missing::Absent(why)) => self.at(NameStep::Passed(why), self.cursor + 1),
+            Err(m) => self.missing(m),
         }
     }
 
     // The next slot; with none left the cursor becomes the count.
     #[tactic(auto, using(crate::proofs::ProtocolLists::slot_below), unfolding(crate::specs::ProtocolNames::step_in))]
-    fn step_in(
-        self,
-        files: &[&[u8]],
-        segments: &[u64],
-        sections: &[u64],
-        info: &[u8],
-        rebases: &[u64],
-        binds: &[u64],
-        index: &[u32],
-        list: ProtocolList,
-    ) -> ProtocolNameStepped
-        ensures { let t = under self.setting (lent files segments sections info rebases binds index) in
+    fn step_in(self, tables: &Tables, list: ProtocolList) -> ProtocolNameStepped
+        ensures { let t = under self.setting tables.now in
             name_left result ≡ step_in t self list }
     {
         if has_slot(list, self.cursor) {
             let slot = list.base + 8 * self.cursor;
             let setting = self.setting;
-            let name = name_in(
-                files, segments, sections, info, rebases, binds, index, setting, slot,
-            );
+            let name = name_in(tables, setting, slot);
             return self.named(name);
         }
         self.at(NameStep::Finished, list.count)
@@ -312,29 +213,18 @@ impl ProtocolNameWalk {
 
     // A step over tables that no question refuses, for a caller that has asked: 10, by the count of the list, 0 for one that is missing.
     #[tactic(auto, using(crate::proofs::Steps::list_past, crate::proofs::Steps::list_on, crate::proofs::Steps::missing_past, crate::proofs::Steps::missing_on), unfolding(crate::specs::ProtocolNames::over_names))]
-    pub fn walked_list(
-        self,
-        files: &[&[u8]],
-        segments: &[u64],
-        sections: &[u64],
-        info: &[u8],
-        rebases: &[u64],
-        binds: &[u64],
-        index: &[u32],
-    ) -> ProtocolNameStepped
-        ensures { let t = under self.setting (lent files segments sections info rebases binds index) in
+    pub fn walked_list(self, tables: &Tables) -> ProtocolNameStepped
+        ensures { let t = under self.setting tables.now in
             name_left result ≡ over_names t self (protocol_list_at t self.list) }
     {
         let list = self.list;
         let setting = self.setting;
-        match protocol_list_at(
-            files, segments, sections, info, rebases, binds, index, setting, list,
-        ) {
+        match protocol_list_at(tables, setting, list) {
             Ok(list) => {
                 if list.count < self.cursor {
                     return self.refused(Question::WalkState);
                 }
-                self.step_in(files, segments, sections, info, rebases, binds, index, list)
+                self.step_in(tables, list)
             }
             Err(m) => {
                 if 0 < self.cursor {
@@ -347,21 +237,12 @@ impl ProtocolNameWalk {
 
     // The name in the next slot.
     #[tactic(auto, unfolding(crate::specs::ProtocolNames::next_name_under))]
-    pub fn next(
-        self,
-        files: &[&[u8]],
-        segments: &[u64],
-        sections: &[u64],
-        info: &[u8],
-        rebases: &[u64],
-        binds: &[u64],
-        index: &[u32],
-    ) -> ProtocolNameStepped
-        ensures { let t = lent files segments sections info rebases binds index in
+    pub fn next(self, tables: &Tables) -> ProtocolNameStepped
+        ensures { let t = tables.now in
             name_left result ≡ next_name t self }
     {
-        match ask(files, segments, sections, info, rebases, binds, index) {
-            Ok(()) => self.walked_list(files, segments, sections, info, rebases, binds, index),
+        match ask(tables) {
+            Ok(()) => self.walked_list(tables),
             Err(k) => self.refused(k),
         }
     }

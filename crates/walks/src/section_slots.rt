@@ -1,14 +1,16 @@
 // The steps of the section walks, one slot each, under a setting that the walk hands on. Classes and categories meet each address once,
 // by a ledger that the caller lends; their step over a slot is one, generic over the record. A protocol listed twice comes twice.
 ghost use Rattle.std.specs.Prelude.{◌≡◌, List, ℕ, ◌+◌, ◌^◌, ◌<◌, length};
-ghost use Rattle.pointers.specs.Tables.{Tables, lent, under};
+ghost use Rattle.reads.specs.Answer.{outcome};
+ghost use Rattle.pointers.specs.Tables.{Tables, under};
 ghost use Rattle.walks.specs.Slots.{Room};
-ghost use Rattle.walks.specs.Sections.{Walk, walk, at_start, Left, Kind, classes, categories, take_waiting, next_waiting, take_new, step_of, take_protocol, protocol_step_of, class_slots, category_slots, protocol_slots, given, slot_left, record_taken};
+ghost use Rattle.walks.specs.Sections.{Walk, walk, at_start, Left, Kind, classes, categories, take_waiting, next_waiting, take_new, step_of, take_protocol, protocol_step_of, class_slots, category_slots, protocol_slots, slot_left, record_taken};
 
 use crate::sections::RecordStep;
 use crate::slots::{Lists, SlotStep, SlotWalk, next_slot};
 use pointers::setting::Setting;
-use reads::answer::Missing;
+use pointers::tables::Tables;
+use reads::answer::{Missing, Question};
 use records::category::{ObjcCategory, category_at};
 use records::class::{ObjcClass, class_at};
 use records::protocol::{ObjcProtocol, protocol_at};
@@ -32,17 +34,17 @@ pub struct ProtocolSlots {
     pub slot: u64,
 }
 
-// The step, and where the walk stands then; with a number where it stood.
+// The step, or the question that refuses it, and where the walk stands then; with a question where it stood.
 #[derive(Clone, Copy)]
 pub struct RecordTaken<R, S> {
-    pub step: RecordStep<R>,
+    pub step: Result<RecordStep<R>, Question>,
     pub slots: S,
 }
 
 // The same of a slot: where the slots stand then, and the address that waits (0: none).
 #[derive(Clone, Copy)]
 pub(crate) struct SlotTaken<R> {
-    pub(crate) step: RecordStep<R>,
+    pub(crate) step: Result<RecordStep<R>, Question>,
     pub(crate) slots: SlotWalk,
     pub(crate) waiting: u64,
 }
@@ -62,17 +64,11 @@ pub trait RecordSlots: Copy {
     // One step, with the ledger of the addresses met before.
     fn next(
         self,
-        files: &[&[u8]],
-        segments: &[u64],
-        sections: &[u64],
-        info: &[u8],
-        rebases: &[u64],
-        binds: &[u64],
-        index: &[u32],
+        tables: &Tables,
         setting: Setting,
         ledger: &mut [u64],
     ) -> RecordTaken<Self::Record, Self>
-        ensures { let t = under setting (lent files segments sections info rebases binds index) in
+        ensures { let t = under setting tables.now in
             record_taken state result ledger.new ≡ step t (state self) ledger.old };
 }
 
@@ -85,19 +81,9 @@ pub(crate) trait Listed: Copy {
         ensures { result ≡ kind.lists };
 
     // The record at an address.
-    fn at(
-        files: &[&[u8]],
-        segments: &[u64],
-        sections: &[u64],
-        info: &[u8],
-        rebases: &[u64],
-        binds: &[u64],
-        index: &[u32],
-        setting: Setting,
-        va: u64,
-    ) -> Result<Self, Missing>
-        ensures { let t = under setting (lent files segments sections info rebases binds index) in
-            given result ≡ kind.decoded t va };
+    fn at(tables: &Tables, setting: Setting, va: u64) -> Result<Self, Missing>
+        ensures { let t = under setting tables.now in
+            outcome result ≡ kind.decoded t va };
 
     // The address that waits after it, 0 for none.
     fn after(self) -> u64
@@ -111,23 +97,8 @@ impl Listed for ObjcClass {
         Lists::Classes
     }
 
-    fn at(
-        files: &[&[u8]],
-        segments: &[u64],
-        sections: &[u64],
-        info: &[u8],
-        rebases: &[u64],
-        binds: &[u64],
-        index: &[u32],
-        setting: Setting,
-        va: u64,
-    ) -> Result<ObjcClass, Missing> {
-        match class_at(
-            files, segments, sections, info, rebases, binds, index, setting, va, false,
-        ) {
-            Ok(class) => Ok(class),
-            Err(m) => Err(m),
-        }
+    fn at(tables: &Tables, setting: Setting, va: u64) -> Result<ObjcClass, Missing> {
+        class_at(tables, setting, va, false)
     }
 
     // The address of the metaclass, 0 where isa is the class itself.
@@ -146,23 +117,8 @@ impl Listed for ObjcCategory {
         Lists::Categories
     }
 
-    fn at(
-        files: &[&[u8]],
-        segments: &[u64],
-        sections: &[u64],
-        info: &[u8],
-        rebases: &[u64],
-        binds: &[u64],
-        index: &[u32],
-        setting: Setting,
-        va: u64,
-    ) -> Result<ObjcCategory, Missing> {
-        match category_at(
-            files, segments, sections, info, rebases, binds, index, setting, va,
-        ) {
-            Ok(category) => Ok(category),
-            Err(m) => Err(m),
-        }
+    fn at(tables: &Tables, setting: Setting, va: u64) -> Result<ObjcCategory, Missing> {
+        category_at(tables, setting, va)
     }
 
     // Nothing waits.
@@ -176,36 +132,28 @@ impl SlotWalk {
     #[tactic(auto, unfolding(crate::specs::Sections::take_new))]
     fn take_new<R: Listed>(
         self,
-        files: &[&[u8]],
-        segments: &[u64],
-        sections: &[u64],
-        info: &[u8],
-        rebases: &[u64],
-        binds: &[u64],
-        index: &[u32],
+        tables: &Tables,
         setting: Setting,
         va: u64,
         ledger: &mut [u64],
     ) -> SlotTaken<R>
         requires { Room self (length ledger.old) }
-        ensures { let t = under setting (lent files segments sections info rebases binds index) in
+        ensures { let t = under setting tables.now in
             slot_left result ledger.new ≡ take_new R.kind t (walk self.slot self.used self.highest 0) ledger.old va }
     {
-        match R::at(
-            files, segments, sections, info, rebases, binds, index, setting, va,
-        ) {
+        match R::at(tables, setting, va) {
             Ok(record) => SlotTaken {
-                step: RecordStep::Record(record),
+                step: Ok(RecordStep::Record(record)),
                 slots: self.note(va, ledger),
                 waiting: record.after(),
             },
             Err(Missing::Absent(why)) => SlotTaken {
-                step: RecordStep::Passed(why),
+                step: Ok(RecordStep::Passed(why)),
                 slots: self.note(va, ledger),
                 waiting: 0,
             },
             Err(Missing::Refused(k)) => SlotTaken {
-                step: RecordStep::Refused(k),
+                step: Err(k),
                 slots: self,
                 waiting: 0,
             },
@@ -216,38 +164,28 @@ impl SlotWalk {
     #[tactic(auto, using(crate::proofs::SectionLaws::step_slot, crate::proofs::SlotLaws::new_room))]
     fn take_slot<R: Listed>(
         self,
-        files: &[&[u8]],
-        segments: &[u64],
-        sections: &[u64],
-        info: &[u8],
-        rebases: &[u64],
-        binds: &[u64],
-        index: &[u32],
+        tables: &Tables,
         setting: Setting,
         ledger: &mut [u64],
     ) -> SlotTaken<R>
-        ensures { let t = under setting (lent files segments sections info rebases binds index) in
+        ensures { let t = under setting tables.now in
             slot_left result ledger.new ≡ step_of R.kind t (walk self.slot self.used self.highest 0) ledger.old }
     {
         let lists = R::lists();
-        match self.next_new(
-            files, segments, sections, info, rebases, binds, index, setting, lists, ledger,
-        ) {
-            SlotStep::Address(va) => self.take_new(
-                files, segments, sections, info, rebases, binds, index, setting, va, ledger,
-            ),
-            SlotStep::Dropped => SlotTaken {
-                step: RecordStep::Dropped,
+        match self.next_new(tables, setting, lists, ledger) {
+            Ok(SlotStep::Address(va)) => self.take_new(tables, setting, va, ledger),
+            Ok(SlotStep::Dropped) => SlotTaken {
+                step: Ok(RecordStep::Dropped),
                 slots: self.past(),
                 waiting: 0,
             },
-            SlotStep::Finished => SlotTaken {
-                step: RecordStep::Finished,
+            Ok(SlotStep::Finished) => SlotTaken {
+                step: Ok(RecordStep::Finished),
                 slots: self,
                 waiting: 0,
             },
-            SlotStep::Refused(k) => SlotTaken {
-                step: RecordStep::Refused(k),
+            Err(k) => SlotTaken {
+                step: Err(k),
                 slots: self,
                 waiting: 0,
             },
@@ -258,34 +196,22 @@ impl SlotWalk {
 impl ClassSlots {
     // Takes the metaclass that waits.
     #[tactic(auto, unfolding(crate::specs::Sections::take_waiting))]
-    fn take_meta(
-        self,
-        files: &[&[u8]],
-        segments: &[u64],
-        sections: &[u64],
-        info: &[u8],
-        rebases: &[u64],
-        binds: &[u64],
-        index: &[u32],
-        setting: Setting,
-    ) -> RecordTaken<ObjcClass, ClassSlots>
-        ensures { let t = under setting (lent files segments sections info rebases binds index) in
+    fn take_meta(self, tables: &Tables, setting: Setting) -> RecordTaken<ObjcClass, ClassSlots>
+        ensures { let t = under setting tables.now in
             ((l : List ℕ) → record_taken class_slots result l ≡ take_waiting classes t (class_slots self) l) }
     {
         let slots = self.slots;
-        match class_at(
-            files, segments, sections, info, rebases, binds, index, setting, self.meta, true,
-        ) {
+        match class_at(tables, setting, self.meta, true) {
             Ok(class) => RecordTaken {
-                step: RecordStep::Record(class),
+                step: Ok(RecordStep::Record(class)),
                 slots: ClassSlots { slots, meta: 0 },
             },
             Err(Missing::Absent(why)) => RecordTaken {
-                step: RecordStep::Passed(why),
+                step: Ok(RecordStep::Passed(why)),
                 slots: ClassSlots { slots, meta: 0 },
             },
             Err(Missing::Refused(k)) => RecordTaken {
-                step: RecordStep::Refused(k),
+                step: Err(k),
                 slots: self,
             },
         }
@@ -295,28 +221,18 @@ impl ClassSlots {
     #[tactic(auto, using(crate::proofs::SectionLaws::waiting_on, crate::proofs::SectionLaws::waiting_no))]
     fn next_meta(
         self,
-        files: &[&[u8]],
-        segments: &[u64],
-        sections: &[u64],
-        info: &[u8],
-        rebases: &[u64],
-        binds: &[u64],
-        index: &[u32],
+        tables: &Tables,
         setting: Setting,
         len: usize,
     ) -> RecordTaken<ObjcClass, ClassSlots>
-        ensures { let t = under setting (lent files segments sections info rebases binds index) in
+        ensures { let t = under setting tables.now in
             ((l : List ℕ) → length l ≡ len → record_taken class_slots result l ≡ next_waiting classes t (class_slots self) l) }
     {
         let lists = Lists::Classes;
-        match self.slots.ask_ledger(
-            files, segments, sections, info, rebases, binds, index, setting, lists, len,
-        ) {
-            Ok(()) => self.take_meta(
-                files, segments, sections, info, rebases, binds, index, setting,
-            ),
+        match self.slots.ask_ledger(tables, setting, lists, len) {
+            Ok(()) => self.take_meta(tables, setting),
             Err(k) => RecordTaken {
-                step: RecordStep::Refused(k),
+                step: Err(k),
                 slots: self,
             },
         }
@@ -340,25 +256,15 @@ impl RecordSlots for ClassSlots {
     // The waiting metaclass, or else the next slot.
     fn next(
         self,
-        files: &[&[u8]],
-        segments: &[u64],
-        sections: &[u64],
-        info: &[u8],
-        rebases: &[u64],
-        binds: &[u64],
-        index: &[u32],
+        tables: &Tables,
         setting: Setting,
         ledger: &mut [u64],
     ) -> RecordTaken<ObjcClass, ClassSlots> {
         if self.meta != 0 {
             let len = ledger.len();
-            return self.next_meta(
-                files, segments, sections, info, rebases, binds, index, setting, len,
-            );
+            return self.next_meta(tables, setting, len);
         }
-        let taken = self.slots.take_slot(
-            files, segments, sections, info, rebases, binds, index, setting, ledger,
-        );
+        let taken = self.slots.take_slot(tables, setting, ledger);
         RecordTaken {
             step: taken.step,
             slots: ClassSlots {
@@ -385,19 +291,11 @@ impl RecordSlots for CategorySlots {
     // The next slot.
     fn next(
         self,
-        files: &[&[u8]],
-        segments: &[u64],
-        sections: &[u64],
-        info: &[u8],
-        rebases: &[u64],
-        binds: &[u64],
-        index: &[u32],
+        tables: &Tables,
         setting: Setting,
         ledger: &mut [u64],
     ) -> RecordTaken<ObjcCategory, CategorySlots> {
-        let taken = self.slots.take_slot(
-            files, segments, sections, info, rebases, binds, index, setting, ledger,
-        );
+        let taken = self.slots.take_slot(tables, setting, ledger);
         RecordTaken {
             step: taken.step,
             slots: CategorySlots { slots: taken.slots },
@@ -420,34 +318,26 @@ impl ProtocolSlots {
     #[tactic(auto, unfolding(crate::specs::Sections::take_protocol))]
     fn take(
         self,
-        files: &[&[u8]],
-        segments: &[u64],
-        sections: &[u64],
-        info: &[u8],
-        rebases: &[u64],
-        binds: &[u64],
-        index: &[u32],
+        tables: &Tables,
         setting: Setting,
         va: u64,
     ) -> RecordTaken<ObjcProtocol, ProtocolSlots>
         requires { self.slot + 1 < 2 ^ 64 }
-        ensures { let t = under setting (lent files segments sections info rebases binds index) in
+        ensures { let t = under setting tables.now in
             ((l : List ℕ) → record_taken protocol_slots result l ≡ take_protocol t (protocol_slots self) l va) }
     {
         let slots = self.past();
-        match protocol_at(
-            files, segments, sections, info, rebases, binds, index, setting, va,
-        ) {
+        match protocol_at(tables, setting, va) {
             Ok(protocol) => RecordTaken {
-                step: RecordStep::Record(protocol),
+                step: Ok(RecordStep::Record(protocol)),
                 slots,
             },
             Err(Missing::Absent(why)) => RecordTaken {
-                step: RecordStep::Passed(why),
+                step: Ok(RecordStep::Passed(why)),
                 slots,
             },
             Err(Missing::Refused(k)) => RecordTaken {
-                step: RecordStep::Refused(k),
+                step: Err(k),
                 slots: self,
             },
         }
@@ -468,34 +358,24 @@ impl RecordSlots for ProtocolSlots {
     // The next slot; the ledger stays as it is.
     fn next(
         self,
-        files: &[&[u8]],
-        segments: &[u64],
-        sections: &[u64],
-        info: &[u8],
-        rebases: &[u64],
-        binds: &[u64],
-        index: &[u32],
+        tables: &Tables,
         setting: Setting,
         _ledger: &mut [u64],
     ) -> RecordTaken<ObjcProtocol, ProtocolSlots> {
         let lists = Lists::Protocols;
         let slot = self.slot;
-        match next_slot(
-            files, segments, sections, info, rebases, binds, index, setting, lists, slot,
-        ) {
-            SlotStep::Address(va) => self.take(
-                files, segments, sections, info, rebases, binds, index, setting, va,
-            ),
-            SlotStep::Dropped => RecordTaken {
-                step: RecordStep::Dropped,
+        match next_slot(tables, setting, lists, slot) {
+            Ok(SlotStep::Address(va)) => self.take(tables, setting, va),
+            Ok(SlotStep::Dropped) => RecordTaken {
+                step: Ok(RecordStep::Dropped),
                 slots: self.past(),
             },
-            SlotStep::Finished => RecordTaken {
-                step: RecordStep::Finished,
+            Ok(SlotStep::Finished) => RecordTaken {
+                step: Ok(RecordStep::Finished),
                 slots: self,
             },
-            SlotStep::Refused(k) => RecordTaken {
-                step: RecordStep::Refused(k),
+            Err(k) => RecordTaken {
+                step: Err(k),
                 slots: self,
             },
         }

@@ -1,10 +1,11 @@
 // Walks over the section lists, one slot a step. A walk says under which reading it began, and each step takes it from there.
 ghost use Rattle.std.specs.Prelude.{◌≡◌, []};
-ghost use Rattle.pointers.specs.Tables.{lent, under, reading_new, reading_under};
+ghost use Rattle.pointers.specs.Tables.{under, reading_new, reading_under};
 ghost use Rattle.walks.specs.Sections.{at_start, class_walk, protocol_slots, protocol_step_of, protocol_walk, record_left};
 
 use crate::section_slots::{CategorySlots, ClassSlots, ProtocolSlots, RecordSlots};
 use pointers::setting::Setting;
+use pointers::tables::Tables;
 use reads::answer::{Question, Reason};
 use reads::text::Reading;
 use records::protocol::ObjcProtocol;
@@ -23,20 +24,19 @@ pub type CategoryWalk = RecordWalk<CategorySlots>;
 pub type ProtocolWalk = RecordWalk<ProtocolSlots>;
 
 // A step gives a record, or the reason for which it is absent; a slot of 0 or an address met before is dropped, which is no absence; or there was
-// nothing left; or the number of the question that refuses.
+// nothing left.
 #[derive(Clone, Copy)]
 pub enum RecordStep<R> {
     Record(R),
     Passed(Reason),
     Dropped,
     Finished,
-    Refused(Question),
 }
 
-// The step with the walk as it is then; with a number it is as given.
+// The step, or the question that refuses it, with the walk as it is then; with a question it is as given.
 #[derive(Clone, Copy)]
 pub struct RecordStepped<R, S> {
-    pub step: RecordStep<R>,
+    pub step: Result<RecordStep<R>, Question>,
     pub walk: RecordWalk<S>,
 }
 
@@ -66,24 +66,12 @@ impl<S: RecordSlots> RecordWalk<S> {
     }
 
     // One step, under the setting that the walk began with. The walk over protocols looks at no ledger.
-    pub fn next(
-        self,
-        files: &[&[u8]],
-        segments: &[u64],
-        sections: &[u64],
-        info: &[u8],
-        rebases: &[u64],
-        binds: &[u64],
-        index: &[u32],
-        ledger: &mut [u64],
-    ) -> RecordStepped<S::Record, S>
-        ensures { let t = under self.setting (lent files segments sections info rebases binds index) in
+    pub fn next(self, tables: &Tables, ledger: &mut [u64]) -> RecordStepped<S::Record, S>
+        ensures { let t = under self.setting tables.now in
             (record_left S.state result ledger.new ≡ S.step t (S.state self.slots) ledger.old) × (result.walk.setting ≡ self.setting) }
     {
         let setting = self.setting;
-        let taken = self.slots.next(
-            files, segments, sections, info, rebases, binds, index, setting, ledger,
-        );
+        let taken = self.slots.next(tables, setting, ledger);
         RecordStepped {
             step: taken.step,
             walk: RecordWalk {
@@ -105,28 +93,10 @@ impl RecordWalk<ClassSlots> {
 
 impl RecordWalk<ProtocolSlots> {
     // One step over the protocol list, where no ledger is lent.
-    pub fn next_protocol(
-        self,
-        files: &[&[u8]],
-        segments: &[u64],
-        sections: &[u64],
-        info: &[u8],
-        rebases: &[u64],
-        binds: &[u64],
-        index: &[u32],
-    ) -> RecordStepped<ObjcProtocol, ProtocolSlots>
-        ensures { let t = under self.setting (lent files segments sections info rebases binds index) in
+    pub fn next_protocol(self, tables: &Tables) -> RecordStepped<ObjcProtocol, ProtocolSlots>
+        ensures { let t = under self.setting tables.now in
             (record_left protocol_slots result [] ≡ protocol_step_of t (protocol_walk self) []) × (result.walk.setting ≡ self.setting) }
     {
-        self.next(
-            files,
-            segments,
-            sections,
-            info,
-            rebases,
-            binds,
-            index,
-            &mut [],
-        )
+        self.next(tables, &mut [])
     }
 }

@@ -1,14 +1,15 @@
 // The slots of the section lists, taken one by one: what the section walks share.
-ghost use Rattle.std.specs.Prelude.{◌≡◌, ◌++◌, ◌+◌, ◌^◌, ◌≤◌, ◌<◌, max, length, get_or, take, set};
+ghost use Rattle.std.specs.Prelude.{◌≡◌, ◌++◌, ◌+◌, ◌^◌, ◌≤◌, ◌<◌, max, length, get_or, set};
 ghost use Rattle.reads.specs.Reference.{before};
-ghost use Rattle.pointers.specs.Tables.{lent, under};
-ghost use Rattle.walks.specs.Slots.{section_slots, slots_of, address_in, among, slot_fits, ledger_fits, asked_ledger, slot_taken, met_below, first_met, next_slot, next_new, slot_outcome, slot_walk, Room};
+ghost use Rattle.pointers.specs.Tables.{under};
+ghost use Rattle.walks.specs.Slots.{section_slots, slots_of, address_in, among, slot_fits, ledger_fits, asked_ledger, slot_taken, met_below, first_met, next_slot, next_new, slot_step, slot_outcome, slot_walk, Room};
 ghost use Rattle.reads.specs.Answer.{outcome, answered};
 
 use pointers::question::ask;
 use pointers::section::ObjcSection;
 use pointers::setting::Setting;
 use pointers::slot::slot_or_0;
+use pointers::tables::Tables;
 use reads::answer::{Missing, Question, nonzero};
 use reads::relative::slot_address;
 
@@ -20,13 +21,12 @@ pub enum Lists {
     Protocols,
 }
 
-// What the next slot comes to: the address in it; it is dropped; no slot is left; or the number of the question that refuses.
+// What the next slot comes to: the address in it; it is dropped; or no slot is left.
 #[derive(Clone, Copy)]
 pub(crate) enum SlotStep {
     Address(u64),
     Dropped,
     Finished,
-    Refused(Question),
 }
 
 // Where a walk that meets each address once stands: the next slot, the words of the ledger in use, and the highest of them.
@@ -63,7 +63,7 @@ fn pair_slot(sections: &[u64], first: usize, second: usize, k: u64) -> u64
 
 // How many slots the lists have.
 #[tactic(auto, using(crate::proofs::SlotLaws::section_length))]
-fn slot_count(sections: &[u64], lists: Lists) -> u64
+pub fn slot_count(sections: &[u64], lists: Lists) -> u64
     ensures { result ≡ length (slots_of lists (before sections)) }
 {
     match lists {
@@ -73,12 +73,14 @@ fn slot_count(sections: &[u64], lists: Lists) -> u64
     }
 }
 
-// The address of slot k of them.
+// The address of slot k of them, 0 where there is none.
 #[tactic(auto, using(crate::proofs::SlotLaws::section_length, crate::proofs::SlotLaws::section_at_lem))]
-fn slot_at(sections: &[u64], lists: Lists, k: u64) -> u64
-    requires { k < length (slots_of lists sections.now) }
+pub fn slot_at(sections: &[u64], lists: Lists, k: u64) -> u64
     ensures { result ≡ get_or (slots_of lists (before sections)) k 0 }
 {
+    if slot_count(sections, lists) <= k {
+        return 0;
+    }
     match lists {
         Lists::Classes => pair_slot(sections, ObjcSection::CLASS_LIST, ObjcSection::NLCLSLIST, k),
         Lists::Categories => pair_slot(sections, ObjcSection::CAT_LIST, ObjcSection::NLCAT_LIST, k),
@@ -91,24 +93,12 @@ fn slot_at(sections: &[u64], lists: Lists, k: u64) -> u64
 
 // The address in a slot, absent if it is 0.
 #[tactic(auto, unfolding(crate::specs::Slots::decode_address))]
-fn address_in(
-    files: &[&[u8]],
-    segments: &[u64],
-    sections: &[u64],
-    info: &[u8],
-    rebases: &[u64],
-    binds: &[u64],
-    index: &[u32],
-    setting: Setting,
-    slot: u64,
-) -> Result<u64, Missing>
-    ensures { let t = under setting (lent files segments sections info rebases binds index) in
+fn address_in(tables: &Tables, setting: Setting, slot: u64) -> Result<u64, Missing>
+    ensures { let t = under setting tables.now in
         outcome result ≡ address_in t slot }
 {
-    match slot_or_0(files, segments, rebases, index, setting, slot) {
-        Ok(va) => nonzero(va),
-        Err(m) => Err(m),
-    }
+    let va = slot_or_0(tables, setting, slot)?;
+    nonzero(va)
 }
 
 // Is the address among the words? All of them are looked at, so that the loop can take several at a time.
@@ -140,7 +130,7 @@ fn met_below(words: &[u64], highest: u64, va: u64) -> bool
 // An address met before is dropped.
 #[tactic(auto, using(reads::proofs::Tests::choose_true, reads::proofs::Tests::choose_false))]
 fn first_met(step: SlotStep, words: &[u64], highest: u64) -> SlotStep
-    ensures { slot_outcome result ≡ first_met (met_below highest (before words)) (slot_outcome step) }
+    ensures { slot_step result ≡ first_met (met_below highest (before words)) (slot_step step) }
 {
     match step {
         SlotStep::Address(va) if met_below(words, highest, va) => SlotStep::Dropped,
@@ -169,65 +159,41 @@ fn ledger_fits(sections: &[u64], lists: Lists, words: usize) -> bool
 
 // Takes slot k, or there is none.
 #[tactic(auto, using(crate::proofs::SlotLaws::taken_none, crate::proofs::SlotLaws::taken_by_lem))]
-fn take_slot(
-    files: &[&[u8]],
-    segments: &[u64],
-    sections: &[u64],
-    info: &[u8],
-    rebases: &[u64],
-    binds: &[u64],
-    index: &[u32],
-    setting: Setting,
-    lists: Lists,
-    k: u64,
-) -> SlotStep
-    requires { k ≤ length (slots_of lists sections.now) }
-    ensures { let t = under setting (lent files segments sections info rebases binds index) in
-        slot_outcome result ≡ slot_taken t (slots_of lists (before sections)) k }
+fn take_slot(tables: &Tables, setting: Setting, lists: Lists, k: u64) -> Result<SlotStep, Question>
+    requires { k ≤ length (slots_of lists tables.now.sections) }
+    ensures { let t = under setting tables.now in
+        slot_outcome result ≡ slot_taken t (slots_of lists tables.now.sections) k }
 {
+    let sections = tables.sections();
     if k == slot_count(sections, lists) {
-        return SlotStep::Finished;
+        return Ok(SlotStep::Finished);
     }
     let at = slot_at(sections, lists, k);
-    match address_in(
-        files, segments, sections, info, rebases, binds, index, setting, at,
-    ) {
-        Ok(va) => SlotStep::Address(va),
-        Err(m) => match m {
-            Missing::Absent(_) => SlotStep::Dropped,
-            Missing::Refused(k) => SlotStep::Refused(k),
-        },
+    match address_in(tables, setting, at) {
+        Ok(va) => Ok(SlotStep::Address(va)),
+        Err(Missing::Absent(_)) => Ok(SlotStep::Dropped),
+        Err(Missing::Refused(k)) => Err(k),
     }
 }
 
 // The next slot of a walk that takes an address as often as it is listed.
-#[tactic(auto, using(crate::proofs::SlotLaws::slot_within, crate::proofs::SlotLaws::next_on, crate::proofs::SlotLaws::next_10, crate::proofs::SlotLaws::next_no))]
+#[tactic(auto, using(crate::proofs::SlotLaws::slots_few, crate::proofs::SlotLaws::slot_within, crate::proofs::SlotLaws::next_on, crate::proofs::SlotLaws::next_10, crate::proofs::SlotLaws::next_no))]
 pub(crate) fn next_slot(
-    files: &[&[u8]],
-    segments: &[u64],
-    sections: &[u64],
-    info: &[u8],
-    rebases: &[u64],
-    binds: &[u64],
-    index: &[u32],
+    tables: &Tables,
     setting: Setting,
     lists: Lists,
     slot: u64,
-) -> SlotStep
-    ensures { let t = under setting (lent files segments sections info rebases binds index) in
-        slot_outcome result ≡ next_slot t (slots_of lists (before sections)) slot }
+) -> Result<SlotStep, Question>
+    ensures step { let t = under setting tables.now in
+        slot_outcome result ≡ next_slot t (slots_of lists tables.now.sections) slot }
+    ensures few { length (slots_of lists tables.now.sections) < 2 ^ 62 }
 {
-    match ask(files, segments, sections, info, rebases, binds, index) {
-        Ok(()) => {
-            if !slot_fits(sections, lists, slot, 0) {
-                return SlotStep::Refused(Question::WalkState);
-            }
-            take_slot(
-                files, segments, sections, info, rebases, binds, index, setting, lists, slot,
-            )
-        }
-        Err(k) => SlotStep::Refused(k),
+    let sections = tables.sections();
+    ask(tables)?;
+    if !slot_fits(sections, lists, slot, 0) {
+        return Err(Question::WalkState);
     }
+    take_slot(tables, setting, lists, slot)
 }
 
 impl SlotWalk {
@@ -243,76 +209,45 @@ impl SlotWalk {
     }
 
     // 1 to 6 and 8, then 10 and 11, with a ledger of so many words.
-    #[tactic(auto, using(crate::proofs::SlotLaws::ask_10, crate::proofs::SlotLaws::ask_11, crate::proofs::SlotLaws::ask_yes, crate::proofs::SlotLaws::ask_no))]
+    #[tactic(auto, using(crate::proofs::SlotLaws::slots_few, crate::proofs::SlotLaws::ask_10, crate::proofs::SlotLaws::ask_11, crate::proofs::SlotLaws::ask_yes, crate::proofs::SlotLaws::ask_no))]
     pub(crate) fn ask_ledger(
         self,
-        files: &[&[u8]],
-        segments: &[u64],
-        sections: &[u64],
-        info: &[u8],
-        rebases: &[u64],
-        binds: &[u64],
-        index: &[u32],
+        tables: &Tables,
         setting: Setting,
         lists: Lists,
         words: usize,
     ) -> Result<(), Question>
-        ensures { let t = under setting (lent files segments sections info rebases binds index) in
-            answered result ≡ asked_ledger t (slots_of lists (before sections)) self.slot self.used words }
+        ensures asked { let t = under setting tables.now in
+            answered result ≡ asked_ledger t (slots_of lists tables.now.sections) self.slot self.used words }
+        ensures few { length (slots_of lists tables.now.sections) < 2 ^ 62 }
     {
-        match ask(files, segments, sections, info, rebases, binds, index) {
-            Ok(()) => {
-                if !slot_fits(sections, lists, self.slot, self.used) {
-                    return Err(Question::WalkState);
-                }
-                if !ledger_fits(sections, lists, words) {
-                    return Err(Question::LedgerLength);
-                }
-                Ok(())
-            }
-            Err(k) => Err(k),
+        let sections = tables.sections();
+        ask(tables)?;
+        if !slot_fits(sections, lists, self.slot, self.used) {
+            return Err(Question::WalkState);
         }
+        if !ledger_fits(sections, lists, words) {
+            return Err(Question::LedgerLength);
+        }
+        Ok(())
     }
 
     // The next slot, with the words of the ledger in use as the addresses met before.
     #[tactic(auto, using(crate::proofs::SlotLaws::ledger_room, crate::proofs::SlotLaws::new_on, crate::proofs::SlotLaws::new_no))]
     pub(crate) fn next_new(
         self,
-        files: &[&[u8]],
-        segments: &[u64],
-        sections: &[u64],
-        info: &[u8],
-        rebases: &[u64],
-        binds: &[u64],
-        index: &[u32],
+        tables: &Tables,
         setting: Setting,
         lists: Lists,
         ledger: &[u64],
-    ) -> SlotStep
-        ensures { let t = under setting (lent files segments sections info rebases binds index) in
-            slot_outcome result ≡ next_new t (slots_of lists (before sections)) self.slot self.used self.highest (before ledger) }
+    ) -> Result<SlotStep, Question>
+        ensures step { let t = under setting tables.now in
+            slot_outcome result ≡ next_new t (slots_of lists tables.now.sections) self.slot self.used self.highest (before ledger) }
+        ensures few { length (slots_of lists tables.now.sections) < 2 ^ 62 }
     {
-        match self.ask_ledger(
-            files,
-            segments,
-            sections,
-            info,
-            rebases,
-            binds,
-            index,
-            setting,
-            lists,
-            ledger.len(),
-        ) {
-            Ok(()) => {
-                let step = take_slot(
-                    files, segments, sections, info, rebases, binds, index, setting, lists,
-                    self.slot,
-                );
-                first_met(step, &ledger[..self.used as usize], self.highest)
-            }
-            Err(k) => SlotStep::Refused(k),
-        }
+        self.ask_ledger(tables, setting, lists, ledger.len())?;
+        let step = take_slot(tables, setting, lists, self.slot)?;
+        Ok(first_met(step, &ledger[..self.used as usize], self.highest))
     }
 
     // Past a slot that was dropped.

@@ -2,10 +2,9 @@ use mathlib.Core.Path.{◌≡◌, refl, sym, ap, ◌∙◌}
 use mathlib.Core.Bool.{false}
 use Rattle.reads.proofs.Outcomes.{on_value}
 use Rattle.reads.specs.Outcome.{value}
-use Rattle.pointers.specs.Tables.{Tables}
+use Rattle.pointers.specs.Tables.{Tables, under}
 use Rattle.records.specs.Class.{class_at}
 use Rattle.ancestry.specs.Ancestry.{ancestry_of}
-use Rattle.ancestry.specs.Filling.{lent_now}
 use Rattle.ancestry.proofs.Known.{class_of}
 use Rattle.ancestry.proofs.Loops.{at_address}
 use Rattle.ancestry.proofs.class_chain.ancestry_at.Goals as goal
@@ -13,18 +12,16 @@ use Rattle.reads.specs.Answer.{outcome}
 
 pub climb_from-requires : goal.climb_from-requires
 climb_from-requires c =
-    let tables : Tables = lent_now c.args.files.now c.args.segments.now c.args.sections.now c.args.info.now c.args.rebases.now c.args.binds.now c.args.index.now c.args.setting in
     let a = c.args in
-    let t = tables in
+    let t : Tables = under c.args.setting c.args.tables.now in
     let s : class_at t a.va false ≡ value c.in_ok-class.class = sym c.class_at.ensures ∙ ap outcome c.in_ok-class.was in
     (c.requires, at_address t a.va false c.in_ok-class.class refl s)
 
 pub returns : goal.returns
 unfolding ancestry_of
 returns c =
-    let tables : Tables = lent_now c.args.files.now c.args.segments.now c.args.sections.now c.args.info.now c.args.rebases.now c.args.binds.now c.args.index.now c.args.setting in
     let a = c.args in
-    let t = tables in
+    let t : Tables = under c.args.setting c.args.tables.now in
     let s : class_at t a.va false ≡ value c.in_ok-class.class = sym c.class_at.ensures ∙ ap outcome c.in_ok-class.was in
     let at = (class_of t a.va false c.in_ok-class.class s).address in
     on_value outcome _ c.class_at.ensures c.in_ok-class.was refl (rw at at c.climb_from.ensures)

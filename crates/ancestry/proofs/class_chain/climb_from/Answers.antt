@@ -1,13 +1,13 @@
+use Rattle.pointers.specs.Tables.{under}
 use mathlib.Core.Path.{sym, ap, ◌∙◌}
 use native.Mathlib.Omega.{arith}
-use Rattle.ancestry.specs.Filling.{lent_now}
 use Rattle.ancestry.proofs.Climbs.{climbing_starts, climbing_up, climbing_held, climbing_back, climbing_far, climbing_stopped, limit_room, limit_small}
 use Rattle.ancestry.proofs.class_chain.climb_from.Goals.{then-count-hold, else-count-hold}
 use Rattle.ancestry.proofs.class_chain.climb_from.Goals as goal
 use Rattle.reads.specs.Answer.{outcome}
 
 pub limit_of-most-requires : goal.limit_of-most-requires
-limit_of-most-requires c = let a = c.args in limit_room (lent_now a.files.now a.segments.now a.sections.now a.info.now a.rebases.now a.binds.now a.index.now a.setting) c.requires.0
+limit_of-most-requires c = let a = c.args in limit_room (under a.setting a.tables.now) c.requires.0
 
 pub loop-count-init : goal.loop-count-init
 loop-count-init c = climbing_starts _ _ c.requires.1
@@ -22,7 +22,7 @@ returns-then-up-held c =
     climbing_back _ _ _ _ _ c.loop-count.invariant _ (sym c.superclass_at.ensures ∙ ap outcome c.in-Ok.is) c.if-up-held.true
 
 pub overflow_mul-hold : goal.overflow_mul-hold
-overflow_mul-hold c = let a = c.args in omega (arith, limit_small (lent_now a.files.now a.segments.now a.sections.now a.info.now a.rebases.now a.binds.now a.index.now a.setting) c.requires.0, c.limit_of-most.ensures)
+overflow_mul-hold c = let a = c.args in omega (arith, limit_small (under a.setting a.tables.now) c.requires.0, c.limit_of-most.ensures)
 
 pub loop-count-preserved : goal.loop-count-preserved
 loop-count-preserved c =

@@ -1,6 +1,6 @@
-use Rattle.ancestry.specs.Filling.{lent_now}
+use Rattle.pointers.specs.Tables.{under}
 use Rattle.ancestry.proofs.Climbs.{Climbing}
 use Rattle.ancestry.proofs.class_chain.climb_from.Given as goal
 
 abbrev pub invariant-loop-count : goal.invariant-loop-count
-invariant-loop-count l = Climbing (lent_now l.files l.segments l.sections l.info l.rebases l.binds l.index l.setting) l.initial.at.address l.at l.count l.held
+invariant-loop-count l = Climbing (under l.setting l.tables) l.initial.at.address l.at l.count l.held

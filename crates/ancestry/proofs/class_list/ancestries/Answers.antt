@@ -1,13 +1,10 @@
 use mathlib.Core.Path.{sym}
 use Rattle.std.proofs.lemmas.Result.{err_from_is_err_and}
-use Rattle.pointers.specs.Tables.{Tables}
-use Rattle.ancestry.specs.Filling.{lent_now}
 use Rattle.ancestry.proofs.Answers.{left_refused}
 use Rattle.ancestry.proofs.class_list.ancestries.Goals as goal
 
 pub returns-in_err-ask : goal.returns-in_err-ask
 returns-in_err-ask c =
-    let tables : Tables = lent_now c.args.files.now c.args.segments.now c.args.sections.now c.args.info.now c.args.rebases.now c.args.binds.now c.args.index.now c.args.setting in
     let a = c.args in
     let p = err_from_is_err_and c.from_residual.result c.from_residual.ensures.1 in
-    rw (p.1, p.2) (left_refused tables a.classes.now a.res.now _ (sym c.in_err-ask.ensures))
+    rw (p.1, p.2) (left_refused _ a.classes.now a.res.now _ (sym c.in_err-ask.ensures))

@@ -1,8 +1,9 @@
+use Rattle.pointers.specs.Tables.{under}
 use Prim.Native.Nat.{◌≤◌}
 use mathlib.Core.Path.{◌≡◌}
 use lib.ListN.{drop}
-use Rattle.ancestry.specs.Filling.{lent_now, told_of, tally}
+use Rattle.ancestry.specs.Filling.{told_of, tally}
 use Rattle.ancestry.proofs.class_list.count_all.Given as goal
 
 abbrev pub invariant-loop-va : goal.invariant-loop-va
-invariant-loop-va l = (l.count ≤ l.va-index) × (tally (told_of (lent_now l.files l.segments l.sections l.info l.rebases l.binds l.index l.setting) l.together) l.count (drop l.va-index l.classes) ≡ tally (told_of (lent_now l.files l.segments l.sections l.info l.rebases l.binds l.index l.setting) l.together) 0 l.classes)
+invariant-loop-va l = (l.count ≤ l.va-index) × (tally (told_of (under l.setting l.tables) l.together) l.count (drop l.va-index l.classes) ≡ tally (told_of (under l.setting l.tables) l.together) 0 l.classes)

@@ -1,31 +1,25 @@
-use Rattle.pointers.specs.Tables.{Tables}
-use Rattle.ancestry.specs.Filling.{lent_now, told_of}
 use Rattle.ancestry.proofs.UnfollowedRows.{told_fits, fill_alone, fill_falls, fill_unfollowed, fill_told}
 use Rattle.ancestry.proofs.class_list.fill.Goals as goal
 
 pub write_all-requires : goal.write_all-requires
 write_all-requires c =
-    let tables : Tables = lent_now c.args.files.now c.args.segments.now c.args.sections.now c.args.info.now c.args.rebases.now c.args.binds.now c.args.index.now c.args.setting in
     let a = c.args in
-    (c.requires.yes, told_fits (told_of tables a.together) a.count a.classes.now a.res.now c.requires.counted c.requires.room)
+    (c.requires.yes, told_fits _ a.count a.classes.now a.res.now c.requires.counted c.requires.room)
 
 pub returns-then-not-together : goal.returns-then-not-together
 returns-then-not-together c =
-    let tables : Tables = lent_now c.args.files.now c.args.segments.now c.args.sections.now c.args.info.now c.args.rebases.now c.args.binds.now c.args.index.now c.args.setting in
     let a = c.args in
-    fill_alone tables a.together a.classes.now a.res.now _ c.if-not-together.true c.write_all.ensures
+    fill_alone _ a.together a.classes.now a.res.now _ c.if-not-together.true c.write_all.ensures
 
 pub follow_all-requires : goal.follow_all-requires
 follow_all-requires c =
-    let tables : Tables = lent_now c.args.files.now c.args.segments.now c.args.sections.now c.args.info.now c.args.rebases.now c.args.binds.now c.args.index.now c.args.setting in
     let a = c.args in (
       c.requires.yes,
-      fill_falls tables a.together a.count a.classes.now a.res.now c.requires c.if-not-together.false,
-      fill_unfollowed tables a.together a.count a.classes.now a.res.now _ c.requires c.if-not-together.false c.write_all.ensures,
+      fill_falls _ a.together a.count a.classes.now a.res.now c.requires c.if-not-together.false,
+      fill_unfollowed _ a.together a.count a.classes.now a.res.now _ c.requires c.if-not-together.false c.write_all.ensures,
     )
 
 pub returns : goal.returns
 returns c =
-    let tables : Tables = lent_now c.args.files.now c.args.segments.now c.args.sections.now c.args.info.now c.args.rebases.now c.args.binds.now c.args.index.now c.args.setting in
     let a = c.args in
-    fill_told tables a.together a.count a.classes.now a.res.now _ c.requires c.if-not-together.false c.write_all.ensures _ c.follow_all.ensures
+    fill_told _ a.together a.count a.classes.now a.res.now _ c.requires c.if-not-together.false c.write_all.ensures _ c.follow_all.ensures

@@ -1,8 +1,7 @@
 use mathlib.Core.Path.{◌≡◌, refl, sym, ◌∙◌}
 use native.Mathlib.Omega.{arith}
-use Rattle.pointers.specs.Tables.{Tables}
+use Rattle.pointers.specs.Tables.{Tables, under}
 use Rattle.ancestry.specs.Ancestry.{limit}
-use Rattle.ancestry.specs.Filling.{lent_now}
 use Rattle.ancestry.specs.Following.{ground_of}
 use Rattle.ancestry.proofs.Climbs.{limit_room, limit_small}
 use Rattle.ancestry.proofs.Finishes.{followed_records}
@@ -10,19 +9,16 @@ use Rattle.ancestry.proofs.following.follow_all.Goals as goal
 
 pub limit_of-most-requires : goal.limit_of-most-requires
 limit_of-most-requires c =
-    let tables : Tables = lent_now c.args.files.now c.args.segments.now c.args.sections.now c.args.info.now c.args.rebases.now c.args.binds.now c.args.index.now c.args.setting in
-    limit_room tables c.requires.0
+    limit_room (under c.args.setting c.args.tables.now) c.requires.0
 
 pub follow-requires : goal.follow-requires
 follow-requires c =
-    let tables : Tables = lent_now c.args.files.now c.args.segments.now c.args.sections.now c.args.info.now c.args.rebases.now c.args.binds.now c.args.index.now c.args.setting in
-    (omega (arith, c.requires.2.room, c.first_all.ensures.size), omega (arith, limit_small tables c.requires.0, c.limit_of-most.ensures))
+    (omega (arith, c.requires.2.room, c.first_all.ensures.size), omega (arith, limit_small (under c.args.setting c.args.tables.now) c.requires.0, c.limit_of-most.ensures))
 
 pub returns : goal.returns
 returns c =
-    let tables : Tables = lent_now c.args.files.now c.args.segments.now c.args.sections.now c.args.info.now c.args.rebases.now c.args.binds.now c.args.index.now c.args.setting in
     let a = c.args in
-    let t = tables in
+    let t : Tables = under c.args.setting c.args.tables.now in
     let g = ground_of t a.res.now a.listed in
     let most : limit t ≡ c.limit_of-most.result = sym c.limit_of-most.ensures in
     let w = c.follow.ensures.followed g a.res.now most refl c.first_all.ensures in

@@ -10,18 +10,18 @@ use Rattle.attributes.specs.Pass.{items_left_of}
 use Rattle.attributes.proofs.AttributeItems.{value_in, value_found}
 use Rattle.attributes.proofs.pass.first_value.Goals as goal
 
-pub returns-in-Some : goal.returns-in-Some
-returns-in-Some c =
+pub returns-in_err-item : goal.returns-in_err-item
+returns-in_err-item c =
     let a = c.args in
     let found =
     find_from_yields_List (λ i. eqb i.key a.letter && leb a.least i.value.len) c.find.new.self _ c.find.result c.find.ensures.ran
     (YieldsList-from_first (λ i. i) items_left_of (items a.text.now) c.items_of.ensures) (λ x b q k. search (rules, tests)) in
-    ap value_in (rw c.in-Some.is at found) ∙ value_found a.letter a.least (items a.text.now)
+    c.from_residual.ensures ∙ ap value_in (rw c.in_err-item.was at found) ∙ value_found a.letter a.least (items a.text.now)
 
-pub returns-in-None : goal.returns-in-None
-returns-in-None c =
+pub returns : goal.returns
+returns c =
     let a = c.args in
     let found =
     find_from_yields_List (λ i. eqb i.key a.letter && leb a.least i.value.len) c.find.new.self _ c.find.result c.find.ensures.ran
     (YieldsList-from_first (λ i. i) items_left_of (items a.text.now) c.items_of.ensures) (λ x b q k. search (rules, tests)) in
-    ap value_in (rw c.in-None.is at found) ∙ value_found a.letter a.least (items a.text.now)
+    ap value_in (rw c.in_ok-item.was at found) ∙ value_found a.letter a.least (items a.text.now)

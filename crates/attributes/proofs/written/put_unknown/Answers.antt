@@ -1,7 +1,7 @@
 use native.Mathlib.Omega.{arith}
 use Rattle.attributes.proofs.Puts.{put_no_part}
 use Rattle.attributes.proofs.Rows.{length_items_in}
-use Rattle.attributes.proofs.PutParts.{rowed_next, rowed_end}
+use Rattle.attributes.proofs.PutParts.{rowed_next}
 use Rattle.attributes.proofs.written.put_unknown.Goals as goal
 
 pub loop-k-init : goal.loop-k-init
@@ -19,12 +19,3 @@ loop-k-preserved c =
     let a = c.args in
     rowed_next a.text.now a.count a.rows.now (omega arith) (omega arith) (omega (arith, c.rows_in-k-end.ensures, test.true))
     l.invariant c.item_in.ensures c.put_item-at.ensures
-
-pub shape_of-out : goal.shape_of-out
-shape_of-out c = c.loop-k.invariant.same
-
-pub returns : goal.returns
-returns c =
-    let a = c.args in
-    rowed_end a.text.now a.count a.rows.now c.loop-k.k
-    (omega (arith, c.rows_in-k-end.ensures, c.loop-k-test.false)) c.loop-k.invariant

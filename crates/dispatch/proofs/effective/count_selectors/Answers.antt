@@ -10,7 +10,7 @@ pub returns-then-scratch-count : goal.returns-then-scratch-count
 returns-then-scratch-count c = counting_least _ _ _ c.loop-b.invariant
 
 pub loop-b-preserved : goal.loop-b-preserved
-loop-b-preserved c = counting_row c.next_row.ensures _ _ _ c.loop-b.invariant (omega (arith, c.if-scratch-count.false)) c.in-Row.is c.note_row-count.ensures
+loop-b-preserved c = counting_row c.reach_row.ensures _ _ _ c.loop-b.invariant (omega (arith, c.if-scratch-count.false)) c.in-Some.is (rw c.files.ensures at c.note_row-count.ensures)
 
 pub returns : goal.returns
-returns c = counting_all _ _ _ (noting_all c.next_row.ensures _ _ _ c.loop-b.invariant c.in_default.not-Row)
+returns c = counting_all _ _ _ (noting_all c.reach_row.ensures _ _ _ c.loop-b.invariant c.in_default.not-Some)

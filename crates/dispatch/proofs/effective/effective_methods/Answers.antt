@@ -1,14 +1,13 @@
 use native.Mathlib.Omega.{arith}
 use Rattle.std.proofs.Common.{rules}
 use Rattle.std.proofs.lemmas.Result.{err_from_is_err_and}
-use Rattle.reads.specs.Files.{files_lent}
-use Rattle.pointers.specs.Tables.{tables_of, under}
+use Rattle.pointers.specs.Tables.{under}
 use Rattle.dispatch.proofs.Answers.{call_refused, call_missing, call_class}
 use Rattle.dispatch.proofs.effective.effective_methods.Goals as goal
 
-pub returns-in_err-map_err : goal.returns-in_err-map_err
-returns-in_err-map_err c =
-    let t = under c.args.setting (tables_of (files_lent c.args.files.now) c.args.segments.now c.args.sections.now c.args.info.now c.args.rebases.now c.args.binds.now c.args.index.now) in
+pub returns-in_err-ask : goal.returns-in_err-ask
+returns-in_err-ask c =
+    let t = under c.args.setting c.args.tables.now in
     search (rules, call_refused t c.args.side c.args.class c.args.res.now c.ask.result c.ask.ensures)
 
 pub returns-in_err-c : goal.returns-in_err-c

@@ -9,7 +9,7 @@ pub note_row-count-requires : goal.note_row-count-requires
 note_row-count-requires c = noting_room _ _ _ c.requires c.loop-b.invariant
 
 pub loop-b-preserved : goal.loop-b-preserved
-loop-b-preserved c = noting_row c.next_row.ensures _ _ _ c.loop-b.invariant c.requires c.in-Row.is c.note_row-count.ensures
+loop-b-preserved c = noting_row c.reach_row.ensures _ _ _ c.loop-b.invariant c.requires c.in-Some.is (rw c.files.ensures at c.note_row-count.ensures)
 
 pub returns : goal.returns
-returns c = noting_end _ _ _ c.requires (noting_all c.next_row.ensures _ _ _ c.loop-b.invariant c.in_default.not-Row)
+returns c = noting_end _ _ _ c.requires (noting_all c.reach_row.ensures _ _ _ c.loop-b.invariant c.in_default.not-Some)

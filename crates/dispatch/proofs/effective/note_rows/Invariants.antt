@@ -1,11 +1,10 @@
-use Rattle.reads.specs.Files.{files_lent}
-use Rattle.pointers.specs.Tables.{under, tables_of}
+use Rattle.pointers.specs.Tables.{under}
 use Rattle.dispatch.specs.Position.{ahead, weight}
 use Rattle.dispatch.proofs.Scans.{Noting}
 use Rattle.dispatch.proofs.effective.note_rows.Given as goal
 
 abbrev pub invariant-loop-b : goal.invariant-loop-b
-invariant-loop-b l = Noting (files_lent l.files) (ahead (under l.setting (tables_of (files_lent l.files) l.segments l.sections l.info l.rebases l.binds l.index)) l.side l.class l.initial.p).rows l.initial.res (ahead (under l.setting (tables_of (files_lent l.files) l.segments l.sections l.info l.rebases l.binds l.index)) l.side l.class l.p).rows l.count l.res
+invariant-loop-b l = Noting l.tables.files (ahead (under l.of.setting l.tables) l.of.side l.of.class l.initial.p).rows l.initial.res (ahead (under l.of.setting l.tables) l.of.side l.of.class l.p).rows l.count l.res
 
 abbrev pub decreases-loop-b : goal.decreases-loop-b
-decreases-loop-b l = weight (under l.setting (tables_of (files_lent l.files) l.segments l.sections l.info l.rebases l.binds l.index)) l.p
+decreases-loop-b l = weight (under l.of.setting l.tables) l.p

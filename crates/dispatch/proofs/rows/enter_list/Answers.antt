@@ -1,11 +1,16 @@
+use Rattle.std.proofs.Common.{ap, ◌∙◌}
+use Rattle.std.specs.Prelude.{Ok}
+use Rattle.std.proofs.lemmas.Result.{err_from_is_err_and}
 use Rattle.dispatch.proofs.Walks.{enter_there, enter_no_list, enter_list_refused}
 use Rattle.dispatch.proofs.rows.enter_list.Goals as goal
 
-pub returns-in-Ok : goal.returns-in-Ok
-returns-in-Ok c = enter_there _ _ _ c.list_at.ensures c.in-Ok.is
+pub returns-in-Some : goal.returns-in-Some
+returns-in-Some c = enter_there _ _ _ (rw c.list_at.ensures at c.present.ensures) (c.in_ok-list.was ∙ ap Ok c.in-Some.is)
 
-pub returns-in-Absent : goal.returns-in-Absent
-returns-in-Absent c = enter_no_list _ _ _ c.list_at.ensures c.in-Err.is c.in-Absent.is c.no_rows.ensures
+pub returns-in-None : goal.returns-in-None
+returns-in-None c = enter_no_list _ _ _ (rw c.list_at.ensures at c.present.ensures) (c.in_ok-list.was ∙ ap Ok c.in-None.is) c.no_rows.ensures
 
-pub returns-in-Refused : goal.returns-in-Refused
-returns-in-Refused c = enter_list_refused _ _ _ c.list_at.ensures c.in-Err.is c.in-Refused.is
+pub returns-in_err-list : goal.returns-in_err-list
+returns-in_err-list c =
+    let p = err_from_is_err_and c.from_residual.result c.from_residual.ensures.1 in
+    rw (p.1, p.2) (enter_list_refused _ _ _ (rw c.list_at.ensures at c.present.ensures) c.in_err-list.was)

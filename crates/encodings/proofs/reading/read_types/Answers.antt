@@ -2,22 +2,14 @@ use Rattle.std.proofs.lemmas.Result.{err_from_is_err_and}
 use mathlib.Core.Path.{◌≡◌}
 use native.Mathlib.Omega.{arith}
 use lib.ListN.{length}
-use Rattle.encodings.proofs.Reached.{reached_first, reached_types, reached_ordered, reached_next, reached_missing, reached_end, reached_end_missing}
+use Rattle.encodings.proofs.Reached.{reached_types, reached_ordered, reached_missing, reached_end, reached_end_missing}
 use Rattle.encodings.proofs.reading.read_types.Goals as goal
-
-pub loop-i-init : goal.loop-i-init
-loop-i-init c = reached_first _ _ _ c.first-p.ensures
 
 pub step-requires : goal.step-requires
 step-requires c = reached_types c.loop-i.invariant (omega (arith, c.loop-i.invariant.within))
 
 pub put_before-requires : goal.put_before-requires
 put_before-requires c = reached_ordered c.loop-i.invariant
-
-pub loop-i-preserved : goal.loop-i-preserved
-loop-i-preserved c =
-    let on = c.in_ok-next_mode in
-    reached_next c.loop-i.invariant c.loop-i-test.true on.next_mode on.next on.ensures c.put_before.ensures
 
 pub finish-requires : goal.finish-requires
 finish-requires c = reached_types c.loop-i.invariant (omega (arith, c.loop-i.invariant.within))

@@ -1,32 +1,31 @@
 use mathlib.Core.Path.{ap}
+use Rattle.std.proofs.lemmas.Result.{err_from_is_err_and}
 use Rattle.encodings.proofs.Answers.{answers_missing, answers_number, answers_value}
 use Rattle.std.proofs.Common.{not}
 use Rattle.encodings.proofs.words.type_words.Goals as goal
 use Rattle.reads.specs.Answer.{outcome}
 
+pub returns-in_err-count : goal.returns-in_err-count
+returns-in_err-count c =
+    let a = c.args in
+    let p = err_from_is_err_and c.from_residual.result c.from_residual.ensures.1 in
+    let h = answers_missing a.text.now a.buffer.now c.read_types.ensures _ (ap outcome c.in_err-count.was) in
+    rw (p.1, p.2) (record { outcome = h.0; contents = h.1 })
+
 pub returns-then-not-words_fit : goal.returns-then-not-words_fit
 returns-then-not-words_fit c =
     let a = c.args in
-    let value = c.in-Ok in
     let h =
-    answers_number a.text.now a.buffer.now c.read_types.ensures value.count (ap outcome value.is)
+    answers_number a.text.now a.buffer.now c.read_types.ensures _ (ap outcome c.in_ok-count.was)
     c.words_fit.ensures (ap not c.if-not-words_fit.true)
     in
     record { outcome = h.0; contents = h.1 }
 
-pub returns-else-not-words_fit : goal.returns-else-not-words_fit
-returns-else-not-words_fit c =
+pub returns : goal.returns
+returns c =
     let a = c.args in
-    let value = c.in-Ok in
     let h =
-    answers_value a.text.now a.buffer.now c.read_types.ensures value.count (ap outcome value.is)
-    c.words_fit.ensures (ap not c.if-not-words_fit.false) c.read_types-in-Ok.ensures
+    answers_value a.text.now a.buffer.now c.read_types.ensures _ (ap outcome c.in_ok-count.was)
+    c.words_fit.ensures (ap not c.if-not-words_fit.false) c.read_types-2.ensures
     in
-    record { outcome = h.0; contents = h.1 }
-
-pub returns-in-Err : goal.returns-in-Err
-returns-in-Err c =
-    let a = c.args in
-    let missing = c.in-Err in
-    let h = answers_missing a.text.now a.buffer.now c.read_types.ensures missing.m (ap outcome missing.is) in
     record { outcome = h.0; contents = h.1 }

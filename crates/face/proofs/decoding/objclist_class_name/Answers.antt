@@ -1,7 +1,11 @@
-use mathlib.Core.Path.{ap, ◌∙◌}
+use mathlib.Core.Path.{◌≡◌, ap, ◌∙◌}
+use borrow.Author.Rules.{rules}
 use Rattle.face.specs.Status.{given}
-use Rattle.face.specs.Decoding.{name_told}
+use Rattle.face.specs.Words.{text, no_text}
 use Rattle.face.proofs.decoding.objclist_class_name.Goals as goal
 
 pub returns : goal.returns
-returns c = rw (← c.setting_in-setting.ensures) (c.from.ensures ∙ ap (λ o. name_told (given o)) c.decode_class_name-answer.ensures)
+returns c =
+    let lent = rw (c.lent-tables.ensures, c.setting_in-setting.ensures) at c.decode_class_name-answer.ensures in
+    let none : c.default.result ≡ no_text = search rules in
+    rw (c.told.ensures.status, c.told.ensures.words text (λ r w e. e), none, c.found.ensures ∙ ap given lent)

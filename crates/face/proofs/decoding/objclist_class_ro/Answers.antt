@@ -1,7 +1,11 @@
-use mathlib.Core.Path.{ap, ◌∙◌}
+use mathlib.Core.Path.{◌≡◌, ap, ◌∙◌}
+use borrow.Author.Rules.{rules}
 use Rattle.face.specs.Status.{given}
-use Rattle.face.specs.Decoding.{ro_told}
+use Rattle.face.specs.Words.{class_ro, no_ro}
 use Rattle.face.proofs.decoding.objclist_class_ro.Goals as goal
 
 pub returns : goal.returns
-returns c = rw (← c.setting_in-setting.ensures) (c.from.ensures ∙ ap (λ o. ro_told (given o)) (rw c.from-class.ensures at c.ro-answer.ensures))
+returns c =
+    let lent = rw (c.lent-tables.ensures, c.setting_in-setting.ensures, c.from-class.ensures) at c.ro-answer.ensures in
+    let none : c.default.result ≡ no_ro = search rules in
+    rw (c.told.ensures.status, c.told.ensures.words class_ro (λ r w e. e), none, c.found.ensures ∙ ap given lent)

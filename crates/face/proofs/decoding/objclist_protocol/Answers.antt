@@ -1,7 +1,11 @@
-use mathlib.Core.Path.{ap, ◌∙◌}
+use mathlib.Core.Path.{◌≡◌, ap, ◌∙◌}
+use borrow.Author.Rules.{rules}
 use Rattle.face.specs.Status.{given}
-use Rattle.face.specs.Decoding.{protocol_told}
+use Rattle.face.specs.Words.{protocol, no_protocol}
 use Rattle.face.proofs.decoding.objclist_protocol.Goals as goal
 
 pub returns : goal.returns
-returns c = rw (← c.setting_in-setting.ensures) (c.from.ensures ∙ ap (λ o. protocol_told (given o)) c.decode_protocol-answer.ensures)
+returns c =
+    let lent = rw (c.lent-tables.ensures, c.setting_in-setting.ensures) at c.decode_protocol-answer.ensures in
+    let none : c.default.result ≡ no_protocol = search rules in
+    rw (c.told.ensures.status, c.told.ensures.words protocol (λ r w e. e), none, c.found.ensures ∙ ap given lent)

@@ -3,7 +3,7 @@ use native.Mathlib.Omega.{arith}
 use lib.ListN.{length}
 use Rattle.filewrite.proofs.write.whole_piece.Goals as goal
 
-pub returns : goal.returns
-returns c =
+pub returns-clause-rest : goal.returns-clause-rest
+returns-clause-rest c =
     let size : length c.args.out.now ≡ 65536 = omega arith in
-    rw size at c.next_piece.ensures
+    rw size at c.next_piece.ensures.rest

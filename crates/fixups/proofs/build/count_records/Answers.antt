@@ -1,9 +1,12 @@
-use Rattle.std.proofs.Common.{◌≡◌, []}
-use Rattle.fixups.proofs.Building.{nil_of}
+use Rattle.fixups.specs.Tables.{state_in}
+use Rattle.fixups.proofs.Building.{counted, uncounted}
 use Rattle.fixups.proofs.build.count_records.Goals as goal
+use Rattle.std.proofs.lemmas.Result.{err_from_is_err_and}
 
 pub returns : goal.returns
-returns c =
-    let e : c.walk.new.rebases ≡ [] = nil_of _ c.walk.auto.rebases in
-    let g : c.walk.new.binds ≡ [] = nil_of _ c.walk.auto.binds in
-    rw (e, g) at c.walk.ensures
+returns c = counted _ c.walk.result (state_in c.walk.new.lists) c.walk.ensures.told c.in_ok-walk.was c.walk.ensures.kept.rebase_words c.walk.ensures.kept.bind_words
+
+pub returns-in_err-walk : goal.returns-in_err-walk
+returns-in_err-walk c =
+    let p = err_from_is_err_and c.from_residual.result c.from_residual.ensures.1 in
+    rw (p.1, p.2) (uncounted _ c.walk.result (state_in c.walk.new.lists) c.walk.ensures.told _ c.in_err-walk.was)

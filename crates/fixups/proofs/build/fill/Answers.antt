@@ -1,4 +1,5 @@
-use Rattle.std.proofs.Common.{◌^◌, ◌<◌, length, arith}
+use Rattle.std.proofs.Common.{rules, ◌^◌, ◌<◌, length, arith}
+use Rattle.fixups.specs.Tables.{state_in}
 use Rattle.fixups.proofs.Building as laws
 use Rattle.fixups.proofs.build.fill.Goals as goal
 use Rattle.std.proofs.lemmas.Result.{err_from_is_err_and}
@@ -19,8 +20,11 @@ returns c =
     let room-rebases : length c.args.rebases.now < 2 ^ 64 = omega arith in
     let room-binds : length c.args.binds.now < 2 ^ 64 = omega arith in
     let a = c.args in
-    laws.is_filled a.rebases.now a.binds.now (room-rebases) (room-binds) _ c.count_records.result c.count_records.ensures _ c.in_ok-r.was c.if-rebases-r.false c.if-binds-b.false
-    c.walk.result c.walk.new.rebases c.walk.new.binds c.walk.ensures
+    let same-rebases = c.walk.ensures.kept.rebases in
+    let same-binds = c.walk.ensures.kept.binds in
+    let p = laws.is_filled a.rebases.now a.binds.now (room-rebases) (room-binds) _ c.count_records.result c.count_records.ensures _ c.in_ok-r.was c.if-rebases-r.false c.if-binds-b.false
+    c.walk.result (state_in c.walk.new.lists) c.walk.ensures.told in
+    search rules
 
 pub returns-in_err-r : goal.returns-in_err-r
 returns-in_err-r c =

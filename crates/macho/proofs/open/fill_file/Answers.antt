@@ -1,3 +1,5 @@
+use Rattle.std.proofs.Common.{refl}
+use Rattle.std.proofs.lemmas.Result.{err_from_is_err_and}
 use Prim.Native.Nat.{◌≤◌}
 use Rattle.macho.proofs.Opening as laws
 use Rattle.macho.proofs.Asking.{passed}
@@ -8,42 +10,41 @@ use Rattle.macho.proofs.open.fill_file.Goals as goal
 
 pub open_tables-requires : goal.open_tables-requires
 open_tables-requires c =
-    let a = c.args in let p = passed a.file.now (length a.segments.now) (length a.sections.now) c.requires in
+    let a = c.args in let p = passed a.file.now (length a.lent.now.segments.now) (length a.lent.now.sections.now) c.requires in
     rw (c.command_bytes-cmds.ensures, c.command_count-count.ensures.0) p.few_segments
 
 pub write_segments-requires : goal.write_segments-requires
 write_segments-requires c =
-    let a = c.args in let p = passed a.file.now (length a.segments.now) (length a.sections.now) c.requires in
+    let a = c.args in let p = passed a.file.now (length a.lent.now.segments.now) (length a.lent.now.sections.now) c.requires in
     let h : length (segments_of c.command_bytes-cmds.result.now c.command_count-count.result) ≤ 64 = rw (c.command_bytes-cmds.ensures, c.command_count-count.ensures.0) p.few_segments in
     omega (arith, h, p.lent_segments)
 
 pub write_sections-requires : goal.write_sections-requires
-write_sections-requires c = let a = c.args in (passed a.file.now (length a.segments.now) (length a.sections.now) c.requires).lent_sections
+write_sections-requires c = let a = c.args in (passed a.file.now (length a.lent.now.segments.now) (length a.lent.now.sections.now) c.requires).lent_sections
 
-pub returns-in-Ok : goal.returns-in-Ok
-returns-in-Ok c =
+pub returns : goal.returns
+returns c =
     let a = c.args in
     let r =
-    laws.filled a.file.now a.segments.now a.sections.now a.rebases.now a.binds.now a.index.now c.requires _ _ _ _
-    c.command_bytes-cmds.ensures c.command_count-count.ensures.0 c.section_named-section.ensures c.range_of-info.ensures c.open_tables.result c.open_tables.ensures.outcome _ c.in-Ok.is
+    laws.filled a.file.now a.lent.now.segments.now a.lent.now.sections.now a.lent.now.rebases.now a.lent.now.binds.now a.lent.now.index.now c.requires _ _ _ _
+    c.command_bytes-cmds.ensures c.command_count-count.ensures.0 c.section_named-section.ensures c.range_of-info.ensures c.open_tables.result c.open_tables.ensures.outcome _ c.in_ok-i.was
     _ _ _ _ c.segment_count.ensures c.write_segments.ensures c.write_sections.ensures c.open_tables.ensures.contents in
     record {
+      kept = record { segments = refl; sections = refl; index = refl; rebases = refl; binds = refl };
       outcome = r.0;
-      segments = r.1.0;
-      sections = r.1.1.0;
-      index = r.1.1.1;
+      left = laws.buffers_by r.1;
     }
 
-pub returns-in-Err : goal.returns-in-Err
-returns-in-Err c =
+pub returns-in_err-i : goal.returns-in_err-i
+returns-in_err-i c =
     let a = c.args in
+    let p = err_from_is_err_and c.from_residual.result c.from_residual.ensures.1 in
     let r =
-    laws.refusing a.file.now a.segments.now a.sections.now a.rebases.now a.binds.now a.index.now c.requires _ _ _ _
-    c.command_bytes-cmds.ensures c.command_count-count.ensures.0 c.section_named-section.ensures c.range_of-info.ensures c.open_tables.result c.open_tables.ensures.outcome _ c.in-Err.is
+    laws.refusing a.file.now a.lent.now.segments.now a.lent.now.sections.now a.lent.now.rebases.now a.lent.now.binds.now a.lent.now.index.now c.requires _ _ _ _
+    c.command_bytes-cmds.ensures c.command_count-count.ensures.0 c.section_named-section.ensures c.range_of-info.ensures c.open_tables.result c.open_tables.ensures.outcome _ c.in_err-i.was
     _ c.open_tables.ensures.contents in
     record {
-      outcome = r.0;
-      segments = r.1.0;
-      sections = r.1.1.0;
-      index = r.1.1.1;
+      kept = record { segments = refl; sections = refl; index = refl; rebases = refl; binds = refl };
+      outcome = rw (p.1, p.2) r.0;
+      left = laws.buffers_by r.1;
     }

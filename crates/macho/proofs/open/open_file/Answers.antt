@@ -1,20 +1,22 @@
+use Rattle.std.proofs.Common.{refl}
+use Rattle.std.proofs.lemmas.Result.{err_from_is_err_and}
 use mathlib.Core.Path.{sym, ◌∙◌, ap}
 use Rattle.macho.proofs.Opening as laws
 use Rattle.macho.proofs.open.open_file.Goals as goal
 use Rattle.reads.specs.Answer.{answered}
 
 pub fill_file-requires : goal.fill_file-requires
-fill_file-requires c = sym c.ask_file.ensures ∙ ap answered c.in-Ok.is
+fill_file-requires c = sym c.ask_file.ensures ∙ ap answered c.in_ok-ask_file.was
 
-pub returns-in-Err : goal.returns-in-Err
-returns-in-Err c =
+pub returns-in_err-ask_file : goal.returns-in_err-ask_file
+returns-in_err-ask_file c =
     let a = c.args in
+    let p = err_from_is_err_and c.from_residual.result c.from_residual.ensures.1 in
     let r =
-    laws.unasked a.file.now a.segments.now a.sections.now a.rebases.now a.binds.now a.index.now c.in-Err.k
-    (sym (ap answered c.in-Err.is) ∙ c.ask_file.ensures) in
+    laws.unasked a.file.now a.lent.now.segments.now a.lent.now.sections.now a.lent.now.rebases.now a.lent.now.binds.now a.lent.now.index.now _
+    (sym (ap answered c.in_err-ask_file.was) ∙ c.ask_file.ensures) in
     record {
-      outcome = r.0;
-      segments = r.1.0;
-      sections = r.1.1.0;
-      index = r.1.1.1;
+      kept = record { segments = refl; sections = refl; index = refl; rebases = refl; binds = refl };
+      outcome = rw (p.1, p.2) r.0;
+      left = laws.buffers_by r.1;
     }

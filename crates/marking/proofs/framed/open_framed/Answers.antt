@@ -1,7 +1,7 @@
 use mathlib.Core.Path.{sym, ap, ◌∙◌}
 use Rattle.marking.proofs.Framing.{opens_framed, opens_refused}
 use Rattle.marking.proofs.framed.open_framed.Goals as goal
-use Rattle.reads.specs.Answer.{outcome, answered}
+use Rattle.reads.specs.Answer.{answered}
 
 pub returns-in-Ok : goal.returns-in-Ok
 returns-in-Ok c =

@@ -1,8 +1,7 @@
-use Rattle.std.proofs.Common.{◌≡◌, ◌-◌, length}
-use Rattle.fixups.specs.Tables.{part}
+use Rattle.std.proofs.Common.{◌≡◌, ◌-◌}
 use Rattle.opcodes.specs.Binding.{run}
-use Rattle.opcodes.specs.Tables.{told_by}
+use Rattle.opcodes.specs.Tables.{told_by, part_in, Kept}
 use Rattle.opcodes.proofs.binding.run.Given as goal
 
 abbrev pub invariant-loop : goal.invariant-loop
-invariant-loop l = (told_by (run l.end l.count l.stride l.initial.here) (part l.n l.initial.binds) ≡ told_by (run l.end (l.count - l.counter) l.stride l.here) (part l.records l.binds)) × (length l.binds ≡ length l.initial.binds)
+invariant-loop l = (told_by (run l.end l.count l.stride l.initial.here) (part_in l.initial.binds) ≡ told_by (run l.end (l.count - l.counter) l.stride l.here) (part_in l.binds)) × Kept l.initial.binds l.binds

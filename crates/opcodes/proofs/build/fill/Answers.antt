@@ -1,4 +1,5 @@
-use Rattle.std.proofs.Common.{◌^◌, ◌<◌, length, arith}
+use Rattle.std.proofs.Common.{rules, ◌^◌, ◌<◌, length, arith}
+use Rattle.opcodes.specs.Tables.{part_in}
 use Rattle.opcodes.proofs.Building as laws
 use Rattle.opcodes.proofs.build.fill.Goals as goal
 use Rattle.std.proofs.lemmas.Result.{err_from_is_err_and}
@@ -12,7 +13,9 @@ returns-then-binds-n c =
 pub returns : goal.returns
 returns c =
     let room : length c.args.binds.now < 2 ^ 64 = omega arith in
-    laws.is_filled c.args.binds.now (room) _ c.count_binds.result c.count_binds.ensures _ c.in_ok-n.was c.if-binds-n.false c.streams_at.result c.streams_at.new.binds c.streams_at.ensures
+    let same = c.streams_at.ensures.kept.table in
+    let p = laws.is_filled c.args.binds.now (room) _ c.count_binds.result c.count_binds.ensures _ c.in_ok-n.was c.if-binds-n.false c.streams_at.result (part_in c.streams_at.new.binds) c.streams_at.ensures.told in
+    search rules
 
 pub returns-in_err-n : goal.returns-in_err-n
 returns-in_err-n c =

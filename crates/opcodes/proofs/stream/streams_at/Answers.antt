@@ -1,21 +1,21 @@
 use Rattle.std.proofs.Common.{true, false, ◌∙◌}
 use Rattle.macho.specs.Commands.{segments_of}
-use Rattle.fixups.specs.Tables.{part}
 use Rattle.opcodes.specs.DyldInfo.{bind_off, weak_bind_off, lazy_bind_off}
 use Rattle.opcodes.specs.Streams.{stream_at, joined, streams_at}
+use Rattle.opcodes.specs.Tables.{part_in}
 use Rattle.opcodes.proofs.Walks as laws
 use Rattle.opcodes.proofs.stream.streams_at.Goals as goal
 use Rattle.std.proofs.lemmas.Result.{err_from_is_err_and}
 
-pub returns : goal.returns
+pub returns-clause-told : goal.returns-clause-told
 unfolding streams_at
-returns c =
+returns-clause-told c =
     let a = c.args in
-    c.weak_and_lazy.ensures ∙ laws.then (stream_at a.file.now a.cmds.now (segments_of a.cmds.now a.count) a.command bind_off false) (joined (stream_at a.file.now a.cmds.now (segments_of a.cmds.now a.count) a.command weak_bind_off false) (stream_at a.file.now a.cmds.now (segments_of a.cmds.now a.count) a.command lazy_bind_off true)) (part 0 a.binds.now) c.stream_at.result c.stream_at.new.binds c.stream_at.ensures _ c.in_ok-n.was
+    c.weak_and_lazy.ensures.told ∙ laws.then (stream_at a.file.now a.cmds.now (segments_of a.cmds.now a.count) a.command bind_off false) (joined (stream_at a.file.now a.cmds.now (segments_of a.cmds.now a.count) a.command weak_bind_off false) (stream_at a.file.now a.cmds.now (segments_of a.cmds.now a.count) a.command lazy_bind_off true)) (part_in a.binds.now) c.stream_at.result (part_in c.stream_at.new.binds) c.stream_at.ensures.told c.in_ok-stream_at.was
 
-pub returns-in_err-n : goal.returns-in_err-n
+pub returns-in_err-stream_at-clause-told : goal.returns-in_err-stream_at-clause-told
 unfolding streams_at
-returns-in_err-n c =
+returns-in_err-stream_at-clause-told c =
     let a = c.args in
     let p = err_from_is_err_and c.from_residual.result c.from_residual.ensures.1 in
-    rw (p.1, p.2) (laws.stops (stream_at a.file.now a.cmds.now (segments_of a.cmds.now a.count) a.command bind_off false) (joined (stream_at a.file.now a.cmds.now (segments_of a.cmds.now a.count) a.command weak_bind_off false) (stream_at a.file.now a.cmds.now (segments_of a.cmds.now a.count) a.command lazy_bind_off true)) (part 0 a.binds.now) c.stream_at.result c.stream_at.new.binds c.stream_at.ensures _ c.in_err-n.was)
+    rw (p.1, p.2) (laws.stops (stream_at a.file.now a.cmds.now (segments_of a.cmds.now a.count) a.command bind_off false) (joined (stream_at a.file.now a.cmds.now (segments_of a.cmds.now a.count) a.command weak_bind_off false) (stream_at a.file.now a.cmds.now (segments_of a.cmds.now a.count) a.command lazy_bind_off true)) (part_in a.binds.now) c.stream_at.result (part_in c.stream_at.new.binds) c.stream_at.ensures.told _ c.in_err-stream_at.was)

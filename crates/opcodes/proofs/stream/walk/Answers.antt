@@ -1,8 +1,7 @@
-use Rattle.std.proofs.Common.{ℕ, ◌+◌, ◌≤◌, length, sym, refl, ◌∙◌, ap₂, arith}
+use Rattle.std.proofs.Common.{ℕ, ◌+◌, ◌≤◌, length, sym, ◌∙◌, ap₂, arith}
 use Rattle.macho.specs.Commands.{segments_of}
-use Rattle.fixups.specs.Tables.{part}
 use Rattle.opcodes.specs.Streams.{walk}
-use Rattle.opcodes.specs.Tables.{told}
+use Rattle.opcodes.specs.Tables.{told, part_in}
 use Rattle.opcodes.specs.declared.binding.State.{State}
 use Rattle.opcodes.proofs.Walks as laws
 use Rattle.opcodes.proofs.stream.walk.Goals as goal
@@ -11,39 +10,39 @@ use Rattle.std.proofs.lemmas.Result.{err_from_is_err_and}
 pub loop-i-init : goal.loop-i-init
 loop-i-init c =
     let a = c.args in
-    (ap₂ (λ (k : ℕ) (s : State). told (walk a.end a.cmds.now (segments_of a.cmds.now a.count) a.parts k a.body.now 0 s) (part a.n a.binds.now)) (omega arith) (sym c.unset-s.ensures), refl)
+    (ap₂ (λ (k : ℕ) (s : State). told (walk a.end a.cmds.now (segments_of a.cmds.now a.count) a.parts k a.body.now 0 s) (part_in a.binds.now)) (omega arith) (sym c.unset-s.ensures), laws.kept _)
 
 -- `operands-fit`: the operands of an opcode lie in the stream.
 pub overflow_add-i-in-loop-i : goal.overflow_add-i-in-loop-i
 overflow_add-i-in-loop-i c =
     let operands-fit : c.loop-i.i + 1 + c.in_ok-t.size ≤ length c.args.body.now = let l = c.loop-i in let a = c.args in
-    laws.walk_size a.end a.cmds.now (segments_of a.cmds.now a.count) a.parts a.at a.body.now l.i l.s (part l.records l.binds) (omega arith) c.step.result c.step.new.binds c.step.ensures _ c.in_ok-t.was in
+    laws.walk_size a.end a.cmds.now (segments_of a.cmds.now a.count) a.parts a.at a.body.now l.i l.s (part_in l.binds) (omega arith) c.step.result (part_in c.step.new.binds) c.step.ensures.told _ c.in_ok-t.was in
     omega (arith, operands-fit)
 
-pub overflow_add-i-in-loop-i-2 : goal.overflow_add-i-in-loop-i-2
-overflow_add-i-in-loop-i-2 c =
+pub overflow_add-i : goal.overflow_add-i
+overflow_add-i c =
     let operands-fit : c.loop-i.i + 1 + c.in_ok-t.size ≤ length c.args.body.now = let l = c.loop-i in let a = c.args in
-    laws.walk_size a.end a.cmds.now (segments_of a.cmds.now a.count) a.parts a.at a.body.now l.i l.s (part l.records l.binds) (omega arith) c.step.result c.step.new.binds c.step.ensures _ c.in_ok-t.was in
+    laws.walk_size a.end a.cmds.now (segments_of a.cmds.now a.count) a.parts a.at a.body.now l.i l.s (part_in l.binds) (omega arith) c.step.result (part_in c.step.new.binds) c.step.ensures.told _ c.in_ok-t.was in
     omega (arith, operands-fit)
 
 pub loop-i-smaller : goal.loop-i-smaller
 loop-i-smaller c =
     let operands-fit : c.loop-i.i + 1 + c.in_ok-t.size ≤ length c.args.body.now = let l = c.loop-i in let a = c.args in
-    laws.walk_size a.end a.cmds.now (segments_of a.cmds.now a.count) a.parts a.at a.body.now l.i l.s (part l.records l.binds) (omega arith) c.step.result c.step.new.binds c.step.ensures _ c.in_ok-t.was in
+    laws.walk_size a.end a.cmds.now (segments_of a.cmds.now a.count) a.parts a.at a.body.now l.i l.s (part_in l.binds) (omega arith) c.step.result (part_in c.step.new.binds) c.step.ensures.told _ c.in_ok-t.was in
     omega (arith, operands-fit)
 
 pub loop-i-preserved : goal.loop-i-preserved
 loop-i-preserved c =
     let l = c.loop-i in let a = c.args in
-    (l.invariant.0 ∙ laws.walk_on a.end a.cmds.now (segments_of a.cmds.now a.count) a.parts a.at a.body.now l.i l.s (part l.records l.binds) (omega arith) c.step.result c.step.new.binds c.step.ensures _ c.in_ok-t.was, c.step.auto.binds ∙ l.invariant.1)
+    (l.invariant.0 ∙ laws.walk_on a.end a.cmds.now (segments_of a.cmds.now a.count) a.parts a.at a.body.now l.i l.s (part_in l.binds) (omega arith) c.step.result (part_in c.step.new.binds) c.step.ensures.told _ c.in_ok-t.was, laws.kept_on _ _ _ l.invariant.1 c.step.ensures.kept)
 
-pub returns-in_err-t : goal.returns-in_err-t
-returns-in_err-t c =
+pub returns-in_err-t-clause-told : goal.returns-in_err-t-clause-told
+returns-in_err-t-clause-told c =
     let l = c.loop-i in let a = c.args in
     let p = err_from_is_err_and c.from_residual.result c.from_residual.ensures.1 in
-    rw (p.1, p.2) (laws.walk_refused a.end a.cmds.now (segments_of a.cmds.now a.count) a.parts a.at a.body.now l.i l.s (part l.records l.binds) (omega arith) c.step.result c.step.new.binds c.step.ensures _ c.in_err-t.was ∙ sym l.invariant.0)
+    rw (p.1, p.2) (laws.walk_refused a.end a.cmds.now (segments_of a.cmds.now a.count) a.parts a.at a.body.now l.i l.s (part_in l.binds) (omega arith) c.step.result (part_in c.step.new.binds) c.step.ensures.told _ c.in_err-t.was ∙ sym l.invariant.0)
 
-pub returns : goal.returns
-returns c =
+pub returns-clause-told : goal.returns-clause-told
+returns-clause-told c =
     let l = c.loop-i in let a = c.args in
-    laws.walk_done a.end a.cmds.now (segments_of a.cmds.now a.count) a.parts (a.at + l.i) a.body.now l.i l.s (part l.records l.binds) c.loop-i-test.false ∙ sym l.invariant.0
+    laws.walk_done a.end a.cmds.now (segments_of a.cmds.now a.count) a.parts (a.at + l.i) a.body.now l.i l.s (part_in l.binds) c.loop-i-test.false ∙ sym l.invariant.0

@@ -1,19 +1,21 @@
+use Rattle.std.proofs.lemmas.Result.{err_from_is_err_and}
 use Rattle.pointers.proofs.Opens.{open_room, open_info, open_index, open_refused, open_kept}
 use Rattle.pointers.proofs.open.open.Goals as goal
 
 pub fill_index-requires : goal.fill_index-requires
-fill_index-requires c = open_room _ _ c.ask_opening.ensures c.in-Ok.is
+fill_index-requires c = open_room _ _ c.ask_opening.ensures c.in_ok-ask_opening.was
 
-pub returns-in-Ok : goal.returns-in-Ok
-returns-in-Ok c =
+pub returns : goal.returns
+returns c =
     record {
-      outcome = open_info _ _ c.ask_opening.ensures c.in-Ok.is _ c.parse.ensures;
-      contents = open_index _ _ c.ask_opening.ensures c.in-Ok.is _ c.fill_index.ensures;
+      outcome = open_info _ _ c.ask_opening.ensures c.in_ok-ask_opening.was _ c.parse.ensures;
+      contents = open_index _ _ c.ask_opening.ensures c.in_ok-ask_opening.was _ c.fill_index.ensures;
     }
 
-pub returns-in-Err : goal.returns-in-Err
-returns-in-Err c =
+pub returns-in_err-ask_opening : goal.returns-in_err-ask_opening
+returns-in_err-ask_opening c =
+    let p = err_from_is_err_and c.from_residual.result c.from_residual.ensures.1 in
     record {
-      outcome = open_refused _ _ c.ask_opening.ensures _ c.in-Err.is;
-      contents = open_kept _ _ c.ask_opening.ensures _ c.in-Err.is;
+      outcome = rw (p.1, p.2) (open_refused _ _ c.ask_opening.ensures _ c.in_err-ask_opening.was);
+      contents = open_kept _ _ c.ask_opening.ensures _ c.in_err-ask_opening.was;
     }

@@ -10,7 +10,6 @@ use Rattle.printing.specs.BundleText.{index_words}
 use Rattle.printing.specs.BundleLent.{tables_over}
 use Rattle.printing.proofs.BundleParts.{parts_files}
 use Rattle.printing.proofs.bundle.open_counted.Goals as goal
-use Rattle.reads.specs.Answer.{outcome}
 
 pub returns : goal.returns
 unfolding files_lent

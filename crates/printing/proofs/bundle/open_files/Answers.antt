@@ -1,7 +1,6 @@
 use Rattle.reads.specs.Files.{files_lent}
 use Rattle.printing.proofs.BundleParts.{parts_tables, parts_opened}
 use Rattle.printing.proofs.bundle.open_files.Goals as goal
-use Rattle.reads.specs.Answer.{outcome}
 
 pub returns : goal.returns
 returns c =

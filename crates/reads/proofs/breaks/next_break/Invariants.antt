@@ -8,4 +8,4 @@ use Rattle.reads.specs.Breaks.{next_break, breaks}
 use Rattle.reads.proofs.breaks.next_break.Given as goal
 
 abbrev pub invariant-loop-i : goal.invariant-loop-i
-invariant-loop-i l = lowest l.va l.best (breaks (files_lent l.files) l.least (rows_from l.segments l.i)) ≡ next_break (breaks (files_lent l.files) l.least (rows l.segments)) l.va
+invariant-loop-i l = lowest l.va l.best (breaks (files_lent l.image-inside.files.now) l.least (rows_from l.image-inside.segments.now l.i)) ≡ next_break (breaks (files_lent l.image-inside.files.now) l.least (rows l.image-inside.segments.now)) l.va

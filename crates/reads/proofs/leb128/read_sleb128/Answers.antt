@@ -4,10 +4,10 @@ use Rattle.reads.proofs.leb128.read_sleb128.Goals as goal
 
 pub slice_bounds-sleb_of-end : goal.slice_bounds-sleb_of-end
 slice_bounds-sleb_of-end c =
-    let b = digit_count_bounds _ c.args.bytes.now _ c.digit_count.ensures c.in-Ok.is in
+    let b = digit_count_bounds _ c.args.bytes.now _ c.digit_count.ensures c.in_ok-k.was in
     simp length-take (omega arith)
 
 pub sleb_of-requires : goal.sleb_of-requires
 sleb_of-requires c =
-    let b = digit_count_bounds _ c.args.bytes.now _ c.digit_count.ensures c.in-Ok.is in
+    let b = digit_count_bounds _ c.args.bytes.now _ c.digit_count.ensures c.in_ok-k.was in
     simp length-take (omega arith)

@@ -4,5 +4,5 @@ use Rattle.reads.proofs.leb128.read_uleb128.Goals as goal
 
 pub slice_bounds-uleb_of-end : goal.slice_bounds-uleb_of-end
 slice_bounds-uleb_of-end c =
-    let b = digit_count_bounds _ c.args.bytes.now _ c.digit_count.ensures c.in-Ok.is in
+    let b = digit_count_bounds _ c.args.bytes.now _ c.digit_count.ensures c.in_ok-k.was in
     simp length-take (omega arith)

@@ -1,6 +1,6 @@
 use mathlib.Core.Path.{refl}
 use Rattle.records.specs.Class.{decode_class_name_of}
-use Rattle.reads.proofs.Outcomes.{first_absent, first_number, first_value_lem, text_because_of}
+use Rattle.reads.proofs.Outcomes.{first_absent, first_number, first_value_lem, because_of}
 use Rattle.records.proofs.class.class_name_of.Goals as goal
 use Rattle.reads.specs.Answer.{outcome}
 
@@ -13,7 +13,7 @@ unfolding decode_class_name_of
 returns-in-Absent c =
     let decoded = c.decoded_name in
     first_absent outcome _ decoded.ensures c.in-Err.is (rw c.in-Absent.is)
-    (text_because_of c.text_because.result c.bound_name.result c.in-Absent.why _ c.text_because.ensures c.bound_name.ensures)
+    (because_of c.because.result c.bound_name.result c.in-Absent.why _ c.because.ensures c.bound_name.ensures)
 
 pub returns-in-Refused : goal.returns-in-Refused
 unfolding decode_class_name_of

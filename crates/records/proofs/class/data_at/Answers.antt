@@ -7,7 +7,7 @@ pub returns-then-is_absent : goal.returns-then-is_absent
 unfolding decode_data
 returns-then-is_absent c =
     let target = c.rebase_at-target in
-    when_absent outcome _ target.result target.ensures c.is_absent.ensures c.if-is_absent.true c.pick.ensures
+    when_absent outcome _ target.result target.ensures c.is_absent.ensures c.if-is_absent.true (rw (← c.segments.ensures) c.pick.ensures)
 
 pub returns : goal.returns
 unfolding decode_data

@@ -20,12 +20,12 @@ unfolding decode_protocol_list
 returns-in_default-readable c =
     noting.test_next _ (asks.nonzero c.args.va) _ outcome c.in-Ok.is _ _ c.nonzero.ensures refl refl
     (noting.test_next _ (asks.even c.args.va) _ outcome c.in-Ok-even_list.is _ _ c.even_list.ensures refl refl
-    (noting.test_stop _ (asks.readable c.args.va 8) _ outcome c.in_default-readable.is c.in_default-readable.field-0 _ c.readable.ensures refl refl))
+    (noting.test_stop _ (asks.readable c.args.va 8) _ outcome c.in_default-readable.is c.in_default-readable.field-0 _ (rw c.image.ensures at c.readable.ensures) refl refl))
 
 pub returns : goal.returns
 unfolding decode_protocol_list
 returns c =
     noting.test_next _ (asks.nonzero c.args.va) _ outcome c.in-Ok.is _ _ c.nonzero.ensures refl refl
     (noting.test_next _ (asks.even c.args.va) _ outcome c.in-Ok-even_list.is _ _ c.even_list.ensures refl refl
-    (noting.test_next _ (asks.readable c.args.va 8) _ outcome c.in-Ok-readable.is _ _ c.readable.ensures refl refl
+    (noting.test_next _ (asks.readable c.args.va 8) _ outcome c.in-Ok-readable.is _ _ (rw c.image.ensures at c.readable.ensures) refl refl
     (noting.field_last _ (asks.u64_in c.in-Ok-readable.place 0) _ _ c.note_field.ensures (λ _. noting.sum_none _ c.args.va 8 _))))

@@ -1,5 +1,3 @@
-use Rattle.reads.specs.Files.{files_lent}
-use Rattle.pointers.specs.Tables.{tables_of}
 use Rattle.listing.specs.Listing.{step_at}
 use Rattle.listing.proofs.ListingSteps.{step_at_lem, step_ro}
 use Rattle.listing.proofs.listing.Listing.next.Goals as goal
@@ -12,14 +10,14 @@ returns-in-Section c = step_at_lem _ _ _ c.in-Section.is c.section_step.ensures
 
 pub returns-in-Record : goal.returns-in-Record
 unfolding step_at
-returns-in-Record c = step_at_lem (tables_of (files_lent c.args.files.now) c.args.segments.now c.args.sections.now c.args.info.now c.args.rebases.now c.args.binds.now c.args.index.now) _ _ c.in-Record.is (c.record_step.ensures _)
+returns-in-Record c = step_at_lem c.args.tables.now _ _ c.in-Record.is (c.record_step.ensures _)
 
 pub returns-in-Ro : goal.returns-in-Ro
 returns-in-Ro c = step_at_lem _ _ _ c.in-Ro.is (step_ro _ _ _ _ c.ro-answer.ensures (c.ro_said.ensures _))
 
 pub returns-in-List : goal.returns-in-List
 unfolding step_at
-returns-in-List c = step_at_lem (tables_of (files_lent c.args.files.now) c.args.segments.now c.args.sections.now c.args.info.now c.args.rebases.now c.args.binds.now c.args.index.now) _ _ c.in-List.is (c.list_step.ensures _)
+returns-in-List c = step_at_lem c.args.tables.now _ _ c.in-List.is (c.list_step.ensures _)
 
 pub returns-in-End : goal.returns-in-End
 returns-in-End c = step_at_lem _ _ _ c.in-End.is (c.ended.ensures _)

@@ -1,10 +1,11 @@
+use borrow.Author.Rules.{rules}
 use Rattle.listing.proofs.listing.Listing.ro_said.Goals as goal
 
 pub returns-in-Ok : goal.returns-in-Ok
-returns-in-Ok c = λ l. rw (c.in-Ok.is, c.says.ensures l, c.go_to-listing.ensures, c.enter-lists.ensures)
+returns-in-Ok c = λ l. let said = c.says.ensures l in search rules
 
-pub returns-in-Absent : goal.returns-in-Absent
-returns-in-Absent c = λ l. rw (c.in-Err.is, c.in-Absent.is, c.lacks.ensures l, c.go_to-listing-in-Absent.ensures)
+pub returns-in-Err-Absent : goal.returns-in-Err-Absent
+returns-in-Err-Absent c = λ l. let said = c.lacks.ensures l in search rules
 
-pub returns-in-Refused : goal.returns-in-Refused
-returns-in-Refused c = λ l. rw (c.in-Err.is, c.in-Refused.is) (c.refused.ensures l)
+pub returns-in-Err-Refused : goal.returns-in-Err-Refused
+returns-in-Err-Refused c = λ l. let said = c.refused.ensures l in search rules

@@ -1,16 +1,17 @@
+use borrow.Author.Rules.{rules}
 use Rattle.listing.proofs.listing.Listing.row_said.Goals as goal
 
-pub returns-in-Row : goal.returns-in-Row
-returns-in-Row c = λ l. rw (c.in-Step.is, c.in-Row.is, c.says.ensures l, c.with_entry-listing.ensures)
+pub returns-in-Ok-Row : goal.returns-in-Ok-Row
+returns-in-Ok-Row c = λ l. let said = c.says.ensures l in search rules
 
-pub returns-in-Skipped : goal.returns-in-Skipped
-returns-in-Skipped c = λ l. rw (c.in-Step.is, c.in-Skipped.is, c.lacks.ensures l, c.with_entry-listing-in-Skipped.ensures)
+pub returns-in-Ok-Skipped : goal.returns-in-Ok-Skipped
+returns-in-Ok-Skipped c = λ l. let said = c.lacks.ensures l in search rules
 
-pub returns-in-Finished : goal.returns-in-Finished
-returns-in-Finished c = λ l. rw (c.in-Step.is, c.in-Finished.is) (c.next_list.ensures l)
+pub returns-in-Ok-Finished : goal.returns-in-Ok-Finished
+returns-in-Ok-Finished c = λ l. let said = c.next_list.ensures l in search rules
 
-pub returns-in-Refused : goal.returns-in-Refused
-returns-in-Refused c = λ l. rw (c.in-Step.is, c.in-Refused.is) (c.refused.ensures l)
+pub returns-in-Err-Absent : goal.returns-in-Err-Absent
+returns-in-Err-Absent c = λ l. let said = c.next_list-in-Err-Absent.ensures l in search rules
 
-pub returns-in-Absent : goal.returns-in-Absent
-returns-in-Absent c = λ l. rw c.in-Absent.is (c.next_list-in-Absent.ensures l)
+pub returns-in-Err-Refused : goal.returns-in-Err-Refused
+returns-in-Err-Refused c = λ l. let said = c.refused.ensures l in search rules

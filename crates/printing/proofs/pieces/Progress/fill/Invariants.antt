@@ -1,7 +1,5 @@
 use mathlib.Core.Path.{◌≡◌}
 use lib.ListN.{length}
-use Rattle.reads.specs.Files.{files_lent}
-use Rattle.pointers.specs.Tables.{tables_of}
 use Rattle.printing.specs.Pieces.{standing_of}
 use Rattle.printing.proofs.Comes.{left_in}
 use Rattle.printing.proofs.Fills.{Filling}
@@ -9,7 +7,7 @@ use Rattle.printing.proofs.pieces.Progress.fill.Given as goal
 
 abbrev pub invariant-loop-out : goal.invariant-loop-out
 invariant-loop-out l = (length l.ledger ≡ length l.initial.ledger)
-    × Filling (tables_of (files_lent l.files) l.segments l.sections l.info l.rebases l.binds l.index) (standing_of l.initial.progress l.initial.ledger) l.initial.out (standing_of l.progress l.ledger) l.out l.at
+    × Filling l.tables (standing_of l.initial.progress l.initial.ledger) l.initial.out (standing_of l.progress l.ledger) l.out l.at
 
 abbrev pub decreases-loop-out : goal.decreases-loop-out
 decreases-loop-out l = left_in (standing_of l.progress l.ledger)

@@ -11,8 +11,8 @@ settle-requires c = let e = sym c.first_readable.ensures ∙ c.in-Some.is in (fo
 
 pub returns-in-Some : goal.returns-in-Some
 unfolding over_rows
-returns-in-Some c = list_on _ _ _ _ _ refl (search rules) (rw (sym c.first_readable.ensures ∙ c.in-Some.is) c.settle.ensures)
+returns-in-Some c = list_on _ _ _ _ _ refl (search rules) (rw (← c.image.ensures, ← c.first_readable.ensures, c.in-Some.is) c.settle.ensures)
 
 pub returns-in-None : goal.returns-in-None
 unfolding over_rows
-returns-in-None c = list_on _ _ _ _ _ refl (search rules) (rw (sym c.first_readable.ensures ∙ c.in-None.is) c.at.ensures)
+returns-in-None c = list_on _ _ _ _ _ refl (search rules) (rw (← c.image.ensures, ← c.first_readable.ensures, c.in-None.is) c.at.ensures)

@@ -6,4 +6,4 @@ use Rattle.walks.proofs.section_slots.ClassSlots.next_meta.Goals as goal
 use Rattle.reads.specs.Answer.{answered}
 
 pub returns-in-Err : goal.returns-in-Err
-returns-in-Err c = λ l e. waiting_no classes _ _ l (rw e (outcome_told answered c.ask_ledger.ensures c.in-Err.is)) refl
+returns-in-Err c = λ l e. waiting_no classes _ _ l (rw e (outcome_told answered c.ask_ledger.ensures.asked c.in-Err.is)) refl

@@ -1,7 +1,0 @@
-use Rattle.records.proofs.ivar.or_none.Goals as goal
-
-pub returns-in-Absent : goal.returns-in-Absent
-returns-in-Absent c = rw c.in-Absent.is
-
-pub returns-in-Refused : goal.returns-in-Refused
-returns-in-Refused c = rw c.in-Refused.is

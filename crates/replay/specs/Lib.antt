@@ -1,2 +1,0 @@
--- The definitions that the contracts of replay cite.
-pub mod Parts
