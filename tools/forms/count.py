@@ -53,7 +53,7 @@ for name, text in files(r'^crates/[a-z_]+/src/.*\.rt$'):
     for m in re.finditer(r'^([ ]*)(while\b[^\n]*|loop) \{\n(.*?)^\1\}', code, re.M | re.S):
         if re.search(r'^\s*\w+ [+-]= 1;', m.group(3), re.M):
             found['index'].append(f'{name}: {m.group(2)}')
-    for m in re.finditer(r'^([ ]*)(?:pub(?:\([a-z]+\))? )?(?:extern "C" )?fn (\w+)(?:<[^>]*>)?\((.*?)\n?\1?\)(?: -> [^\n{]*)?\n(.*?)^\1\}', code, re.M | re.S):
+    for m in re.finditer(r'^([ ]*)(?:pub(?:\([a-z]+\))? )?(?:extern "C" )?fn (\w+)(?:<[^>]*>)?\(((?:[^()]|\([^()]*\))*)\)(?: -> [^\n{]*)?(?: \{)?\n(.*?)^\1\}', code, re.M | re.S):
         fn, params, rest = m.group(2), m.group(3), m.group(4)
         held = [p for p in LENT if re.search(r'\b' + p + r':', params)]
         if len(held) >= 3:
