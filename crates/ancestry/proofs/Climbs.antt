@@ -1,12 +1,13 @@
 -- A climb under way: where it has come to, and a class that it passed.
 use Prim.Native.Nat.{ℕ, ◌+◌, ◌*◌, ◌^◌, ◌≤◌, ◌<◌}
 use mathlib.Core.Path.{◌≡◌, refl, sym, ap, ◌∙◌}
-use mathlib.Core.Bool.{false}
+use mathlib.Core.Bool.{true, false}
 use native.Mathlib.Omega.{arith}
 use native.Mathlib.Numerals.{add-one}
 use native.Mathlib.Nat.{mul-le-mul}
-use Rattle.reads.specs.Outcome.{value, absent, refused, or_else}
-use Rattle.reads.specs.Answer.{missed}
+use Rattle.std.specs.Prelude.{cond, Result, Ok, Err}
+use Rattle.reads.specs.Outcome.{Outcome, value, absent, refused, or_else}
+use Rattle.reads.specs.Answer.{missed, outcome}
 use Rattle.reads.specs.declared.answer.Missing.{Missing}
 use Rattle.reads.specs.declared.answer.Missing.TheVariants.{Absent, Refused}
 use Rattle.reads.specs.Table.{records}
@@ -17,6 +18,7 @@ use Rattle.pointers.specs.Question.{asked}
 use Rattle.pointers.proofs.Rooms.{tables_room, asked_tables_lem}
 use Rattle.records.specs.Class.{class_at}
 use Rattle.records.specs.declared.class.ObjcClass.{ObjcClass}
+use Rattle.ancestry.specs.Asked.{passes}
 use Rattle.ancestry.specs.Chain.{above, ended, looping, last_at, climb}
 use Rattle.ancestry.specs.Ancestry.{super_at, up_in, limit_of, limit}
 use Rattle.ancestry.proofs.Chain.{above_more, climb_ends, climb_refused, climb_loops}
@@ -48,15 +50,35 @@ module _ (t : Tables) where
           holds = w.holds;
         }
 
-    pub climbing_held : Climbing t a at count at.address
-    climbing_held = record { leads = w.leads; decoded = w.decoded; passed = count; behind = omega arith; holds = w.leads }
+    -- By what the code found above: a class, which may be held from there on; the class that was held; or none.
+    module _ {r : Result ObjcClass Missing} (o : outcome r ≡ super_at t at) where
+      above_is : {up : ObjcClass} → r ≡ Ok up → super_at t at ≡ value up
+      above_is e = sym o ∙ ap outcome e
 
-    -- The class that was held comes back.
-    pub climbing_back : (up : ObjcClass) → super_at t at ≡ value up → up.address ≡ held → value looping ≡ climb (up_in t) (limit t) a 0 0
-    climbing_back up e same =
-        let v = climbing_up up e in
-        let f : above (up_in t) (count + 1) a ≡ value held = v.leads ∙ ap value same in
-        sym (loops_told (up_in t) (limit t) a (comes_back (up_in t) a w.passed (count + 1) held (omega (arith, w.behind)) w.holds f))
+      pub climbing_next : {up : ObjcClass} → r ≡ Ok up → {kept : ℕ} → kept ≡ held → Climbing t a up (count + 1) kept
+      climbing_next {up} e k = rw k (climbing_up up (above_is e))
+
+      pub climbing_hold : {up : ObjcClass} → r ≡ Ok up → {kept : ℕ} → kept ≡ up.address → Climbing t a up (count + 1) kept
+      climbing_hold {up} e k = let v = climbing_up up (above_is e) in rw k (record { leads = v.leads; decoded = v.decoded; passed = count + 1; behind = omega arith; holds = v.leads })
+
+      pub climbing_back : {up : ObjcClass} → r ≡ Ok up → up.address ≡ held → value looping ≡ climb (up_in t) (limit t) a 0 0
+      climbing_back {up} e same =
+          let v = climbing_up up (above_is e) in
+          let f : above (up_in t) (count + 1) a ≡ value held = v.leads ∙ ap value same in
+          sym (loops_told (up_in t) (limit t) a (comes_back (up_in t) a w.passed (count + 1) held (omega (arith, w.behind)) w.holds f))
+
+      pub climbing_stopped : {m : Missing} → r ≡ Err m → count < limit t
+          → or_else (missed m) (value (ended count (last_at count 0 at.address))) ≡ climb (up_in t) (limit t) a 0 0
+      climbing_stopped {m} e h = go m (sym o ∙ ap outcome e)
+        where
+          go : (m : Missing) → super_at t at ≡ missed m → or_else (missed m) (value (ended count (last_at count 0 at.address))) ≡ climb (up_in t) (limit t) a 0 0
+          go (Absent why) e =
+              let s : up_in t at.address ≡ absent why = up_of t at.address at w.decoded ∙ rw e in
+              let nought : 0 + count ≡ count = omega arith in
+              sym (rw nought at (climb_ends (up_in t) (limit t) count a 0 0 at.address w.leads s h))
+          go (Refused k) e =
+              let s : up_in t at.address ≡ refused k = up_of t at.address at w.decoded ∙ rw e in
+              sym (climb_refused (up_in t) (limit t) count a 0 0 at.address k w.leads s h)
 
     -- As many steps as can be.
     pub climbing_far : limit t ≤ count → count ≤ limit t → value looping ≡ climb (up_in t) (limit t) a 0 0
@@ -64,24 +86,18 @@ module _ (t : Tables) where
         let same : count ≡ limit t = omega arith in
         sym (climb_loops (up_in t) (limit t) a 0 0 at.address (rw same at w.leads))
 
-    -- There is no class above.
-    pub climbing_stopped : (m : Missing) → super_at t at ≡ missed m → count < limit t
-        → or_else (missed m) (value (ended count (last_at count 0 at.address))) ≡ climb (up_in t) (limit t) a 0 0
-    climbing_stopped (Absent r) e h =
-        let s : up_in t at.address ≡ absent r = up_of t at.address at w.decoded ∙ rw e in
-        let nought : 0 + count ≡ count = omega arith in
-        sym (rw nought at (climb_ends (up_in t) (limit t) count a 0 0 at.address w.leads s h))
-    climbing_stopped (Refused k) e h =
-        let s : up_in t at.address ≡ refused k = up_of t at.address at w.decoded ∙ rw e in
-        sym (climb_refused (up_in t) (limit t) count a 0 0 at.address k w.leads s h)
-
 -- The limit fits a word.
 pub limit_fits : (x y : ℕ) → x ≤ 64 → y < 2 ^ 32 → x * y ≤ 64 * 4294967296
 limit_fits x y h l = let m : y ≤ 4294967296 = omega arith in mul-le-mul h m
 
-module _ (t : Tables) (passes : asked t ≡ value tt) where
+pub passed : (o : Outcome (Unit {0})) → passes o ≡ true → o ≡ value tt
+passed (value u) e = refl
+passed (absent why) e = let z : ◌≡◌ {A = ℕ} 0 1 = ap (λ b. cond b 1 0) e in absurd (omega arith)
+passed (refused k) e = let z : ◌≡◌ {A = ℕ} 0 1 = ap (λ b. cond b 1 0) e in absurd (omega arith)
+
+module _ (t : Tables) (yes : passes (asked t) ≡ true) where
   pub limit_room : (longest t.files < 2 ^ 32) × (records segment_words t.segments ≤ 64)
-  limit_room = let room = tables_room t tt (asked_tables_lem t tt passes) in (room.image_length, room.segment_count)
+  limit_room = let room = tables_room t tt (asked_tables_lem t tt (passed (asked t) yes)) in (room.image_length, room.segment_count)
 
   pub limit_small : limit t ≤ 64 * 4294967296
   unfolding limit_of

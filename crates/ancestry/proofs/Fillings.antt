@@ -3,21 +3,25 @@ use Prim.Native.Nat.{ℕ, suc, ◌+◌, ◌-◌, ◌*◌, ◌≤◌, ◌<◌}
 use mathlib.Core.Path.{◌≡◌, refl, sym, ap, ◌∙◌}
 use mathlib.Core.List.{List, [], ◌∷◌, ◌++◌, append_assoc, flat_map}
 use native.Mathlib.Omega.{arith}
-use native.Mathlib.Numerals.{add-one}
-use lib.ListN.{length, get_or, drop, drop_of_length-le}
+use lib.ListN.{length, get_or, set, take, drop, length-take}
 use borrow.Rule.Slice.PartMut.{put_mid}
-use lib.Seq.{drop-cons, drop-drop, sets, length-sets, sets-eq}
-use Rattle.std.specs.Prelude.{Result, Ok, Err}
+use lib.Seq.{take_all, drop-drop, sets, length-sets, sets-eq}
+use Rattle.std.specs.Prelude.{Result, Ok, Err, Option}
+use Rattle.std.specs.List.{filter_map, cons_option, enumerate_from}
+use Rattle.std.specs.Result.{result_ok}
+use Rattle.std.proofs.lemmas.List.{take_more}
+use Rattle.std.proofs.lemmas.List.FromFn.{length-enumerate_from, get_or-enumerate_from}
+use Rattle.std.proofs.lemmas.Grind.{flat_map-append}
 use Rattle.reads.specs.Outcome.{Outcome, value, absent, refused, and_then}
-use Rattle.reads.specs.Answer.{missed, outcome}
+use Rattle.reads.specs.Answer.{outcome}
 use Rattle.reads.specs.declared.answer.Missing.{Missing}
 use Rattle.reads.specs.declared.answer.Missing.TheVariants.{Absent, Refused}
 use Rattle.reads.proofs.Outcomes.{then_came}
 use Rattle.walks.specs.Gather.{gather, present}
 use Rattle.ancestry.specs.Ancestry.{words_of, written_by}
-use Rattle.ancestry.specs.Filling.{through, put}
+use Rattle.ancestry.specs.Filling.{through, found, put, Fits}
 use Rattle.ancestry.specs.declared.class_chain.Ancestry.{Ancestry}
-use Rattle.ancestry.proofs.Chain.{absent_value, number_value}
+use Rattle.ancestry.proofs.Chain.{number_value}
 
 abbrev records : List Ancestry → List ℕ
 records xs = flat_map words_of xs
@@ -50,85 +54,88 @@ pub put_words : (out : List ℕ) (at : ℕ) (a : Ancestry) → at + 3 ≤ length
 unfolding put
 put_words out at a h e = rw e (copied out at (at + 3 - at) (words_of a) (omega arith) h)
 
--- From the start to class i, `at` words of the buffer are written.
-pub record Filling (one : ℕ → Outcome Ancestry) (addresses out₀ : List ℕ) (i at : ℕ) (out : List ℕ) : Type 0 where
-  pub all : List Ancestry
-  pub whole : through one addresses ≡ value all
-  pub rest : List Ancestry
-  pub left : through one (drop i addresses) ≡ value rest
-  pub room : at + length rest * 3 ≤ length out
-  pub enough : length all * 3 ≤ length out₀
-  pub same : sets out at (records rest) ≡ sets out₀ 0 (records all)
-  pub size : length out ≡ length out₀
+-- What is found of an answer.
+pub outcome_found : (r : Result Ancestry Missing) (o : Outcome Ancestry) → outcome r ≡ o → {f : Option Ancestry} → f ≡ result_ok r → f ≡ found o
+outcome_found (Ok a) o e g = rw (← e) g
+outcome_found (Err (Absent r)) o e g = rw (← e) g
+outcome_found (Err (Refused k)) o e g = rw (← e) g
 
-module _ (one : ℕ → Outcome Ancestry) (addresses out₀ : List ℕ) where
-  module _ (i at : ℕ) (out : List ℕ) (w : Filling one addresses out₀ i at out) where
-    pub filling_end : length addresses ≤ i → out ≡ (written_by (through one addresses) out₀).result
-    filling_end h =
-        let none : through one [] ≡ value w.rest = ap (through one) (sym (drop_of_length-le addresses {i = i} h)) ∙ w.left in
-        rw w.whole (ends w.rest none w.same ∙ sets_all out₀ w.all w.enough)
-      where
-        ends : (rest : List Ancestry) → through one [] ≡ value rest → sets out at (records rest) ≡ sets out₀ 0 (records w.all)
-            → out ≡ sets out₀ 0 (records w.all)
-        ends [] e f = unfold flat_map in f
-        ends (x ∷ xs) e f = unfold gather in absurd (omega (arith, ap length (nil e)))
-          where
-            nil : value [] ≡ value (x ∷ xs) → [] ≡ x ∷ xs
-            nil g = cc
+-- Where none is refused, the records are what is found.
+through_found : (one : ℕ → Outcome Ancestry) (addresses : List ℕ) (all : List Ancestry) → through one addresses ≡ value all
+    → filter_map (λ a. found (one a)) addresses ≡ all
+unfolding gather
+through_found one [] all e = let g : [] ≡ all = cc in g
+through_found one (a ∷ rest) all e = go (one a) (through_found one rest) e
+  where
+    go : (o : Outcome Ancestry) → ((ys : List Ancestry) → through one rest ≡ value ys → filter_map (λ a. found (one a)) rest ≡ ys)
+        → and_then (present o) (λ xs. and_then (through one rest) (λ ys. value (xs ++ ys))) ≡ value all
+        → cons_option (found o) (filter_map (λ a. found (one a)) rest) ≡ all
+    go (value x) later f =
+        let r = then_came (through one rest) (λ ys. value (x ∷ ys)) all f in
+        let g : x ∷ r.0 ≡ all = cc in
+        ap (λ ys. x ∷ ys) (later r.0 r.1) ∙ g
+    go (absent r) later f =
+        let r = then_came (through one rest) (λ ys. value ([] ++ ys)) all f in
+        let g : r.0 ≡ all = cc in
+        later r.0 r.1 ∙ g
+    go (refused k) later f = number_value f
 
-    module _ (h : i < length addresses) where
-      abbrev a : ℕ
-      a = get_or addresses i 0
+-- The buffer with the first n of the records that are found.
+abbrev pub found_all : (ℕ → Outcome Ancestry) → List ℕ → List Ancestry
+found_all one addresses = filter_map (λ a. found (one a)) addresses
 
-      abbrev later : List ℕ
-      later = drop (i + 1) addresses
+abbrev pub written_to : (ℕ → Outcome Ancestry) → List ℕ → List ℕ → ℕ → List ℕ
+written_to one addresses out₀ n = sets out₀ 0 (records (take n (found_all one addresses)))
 
-      -- The records from class i on, by its own.
-      taken : and_then (present (one a)) (λ xs. and_then (through one later) (λ ys. value (xs ++ ys))) ≡ value w.rest
-      taken = unfold gather in rw add-one (ap (through one) (sym (drop-cons addresses i 0 h)) ∙ w.left)
+sets_append : (l a b : List ℕ) (i : ℕ) → sets l i (a ++ b) ≡ sets (sets l i a) (i + length a) b
+sets_append l [] b i = let same : i + 0 ≡ i = omega arith in rw same
+sets_append l (x ∷ a) b i =
+    let same : i + suc (length a) ≡ suc i + length a = omega arith in
+    rw same (sets_append (set l i x) a b (suc i))
 
-      then_records : (o : Outcome Ancestry) (x : Ancestry) → o ≡ value x
-          → and_then (present o) (λ xs. and_then (through one later) (λ ys. value (xs ++ ys))) ≡ value w.rest
-          → (ys : List Ancestry) × (through one later ≡ value ys) × (x ∷ ys ≡ w.rest)
-      then_records o x e f =
-          let g : and_then (through one later) (λ ys. value (x ∷ ys)) ≡ value w.rest = rw e at f in
-          let c = then_came (through one later) (λ ys. value (x ∷ ys)) w.rest g in
-          (c.0, c.1, rest_is c.0 c.2)
-        where
-          rest_is : (ys : List Ancestry) → value (x ∷ ys) ≡ value w.rest → x ∷ ys ≡ w.rest
-          rest_is ys k = cc
+pub filled_none : (one : ℕ → Outcome Ancestry) (addresses out₀ : List ℕ) → out₀ ≡ written_to one addresses out₀ 0
+unfolding flat_map
+filled_none one addresses out₀ = refl
 
-      pub filling_room : (x : Ancestry) → one a ≡ value x → at + 3 ≤ length out
-      filling_room x e =
-          let r = then_records (one a) x e taken in
-          omega (arith, w.room, ap length r.2)
+-- The next of the records, and its number.
+abbrev pub Turn : (ℕ → Outcome Ancestry) → List ℕ → ℕ → ℕ → Ancestry → Type 0
+Turn one addresses n k a =
+    let all = enumerate_from 0 (found_all one addresses) in
+    (n < length all) × ((k, a) ≡ get_or all n (k, a))
 
-      pub filling_found : (x : Ancestry) → one a ≡ value x → Filling one addresses out₀ (i + 1) (at + 3) (put out at x)
-      filling_found x e =
-          let r = then_records (one a) x e taken in
-          record {
-            all = w.all;
-            whole = w.whole;
-            rest = r.0;
-            left = r.1;
-            room = rw (length_put out at x) (omega (arith, w.room, ap length r.2));
-            enough = w.enough;
-            same = sym (sets_more out at x r.0) ∙ ap (λ (xs : List Ancestry). sets out at (records xs)) r.2 ∙ w.same;
-            size = length_put out at x ∙ w.size;
-          }
+turned : (one : ℕ → Outcome Ancestry) (addresses : List ℕ) (n k : ℕ) (a : Ancestry) → Turn one addresses n k a
+    → (n < length (found_all one addresses)) × (k ≡ n) × (a ≡ get_or (found_all one addresses) n a)
+turned one addresses n k a t =
+    let all = found_all one addresses in
+    let h : n < length all = omega (arith, t.0, length-enumerate_from 0 all) in
+    let e : (k, a) ≡ (0 + n, get_or all n a) = t.1 ∙ get_or-enumerate_from 0 all n (k, a) h in
+    let number : k ≡ 0 + n = ap (λ p. p.0) e in
+    (h, omega arith, ap (λ p. p.1) e)
 
-      -- One that does not decode has no record; none is refused.
-      pub filling_missing : (r : Result Ancestry Missing) → outcome r ≡ one a → ((x : Ancestry) → r ≡ Ok x → ⊥) → Filling one addresses out₀ (i + 1) at out
-      filling_missing (Ok x) e n = absurd (n x refl)
-      filling_missing (Err m) e n = go m (rw (← e) at taken)
-        where
-          kept : (o : Outcome (List Ancestry)) → and_then o (λ ys. value ([] ++ ys)) ≡ value w.rest → o ≡ value w.rest
-          kept (value ys) f = f
-          kept (absent r) f = absent_value f
-          kept (refused k) f = number_value f
+module _ (one : ℕ → Outcome Ancestry) (addresses out₀ : List ℕ) (f : Fits one addresses out₀) where
+  same_found : found_all one addresses ≡ f.all
+  same_found = through_found one addresses f.all f.told
 
-          go : (m : Missing) → and_then (present (missed m)) (λ xs. and_then (through one later) (λ ys. value (xs ++ ys))) ≡ value w.rest
-              → Filling one addresses out₀ (i + 1) at out
-          go (Absent r) f =
-              record { all = w.all; whole = w.whole; rest = w.rest; left = kept (through one later) f; room = w.room; enough = w.enough; same = w.same; size = w.size }
-          go (Refused k) f = number_value f
+  pub filled_room : (n k : ℕ) (a : Ancestry) (out : List ℕ) → Turn one addresses n k a → out ≡ written_to one addresses out₀ n → k * 3 + 3 ≤ length out
+  filled_room n k a out t w =
+      let size = ap length w ∙ length-sets out₀ 0 (records (take n (found_all one addresses))) in
+      let h = turned one addresses n k a t in
+      omega (arith, h, f.room, ap length same_found)
+
+  pub filled_end : (n : ℕ) (out : List ℕ) → n ≡ length (enumerate_from 0 (found_all one addresses)) → out ≡ written_to one addresses out₀ n
+      → out ≡ (written_by (through one addresses) out₀).result
+  filled_end n out e w =
+      let all = found_all one addresses in
+      let whole : take n all ≡ f.all = take_all n all (omega (arith, length-enumerate_from 0 all)) ∙ same_found in
+      rw f.told (w ∙ ap (λ (xs : List Ancestry). sets out₀ 0 (records xs)) whole ∙ sets_all out₀ f.all f.room)
+
+pub filled_more : (one : ℕ → Outcome Ancestry) (addresses out₀ : List ℕ) (n k : ℕ) (a : Ancestry) (out : List ℕ) → Turn one addresses n k a
+    → out ≡ written_to one addresses out₀ n → (m : ℕ) → m ≡ n + 1 → put out (k * 3) a ≡ written_to one addresses out₀ m
+unfolding put flat_map
+filled_more one addresses out₀ n k a out t w m e =
+    let all = found_all one addresses in
+    let h = turned one addresses n k a t in
+    let more : take (n + 1) all ≡ take n all ++ a ∷ [] = take_more all n a h.0 ∙ ap (λ y. take n all ++ y ∷ []) (sym h.2) in
+    let at : k * 3 ≡ 0 + length (records (take n all)) = omega (arith, h.0, h.1, length_records (take n all), length-take n all) in
+    rw (w, at, e) (sym (sets_append out₀ (records (take n all)) (words_of a) 0)
+    ∙ ap (sets out₀ 0) (sym (ap records more ∙ flat_map-append words_of (take n all) (a ∷ []))))

@@ -1,5 +1,5 @@
 -- Rows whose chains are followed as far as can be become the records.
-use Prim.Native.Nat.{ℕ, zero, suc, ◌+◌, ◌*◌, ◌/◌, ◌%◌, ◌≤◌, ◌<◌}
+use Prim.Native.Nat.{ℕ, zero, suc, ◌+◌, ◌*◌, ◌≤◌, ◌<◌}
 use mathlib.Core.Path.{◌≡◌, refl, sym, ◌∙◌}
 use mathlib.Core.Bool.{false}
 use mathlib.Core.List.{List, [], ◌∷◌, ◌++◌, flat_map}
@@ -13,7 +13,7 @@ use Rattle.records.specs.Class.{class_at}
 use Rattle.records.specs.declared.class.ObjcClass.{ObjcClass}
 use Rattle.ancestry.specs.Chain.{looping, climb}
 use Rattle.ancestry.specs.Ancestry.{up_in, limit, ancestry_of, words_of}
-use Rattle.ancestry.specs.Doubling.{state_at, node_at, finished_at, finished_to, Following}
+use Rattle.ancestry.specs.Doubling.{state_at, node_at, told_by, finished_at, finished_to, Following}
 use Rattle.ancestry.specs.Following.{ground_of, Unfollowed}
 use Rattle.ancestry.specs.declared.class_chain.Ancestry.{Ancestry}
 use Rattle.ancestry.proofs.Rows.{row_told}
@@ -50,33 +50,41 @@ rows_records (a ∷ b ∷ d ∷ out) (x ∷ xs) room all =
         → a ∷ b ∷ d ∷ take (length xs * 3) out ≡ x.count ∷ x.last ∷ x.looping ∷ flat_map words_of xs
     joined p q r s = rw (p, q, r, s)
 
+abbrev record_at : List ℕ → ℕ → Ancestry
+record_at out i = told_by (state_at out i)
+
 -- What finishing row i changes.
 module _ (out : List ℕ) (i : ℕ) where
-  finished_other : (k : ℕ) → (k ≡ i * 3 → ⊥) → (k ≡ i * 3 + 2 → ⊥) → get_or (finished_at out i) k 0 ≡ get_or out k 0
+  abbrev told : Ancestry
+  told = record_at out i
+
+  abbrev one : List ℕ
+  one = set out (i * 3) told.count
+
+  abbrev two : List ℕ
+  two = set one (i * 3 + 1) told.last
+
+  finished_other : (k : ℕ) → (k ≡ i * 3 → ⊥) → (k ≡ i * 3 + 1 → ⊥) → (k ≡ i * 3 + 2 → ⊥) → get_or (finished_at out i) k 0 ≡ get_or out k 0
   unfolding finished_at
-  finished_other k a b =
-      get_or-set_other (set out (i * 3) (get_or out (i * 3) 0 / 4)) (i * 3 + 2) k (get_or out (i * 3) 0 % 4) 0 b
-      ∙ get_or-set_other out (i * 3) k (get_or out (i * 3) 0 / 4) 0 a
+  finished_other k a b c =
+      get_or-set_other two (i * 3 + 2) k told.looping 0 c ∙ get_or-set_other one (i * 3 + 1) k told.last 0 b ∙ get_or-set_other out (i * 3) k told.count 0 a
 
   drop_finished : (n : ℕ) → i < n → drop (n * 3) (finished_at out i) ≡ drop (n * 3) out
   unfolding finished_at
   drop_finished n h =
-      drop-set-lt (n * 3) (set out (i * 3) (get_or out (i * 3) 0 / 4)) (i * 3 + 2) (get_or out (i * 3) 0 % 4) (omega arith)
-      ∙ drop-set-lt (n * 3) out (i * 3) (get_or out (i * 3) 0 / 4) (omega arith)
+      drop-set-lt (n * 3) two (i * 3 + 2) told.looping (omega arith) ∙ drop-set-lt (n * 3) one (i * 3 + 1) told.last (omega arith)
+      ∙ drop-set-lt (n * 3) out (i * 3) told.count (omega arith)
 
-  module _ (room : i * 3 + 2 < length out) where
-    first_finished : get_or (finished_at out i) (i * 3) 0 ≡ get_or out (i * 3) 0 / 4
-    unfolding finished_at
-    first_finished =
-        get_or-set_other (set out (i * 3) (get_or out (i * 3) 0 / 4)) (i * 3 + 2) (i * 3) (get_or out (i * 3) 0 % 4) 0 (omega arith)
-        ∙ get_or-set_same out (i * 3) (get_or out (i * 3) 0 / 4) 0 (omega arith)
-
-    third_finished : get_or (finished_at out i) (i * 3 + 2) 0 ≡ get_or out (i * 3) 0 % 4
-    unfolding finished_at
-    third_finished = get_or-set_same (set out (i * 3) (get_or out (i * 3) 0 / 4)) (i * 3 + 2) (get_or out (i * 3) 0 % 4) 0 (simp length-set (omega arith))
-
-abbrev record_at : List ℕ → ℕ → Ancestry
-record_at out i = record { count = (state_at out i).count; last = (state_at out i).place; looping = (state_at out i).mark }
+  finished_words : i * 3 + 2 < length out → Words (finished_at out i) i told
+  unfolding finished_at
+  finished_words room =
+      record {
+        first =
+            get_or-set_other two (i * 3 + 2) (i * 3) told.looping 0 (omega arith) ∙ get_or-set_other one (i * 3 + 1) (i * 3) told.last 0 (omega arith)
+            ∙ get_or-set_same out (i * 3) told.count 0 (omega arith);
+        second = get_or-set_other two (i * 3 + 2) (i * 3 + 1) told.looping 0 (omega arith) ∙ get_or-set_same one (i * 3 + 1) told.last 0 (simp length-set (omega arith));
+        third = get_or-set_same two (i * 3 + 2) told.looping 0 (simp length-set (omega arith));
+      }
 
 -- The first i rows are finished.
 record Finished (out : List ℕ) (i : ℕ) (now : List ℕ) : Type 0 where
@@ -89,7 +97,7 @@ module _ (out : List ℕ) where
   finished_next i now room f =
       record {
         done = λ j h. elim (ℕ_discrete j i) [ yes same ↦ rw same here | no different ↦ before j (omega arith) different ];
-        rest = λ k h. finished_other now i k (λ e. omega arith) (λ e. omega arith) ∙ f.rest k (omega arith);
+        rest = λ k h. finished_other now i k (λ e. omega arith) (λ e. omega arith) (λ e. omega arith) ∙ f.rest k (omega arith);
         size = length_finished now i ∙ f.size;
       }
     where
@@ -97,22 +105,15 @@ module _ (out : List ℕ) where
       fits = rw f.size room
 
       here : Words (finished_at now i) i (record_at out i)
-      here =
-          let one = f.rest (i * 3) (omega arith) in
-          let two = f.rest (i * 3 + 1) (omega arith) in
-          record {
-            first = first_finished now i fits ∙ rw one;
-            second = finished_other now i (i * 3 + 1) (λ e. omega arith) (λ e. omega arith) ∙ two;
-            third = third_finished now i fits ∙ rw one;
-          }
+      here = rw (← f.rest (i * 3) (omega arith), ← f.rest (i * 3 + 1) (omega arith)) (finished_words now i fits)
 
       before : (j : ℕ) → j < i → (j ≡ i → ⊥) → Words (finished_at now i) j (record_at out j)
       before j h n =
           let w = f.done j h in
           record {
-            first = finished_other now i (j * 3) (λ e. omega arith) (λ e. omega arith) ∙ w.first;
-            second = finished_other now i (j * 3 + 1) (λ e. omega arith) (λ e. omega arith) ∙ w.second;
-            third = finished_other now i (j * 3 + 2) (λ e. omega arith) (λ e. omega arith) ∙ w.third;
+            first = finished_other now i (j * 3) (λ e. omega arith) (λ e. omega arith) (λ e. omega arith) ∙ w.first;
+            second = finished_other now i (j * 3 + 1) (λ e. omega arith) (λ e. omega arith) (λ e. omega arith) ∙ w.second;
+            third = finished_other now i (j * 3 + 2) (λ e. omega arith) (λ e. omega arith) (λ e. omega arith) ∙ w.third;
           }
 
   finished_to_lem : (i : ℕ) → i * 3 ≤ length out → Finished out i (finished_to out i)

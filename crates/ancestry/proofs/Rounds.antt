@@ -1,19 +1,29 @@
 -- What writing a row changes, what a round of jumps comes to, and that followed rows hold the records.
 use Prim.Native.Nat.{ℕ, zero, suc, ◌+◌, ◌*◌, ◌/◌, ◌%◌, ◌≤◌, ◌<◌}
 use mathlib.Core.Path.{◌≡◌, refl, sym, ap, ◌∙◌}
-use mathlib.Core.Bool.{Bool, true, false, ◌&&◌}
+use mathlib.Core.Bool.{true, false}
 use mathlib.Core.List.{List}
 use native.Mathlib.Omega.{arith}
 use native.Mathlib.Numerals.{add-one}
 use native.Mathlib.Decide.{ℕ_discrete, dec_lt}
-use lib.Dec.{eqb, ltb}
 use lib.ListN.{length, get_or, set, drop, length-set}
 use lib.Seq.{get_or-set_same, get_or-set_other, drop-set-lt}
-use borrow.Author.Tests.{eq-eqb, ne_eqb, eqb-true, lt-ltb, le-ltb, leb-false}
-use Rattle.reads.proofs.Tests.{by_choose, choose_true, choose_false, both_true}
-use Rattle.ancestry.specs.Doubling.{state_at, node_at, put_at, joined_of, jumped_at, jumped_to, finished_at, finished_to, Ground, Row, Rows, Nodes, Following}
+use borrow.Author.Tests.{lt-ltb, le-ltb, leb-false}
+use Rattle.reads.proofs.Tests.{by_choose, choose_true, choose_false}
+use Rattle.ancestry.specs.Doubling.{state_of, count_of, place_of, mark_of, state_at, node_at, put_at, joined_of, jumped_by, jumped_at, jumped_to, finished_at, finished_to, Ground, Followed, Row, Rows, Nodes, Following}
 use Rattle.ancestry.specs.declared.doubling.State.{State}
+use Rattle.ancestry.specs.declared.doubling.State.TheVariants as state
 use Rattle.ancestry.proofs.Rows.{row_less, row_joined}
+
+mark_small : (s : State) → mark_of s ≤ 2
+mark_small (state.Ended count last) = omega arith
+mark_small state.Looping = omega arith
+mark_small (state.Followed count row) = omega arith
+
+again : (s : State) → state_of (mark_of s) (count_of s) (place_of s) ≡ s
+again (state.Ended count last) = refl
+again state.Looping = refl
+again (state.Followed count row) = refl
 
 module _ (out : List ℕ) (i : ℕ) (s : State) where
   pub length_put_at : length (put_at out i s) ≡ length out
@@ -21,13 +31,13 @@ module _ (out : List ℕ) (i : ℕ) (s : State) where
 
   pub drop_put : (n : ℕ) → i < n → drop (n * 3) (put_at out i s) ≡ drop (n * 3) out
   drop_put n h =
-      drop-set-lt (n * 3) (set out (i * 3) (s.count * 4 + s.mark)) (i * 3 + 1) s.place (omega arith)
-      ∙ drop-set-lt (n * 3) out (i * 3) (s.count * 4 + s.mark) (omega arith)
+      drop-set-lt (n * 3) (set out (i * 3) (count_of s * 4 + mark_of s)) (i * 3 + 1) (place_of s) (omega arith)
+      ∙ drop-set-lt (n * 3) out (i * 3) (count_of s * 4 + mark_of s) (omega arith)
 
   put_word : (k : ℕ) → (k ≡ i * 3 → ⊥) → (k ≡ i * 3 + 1 → ⊥) → get_or (put_at out i s) k 0 ≡ get_or out k 0
   put_word k a b =
-      get_or-set_other (set out (i * 3) (s.count * 4 + s.mark)) (i * 3 + 1) k s.place 0 b
-      ∙ get_or-set_other out (i * 3) k (s.count * 4 + s.mark) 0 a
+      get_or-set_other (set out (i * 3) (count_of s * 4 + mark_of s)) (i * 3 + 1) k (place_of s) 0 b
+      ∙ get_or-set_other out (i * 3) k (count_of s * 4 + mark_of s) 0 a
 
   pub put_other : (j : ℕ) → (j ≡ i → ⊥) → state_at (put_at out i s) j ≡ state_at out j
   put_other j n =
@@ -36,20 +46,20 @@ module _ (out : List ℕ) (i : ℕ) (s : State) where
   pub put_node : (j : ℕ) → node_at (put_at out i s) j ≡ node_at out j
   put_node j = put_word (j * 3 + 2) (λ e. omega arith) (λ e. omega arith)
 
-  module _ (room : i * 3 + 2 < length out) (mark : s.mark ≤ 2) where
-    first_put : get_or (put_at out i s) (i * 3) 0 ≡ s.count * 4 + s.mark
+  module _ (room : i * 3 + 2 < length out) where
+    first_put : get_or (put_at out i s) (i * 3) 0 ≡ count_of s * 4 + mark_of s
     first_put =
-        get_or-set_other (set out (i * 3) (s.count * 4 + s.mark)) (i * 3 + 1) (i * 3) s.place 0 (omega arith)
-        ∙ get_or-set_same out (i * 3) (s.count * 4 + s.mark) 0 (omega arith)
+        get_or-set_other (set out (i * 3) (count_of s * 4 + mark_of s)) (i * 3 + 1) (i * 3) (place_of s) 0 (omega arith)
+        ∙ get_or-set_same out (i * 3) (count_of s * 4 + mark_of s) 0 (omega arith)
 
-    place_put : get_or (put_at out i s) (i * 3 + 1) 0 ≡ s.place
-    place_put = get_or-set_same (set out (i * 3) (s.count * 4 + s.mark)) (i * 3 + 1) s.place 0 (simp length-set (omega arith))
+    place_put : get_or (put_at out i s) (i * 3 + 1) 0 ≡ place_of s
+    place_put = get_or-set_same (set out (i * 3) (count_of s * 4 + mark_of s)) (i * 3 + 1) (place_of s) 0 (simp length-set (omega arith))
 
     pub put_same : state_at (put_at out i s) i ≡ s
     put_same =
-        let count : (s.count * 4 + s.mark) / 4 ≡ s.count = omega arith in
-        let marks : (s.count * 4 + s.mark) % 4 ≡ s.mark = omega arith in
-        rw (first_put, place_put, count, marks)
+        let count : (count_of s * 4 + mark_of s) / 4 ≡ count_of s = omega (arith, mark_small s) in
+        let mark : (count_of s * 4 + mark_of s) % 4 ≡ mark_of s = omega (arith, mark_small s) in
+        rw (first_put, place_put, count, mark) (again s)
 
 module _ (g : Ground) where
   -- A row written beside rows that are not touched.
@@ -58,7 +68,7 @@ module _ (g : Ground) where
       → Rows g reach from to (put_at out i s)
   rows_put reach from to i out s room others r j low high =
       elim (ℕ_discrete j i) [
-        | yes same ↦ rw (same, put_same out i s room r.marked) r
+        | yes same ↦ rw (same, put_same out i s room) r
         | no different ↦ rw (put_other out i s j different) (others j low high different)
       ]
 
@@ -79,74 +89,66 @@ module _ (g : Ground) where
         | no more ↦ h.left j (omega arith) high
       ]
 
-  unmarked : (reach i : ℕ) (s : State) → (s.mark ≡ 2 → ⊥) → Row g reach i s → Row g (reach * 2) i s
-  unmarked reach i s n r =
-      record { fewer = r.fewer; marked = r.marked; ended = r.ended; endless = r.endless; followed = λ z. absurd (n z) }
-
   -- A jump of row i takes the round one row further.
   module _ (reach i : ℕ) (out : List ℕ) (some-reach : 0 < reach) (row : i < g.listed) (room : g.listed * 3 ≤ length out) (nodes : Nodes g out)
       (h : Halfway reach i out) where
-    stays : ((state_at out i).mark ≡ 2 → ⊥) → Halfway reach (i + 1) out
-    stays n =
+    stays : Row g (reach * 2) i (state_at out i) → Halfway reach (i + 1) out
+    stays r =
         record {
           done = λ j low high.
               elim (ℕ_discrete j i) [
-                | yes same ↦ rw same (unmarked reach i (state_at out i) n (h.left i (omega arith) row))
+                | yes same ↦ rw same r
                 | no different ↦ h.done j low (omega arith)
               ];
           left = λ j low high. h.left j (omega arith) high;
         }
 
-    abbrev here : State
-    here = state_at out i
+    module _ (count place : ℕ) (fewer : count < g.limit) (f : Followed g reach i count place) where
+      abbrev new : State
+      new = joined_of g.limit count (node_at out place) (state_at out place)
 
-    jumps : here.mark ≡ 2 → Halfway reach (i + 1) (put_at out i (joined_of g.limit here.count (node_at out here.place) (state_at out here.place)))
-    jumps m =
-        let r = h.left i (omega arith) row in
-        let f = r.followed m in
-        let next = all_rows reach i out h here.place (omega arith) f.row in
-        let s = joined_of g.limit here.count (node_at out here.place) (state_at out here.place) in
-        let new : Row g (reach * 2) i s
-        = rw (nodes here.place f.row) (row_joined g reach i here.count here.place (state_at out here.place) some-reach r.fewer f next) in
-        record {
-          done = rows_put (reach * 2) 0 (i + 1) i out s (omega arith) (λ j low high different. h.done j low (omega arith)) new;
-          left =
-              rows_put reach (i + 1) g.listed i out s (omega arith) (λ j low high different. h.left j (omega arith) high)
-              (row_less g reach (reach * 2) i s (omega arith) new);
-        }
-
-    -- A row that is followed leads to a row.
-    other_way : (eqb here.mark 2 && ltb here.place g.listed) ≡ false → here.mark ≡ 2 → ⊥
-    other_way e m =
-        let f = (h.left i (omega arith) row).followed m in
-        let t : eqb here.mark 2 ≡ true = eq-eqb here.mark 2 m in
-        let u : ltb here.place g.listed ≡ true = lt-ltb here.place g.listed f.row in
-        let both : true ≡ false = sym (ap2 t u) ∙ e in
-        let z : ◌≡◌ {A = ℕ} 0 1 = cc in omega arith
-      where
-        ap2 : {a b : Bool} → a ≡ true → b ≡ true → (a && b) ≡ true
-        ap2 p q = rw (p, q)
+      jumps : Halfway reach (i + 1) (put_at out i new)
+      jumps =
+          let next = all_rows reach i out h place (omega arith) f.row in
+          let r : Row g (reach * 2) i new = rw (nodes place f.row) (row_joined g reach i count place some-reach fewer f (state_at out place) next) in
+          record {
+            done = rows_put (reach * 2) 0 (i + 1) i out new (omega arith) (λ j low high different. h.done j low (omega arith)) r;
+            left =
+                rows_put reach (i + 1) g.listed i out new (omega arith) (λ j low high different. h.left j (omega arith) high)
+                (row_less g reach (reach * 2) i new (omega arith) r);
+          }
 
     pub jumped_halfway : Halfway reach (i + 1) (jumped_at g.listed g.limit out i)
     unfolding jumped_at
-    jumped_halfway =
-        by_choose (Halfway reach (i + 1))
-        (λ b. jumps (eqb-true here.mark 2 (both_true (eqb here.mark 2) _ b).0))
-        (λ b. stays (other_way b))
+    jumped_halfway = go (state_at out i) (h.left i (omega arith) row) stays
+      where
+        go : (s : State) → Row g reach i s → (Row g (reach * 2) i s → Halfway reach (i + 1) out) → Halfway reach (i + 1) (jumped_by g.listed g.limit out i s)
+        go (state.Ended count last) r f = f (record { known = r.known })
+        go state.Looping r f = f (record { known = r.known })
+        go (state.Followed count place) r f =
+            by_choose (Halfway reach (i + 1)) (λ b. jumps count place r.known.0 r.known.1)
+            (λ b. let z : true ≡ false = sym (lt-ltb place g.listed r.known.1.row) ∙ b in let y : ◌≡◌ {A = ℕ} 0 1 = cc in absurd (omega arith))
 
 -- What a jump leaves as it was.
 module _ (listed limit : ℕ) (out : List ℕ) (i : ℕ) where
-  pub length_jumped : length (jumped_at listed limit out i) ≡ length out
+  -- What holds of the buffer with a row put, whatever is put, and of the buffer as it was.
+  either : (P : List ℕ → Type 0) → ((s : State) → P (put_at out i s)) → P out → P (jumped_at listed limit out i)
   unfolding jumped_at
-  length_jumped = by_choose (λ (o : List ℕ). length o ≡ length out) (λ b. simp length-set) (λ b. refl)
+  either P f h = go (state_at out i)
+    where
+      go : (s : State) → P (jumped_by listed limit out i s)
+      go (state.Ended count last) = h
+      go state.Looping = h
+      go (state.Followed count row) = by_choose P (λ b. f (joined_of limit count (node_at out row) (state_at out row))) (λ b. h)
+
+  pub length_jumped : length (jumped_at listed limit out i) ≡ length out
+  length_jumped = either (λ o. length o ≡ length out) (λ s. simp length-set) refl
 
   drop_jumped : (n : ℕ) → i < n → drop (n * 3) (jumped_at listed limit out i) ≡ drop (n * 3) out
-  unfolding jumped_at
-  drop_jumped n h = by_choose (λ (o : List ℕ). drop (n * 3) o ≡ drop (n * 3) out) (λ b. drop_put out i _ n h) (λ b. refl)
+  drop_jumped n h = either (λ o. drop (n * 3) o ≡ drop (n * 3) out) (λ s. drop_put out i s n h) refl
 
   node_jumped : (j : ℕ) → node_at (jumped_at listed limit out i) j ≡ node_at out j
-  unfolding jumped_at
-  node_jumped j = by_choose (λ (o : List ℕ). node_at o j ≡ node_at out j) (λ b. put_node out i _ j) (λ b. refl)
+  node_jumped j = either (λ o. node_at o j ≡ node_at out j) (λ s. put_node out i s j) refl
 
 -- A whole round.
 module _ (g : Ground) (reach : ℕ) (some-reach : 0 < reach) (out₀ out : List ℕ) (room : g.listed * 3 ≤ length out) (f : Following g reach out₀ out) where
@@ -204,56 +206,45 @@ module _ (listed limit : ℕ) (out : List ℕ) where
   unfolding jumped_to
   jumped_none = refl
 
-  module _ (i : ℕ) (s : State) (e : s ≡ state_at out i) where
-    pub state_mark : s.mark < 4
-    state_mark = omega (arith, ap (λ (x : State). x.mark) e)
-
-    pub jump_stays : (s.mark ≡ 2 → ⊥) → out ≡ jumped_at listed limit out i
+  module _ (i : ℕ) {s : State} (e : s ≡ state_at out i) where
+    pub jump_stays : ((count row : ℕ) → s ≡ state.Followed count row → ⊥) → out ≡ jumped_at listed limit out i
     unfolding jumped_at
-    jump_stays n =
-        let t : eqb (state_at out i).mark 2 ≡ false = ne_eqb (state_at out i).mark 2 (λ z. n (ap (λ (x : State). x.mark) e ∙ z)) in
-        sym (choose_false _ _ (first (ltb (state_at out i).place listed) t))
+    jump_stays n = rw (← e) (go s n)
       where
-        first : {a : Bool} (b : Bool) → a ≡ false → (a && b) ≡ false
-        first b p = rw p
+        go : (s : State) → ((count row : ℕ) → s ≡ state.Followed count row → ⊥) → out ≡ jumped_by listed limit out i s
+        go (state.Ended count last) n = refl
+        go state.Looping n = refl
+        go (state.Followed count row) n = absurd (n count row refl)
 
-    pub jump_past : s.mark ≡ 2 → listed ≤ s.place → out ≡ jumped_at listed limit out i
-    unfolding jumped_at
-    jump_past m h =
-        let t : eqb (state_at out i).mark 2 ≡ true = eq-eqb (state_at out i).mark 2 (sym (ap (λ (x : State). x.mark) e) ∙ m) in
-        let u : ltb (state_at out i).place listed ≡ false = le-ltb (state_at out i).place listed (omega (arith, ap (λ (x : State). x.place) e)) in
-        sym (choose_false _ _ (second t u))
-      where
-        second : {a b : Bool} → a ≡ true → b ≡ false → (a && b) ≡ false
-        second p q = rw (p, q)
+    module _ {count row : ℕ} (q : s ≡ state.Followed count row) where
+      pub jump_past : listed ≤ row → out ≡ jumped_at listed limit out i
+      unfolding jumped_at
+      jump_past h = rw (← e, q) (sym (choose_false _ _ (le-ltb row listed h)))
 
-    pub jump_puts : (next new : State) → s.mark ≡ 2 → s.place < listed → next ≡ state_at out s.place
-        → new ≡ joined_of limit s.count (node_at out s.place) next → put_at out i new ≡ jumped_at listed limit out i
-    unfolding jumped_at
-    jump_puts next new m h f j =
-        let t : eqb (state_at out i).mark 2 ≡ true = eq-eqb (state_at out i).mark 2 (sym (ap (λ (x : State). x.mark) e) ∙ m) in
-        let u : ltb (state_at out i).place listed ≡ true = lt-ltb (state_at out i).place listed (omega (arith, ap (λ (x : State). x.place) e)) in
-        ap (put_at out i) (j ∙ ap (joined_of limit s.count (node_at out s.place)) f ∙ ap (λ (x : State). joined_of limit x.count (node_at out x.place) (state_at out x.place)) e)
-        ∙ sym (choose_true _ _ (both t u))
-      where
-        both : {a b : Bool} → a ≡ true → b ≡ true → (a && b) ≡ true
-        both p q = rw (p, q)
+      pub jump_puts : (next new : State) → row < listed → next ≡ state_at out row → new ≡ joined_of limit count (node_at out row) next
+          → put_at out i new ≡ jumped_at listed limit out i
+      unfolding jumped_at
+      jump_puts next new h f j =
+          rw (← e, q) (ap (put_at out i) (j ∙ ap (joined_of limit count (node_at out row)) f) ∙ sym (choose_true _ _ (lt-ltb row listed h)))
 
-pub joined_small : (limit count address : ℕ) (next : State) → (joined_of limit count address next).count ≤ limit
+-- The counts fit.
+pub state_small : (out : List ℕ) (i : ℕ) {s : State} → s ≡ state_at out i → count_of s ≤ get_or out (i * 3) 0 / 4
+state_small out i {s} e = rw e (go (get_or out (i * 3) 0 % 4))
+  where
+    go : (m : ℕ) → count_of (state_of m (get_or out (i * 3) 0 / 4) (get_or out (i * 3 + 1) 0)) ≤ get_or out (i * 3) 0 / 4
+    go zero = omega arith
+    go (suc zero) = omega arith
+    go (suc (suc m)) = omega arith
+
+pub joined_small : (limit count address : ℕ) (next : State) → count_of (joined_of limit count address next) ≤ limit
 unfolding joined_of
-joined_small limit count address next =
-    by_choose (λ (s : State). s.count ≤ limit) (λ a. omega arith)
-    (λ a. by_choose (λ (s : State). s.count ≤ limit) (λ b. omega arith)
-    (λ b. by_choose (λ (s : State). s.count ≤ limit)
-    (λ d. omega (arith, leb-false limit (count + next.count) b))
-    (λ d. omega (arith, leb-false limit (count + next.count) b))))
-
-pub joined_marked : (limit count address : ℕ) (next : State) → next.mark < 4 → (joined_of limit count address next).mark < 4
-unfolding joined_of
-joined_marked limit count address next h =
-    by_choose (λ (s : State). s.mark < 4) (λ a. omega arith)
-    (λ a. by_choose (λ (s : State). s.mark < 4) (λ b. omega arith)
-    (λ b. by_choose (λ (s : State). s.mark < 4) (λ d. omega arith) (λ d. h)))
+joined_small limit count address state.Looping = omega arith
+joined_small limit count address (state.Ended more last) =
+    by_choose (λ (s : State). count_of s ≤ limit) (λ a. omega arith)
+    (λ b. by_choose (λ (s : State). count_of s ≤ limit) (λ d. omega (arith, leb-false limit (count + more) b))
+    (λ d. omega (arith, leb-false limit (count + more) b)))
+joined_small limit count address (state.Followed more row) =
+    by_choose (λ (s : State). count_of s ≤ limit) (λ a. omega arith) (λ b. omega (arith, leb-false limit (count + more) b))
 
 -- Finished rows, one more.
 pub finished_more : (out : List ℕ) (i : ℕ) → finished_to out (i + 1) ≡ finished_at (finished_to out i) i

@@ -1,10 +1,10 @@
 -- The rows of the result buffer, three words each, and what a search among them finds.
-use Prim.Native.Nat.{ℕ, zero, suc, ◌+◌, ◌*◌, ◌<◌, ◌≤◌}
+use Prim.Native.Nat.{ℕ, zero, suc, ◌+◌, ◌*◌, ◌<◌}
 use mathlib.Core.Path.{◌≡◌, refl, sym, ap, ◌∙◌}
-use mathlib.Core.List.{List, [], ◌∷◌}
+use mathlib.Core.List.{List, []}
 use native.Mathlib.Omega.{arith}
 use lib.Dec.{eqb}
-use lib.ListN.{length, get_or, take, drop}
+use lib.ListN.{length, get_or, drop}
 use borrow.Author.Tests.{eqb-true}
 use Rattle.std.proofs.lemmas.List.{get_or-take, get_or-drop}
 use Rattle.std.specs.Prelude.{Option, Some, None, Result, Ok, Err, IfSome}
@@ -21,11 +21,6 @@ module _ (n : ℕ) where
   length_chunks : (k : ℕ) (xs : List ℕ) → length (first_chunks n k xs) ≡ k
   length_chunks zero xs = refl
   length_chunks (suc k) xs = ap suc (length_chunks k (drop n xs))
-
-  pub take_chunks : (k m : ℕ) (xs : List ℕ) → k ≤ m → take k (first_chunks n m xs) ≡ first_chunks n k xs
-  take_chunks zero m xs h = refl
-  take_chunks (suc k) zero xs h = absurd (omega arith)
-  take_chunks (suc k) (suc m) xs h = ap (λ l. take n xs ∷ l) (take_chunks k m (drop n xs) (omega arith))
 
 -- The last word of a row.
 node_of : (k i : ℕ) (out : List ℕ) (d : List ℕ) → i < k → get_or (get_or (first_chunks 3 k out) i d) 2 0 ≡ node_at out i

@@ -5,13 +5,13 @@ use mathlib.Core.Bool.{true}
 use mathlib.Core.List.{List}
 use native.Mathlib.Omega.{arith}
 use lib.ListN.{length, drop}
-use Rattle.reads.specs.Outcome.{value}
+use Rattle.ancestry.specs.Asked.{passes}
 use Rattle.pointers.specs.Tables.{Tables}
 use Rattle.pointers.specs.Question.{asked}
-use Rattle.ancestry.specs.Rebases.{chains_fall}
-use Rattle.ancestry.specs.Doubling.{node_at, put_at, Row, Rows}
+use Rattle.ancestry.specs.Doubling.{count_of, node_at, put_at, Row, Rows}
 use Rattle.ancestry.specs.Following.{ground_of, Ready, Unfollowed}
 use Rattle.ancestry.specs.declared.doubling.State.{State}
+use Rattle.ancestry.specs.declared.doubling.State.TheVariants as state
 use Rattle.ancestry.proofs.Climbs.{limit_small}
 use Rattle.ancestry.proofs.Rounds.{rows_more, put_node, drop_put, length_put_at}
 
@@ -25,24 +25,24 @@ pub record Starting (t : Tables) (listed : ℕ) (out₀ : List ℕ) (i : ℕ) (o
 -- A row is told of the same classes by any buffer that has their addresses.
 row_same : (t : Tables) (listed i : ℕ) (out out₀ : List ℕ) (s : State) → ((j : ℕ) → node_at out j ≡ node_at out₀ j)
     → Row (ground_of t out listed) 1 i s → Row (ground_of t out₀ listed) 1 i s
-row_same t listed i out out₀ s same r =
-    record {
-      fewer = r.fewer;
-      marked = r.marked;
-      ended = λ z. let e = r.ended z in record { top = e.top; ends = record { leads = rw (← same i) e.ends.leads; why = e.ends.why; stops = e.ends.stops }; last = e.last };
-      endless = λ z. let e = r.endless z in record { top = e.top; leads = rw (← same i) e.leads; none_count = e.none_count; none_place = e.none_place };
-      followed = λ z. let f = r.followed z in record { leads = rw (← same i, ← same s.place) f.leads; far = f.far; row = f.row };
-    }
+row_same t listed i out out₀ (state.Ended count last) same r =
+    let e = r.known.1 in
+    record { known = (r.known.0, record { top = e.top; ends = record { leads = rw (← same i) e.ends.leads; why = e.ends.why; stops = e.ends.stops }; last = e.last }) }
+row_same t listed i out out₀ state.Looping same r = record { known = record { top = r.known.top; leads = rw (← same i) r.known.leads } }
+row_same t listed i out out₀ (state.Followed count row) same r =
+    let f = r.known.1 in record { known = (r.known.0, record { leads = rw (← same i, ← same row) f.leads; far = f.far; row = f.row }) }
 
 module _ (t : Tables) (listed : ℕ) (out₀ : List ℕ) where
-  pub starting_ready : asked t ≡ value tt → chains_fall t.rebases t.index ≡ true → Unfollowed t listed out₀ → (i : ℕ) (out : List ℕ)
+  pub starting_ready : Unfollowed t listed out₀ → (i : ℕ) (out : List ℕ)
       → Starting t listed out₀ i out → i < listed → Ready t out listed i
-  starting_ready passes falls s i out w h =
+  starting_ready s i out w h =
       let c = s.class i h in
-      record { yes = passes; falls = falls; room = omega (arith, s.room, w.size); row = h; class = c.0; decoded = rw (w.nodes i) c.1 }
+      record { row = h; class = c.0; decoded = rw (w.nodes i) c.1 }
 
-  pub starting_small : asked t ≡ value tt → (i : ℕ) (out : List ℕ) (s : State) → Row (ground_of t out listed) 1 i s → (s.count < 2 ^ 60) × (s.mark < 4)
-  starting_small passes i out s r = (omega (arith, limit_small t passes, r.fewer), omega (arith, r.marked))
+  pub starting_small : passes (asked t) ≡ true → (i : ℕ) (out : List ℕ) (s : State) → Row (ground_of t out listed) 1 i s → count_of s < 2 ^ 60
+  starting_small passes i out (state.Ended count last) r = omega (arith, limit_small t passes, r.known.0)
+  starting_small passes i out state.Looping r = omega arith
+  starting_small passes i out (state.Followed count row) r = omega (arith, limit_small t passes, r.known.0)
 
   pub starting_more : Unfollowed t listed out₀ → (i : ℕ) (out : List ℕ) → Starting t listed out₀ i out → i < listed → (s : State)
       → Row (ground_of t out listed) 1 i s → Starting t listed out₀ (i + 1) (put_at out i s)

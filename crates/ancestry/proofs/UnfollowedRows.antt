@@ -2,9 +2,10 @@
 use Prim.Native.Nat.{ℕ, zero, suc, ◌+◌, ◌*◌, ◌/◌, ◌≤◌, ◌<◌}
 use mathlib.Core.Path.{◌≡◌, refl, sym, ap, ◌∙◌}
 use mathlib.Core.Bool.{Bool, true, false}
-use mathlib.Core.List.{List, [], ◌∷◌, ◌++◌, flat_map}
+use mathlib.Core.List.{List, [], ◌∷◌, ◌++◌, flat_map, append-nil}
 use native.Mathlib.Omega.{arith}
-use lib.ListN.{length, get_or, drop, length-append}
+use lib.ListN.{length, get_or, take, drop, length-append, length-take, drop_of_length-le}
+use Rattle.std.proofs.lemmas.List.{get_or-take}
 use lib.Seq.{drop_at}
 use Rattle.reads.specs.Outcome.{Outcome, value, absent, choose, Unrefused, a_value, an_absence}
 use Rattle.reads.specs.Table.{records}
@@ -161,6 +162,28 @@ told_fits one count addresses out e room =
   where
     size : (xs : List Ancestry) → value (0 + length xs) ≡ value count → length xs ≡ count
     size xs f = let g : 0 + length xs ≡ count = cc in omega arith
+
+-- The rows alone, without the rest of the buffer.
+module _ (t : Tables) (count : ℕ) (new : List ℕ) where
+  node_taken : (i : ℕ) → i < count → node_at (take (count * 3) new) i ≡ node_at new i
+  node_taken i h = get_or-take (count * 3) new (i * 3 + 2) 0 (omega arith)
+
+  pub rows_alone : Unfollowed t count new → (n : ℕ) → n ≡ count → Unfollowed t n (take (count * 3) new)
+  rows_alone s n e =
+      record {
+        told = s.told;
+        size = s.size ∙ sym e;
+        room = omega (arith, s.room, length-take (count * 3) new);
+        class = λ i h. rw (node_taken i (omega arith)) (s.class i (omega arith));
+        alone = λ i h. rw (node_taken i (omega arith)) (s.alone i (omega arith));
+      }
+
+  pub alone_told : (s : Unfollowed t count new) (n : ℕ) → n ≡ count → (last : List ℕ)
+      → ((r : Unfollowed t n (take (count * 3) new)) → last ≡ flat_map words_of r.told ++ drop (n * 3) (take (count * 3) new)) → last ≡ flat_map words_of s.told
+  unfolding rows_alone
+  alone_told s n e last f =
+      let none : drop (n * 3) (take (count * 3) new) ≡ [] = drop_of_length-le (take (count * 3) new) {i = n * 3} (omega (arith, length-take (count * 3) new)) in
+      f (rows_alone s n e) ∙ ap (λ l. flat_map words_of s.told ++ l) none ∙ append-nil (flat_map words_of s.told)
 
 -- The filling, as the code has it.
 pub fill_alone : (t : Tables) (together : Bool) (addresses out new : List ℕ) → together ≡ false → new ≡ (written_by (through (told_of t together) addresses) out).result

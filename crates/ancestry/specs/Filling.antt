@@ -1,9 +1,8 @@
 -- How the result buffer is filled (note 9): what private functions promise each other.
-use Rattle.std.specs.Prelude.{ℕ, ◌+◌, ◌*◌, ◌/◌, ◌≤◌, ◌≡◌, Bool, false, List, length}
+use Rattle.std.specs.Prelude.{ℕ, ◌+◌, ◌*◌, ◌/◌, ◌≤◌, ◌≡◌, Bool, false, List, length, Option, Some, None}
 use Rattle.std.proofs.lemmas.List.Edits.{sets}
-use Rattle.reads.specs.Outcome.{Outcome, value, and_then, choose}
+use Rattle.reads.specs.Outcome.{Outcome, value, absent, refused, and_then, choose}
 use Rattle.pointers.specs.Tables.{Tables}
-use Rattle.pointers.specs.Question.{asked}
 use Rattle.records.specs.Class.{class_at}
 use Rattle.walks.specs.Gather.{gather, present}
 use Rattle.ancestry.specs.Rebases.{chains_fall}
@@ -22,6 +21,11 @@ unfollowed_of t a = and_then (class_at t a false) (λ _. value (record { count =
 unfoldable pub told_of : Tables → Bool → ℕ → Outcome Ancestry
 told_of t together a = choose together (unfollowed_of t a) (ancestry_of t a)
 
+abbrev pub found : Outcome Ancestry → Option Ancestry
+found (value a) = Some a
+found (absent r) = None
+found (refused k) = None
+
 -- How many of them have a record, with n before.
 unfoldable pub tally : (ℕ → Outcome Ancestry) → ℕ → List ℕ → Outcome ℕ
 tally one n addresses = and_then (through one addresses) (λ xs. value (n + length xs))
@@ -38,7 +42,6 @@ pub record Fits (one : ℕ → Outcome Ancestry) (addresses out : List ℕ) : Ty
 
 -- All classes are counted, and their records fit; `together` says that no lookup can be refused.
 pub record Counted (t : Tables) (together : Bool) (count : ℕ) (addresses out : List ℕ) : Type 0 where
-  pub yes : asked t ≡ value tt
   pub falls : together ≡ chains_fall t.rebases t.index
   pub counted : value count ≡ tally (told_of t together) 0 addresses
   pub room : count ≤ length out / 3

@@ -1,4 +1,5 @@
 -- The definitions that the contracts of ancestry cite.
+pub mod Asked
 pub mod Chain
 pub mod Rebases
 pub mod Ancestry

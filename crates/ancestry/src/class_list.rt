@@ -2,18 +2,15 @@
 ghost use Rattle.std.specs.Prelude.{◌≡◌, ◌+◌, ◌<◌, ◌≤◌, ◌^◌, length};
 ghost use Rattle.reads.specs.Outcome.{value, and_then};
 ghost use Rattle.reads.specs.Reference.{before};
-ghost use Rattle.pointers.specs.Question.{asked};
-ghost use Rattle.pointers.specs.Tables.{under};
 ghost use Rattle.walks.specs.Gather.{present};
 ghost use Rattle.ancestry.specs.Ancestry.{ancestries, written, written_by, ancestries_left};
-ghost use Rattle.ancestry.specs.Filling.{through, unfollowed_of, told_of, tally, put, Fits, Counted};
+ghost use Rattle.ancestry.specs.Filling.{through, unfollowed_of, told_of, found, tally, put, Fits, Counted};
 ghost use Rattle.reads.specs.Answer.{outcome, answered};
 
+use crate::asked::{Asked, Falling};
 use crate::class_chain::{Ancestry, ancestry_at};
 use crate::following::follow_all;
 use crate::rebases::chains_fall;
-use pointers::question::ask;
-use pointers::setting::Setting;
 use pointers::tables::Tables;
 use reads::answer::{Missing, Question};
 use records::class::class_at;
@@ -32,11 +29,11 @@ fn counted(one: Result<Ancestry, Missing>, count: u64) -> Result<u64, Question>
 
 // A class that decodes, as a row before its chain is followed.
 #[tactic(auto, using(reads::proofs::Outcomes::missed_then), unfolding(crate::specs::Filling::unfollowed_of))]
-fn unfollowed_at(tables: &Tables, setting: Setting, va: u64) -> Result<Ancestry, Missing>
-    ensures { let t = under setting tables.now in
+fn unfollowed_at(tables: &Tables, va: u64) -> Result<Ancestry, Missing>
+    ensures { let t = tables.now in
         outcome result ≡ unfollowed_of t va }
 {
-    class_at(tables, setting, va, false)?;
+    class_at(tables, va, false)?;
     Ok(Ancestry {
         count: 0,
         last: 0,
@@ -46,33 +43,24 @@ fn unfollowed_at(tables: &Tables, setting: Setting, va: u64) -> Result<Ancestry,
 
 // What is written first of a class: a row to follow, or its record.
 #[tactic(auto, unfolding(crate::specs::Filling::told_of, reads::specs::Outcome::choose))]
-fn told_at(tables: &Tables, setting: Setting, together: bool, va: u64) -> Result<Ancestry, Missing>
-    requires { let t = under setting tables.now in
-        asked t ≡ value tt }
-    ensures { let t = under setting tables.now in
+fn told_at(asked: &Asked, together: bool, va: u64) -> Result<Ancestry, Missing>
+    ensures { let t = asked.now.tables.now in
         outcome result ≡ told_of t together va }
 {
     if together {
-        return unfollowed_at(tables, setting, va);
+        return unfollowed_at(asked.tables, va);
     }
-    ancestry_at(tables, setting, va)
+    ancestry_at(asked, va)
 }
 
 // How many of the classes have a record. All are told, so that a lookup that is refused is met before anything is written.
-fn count_all(
-    tables: &Tables,
-    setting: Setting,
-    together: bool,
-    classes: &[u64],
-) -> Result<u64, Question>
-    requires { let t = under setting tables.now in
-        asked t ≡ value tt }
-    ensures { let t = under setting tables.now in
+fn count_all(asked: &Asked, together: bool, classes: &[u64]) -> Result<u64, Question>
+    ensures { let t = asked.now.tables.now in
         answered result ≡ tally (told_of t together) 0 (before classes) }
 {
     let mut count = 0;
     for va in classes {
-        let one = told_at(tables, setting, together, *va);
+        let one = told_at(asked, together, *va);
         count = counted(one, count)?;
     }
     Ok(count)
@@ -87,77 +75,68 @@ fn put_record(res: &mut [u64], at: usize, a: Ancestry)
     res[at..at + 3].copy_from_slice(&[a.count, a.last, a.looping]);
 }
 
+// What is told of a class, if it is told anything.
+#[tactic(auto, using(crate::proofs::Fillings::outcome_found))]
+fn found_at(asked: &Asked, together: bool, va: u64) -> Option<Ancestry>
+    ensures { let t = asked.now.tables.now in
+        result ≡ found (told_of t together va) }
+{
+    told_at(asked, together, va).ok()
+}
+
 // What the classes are told, in their order.
-fn write_all(tables: &Tables, setting: Setting, together: bool, classes: &[u64], res: &mut [u64])
-    requires { let t = under setting tables.now in
-        (asked t ≡ value tt) × Fits (told_of t together) classes.now res.old }
-    ensures { let t = under setting tables.now in
+fn write_all(asked: &Asked, together: bool, classes: &[u64], res: &mut [u64])
+    requires { let t = asked.now.tables.now in
+        Fits (told_of t together) classes.now res.old }
+    ensures { let t = asked.now.tables.now in
         res.new ≡ (written_by (through (told_of t together) (before classes)) res.old).result }
 {
-    let mut at = 0;
-    for va in classes {
-        if let Ok(a) = told_at(tables, setting, together, *va) {
-            put_record(res, at, a);
-            at += 3;
-        }
+    let records = classes
+        .iter()
+        .filter_map(|va| found_at(asked, together, *va));
+    for (k, a) in records.enumerate() {
+        put_record(res, k * 3, a);
     }
 }
 
 // The records: rows that are followed together, or each class alone.
-fn fill(
-    tables: &Tables,
-    setting: Setting,
-    together: bool,
-    count: u64,
-    classes: &[u64],
-    res: &mut [u64],
-)
-    requires { let t = under setting tables.now in
+fn fill(asked: &Asked, together: bool, count: u64, classes: &[u64], res: &mut [u64])
+    requires { let t = asked.now.tables.now in
         Counted t together count classes.now res.old }
-    ensures { let t = under setting tables.now in
+    ensures { let t = asked.now.tables.now in
         res.new ≡ (written_by (ancestries t (before classes)) res.old).result }
 {
-    write_all(tables, setting, together, classes, res);
+    write_all(asked, together, classes, res);
     if !together {
         return;
     }
-    follow_all(tables, setting, count as usize, res);
+    let falling = Falling {
+        tables: asked.tables,
+    };
+    follow_all(&falling, &mut res[..count as usize * 3]);
 }
 
 // The same after 1 to 6 and 8: all are counted before 21 is asked, and 21 before the first write. Where no lookup can be refused, the
 // result buffer is the room in which all chains are followed together.
-fn write_asked(
-    tables: &Tables,
-    setting: Setting,
-    classes: &[u64],
-    res: &mut [u64],
-) -> Result<u64, Question>
-    requires { let t = under setting tables.now in
-        asked t ≡ value tt }
-    ensures { let t = under setting tables.now in
+fn write_asked(asked: &Asked, classes: &[u64], res: &mut [u64]) -> Result<u64, Question>
+    ensures { let t = asked.now.tables.now in
         written (answered result) res.new ≡ ancestries_left t (before classes) res.old }
 {
-    let together = chains_fall(tables);
-    let count = count_all(tables, setting, together, classes)?;
+    let together = chains_fall(asked.tables);
+    let count = count_all(asked, together, classes)?;
     if ((res.len() / 3) as u64) < count {
         return Err(Question::AncestryRoom);
     }
-    fill(tables, setting, together, count, classes, res);
+    fill(asked, together, count, classes, res);
     Ok(count)
 }
 
 // The ancestry of the classes at the addresses `classes`, three words each in their order, into `result`; an address at which no class
 // decodes has no record. Answers how many there are. For all classes of C lines lend the words in use of the ledger of a finished class
 // walk.
-pub fn ancestries(
-    tables: &Tables,
-    setting: Setting,
-    classes: &[u64],
-    res: &mut [u64],
-) -> Result<u64, Question>
-    ensures { let t = under setting tables.now in
+pub fn ancestries(tables: &Tables, classes: &[u64], res: &mut [u64]) -> Result<u64, Question>
+    ensures { let t = tables.now in
         written (answered result) res.new ≡ ancestries_left t (before classes) res.old }
 {
-    ask(tables)?;
-    write_asked(tables, setting, classes, res)
+    write_asked(&Asked::ask(tables)?, classes, res)
 }

@@ -1,22 +1,18 @@
-// The result buffer as room while the chains of all classes are followed together: each round doubles how far every chain is followed.
-ghost use Rattle.std.specs.Prelude.{◌≡◌, List, ℕ, ◌+◌, ◌*◌, ◌<◌, ◌≤◌, ◌^◌, length};
+// The rows of the result buffer, three words each, as room while the chains of all classes are followed together: each round doubles how far every chain is followed.
+ghost use Rattle.std.specs.Prelude.{◌≡◌, List, ℕ, ◌+◌, ◌*◌, ◌/◌, ◌<◌, ◌≤◌, ◌^◌, length};
 ghost use Rattle.reads.specs.Reference.{before};
-ghost use Rattle.ancestry.specs.Doubling.{state_at, put_at, joined_of, jumped_at, jumped_to, finished_at, finished_to, Ground, Following};
+ghost use Rattle.ancestry.specs.Doubling.{state_at, count_of, parts_of, told_by, put_at, joined_of, jumped_at, jumped_to, finished_at, finished_to, Ground, Following};
 
-// What is known of a class while chains are followed: specs/Doubling.antt.
+use crate::class_chain::{Ancestry, LOOPING};
+
+// What is known of a class while chains are followed: its chain ended `count` classes up, the last of them at the address `last` (0 if
+// there is none); it loops; or it was followed `count` classes up, to the class in row `row`.
 #[derive(Clone, Copy)]
-pub struct State {
-    pub count: u64,
-    pub place: u64,
-    pub mark: u64,
+pub enum State {
+    Ended { count: u64, last: u64 },
+    Looping,
+    Followed { count: u64, row: u64 },
 }
-
-// Of a class whose chain loops.
-pub(crate) const LOOPING: State = State {
-    count: 0,
-    place: 0,
-    mark: 1,
-};
 
 // What is known of the class in row i.
 pub(crate) fn state_at(out: &[u64], i: usize) -> State
@@ -24,89 +20,126 @@ pub(crate) fn state_at(out: &[u64], i: usize) -> State
     ensures { result ≡ state_at (before out) i }
 {
     let first = out[i * 3];
-    State {
-        count: first / 4,
-        place: out[i * 3 + 1],
-        mark: first % 4,
+    let count = first / 4;
+    let place = out[i * 3 + 1];
+    match first % 4 {
+        0 => State::Ended { count, last: place },
+        1 => State::Looping,
+        _ => State::Followed { count, row: place },
+    }
+}
+
+// The count, the place and the mark that stand in a row.
+fn parts_of(s: State) -> [u64; 3]
+    ensures { result ≡ parts_of s }
+{
+    match s {
+        State::Ended { count, last } => [count, last, 0],
+        State::Looping => [0, 0, 1],
+        State::Followed { count, row } => [count, row, 2],
     }
 }
 
 pub(crate) fn put_state(out: &mut [u64], i: usize, s: State)
-    requires { (i * 3 + 2 < length out.old) × (s.count < 2 ^ 60) × (s.mark < 4) }
+    requires { (i * 3 + 2 < length out.old) × (count_of s < 2 ^ 60) }
     ensures { out.new ≡ put_at out.old i s }
 {
-    out[i * 3] = s.count * 4 + s.mark;
-    out[i * 3 + 1] = s.place;
+    let [count, place, mark] = parts_of(s);
+    out[i * 3] = count * 4 + mark;
+    out[i * 3 + 1] = place;
 }
 
 // A class that was followed `count` classes up, to the one at `address`, goes on from what is known of that one.
 #[tactic(auto, using(std::proofs::lemmas::Bool::Decides::nat_tests), unfolding(crate::specs::Doubling::joined_of, reads::specs::Outcome::choose))]
 fn joined(limit: u64, count: u64, address: u64, next: State) -> State
-    requires { (count < 2 ^ 62) × (next.count < 2 ^ 62) }
+    requires { (count < 2 ^ 62) × (count_of next < 2 ^ 62) }
     ensures { result ≡ joined_of limit count address next }
 {
-    if next.mark == 1 {
-        return LOOPING;
-    }
-    if limit <= count + next.count {
-        return LOOPING;
-    }
-    if next.count == 0 {
-        return State {
-            count,
-            place: address,
-            mark: 0,
-        };
-    }
-    State {
-        count: count + next.count,
-        place: next.place,
-        mark: next.mark,
+    match next {
+        State::Looping => State::Looping,
+        State::Ended { count: more, last } => {
+            if limit <= count + more {
+                return State::Looping;
+            }
+            if more == 0 {
+                return State::Ended {
+                    count,
+                    last: address,
+                };
+            }
+            State::Ended {
+                count: count + more,
+                last,
+            }
+        }
+        State::Followed { count: more, row } => {
+            if limit <= count + more {
+                return State::Looping;
+            }
+            State::Followed {
+                count: count + more,
+                row,
+            }
+        }
     }
 }
 
 // The chain of the class in row i is followed on from where the class that it has come to was followed to.
-#[tactic(auto, using(crate::proofs::Rounds::state_mark, crate::proofs::Rounds::jump_stays, crate::proofs::Rounds::jump_past, crate::proofs::Rounds::jump_puts, crate::proofs::Rounds::joined_small, crate::proofs::Rounds::joined_marked))]
-fn jump(limit: u64, listed: usize, out: &mut [u64], i: usize)
-    requires { (i < listed) × (listed * 3 ≤ length out.old) × (limit ≤ 2 ^ 40) }
-    ensures { out.new ≡ jumped_at listed limit out.old i }
+#[tactic(auto, using(crate::proofs::Rounds::jump_stays, crate::proofs::Rounds::jump_past, crate::proofs::Rounds::jump_puts, crate::proofs::Rounds::joined_small, crate::proofs::Rounds::state_small))]
+fn jump(limit: u64, out: &mut [u64], i: usize)
+    requires { (i < length out.old / 3) × (limit ≤ 2 ^ 40) }
+    ensures { out.new ≡ jumped_at (length out.old / 3) limit out.old i }
 {
-    let s = state_at(out, i);
-    if s.mark != 2 {
+    let State::Followed { count, row } = state_at(out, i) else {
+        return;
+    };
+    let row = row as usize;
+    if out.len() / 3 <= row {
         return;
     }
-    let place = s.place as usize;
-    if listed <= place {
-        return;
-    }
-    let next = state_at(out, place);
-    let t = joined(limit, s.count, out[place * 3 + 2], next);
+    let next = state_at(out, row);
+    let t = joined(limit, count, out[row * 3 + 2], next);
     put_state(out, i, t);
 }
 
 // One round: every chain is followed at least twice as far.
 #[tactic(auto, using(crate::proofs::Rounds::jumped_more, crate::proofs::Rounds::jumped_none))]
-fn jump_all(limit: u64, listed: usize, out: &mut [u64])
-    requires { (listed * 3 ≤ length out.old) × (limit ≤ 2 ^ 40) }
-    ensures { out.new ≡ jumped_to listed limit out.old listed }
+fn jump_all(limit: u64, out: &mut [u64])
+    requires { limit ≤ 2 ^ 40 }
+    ensures { let listed = length out.old / 3 in
+        out.new ≡ jumped_to listed limit out.old listed }
 {
-    for i in 0..listed {
-        jump(limit, listed, out, i);
+    for i in 0..out.len() / 3 {
+        jump(limit, out, i);
     }
 }
 
 // Follows every chain, of which one step is known, as far as can be.
-pub(crate) fn follow(limit: u64, listed: usize, out: &mut [u64])
-    requires { (listed * 3 ≤ length out.old) × (limit ≤ 2 ^ 40) }
+pub(crate) fn follow(limit: u64, out: &mut [u64])
+    requires { limit ≤ 2 ^ 40 }
     ensures size { length out.new ≡ length out.old }
-    ensures followed { (g : Ground) (out₀ : List ℕ) → g.limit ≡ limit → g.listed ≡ listed → Following g 1 out₀ out.old
+    ensures followed { (g : Ground) (out₀ : List ℕ) → g.limit ≡ limit → g.listed ≡ length out.old / 3 → Following g 1 out₀ out.old
         → Following g limit out₀ out.new }
 {
     // Not a `for`: a round doubles how far the chains are followed.
     let mut reach = 1;
     while reach < limit {
-        jump_all(limit, listed, out);
+        jump_all(limit, out);
         reach *= 2;
+    }
+}
+
+// What a class is told of which this is known: one that was followed to no end loops.
+fn told_by(s: State) -> Ancestry
+    ensures { result ≡ told_by s }
+{
+    match s {
+        State::Ended { count, last } => Ancestry {
+            count,
+            last,
+            looping: 0,
+        },
+        State::Looping | State::Followed { .. } => LOOPING,
     }
 }
 
@@ -116,17 +149,17 @@ fn finish(out: &mut [u64], i: usize)
     requires { i * 3 + 2 < length out.old }
     ensures { out.new ≡ finished_at out.old i }
 {
-    let first = out[i * 3];
-    out[i * 3] = first / 4;
-    out[i * 3 + 2] = first % 4;
+    let a = told_by(state_at(out, i));
+    out[i * 3] = a.count;
+    out[i * 3 + 1] = a.last;
+    out[i * 3 + 2] = a.looping;
 }
 
 #[tactic(auto, using(crate::proofs::Rounds::finished_more, crate::proofs::Rounds::finished_none))]
-pub(crate) fn finish_all(listed: usize, out: &mut [u64])
-    requires { listed * 3 ≤ length out.old }
-    ensures { out.new ≡ finished_to out.old listed }
+pub(crate) fn finish_all(out: &mut [u64])
+    ensures { out.new ≡ finished_to out.old (length out.old / 3) }
 {
-    for i in 0..listed {
+    for i in 0..out.len() / 3 {
         finish(out, i);
     }
 }

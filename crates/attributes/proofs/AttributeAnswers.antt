@@ -8,7 +8,7 @@ use lib.ListN.{length}
 use borrow.Author.Tests.{leb-true}
 use Rattle.std.specs.Prelude.{Result, Ok, Err}
 use Rattle.reads.specs.Answer.{missed, outcome}
-use Rattle.reads.specs.Outcome.{Outcome, value, refused, and_then, choose}
+use Rattle.reads.specs.Outcome.{Outcome, value, absent, refused, and_then, choose}
 use Rattle.reads.specs.Utf8.{Verdict, verdict}
 use Rattle.reads.specs.declared.answer.Missing.{Missing}
 use Rattle.reads.specs.declared.answer.Missing.TheVariants.{Absent, Refused}
@@ -17,18 +17,8 @@ use Rattle.reads.proofs.Outcomes.{missed_then}
 use Rattle.pointers.specs.Open.{left_by}
 use Rattle.pointers.specs.Question.{question}
 use Rattle.pointers.proofs.Questions.{question_yes}
-use Rattle.attributes.specs.Attributes.{items, type_among, attributes, if_utf8, items_fit, handed_out, filled}
-use Rattle.attributes.specs.Pass.{chosen}
+use Rattle.attributes.specs.Attributes.{if_utf8, items_fit, handed_out, filled, Handed}
 use Rattle.attributes.specs.declared.items.Item.{Item}
-use Rattle.attributes.specs.declared.items.Value.{Value}
-use Rattle.attributes.specs.declared.pass.Which.{Which}
-use Rattle.attributes.specs.declared.pass.Which.TheVariants.{All}
-use Rattle.attributes.proofs.AttributeItems.{chosen_all}
-
--- `o` comes back and the buffer holds `now`, where `is` are handed out with `a`.
-abbrev pub Handed : {A : Type 0} → List ℕ → List ℕ → List Item → A → Outcome A → List ℕ → Type 0
-Handed text buffer is a o now =
-    (o ≡ handed_out text is (length buffer) a) × (now ≡ left_by (handed_out text is (length buffer) a) (filled is buffer) buffer)
 
 module _ {A : Type 0} (text : List ℕ) (is : List Item) (a : A) where
   module _ (room : ℕ) (u : verdict text ≡ Ok tt) where
@@ -69,35 +59,41 @@ left_missing : (A : Type 0) (m : Missing) (new old : List ℕ) → left_by (miss
 left_missing A (Absent r) new old = refl
 left_missing A (Refused k) new old = refl
 
+-- What one answer says and leaves, another over the same items does.
+module _ {A B : Type 0} (text buffer : List ℕ) {is js : List Item} (a : A) (b : B) (same : is ≡ js) {o : Outcome A} {now : List ℕ} (h : Handed text buffer is a o now) where
+  left_then : (x : Outcome A) (new old : List ℕ) → left_by (and_then x (λ (_ : A). value b)) new old ≡ left_by x new old
+  left_then (value x) new old = refl
+  left_then (absent r) new old = refl
+  left_then (refused k) new old = refl
+
+  again : handed_out text js (length buffer) b ≡ and_then o (λ (_ : A). value b)
+  again = rw (← same, h.0) (handed_again text is (length buffer) b a)
+
+  made : Handed text buffer js b (and_then o (λ (_ : A). value b)) now
+  made =
+      let left = h.1 ∙ ap (λ (x : Outcome A). left_by x (filled is buffer) buffer) (sym h.0) in
+      (sym again, left ∙ rw (again, same) (sym (left_then o (filled js buffer) buffer)))
+
+  pub made_missing : (m : Missing) → o ≡ missed m → Handed text buffer js b (missed m) now
+  made_missing m e = rw (missed_then m (λ (_ : A). value b), ← e) made
+
+  pub made_value : (x : A) → o ≡ value x → Handed text buffer js b (value b) now
+  made_value x e = let is_value = ap (λ (y : Outcome A). and_then y (λ (_ : A). value b)) e in rw (← is_value) made
+
+  pub made_count : (x : A) → o ≡ value x → x ≡ a
+  made_count x e = sym (gave text is (length buffer) a x (sym h.0 ∙ e)).same
+
 -- The code's tests: w is its count of the items that are handed out, where the text is UTF-8 and they fit.
-module _ {A : Type 0} (text buffer : List ℕ) (which : Which) {is : List Item} (same : chosen which (items text) ≡ is) (a : A)
-    (w : Result ℕ Missing) (g : outcome w ≡ handed_out text (chosen which (items text)) (length buffer) (length (chosen which (items text)))) where
-  again : handed_out text is (length buffer) a ≡ and_then (outcome w) (λ (_ : ℕ). value a)
-  again = rw (g, same) (handed_again text is (length buffer) a (length is))
+module _ {A : Type 0} (text buffer : List ℕ) (is : List Item) (a : A) (w : Result A Missing) (g : outcome w ≡ handed_out text is (length buffer) a) where
+  pub out_missing : (m : Missing) → w ≡ Err m → Handed text buffer is a (missed m) buffer
+  out_missing m h =
+      let e : missed m ≡ handed_out text is (length buffer) a = ap outcome (sym h) ∙ g in
+      (e, rw (← e) (sym (left_missing A m (filled is buffer) buffer)))
 
-  pub counted_missing : (m : Missing) → w ≡ Err m → Handed text buffer is a (missed m) buffer
-  counted_missing m h =
-      let e : handed_out text is (length buffer) a ≡ missed m = again ∙ rw h (sym (missed_then m (λ (_ : ℕ). value a))) in
-      rw e (refl, sym (left_missing A m (filled is buffer) buffer))
-
-  module _ (n : ℕ) (h : w ≡ Ok n) where
-    came : Gave text (chosen which (items text)) (length buffer) (length (chosen which (items text))) n
-    came = gave text (chosen which (items text)) (length buffer) (length (chosen which (items text))) n (sym g ∙ rw h)
-
-    pub counted : n ≡ length (chosen which (items text))
-    counted = sym came.same
-
-    pub counted_room : 3 * length (chosen which (items text)) ≤ length buffer
+  module _ (n : A) (h : w ≡ Ok n) where
+    pub out_room : 3 * length is ≤ length buffer
     unfolding items_fit
-    counted_room = leb-true (3 * length (chosen which (items text))) (length buffer) came.fits
+    out_room = leb-true (3 * length is) (length buffer) (gave text is (length buffer) a n (sym g ∙ rw h)).fits
 
-    pub counted_value : {now : List ℕ} → now ≡ filled (chosen which (items text)) buffer → {b : A} → b ≡ a → Handed text buffer is a (value b) now
-    counted_value v e =
-        let o : handed_out text is (length buffer) a ≡ value a = again ∙ rw h in
-        rw o (ap value e, v ∙ ap (λ (l : List Item). filled l buffer) same)
-
--- What parsing hands back.
-pub attributes_made : (text : List ℕ) {count : ℕ} {type : Value} → count ≡ length (chosen All (items text)) → type ≡ type_among (items text)
-    → record { count = count; type_encoding = type } ≡ attributes text
-unfolding attributes
-attributes_made text n t = rw (n, t, chosen_all (items text))
+    pub out_value : {now : List ℕ} → now ≡ filled is buffer → Handed text buffer is a (value n) now
+    out_value v = let e : value n ≡ handed_out text is (length buffer) a = ap outcome (sym h) ∙ g in (e, rw (← e) v)

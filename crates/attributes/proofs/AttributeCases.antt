@@ -7,6 +7,8 @@ use Rattle.reads.specs.Utf8.{judge}
 use Rattle.reads.specs.declared.answer.Reason.TheVariants.{NotUtf8}
 use Rattle.pointers.specs.Question.{question}
 use Rattle.pointers.specs.Symbol.{ascii}
+use Rattle.std.specs.Prelude.{Option, None, Some}
+use Rattle.attributes.specs.declared.items.Value.{Value}
 use Rattle.attributes.specs.Attributes.{handed_out, quotes, splits, first, value_length, value_of, item_of, items_from, items, is_type, type_among, attributes, items_fit, attributes_of, words, filled, items_left}
 use Rattle.attributes.specs.declared.items.Attributes.{Attributes}
 use Rattle.reads.specs.declared.answer.Question.TheVariants.{ItemRoom}
@@ -14,15 +16,15 @@ use Rattle.reads.specs.declared.answer.Question.TheVariants.{ItemRoom}
 abbrev told : List ℕ → List ℕ
 told text = words (items text)
 
-abbrev found : ℕ → ℕ → ℕ → Outcome Attributes
-found count start len = value (record { count = count; type_encoding = value_of start len })
+abbrev found : ℕ → Option Value → Outcome Attributes
+found count type = value (record { count = count; type_encoding = type })
 
 -- T with the value @"NSString", C, N, V with the value _name.
 name_items : told (ascii "T@\"NSString\",C,N,V_name") ≡ 0x54 ∷ 1 ∷ 11 ∷ 0x43 ∷ 14 ∷ 0 ∷ 0x4E ∷ 16 ∷ 0 ∷ 0x56 ∷ 18 ∷ 5 ∷ []
 unfolding words items items_from item_of value_length first splits quotes choose
 name_items = refl
 
-name_found : attributes_of (ascii "T@\"NSString\",C,N,V_name") 12 ≡ found 4 1 11
+name_found : attributes_of (ascii "T@\"NSString\",C,N,V_name") 12 ≡ found 4 (Some (value_of 1 11))
 unfolding attributes_of handed_out attributes type_among is_type items items_from item_of value_length first splits quotes items_fit question judge choose
 name_found = refl
 
@@ -64,16 +66,16 @@ last_comma : told (ascii "N,") ≡ 0x4E ∷ 1 ∷ 0 ∷ []
 unfolding words items items_from item_of value_length first splits quotes choose
 last_comma = refl
 
-empty_items : attributes_of [] 0 ≡ found 0 0 0
+empty_items : attributes_of [] 0 ≡ found 0 None
 unfolding attributes_of handed_out attributes type_among items items_from items_fit question judge choose
 empty_items = refl
 
--- The type is the first T value that is not empty, and (0, 0) without one.
-first_type : attributes_of (ascii "T,Ti,Tj") 9 ≡ found 3 3 1
+-- The type is the first T value that is not empty, if there is one.
+first_type : attributes_of (ascii "T,Ti,Tj") 9 ≡ found 3 (Some (value_of 3 1))
 unfolding attributes_of handed_out attributes type_among is_type items items_from item_of value_length first splits quotes items_fit question judge choose
 first_type = refl
 
-no_type : attributes_of (ascii "T,N") 6 ≡ found 2 0 0
+no_type : attributes_of (ascii "T,N") 6 ≡ found 2 None
 unfolding attributes_of handed_out attributes type_among is_type items items_from item_of value_length first splits quotes items_fit question judge choose
 no_type = refl
 

@@ -15,3 +15,4 @@ pub mod DecodedAgain
 pub mod AttributeAnswers
 pub mod AttributeCases
 pub mod PropertyCases
+pub mod Letters

@@ -1,41 +1,52 @@
 -- The parts of a declared property put into a buffer: an item, a letter that may be given, the front letters, the rows.
 use Prim.Native.Nat.{ℕ, ◌+◌, ◌≤◌, ◌<◌, ◌^◌}
 use mathlib.Core.Path.{◌≡◌, refl, ap, sym, ◌∙◌}
-use mathlib.Core.List.{List, [], ◌∷◌, ◌++◌, map, append_assoc, append-nil, map-append}
-use mathlib.Core.Logic.{◌⊎◌, inl, inr}
+use mathlib.Core.List.{List, [], ◌∷◌, ◌++◌, map, append_assoc, append-nil}
 use native.Mathlib.Omega.{arith}
 use native.Mathlib.Numerals.{add-one}
-use lib.ListN.{length, take}
+use lib.ListN.{length, take, get_or}
 use lib.Seq.{take-suc}
-use Rattle.attributes.specs.Property.{letters}
-use Rattle.attributes.specs.Written.{Part, bytes_given, part_of, front_letters, back_letters, front_of, declaration_in, given, in_order, joined, written, items_in, written_text}
-use Rattle.attributes.specs.Puts.{Put, comma_at, behind, item_at}
+use Rattle.std.proofs.lemmas.List.{take_all}
+use Rattle.attributes.specs.Written.{Part, bytes_given, part_of, front_letters, back_letters, front_of, declaration_in, given, in_order, written, items_in, written_text}
+use Rattle.attributes.specs.Puts.{Put, Puts, comma_at, behind, item_at}
 use Rattle.attributes.specs.declared.items.Item.{Item}
 use Rattle.attributes.specs.declared.items.Value.{Value}
 use Rattle.attributes.specs.declared.property.Declared.{Declared}
+use Rattle.attributes.specs.declared.written.Out.{Out}
+use Rattle.std.specs.List.{zip}
 use Rattle.attributes.proofs.Puts.{put_then, put_parts, put_no_part, behind_one}
-use Rattle.attributes.proofs.Rows.{item_in_row}
+use Rattle.attributes.proofs.Rows.{rows_next, rows_end}
 use Rattle.std.specs.Prelude.{Some, None, Option}
 
+-- Parts, and then others behind them.
+pub puts_parts : (ps qs : List Part) {o p q : Out} → length o.to.now < 2 ^ 63
+    → Puts o (behind o.at ps) p → Puts p (behind p.at qs) q → Puts o (behind o.at (ps ++ qs)) q
+puts_parts ps qs small a b = record { same = b.same ∙ a.same; put = put_parts ps qs small a.put b.put }
+
+pub puts_no_part : (o : Out) → Puts o (behind o.at []) o
+puts_no_part o = record { same = refl; put = put_no_part o.at o.to.now }
+
 -- A comma, a key and a value.
-pub put_one : (p : Part) {at key_at value_at to : ℕ} {out one two left : List ℕ} → length out < 2 ^ 63
-    → Put (comma_at at) at out key_at one → Put (p.key ∷ []) key_at one value_at two → Put p.value value_at two to left
-    → Put (behind at (p ∷ [])) at out to left
-put_one p {at} small c k v =
-    rw (behind_one at p, ← append_assoc (comma_at at) (p.key ∷ []) p.value) (put_then small (put_then small c k) v)
+pub puts_one : (p : Part) {o a b q : Out} → length o.to.now < 2 ^ 63
+    → Puts o (comma_at o.at) a → Puts a (p.key ∷ []) b → Puts b p.value q → Puts o (behind o.at (p ∷ [])) q
+puts_one p {o} small c k v =
+    let put = put_then small (put_then small c.put k.put) v.put in
+    record {
+      same = v.same ∙ k.same ∙ c.same;
+      put = rw (behind_one o.at p, ← append_assoc (comma_at o.at) (p.key ∷ []) p.value) put;
+    }
 
 -- A letter that is given, or not.
-module _ (text : List ℕ) (letter : ℕ) {attribute : (Option Value)} {at : ℕ} {out : List ℕ} where
-  pub put_given : {v : Value} {to : ℕ} {left : List ℕ} → attribute ≡ Some v
-      → Put (behind at (part_of text (record { key = letter; value = v }) ∷ [])) at out to left
-      → Put (behind at (given (letter ∷ []) (bytes_given text attribute ∷ []))) at out to left
+module _ (text : List ℕ) (letter : ℕ) {attribute : (Option Value)} {o : Out} where
+  pub puts_given : {v : Value} {p : Out} → attribute ≡ Some v
+      → Puts o (behind o.at (part_of text (record { key = letter; value = v }) ∷ [])) p
+      → Puts o (behind o.at (given (letter ∷ []) (bytes_given text attribute ∷ []))) p
   unfolding given
-  put_given e p = rw e p
+  puts_given e p = rw e p
 
-  pub put_not_given : attribute ≡ None → at < 2 ^ 64
-      → Put (behind at (given (letter ∷ []) (bytes_given text attribute ∷ []))) at out at out
+  pub puts_not_given : attribute ≡ None → Puts o (behind o.at (given (letter ∷ []) (bytes_given text attribute ∷ []))) o
   unfolding given
-  put_not_given e h = rw e (put_no_part at out h)
+  puts_not_given e = rw e (puts_no_part o)
 
 given_cons : (l : ℕ) (ls : List ℕ) (v : Option (List ℕ)) (vs : List (Option (List ℕ)))
     → given (l ∷ ls) (v ∷ vs) ≡ given (l ∷ []) (v ∷ []) ++ given ls vs
@@ -48,81 +59,97 @@ unfolding given
 given_none [] = refl
 given_none (l ∷ ls) = refl
 
--- No letters, or no values, are no parts.
-given_nothing : (text ls : List ℕ) (given_of : List (Option Value)) → (length ls ≡ 0) ⊎ (length given_of ≡ 0)
-    → given ls (map (bytes_given text) given_of) ≡ []
-unfolding given
-given_nothing text [] given_of h = refl
-given_nothing text (l ∷ ls) [] h = refl
-given_nothing text (l ∷ ls) (a ∷ given_of) (inl h) = absurd (omega arith)
-given_nothing text (l ∷ ls) (a ∷ given_of) (inr h) = absurd (omega arith)
+-- The parts of letters, each with what is given of it.
+pub parts_of : List ℕ → List (ℕ × Option Value) → List Part
+parts_of text [] = []
+parts_of text (p ∷ ps) = given (p.0 ∷ []) (bytes_given text p.1 ∷ []) ++ parts_of text ps
 
--- More letters than values are no more parts.
-given_enough : (ls more : List ℕ) (vs : List (Option (List ℕ))) → length vs ≤ length ls → given (ls ++ more) vs ≡ given ls vs
-unfolding given
-given_enough [] more [] h = given_none more
-given_enough [] more (v ∷ vs) h = absurd (omega arith)
-given_enough (l ∷ ls) more [] h = refl
-given_enough (l ∷ ls) more (None ∷ vs) h = given_enough ls more vs (omega arith)
-given_enough (l ∷ ls) more (Some v ∷ vs) h =
-    ap (λ (ps : List Part). record { key = l; value = v } ∷ ps) (given_enough ls more vs (omega arith))
+parts_append : (text : List ℕ) (ps qs : List (ℕ × Option Value)) → parts_of text (ps ++ qs) ≡ parts_of text ps ++ parts_of text qs
+unfolding parts_of
+parts_append text [] qs = refl
+parts_append text (p ∷ ps) qs =
+    ap (λ (l : List Part). given (p.0 ∷ []) (bytes_given text p.1 ∷ []) ++ l) (parts_append text ps qs)
+    ∙ sym (append_assoc (given (p.0 ∷ []) (bytes_given text p.1 ∷ [])) (parts_of text ps) (parts_of text qs))
 
-module _ (text : List ℕ) (d : Declared) where
-  -- Some of the front letters are put, and ls with what is given of them are left.
-  pub record Fronted (old ls : List ℕ) (given_of : List (Option Value)) (at : ℕ) (out : List ℕ) : Type 0 where
-    parts : List Part
-    whole : parts ++ given ls (map (bytes_given text) given_of) ≡ given letters (map (bytes_given text) (front_of d))
-    pub put : Put (behind 0 parts) 0 old at out
+given_zip : (text ls : List ℕ) (vs : List (Option Value)) → given ls (map (bytes_given text) vs) ≡ parts_of text (zip ls vs)
+unfolding parts_of
+given_zip text [] vs = unfold given in refl
+given_zip text (l ∷ ls) [] = unfold given in refl
+given_zip text (l ∷ ls) (v ∷ vs) =
+    given_cons l ls (bytes_given text v) (map (bytes_given text) vs)
+    ∙ ap (λ (ps : List Part). given (l ∷ []) (bytes_given text v ∷ []) ++ ps) (given_zip text ls vs)
 
-  module _ {old : List ℕ} where
-    pub fronted_start : {ls : List ℕ} {given_of : List (Option Value)} → ls ≡ letters → given_of ≡ front_of d → Fronted old ls given_of 0 old
-    fronted_start e g = record {
-      parts = [];
-      whole = rw (e, g);
-      put = put_no_part 0 old (omega arith);
-    }
+-- Some of the letters are put: i of them.
+abbrev pub Lettered : List ℕ → List (ℕ × Option Value) → ℕ → Out → Out → Type 0
+Lettered text all i o p = Puts o (behind o.at (parts_of text (take i all))) p
 
-    module _ {ls : List ℕ} {given_of : List (Option Value)} {at : ℕ} {out : List ℕ} (f : Fronted old ls given_of at out) where
-      pub fronted_next : {l to : ℕ} {more left : List ℕ} {a : (Option Value)} {rest : List (Option Value)} → length old < 2 ^ 63
-          → ls ≡ l ∷ more → given_of ≡ a ∷ rest
-          → Put (behind at (given (l ∷ []) (bytes_given text a ∷ []))) at out to left → Fronted old more rest to left
-      fronted_next {l} {to} {more} {left} {a} {rest} small e g p =
-          let here = given (l ∷ []) (bytes_given text a ∷ []) in record {
-            parts = f.parts ++ here;
-            whole = rw (append_assoc, ← given_cons l more (bytes_given text a) (map (bytes_given text) rest)) (rw (e, g) at f.whole);
-            put = put_parts f.parts here small (omega arith) f.put p;
-          }
+module _ (text : List ℕ) (all : List (ℕ × Option Value)) {o : Out} where
+  pub lettered_start : Lettered text all 0 o o
+  unfolding parts_of
+  lettered_start = puts_no_part o
 
-      pub fronted_end : (length ls ≡ 0) ⊎ (length given_of ≡ 0)
-          → Put (joined (given front_letters (map (bytes_given text) (front_of d)))) 0 old at out
-      fronted_end h =
-          let all : f.parts ≡ given front_letters (map (bytes_given text) (front_of d)) =
-          sym (append-nil f.parts) ∙ rw (given_nothing text ls given_of h) at f.whole
-          ∙ given_enough front_letters back_letters (map (bytes_given text) (front_of d)) (omega arith) in
-          rw all at f.put
+  pub lettered_next : {i : ℕ} {p q : Out} (d : ℕ × Option Value) → length o.to.now < 2 ^ 63 → i < length all → Lettered text all i o p
+      → let e = get_or all i d in Puts p (behind p.at (given (e.0 ∷ []) (bytes_given text e.1 ∷ []))) q
+      → Lettered text all (i + 1) o q
+  unfolding parts_of
+  lettered_next {i} {p} {q} d small h a b =
+      let e = get_or all i d in
+      let here = given (e.0 ∷ []) (bytes_given text e.1 ∷ []) in
+      let one : parts_of text (e ∷ []) ≡ here = append-nil here in
+      let on : parts_of text (take (i + 1) all) ≡ parts_of text (take i all) ++ here =
+      ap (parts_of text) (rw add-one (take-suc all i d h)) ∙ parts_append text (take i all) (e ∷ []) ∙ ap (λ (l : List Part). parts_of text (take i all) ++ l) one in
+      rw on (puts_parts (parts_of text (take i all)) here small a b)
 
--- k of the rows are put.
-abbrev pub Rowed : List ℕ → List Item → ℕ → List ℕ → ℕ → ℕ → List ℕ → Type 0
-Rowed text is start old k at out = Put (behind start (map (part_of text) (take k is))) start old at out
+  pub lettered_end : (d : Declared) {i : ℕ} {p : Out} → all ≡ zip front_letters (front_of d) → length all ≤ i → Lettered text all i o p
+      → Puts o (behind o.at (given front_letters (map (bytes_given text) (front_of d)))) p
+  lettered_end d {i} e h a =
+      let whole : take i all ≡ zip front_letters (front_of d) = take_all i all h ∙ e in
+      rw (given_zip text front_letters (front_of d), ← whole) a
 
-module _ (text : List ℕ) (count : ℕ) (rows : List ℕ) {start : ℕ} {old : List ℕ} where
-  pub rowed_next : {k at to : ℕ} {out left : List ℕ} {i : Item} → length old < 2 ^ 63 → start < 2 ^ 64 → k < length (items_in count rows)
-      → Rowed text (items_in count rows) start old k at out → i ≡ item_at rows k
-      → Put (behind at (part_of text i ∷ [])) at out to left → Rowed text (items_in count rows) start old (k + 1) to left
-  rowed_next {k} {at} {to} {out} {left} {i} small begun h r e p =
-      let is = items_in count rows in
-      let one : take (k + 1) is ≡ take k is ++ (i ∷ []) = rw (add-one, e, item_in_row count k rows i h) (take-suc is k i h) in
-      rw (one, map-append) (put_parts (map (part_of text) (take k is)) (part_of text i ∷ []) small begun r p)
+-- Some of the rows are put, and the words of `rest` are left, in rows of `size` words.
+pub record Rowing (text rows : List ℕ) (o : Out) (size : ℕ) (rest : List ℕ) (p : Out) : Type 0 where
+  parts : List Part
+  whole : parts ++ map (part_of text) (items_in (length rest) rest) ≡ map (part_of text) (items_in (length rows) rows)
+  pub three : size ≡ 3
+  pub put : Puts o (behind o.at parts) p
+
+module _ (text rows : List ℕ) {o : Out} {size : ℕ} {rest : List ℕ} where
+  pub rowing_start : rest ≡ rows → size ≡ 3 → Rowing text rows o size rest o
+  rowing_start e z = record { parts = []; whole = rw e refl; three = z; put = puts_no_part o }
+
+  module _ {p : Out} (at : Rowing text rows o size rest p) where
+    pub rowing_next : {more : List ℕ} {n : ℕ} {i : Item} {q : Out} (row : List ℕ) → length o.to.now < 2 ^ 63 → rest ≡ row ++ more → length row ≡ size → n ≡ size
+        → i ≡ item_at row → Puts p (behind p.at (part_of text i ∷ [])) q → Rowing text rows o n more q
+    rowing_next {more} {n} {i} {q} row small e h z d b =
+        let here = part_of text i ∷ [] in
+        let next : items_in (length rest) rest ≡ i ∷ items_in (length more) more = rw d (rows_next row more e (h ∙ at.three)) in
+        record {
+          parts = at.parts ++ here;
+          whole = append_assoc at.parts here (map (part_of text) (items_in (length more) more))
+              ∙ ap (λ (is : List Item). at.parts ++ map (part_of text) is) (sym next) ∙ at.whole;
+          three = z ∙ at.three;
+          put = puts_parts at.parts here small at.put b;
+        }
+
+    pub rowing_end : length rest < size → Puts o (behind o.at (map (part_of text) (items_in (length rows) rows))) p
+    rowing_end h =
+        let none : items_in (length rest) rest ≡ [] = rows_end rest (omega (arith, at.three)) in
+        let all : at.parts ≡ map (part_of text) (items_in (length rows) rows) =
+        sym (append-nil at.parts) ∙ ap (λ (is : List Item). at.parts ++ map (part_of text) is) (sym none) ∙ at.whole in
+        rw (← all) at.put
 
 -- The front letters, the rows and V.
-pub put_in_order : (text : List ℕ) (d : Declared) (rows : List ℕ) {front back to : ℕ} {out one two left : List ℕ} → length out < 2 ^ 63
-    → Put (joined (given front_letters (map (bytes_given text) (front_of d)))) 0 out front one
-    → Put (behind front (map (part_of text) (items_in d.unknown_count rows))) front one back two
-    → Put (behind back (given back_letters (bytes_given text d.variable ∷ []))) back two to left
-    → Put (written_text text d rows) 0 out to left
+pub put_in_order : (text : List ℕ) (d : Declared) (rows cut : List ℕ) {o a b c : Out} → o.at ≡ 0 → length o.to.now < 2 ^ 63
+    → Puts o (behind o.at (given front_letters (map (bytes_given text) (front_of d)))) a
+    → items_in (length cut) cut ≡ items_in d.unknown_count rows
+    → Puts a (behind a.at (map (part_of text) (items_in (length cut) cut))) b
+    → Puts b (behind b.at (given back_letters (bytes_given text d.variable ∷ []))) c
+    → Put (written_text text d rows) 0 o.to.now c.at c.to.now
 unfolding written_text written in_order declaration_in
-put_in_order text d rows small f u v =
+put_in_order text d rows cut {o = o} {a = a} z small f e u v =
+    let front = given front_letters (map (bytes_given text) (front_of d)) in
     let unknown = map (part_of text) (items_in d.unknown_count rows) in
     let variable = given back_letters (bytes_given text d.variable ∷ []) in
-    put_parts (given front_letters (map (bytes_given text) (front_of d))) (unknown ++ variable) small (omega arith) f
-    (put_parts unknown variable (omega (arith, f.same)) (omega (arith, f.ends)) u v)
+    let behind_it = puts_parts unknown variable (omega (arith, f.put.same)) (rw (← e) u) v in
+    let all = puts_parts front (unknown ++ variable) small f behind_it in
+    rw z at all.put

@@ -3,21 +3,11 @@ use Prim.Native.Nat.{ℕ, zero, suc, ◌+◌, ◌-◌, ◌≤◌, ◌<◌, ◌^�
 use mathlib.Core.Path.{◌≡◌, refl, ap, sym, ◌∙◌}
 use mathlib.Core.List.{List, [], ◌∷◌, ◌++◌, append_assoc, append-nil}
 use native.Mathlib.Omega.{arith}
-use Rattle.std.proofs.lemmas.List.{take_min, drop_min}
-use lib.ListN.{length, set, take, drop, length-append, length-drop}
+use lib.ListN.{length, set, length-append}
 use borrow.Rule.Slice.PartMut.{put_mid, Post-is}
 use lib.Seq.{sets-eq, sets, length-sets}
-use Rattle.attributes.specs.Written.{Part, bytes_of, following, joined}
+use Rattle.attributes.specs.Written.{Part, following, joined}
 use Rattle.attributes.specs.Puts.{Put, comma_at, behind}
-use Rattle.attributes.specs.declared.items.Value.{Value}
-
--- What a text has of a value.
-pub bytes_cut : (text : List ℕ) (v : Value) {start len : ℕ} → start ≡ min v.start (length text) → len ≡ min v.len (length text - start)
-    → take (start + len - start) (drop start text) ≡ bytes_of text v
-unfolding bytes_of
-bytes_cut text v {start} {len} s n =
-    let size : start + len - start ≡ min v.len (length (drop start text)) = omega (arith, length-drop start text) in
-    rw (size, take_min v.len (drop start text), s, drop_min v.start text)
 
 -- A part of a list written over.
 pub part_put : (out bytes : List ℕ) (at to : ℕ) → to ≡ at + length bytes → to ≤ length out → {part : List ℕ} → part ≡ bytes
@@ -26,17 +16,17 @@ part_put out bytes at to e h p =
     rw (p, Post-is at to out (omega arith), e, ← append_assoc) (sym (sets-eq bytes out at (omega arith)))
 
 -- Bytes at a place: where they do not fit, and where they do.
-module _ {bytes : List ℕ} {at : ℕ} {out : List ℕ} {to : ℕ} (e : to ≡ min (at + length bytes) 0xFFFFFFFFFFFFFFFF) where
+module _ {bytes : List ℕ} {at : ℕ} {out : List ℕ} {to : ℕ} (e : to ≡ min (at + length bytes) 0xFFFFFFFFFFFFFFFF) (b : at < 2 ^ 64) where
   pub put_not : length out < to → Put bytes at out to out
-  put_not h = record { ends = e; holds = λ f. absurd (omega arith); same = refl }
+  put_not h = record { ends = omega arith; holds = λ f. absurd (omega arith); same = refl }
 
   pub put_there : to ≤ length out → length out < 2 ^ 63 → {part : List ℕ} → part ≡ bytes → Put bytes at out to (put_mid at (to - at) out part)
   put_there h small p =
       let w = part_put out bytes at to (omega arith) h p in
-      record { ends = e; holds = λ f. w; same = ap length w ∙ length-sets out at bytes }
+      record { ends = omega arith; holds = λ f. w; same = ap length w ∙ length-sets out at bytes }
 
-pub put_nothing : (at : ℕ) (out : List ℕ) → at < 2 ^ 64 → Put [] at out at out
-put_nothing at out h = record { ends = omega arith; holds = λ f. refl; same = refl }
+pub put_nothing : (at : ℕ) (out : List ℕ) → Put [] at out at out
+put_nothing at out = record { ends = omega arith; holds = λ f. refl; same = refl }
 
 pub sets_append : (l a b : List ℕ) (i : ℕ) → sets l i (a ++ b) ≡ sets (sets l i a) (i + length a) b
 sets_append l [] b i = let same : i + 0 ≡ i = omega arith in rw same
@@ -62,7 +52,7 @@ put_then {xs} {ys} {at} {mid} {to} {out} {between} {left} small p q =
 
 -- A comma in front of all but the first item.
 pub no_comma : (at : ℕ) (out : List ℕ) → at ≡ 0 → Put (comma_at at) at out at out
-no_comma zero out e = put_nothing 0 out (omega arith)
+no_comma zero out e = put_nothing 0 out
 no_comma (suc at) out e = absurd (omega arith)
 
 pub comma : (at : ℕ) → (at ≡ 0 → ⊥) → {out left : List ℕ} {to : ℕ} → Put (0x2C ∷ []) at out to left → Put (comma_at at) at out to left
@@ -89,18 +79,18 @@ unfolding joined following
 behind_none zero = refl
 behind_none (suc at) = refl
 
-behind_append : (at to : ℕ) (ps qs : List Part) → at < 2 ^ 64 → to ≡ min (at + length (behind at ps)) 0xFFFFFFFFFFFFFFFF
+behind_append : (at to : ℕ) (ps qs : List Part) → to ≡ at + min (length (behind at ps)) (0xFFFFFFFFFFFFFFFF - at)
     → behind at (ps ++ qs) ≡ behind at ps ++ behind to qs
 unfolding joined following
-behind_append at to [] qs h e =
+behind_append at to [] qs e =
     let same : at ≡ to = omega (arith, ap length (behind_none at)) in
     rw (behind_none at) (ap (λ (n : ℕ). behind n qs) same)
-behind_append zero to (p ∷ ps) qs h e = rw (behind_more to qs (omega arith), following_append ps qs, append_assoc p.value (following ps) (following qs))
-behind_append (suc at) to (p ∷ ps) qs h e = rw (behind_more to qs (omega arith), following_append ps qs, append_assoc p.value (following ps) (following qs))
+behind_append zero to (p ∷ ps) qs e = rw (behind_more to qs (omega arith), following_append ps qs, append_assoc p.value (following ps) (following qs))
+behind_append (suc at) to (p ∷ ps) qs e = rw (behind_more to qs (omega arith), following_append ps qs, append_assoc p.value (following ps) (following qs))
 
-pub put_parts : (ps qs : List Part) {at mid to : ℕ} {out between left : List ℕ} → length out < 2 ^ 63 → at < 2 ^ 64
+pub put_parts : (ps qs : List Part) {at mid to : ℕ} {out between left : List ℕ} → length out < 2 ^ 63
     → Put (behind at ps) at out mid between → Put (behind mid qs) mid between to left → Put (behind at (ps ++ qs)) at out to left
-put_parts ps qs {at} {mid} small h p q = rw (behind_append at mid ps qs h p.ends) (put_then small p q)
+put_parts ps qs {at} {mid} small p q = rw (behind_append at mid ps qs p.ends) (put_then small p q)
 
-pub put_no_part : (at : ℕ) (out : List ℕ) → at < 2 ^ 64 → Put (behind at []) at out at out
-put_no_part at out h = rw (behind_none at) (put_nothing at out h)
+pub put_no_part : (at : ℕ) (out : List ℕ) → Put (behind at []) at out at out
+put_no_part at out = rw (behind_none at) (put_nothing at out)

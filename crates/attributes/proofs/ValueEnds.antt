@@ -7,7 +7,7 @@ use native.Mathlib.Omega.{arith}
 use native.Mathlib.Numerals.{add-one}
 use lib.Dec.{eqb}
 use lib.ListN.{length, get_or, take, drop, length-drop}
-use lib.Seq.{get_or-drop}
+use lib.Seq.{take-length}
 use borrow.Author.Tests.{eq-eqb, ne_eqb, eqb-true, eqb-false}
 use Rattle.reads.specs.Outcome.{choose}
 use Rattle.reads.proofs.Tests.{choose_true, choose_false, by_choose}
@@ -35,6 +35,16 @@ value_within s = omega (arith, first_within (splits s) (length s) 0)
 pub value_inside : (text : List ℕ) (start : ℕ) → start ≤ length text → start + value_length (drop start text) ≤ length text
 value_inside text start h = omega (arith, value_within (drop start text), length-drop start text)
 
+-- The part of a text from `start` on, as a slice.
+cut_all : (text : List ℕ) (start : ℕ) → take (length text - start) (drop start text) ≡ drop start text
+cut_all text start = ap (λ n. take n (drop start text)) (sym (length-drop start text)) ∙ take-length (drop start text)
+
+pub value_cut : (text : List ℕ) (start : ℕ) → value_length (take (length text - start) (drop start text)) ≡ value_length (drop start text)
+value_cut text start = ap value_length (cut_all text start)
+
+pub length_cut : (text : List ℕ) (start : ℕ) → length (take (length text - start) (drop start text)) ≡ length text - start
+length_cut text start = ap length (cut_all text start) ∙ length-drop start text
+
 -- One byte more in front has one double quote more, if it is one.
 quotes_more : (s : List ℕ) (p : ℕ) → p < length s → quotes (take (suc p) s) ≡ quotes (take p s) + choose (eqb (get_or s p 0) 0x22) 1 0
 unfolding quotes
@@ -52,20 +62,21 @@ even_more n = go (even n) refl
     go true e = let h = eqb-true (n % 2) 0 e in ne_eqb ((n + 1) % 2) 0 (λ z. omega arith)
     go false e = let h = eqb-false (n % 2) 0 e in eq-eqb ((n + 1) % 2) 0 (omega arith)
 
-record Passed (s : List ℕ) (p : ℕ) (quoted : Bool) : Type 0 where
+pub record Passed (s : List ℕ) (p : ℕ) (quoted : Bool) : Type 0 where
   ends : value_length s ≡ first (splits s) (length s - p) p
   outside : eqb (quotes (take p s) % 2) 0 ≡ not quoted
 
-passed_start : (s : List ℕ) → Passed s 0 false
+pub passed_start : (s : List ℕ) → Passed s 0 false
 unfolding value_length quotes
 passed_start s = record { ends = ap (λ (n : ℕ). first (splits s) n 0) (omega arith); outside = refl }
 
 module _ {s : List ℕ} {p : ℕ} {quoted : Bool} (at : Passed s p quoted) where
-  passed_end : length s ≤ p → p ≡ value_length s
+  pub passed_end : length s ≤ p → length s ≡ value_length s
   unfolding first
   passed_end h =
       let z : length s - p ≡ 0 = omega arith in
-      sym (at.ends ∙ ap (λ (n : ℕ). first (splits s) n p) z)
+      let end = at.ends ∙ ap (λ (n : ℕ). first (splits s) n p) z in
+      omega (arith, end, value_within s)
 
   module _ (h : p < length s) where
     left : length s - p ≡ suc (length s - suc p)
@@ -79,7 +90,7 @@ module _ {s : List ℕ} {p : ℕ} {quoted : Bool} (at : Passed s p quoted) where
     unfolding splits
     splits_not e = rw (ne_eqb (get_or s p 0) 0x2C e)
 
-    passed_comma : get_or s p 0 ≡ 0x2C → not quoted ≡ true → p ≡ value_length s
+    pub passed_comma : get_or s p 0 ≡ 0x2C → not quoted ≡ true → p ≡ value_length s
     passed_comma e q =
         sym (at.ends ∙ ap (λ (n : ℕ). first (splits s) n p) left ∙ first_hit (splits s) _ p (splits_here e ∙ q))
 
@@ -87,7 +98,7 @@ module _ {s : List ℕ} {p : ℕ} {quoted : Bool} (at : Passed s p quoted) where
     missed e = at.ends ∙ ap (λ (n : ℕ). first (splits s) n p) left ∙ first_miss (splits s) _ p e
 
     -- A double quote turns inside into outside.
-    passed_quote : get_or s p 0 ≡ 0x22 → Passed s (p + 1) (not quoted)
+    pub passed_quote : get_or s p 0 ≡ 0x22 → Passed s (p + 1) (not quoted)
     passed_quote e = record {
       ends = rw add-one (missed (splits_not (λ z. omega arith)));
       outside =
@@ -103,55 +114,11 @@ module _ {s : List ℕ} {p : ℕ} {quoted : Bool} (at : Passed s p quoted) where
         rw (add-one, same) at.outside
 
     -- A comma inside double quotes, and a byte that is neither.
-    passed_quoted : get_or s p 0 ≡ 0x2C → not quoted ≡ false → Passed s (p + 1) quoted
+    pub passed_quoted : get_or s p 0 ≡ 0x2C → not quoted ≡ false → Passed s (p + 1) quoted
     passed_quoted e q = record {
       ends = rw add-one (missed (splits_here e ∙ q));
       outside = still (λ z. omega arith);
     }
 
-    passed_other : (get_or s p 0 ≡ 0x22 → ⊥) → (get_or s p 0 ≡ 0x2C → ⊥) → Passed s (p + 1) quoted
+    pub passed_other : (get_or s p 0 ≡ 0x22 → ⊥) → (get_or s p 0 ≡ 0x2C → ⊥) → Passed s (p + 1) quoted
     passed_other e f = record { ends = rw add-one (missed (splits_not f)); outside = still e }
-
--- The same in the whole text: the value starts at `start`, and the pass is at i.
-pub record Reached (text : List ℕ) (start i : ℕ) (quoted : Bool) : Type 0 where
-  from : start ≤ i
-  pub to : i ≤ length text
-  passed : Passed (drop start text) (i - start) quoted
-
-pub reached_start : (text : List ℕ) (start : ℕ) → start ≤ length text → Reached text start start false
-reached_start text start h =
-    let e : start - start ≡ 0 = omega arith in
-    record { from = omega arith; to = h; passed = rw e (passed_start (drop start text)) }
-
-module _ {text : List ℕ} {start i : ℕ} {quoted : Bool} (at : Reached text start i quoted) where
-  ends_at : i - start ≡ value_length (drop start text) → i ≡ start + value_length (drop start text)
-  ends_at e = omega (arith, at.from)
-
-  pub reached_end : length text ≤ i → i ≡ start + value_length (drop start text)
-  reached_end h = ends_at (passed_end at.passed (omega (arith, length-drop start text)))
-
-  module _ (h : i < length text) where
-    inside : i - start < length (drop start text)
-    inside = omega (arith, at.from, length-drop start text)
-
-    here : get_or (drop start text) (i - start) 0 ≡ get_or text i 0
-    here =
-        let e : start + (i - start) ≡ i = omega (arith, at.from) in
-        get_or-drop start text (i - start) 0 ∙ ap (λ (k : ℕ). get_or text k 0) e
-
-    reach_on : {next : Bool} → Passed (drop start text) (i - start + 1) next → Reached text start (i + 1) next
-    reach_on p =
-        let e : i + 1 - start ≡ i - start + 1 = omega (arith, at.from) in
-        record { from = omega (arith, at.from); to = omega arith; passed = rw e p }
-
-    pub reached_comma : get_or text i 0 ≡ 0x2C → not quoted ≡ true → i ≡ start + value_length (drop start text)
-    reached_comma e q = ends_at (passed_comma at.passed inside (here ∙ e) q)
-
-    pub reached_quote : get_or text i 0 ≡ 0x22 → Reached text start (i + 1) (not quoted)
-    reached_quote e = reach_on (passed_quote at.passed inside (here ∙ e))
-
-    pub reached_quoted : get_or text i 0 ≡ 0x2C → not quoted ≡ false → Reached text start (i + 1) quoted
-    reached_quoted e q = reach_on (passed_quoted at.passed inside (here ∙ e) q)
-
-    pub reached_other : (get_or text i 0 ≡ 0x22 → ⊥) → (get_or text i 0 ≡ 0x2C → ⊥) → Reached text start (i + 1) quoted
-    reached_other e f = reach_on (passed_other at.passed inside (λ z. e (sym here ∙ z)) (λ z. f (sym here ∙ z)))

@@ -1,6 +1,6 @@
 -- The attribute string of a property (document 01, Attributes; property.rs, parse_attributes): items, each a key byte and a
 -- value, that commas outside double quotes end.
-use Rattle.std.specs.Prelude.{ℕ, zero, suc, ◌+◌, ◌*◌, ◌%◌, Bool, ◌&&◌, List, [], ◌∷◌, ◌++◌, leb, ltb, eqb, length, get_or, take, drop, Ok, Err}
+use Rattle.std.specs.Prelude.{ℕ, zero, suc, ◌+◌, ◌*◌, ◌%◌, Bool, ◌&&◌, List, [], ◌∷◌, ◌++◌, leb, ltb, eqb, length, get_or, take, drop, Option, None, Some, Ok, Err, ◌≡◌}
 use Rattle.reads.specs.Outcome.{Outcome, value, absent, and_then, choose}
 use Rattle.reads.specs.Utf8.{Verdict, verdict}
 use Rattle.reads.specs.declared.answer.Reason.TheVariants.{NotUtf8}
@@ -54,10 +54,10 @@ items text = items_from (length text) 0 text
 unfoldable pub is_type : Item → Bool
 is_type i = eqb i.key 0x54 && ltb 0 i.value.len
 
--- The type: the first of these, (0, 0) if there is none.
-unfoldable pub type_among : List Item → Value
-type_among [] = value_of 0 0
-type_among (i ∷ is) = choose (is_type i) i.value (type_among is)
+-- The type: the first of these, if there is one.
+unfoldable pub type_among : List Item → Option Value
+type_among [] = None
+type_among (i ∷ is) = choose (is_type i) (Some i.value) (type_among is)
 
 -- How many items a text has, and its type.
 unfoldable pub attributes : List ℕ → Attributes
@@ -87,6 +87,11 @@ words (i ∷ is) = i.key ∷ i.value.start ∷ i.value.len ∷ words is
 -- A buffer with the words of items in front, and behind them as it was.
 unfoldable pub filled : List Item → List ℕ → List ℕ
 filled is buffer = words is ++ drop (3 * length is) buffer
+
+-- `o` comes back and the buffer holds `now`, where `is` are handed out with `a`.
+abbrev pub Handed : {A : Type 0} → List ℕ → List ℕ → List Item → A → Outcome A → List ℕ → Type 0
+Handed text buffer is a o now =
+    (o ≡ handed_out text is (length buffer) a) × (now ≡ left_by (handed_out text is (length buffer) a) (filled is buffer) buffer)
 
 -- What the lent buffer holds afterwards: the items, or with absent or a number what it held.
 unfoldable pub items_left : List ℕ → List ℕ → List ℕ

@@ -3,6 +3,7 @@ use Rattle.std.specs.Prelude.{ℕ, Bool, true, not, List, filter, length, drop}
 use Rattle.attributes.specs.Attributes.{items_from}
 use Rattle.attributes.specs.Property.{letters, among}
 use Rattle.attributes.specs.declared.items.Item.{Item}
+use Rattle.attributes.specs.declared.pass.Chosen.{Chosen}
 use Rattle.attributes.specs.declared.pass.Items.{Items}
 use Rattle.attributes.specs.declared.pass.Which.{Which}
 use Rattle.attributes.specs.declared.pass.Which.TheVariants.{All, Unknown}
@@ -23,3 +24,7 @@ wanted Unknown letter = not (among letters letter)
 -- The items that are handed out.
 abbrev pub chosen : Which → List Item → List Item
 chosen which is = filter (λ i. wanted which i.key) is
+
+-- The items that an iterator over the chosen ones has left.
+abbrev pub chosen_left_of : Chosen → List Item
+chosen_left_of s = chosen s.which (items_left_of s.items)

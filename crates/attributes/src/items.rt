@@ -1,10 +1,10 @@
 // The items of an attribute string, as `T@"NSString",C,N,V_name`: property.rs, parse_attributes.
 ghost use Rattle.std.specs.Prelude.{◌≡◌, length};
 ghost use Rattle.reads.specs.Reference.{before};
-ghost use Rattle.attributes.specs.Attributes.{items, type_among, attributes_of, items_left};
+ghost use Rattle.attributes.specs.Attributes.{attributes_of, items_left};
 ghost use Rattle.reads.specs.Answer.{outcome};
 
-use crate::pass::{Which, count_fitting, first_value, write_items};
+use crate::pass::{Which, first_value, hand_out};
 use reads::answer::Missing;
 
 // A value: the part of the text from `start`, `len` bytes long.
@@ -21,19 +21,11 @@ pub struct Item {
     pub value: Value,
 }
 
-// How many items there are, and the first T value that is not empty (0, 0 if there is none).
+// How many items there are, and the first T value that is not empty, if there is one.
 #[derive(Clone, Copy)]
 pub struct Attributes {
     pub count: u64,
-    pub type_encoding: Value,
-}
-
-// The first T value that is not empty.
-#[tactic(auto, using(crate::proofs::AttributeItems::type_first))]
-fn type_encoding(text: &[u8]) -> Value
-    ensures { result ≡ type_among (items (before text)) }
-{
-    first_value(text, b'T', 1).unwrap_or(Value { start: 0, len: 0 })
+    pub type_encoding: Option<Value>,
 }
 
 // The items of a text, three words each, into the lent buffer.
@@ -41,10 +33,9 @@ pub fn parse_attributes(text: &[u8], buffer: &mut [u64]) -> Result<Attributes, M
     ensures outcome { outcome result ≡ attributes_of (before text) (length buffer.old) }
     ensures contents { buffer.new ≡ items_left (before text) buffer.old }
 {
-    let count = count_fitting(text, Which::All, buffer.len())?;
-    write_items(text, Which::All, buffer);
+    let count = hand_out(text, Which::All, buffer)?;
     Ok(Attributes {
         count,
-        type_encoding: type_encoding(text),
+        type_encoding: first_value(text, b'T', 1),
     })
 }

@@ -2,27 +2,27 @@
 ghost use Rattle.std.specs.Prelude.{◌≡◌, not, ◌+◌, ◌*◌, ◌-◌, ◌≤◌, length, drop};
 ghost use Rattle.std.specs.Iterator.{YieldsFirst, item_count};
 ghost use Rattle.reads.specs.Reference.{before};
-ghost use Rattle.attributes.specs.Attributes.{value_length, item_of, items, items_fit, handed_out, filled};
+ghost use Rattle.attributes.specs.Attributes.{value_length, item_of, items, handed_out, filled, Handed};
 ghost use Rattle.reads.specs.Answer.{outcome};
 ghost use Rattle.attributes.specs.Property.{letters, among, first_value};
-ghost use Rattle.attributes.specs.Pass.{items_left_of, wanted, chosen};
+ghost use Rattle.attributes.specs.Pass.{items_left_of, chosen_left_of, wanted, chosen};
 
 use crate::items::{Item, Value};
 use reads::answer::{Missing, Question, Reason};
 use reads::text::utf8_verdict;
 
-// The letters of Apple's list, in the order in which they are written: T, the flags, G, S, t, and V after the unknown letters.
-pub const LETTERS: [u8; 12] = *b"TRC&NDWPGStV";
+// The letters of Apple's list.
+const LETTERS: [u8; 12] = *b"TRC&NDWPGStV";
 
 // The items of a text that begin at byte `at` or behind it.
-#[derive(Drop)]
+#[derive(Clone, Copy)]
 pub struct Items<'a> {
     text: &'a [u8],
     at: usize,
 }
 
-// Which items are handed out: all, or those of unknown letters. No closure: what it keeps would have to stand in the contracts of both
-// passes, and there are these two.
+// Which items are handed out: all, or those of unknown letters. No closure: what it keeps would have to stand in the iterator's contract,
+// and there are these two.
 #[derive(Clone, Copy)]
 pub enum Which {
     All,
@@ -34,13 +34,13 @@ fn value_end(text: &[u8], start: usize) -> usize
     requires { start ≤ length text.now }
     ensures { result ≡ start + value_length (drop start (before text)) }
 {
+    let rest = &text[start..];
     let mut quoted = false;
-    for i in start..text.len() {
-        let b = text[i];
-        if b == b'"' {
+    for (i, b) in rest.iter().enumerate() {
+        if *b == b'"' {
             quoted = !quoted;
-        } else if b == b',' && !quoted {
-            return i;
+        } else if *b == b',' && !quoted {
+            return start + i;
         }
     }
     text.len()
@@ -80,8 +80,9 @@ impl<'a> Iterator for Items<'a> {
 
 // All items of a text.
 #[tactic(auto, using(crate::proofs::AttributeItems::items_start))]
-pub fn items_of(text: &[u8]) -> Items<'_>
-    ensures { items_left_of result ≡ items (before text) }
+fn items_of(text: &[u8]) -> Items<'_>
+    ensures left { items_left_of result ≡ items (before text) }
+    ensures text { result.text.now ≡ before text }
 {
     Items { text, at: 0 }
 }
@@ -104,49 +105,77 @@ fn wanted(which: Which, letter: u8) -> bool
     }
 }
 
-// How many items are handed out.
-#[tactic(auto, using(crate::proofs::AttributeItems::items_few))]
-pub fn count_items(text: &[u8], which: Which) -> u64
-    ensures { result ≡ length (chosen which (items (before text))) }
-{
-    items_of(text)
-        .filter(|item| wanted(which, item.key))
-        .count() as u64
+// The items of a text that are handed out.
+#[derive(Clone, Copy)]
+pub struct Chosen<'a> {
+    items: Items<'a>,
+    which: Which,
 }
 
-// 12: do the items fit?
-#[tactic(auto, using(reads::proofs::Tests::le_same, std::proofs::lemmas::Bool::Decides::nat_tests), unfolding(crate::specs::Attributes::items_fit))]
-pub fn items_fit(count: u64, room: usize) -> bool
-    ensures { result ≡ items_fit count room }
+impl<'a> Iterator for Chosen<'a> {
+    type Item = Item;
+
+    ghost next_gives = { YieldsFirst chosen_left_of };
+
+    ghost remaining = { item_count chosen_left_of };
+
+    fn next(&mut self) -> Option<Item> {
+        let which = self.which;
+        self.items.find(|item| wanted(which, item.key))
+    }
+}
+
+#[tactic(auto, using(crate::proofs::AttributeItems::items_start))]
+fn chosen_items(text: &[u8], which: Which) -> Chosen<'_>
+    ensures left { chosen_left_of result ≡ chosen which (items (before text)) }
+    ensures text { result.items.text.now ≡ before text }
 {
-    count <= (room / 3) as u64
+    Chosen {
+        items: items_of(text),
+        which,
+    }
+}
+
+// How many items are handed out.
+#[tactic(auto, using(crate::proofs::AttributeItems::chosen_few))]
+fn count_items(handed: Chosen) -> u64
+    ensures { result ≡ length (chosen_left_of handed.entry) }
+{
+    handed.count() as u64
 }
 
 // The count of the items that are handed out, where the text is UTF-8 and they fit a buffer of `room` words.
-#[tactic(auto, unfolding(crate::specs::Attributes::handed_out), using(pointers::proofs::Questions::in_order))]
-pub(crate) fn count_fitting(text: &[u8], which: Which, room: usize) -> Result<u64, Missing>
-    ensures { let is = chosen which (items (before text)) in outcome result ≡ handed_out (before text) is room (length is) }
+#[tactic(auto, unfolding(crate::specs::Attributes::handed_out, crate::specs::Attributes::items_fit), using(reads::proofs::Tests::le_same, std::proofs::lemmas::Bool::Decides::nat_tests, pointers::proofs::Questions::in_order))]
+fn count_fitting(handed: Chosen, room: usize) -> Result<u64, Missing>
+    ensures { let is = chosen_left_of handed.entry in outcome result ≡ handed_out handed.entry.items.text.now is room (length is) }
 {
-    utf8_verdict(text).map_err(|k| Missing::Absent(Reason::NotUtf8(k)))?;
-    let count = count_items(text, which);
-    if !items_fit(count, room) {
+    utf8_verdict(handed.items.text).map_err(|k| Missing::Absent(Reason::NotUtf8(k)))?;
+    let count = count_items(handed);
+    if count > (room / 3) as u64 {
         return Err(Missing::Refused(Question::ItemRoom));
     }
     Ok(count)
 }
 
 // Writes three words for each item that is handed out.
-pub fn write_items(text: &[u8], which: Which, buffer: &mut [u64])
-    requires { 3 * length (chosen which (items text.now)) ≤ length buffer.old }
-    ensures { buffer.new ≡ filled (chosen which (items (before text))) buffer.old }
+fn write_items(handed: Chosen, buffer: &mut [u64])
+    requires { 3 * length (chosen_left_of handed) ≤ length buffer.old }
+    ensures { buffer.new ≡ filled (chosen_left_of handed.entry) buffer.old }
 {
-    let mut k = 0;
-    for item in items_of(text) {
-        if wanted(which, item.key) {
-            buffer[k..k + 3].copy_from_slice(&[item.key as u64, item.value.start, item.value.len]);
-            k += 3;
-        }
+    for (i, item) in handed.enumerate() {
+        let k = 3 * i;
+        buffer[k..k + 3].copy_from_slice(&[item.key as u64, item.value.start, item.value.len]);
     }
+}
+
+// Hands items out into the lent buffer, three words each, where the text is UTF-8 and they fit: how many there are.
+pub fn hand_out(text: &[u8], which: Which, buffer: &mut [u64]) -> Result<u64, Missing>
+    ensures { let is = chosen which (items (before text)) in Handed (before text) buffer.old is (length is) (outcome result) buffer.new }
+{
+    let handed = chosen_items(text, which);
+    let count = count_fitting(handed, buffer.len())?;
+    write_items(handed, buffer);
+    Ok(count)
 }
 
 // The first value of a letter that has `least` bytes or more.

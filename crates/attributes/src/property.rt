@@ -6,7 +6,7 @@ ghost use Rattle.attributes.specs.Property.{unknowns, declared, declared_of, unk
 ghost use Rattle.reads.specs.Answer.{outcome};
 
 use crate::items::Value;
-use crate::pass::{Which, count_fitting, first_value, write_items};
+use crate::pass::{Which, first_value, hand_out};
 use reads::answer::Missing;
 
 // A declared property: the first value of each letter, and how many items have other letters.
@@ -67,7 +67,6 @@ pub fn decode_attributes(text: &[u8], buffer: &mut [u64]) -> Result<Declared, Mi
     ensures outcome { outcome result ≡ declared_of (before text) (length buffer.old) }
     ensures contents { buffer.new ≡ unknown_left (before text) buffer.old }
 {
-    let unknown_count = count_fitting(text, Which::Unknown, buffer.len())?;
-    write_items(text, Which::Unknown, buffer);
+    let unknown_count = hand_out(text, Which::Unknown, buffer)?;
     Ok(declared_by(text, unknown_count))
 }

@@ -1,146 +1,134 @@
 // The text of a declared property: its letters in a fixed order, the unknown ones among them, with commas between them.
-ghost use Rattle.std.specs.Prelude.{◌≡◌, [], ◌∷◌, map, ◌+◌, ◌*◌, ◌≤◌, length};
+ghost use Rattle.std.specs.Prelude.{◌≡◌, [], ◌∷◌, map, length};
+ghost use Rattle.std.specs.List.{zip};
 ghost use Rattle.reads.specs.Reference.{before};
-ghost use Rattle.attributes.specs.Written.{bytes_of, bytes_given, part_of, front_letters, front_of, given, joined, items_in, written_text, written_of, written_left};
-ghost use Rattle.attributes.specs.Puts.{Put, comma_at, behind, item_at};
+ghost use Rattle.attributes.specs.Written.{bytes_given, part_of, front_letters, front_of, given, items_in, written_text, written_of, written_left};
+ghost use Rattle.attributes.specs.Puts.{Put, Puts, comma_at, behind, item_at};
 ghost use Rattle.reads.specs.Answer.{outcome};
 
 use crate::items::{Item, Value};
-use crate::pass::LETTERS;
 use crate::property::Declared;
 use reads::answer::{Missing, Question};
+use reads::place::part;
 
-// The bytes that the text has of a value.
-#[tactic(auto, using(crate::proofs::Puts::bytes_cut))]
-fn inside(text: &[u8], value: Value) -> &[u8]
-    ensures { result.now ≡ bytes_of (before text) value }
-{
-    let size = text.len() as u64;
-    let start = value.start.min(size);
-    let end = start + value.len.min(size - start);
-    &text[start as usize..end as usize]
-}
-
-// Puts bytes at `at`, if they fit. The answer of this and what follows is where the next byte goes, 2^64 - 1 at most.
-#[tactic(auto, using(crate::proofs::Puts::put_not, crate::proofs::Puts::put_there))]
-fn put(bytes: &[u8], out: &mut [u8], at: usize) -> usize
-    ensures { Put (before bytes) at out.old result out.new }
-{
-    let end = at.saturating_add(bytes.len());
-    if end <= out.len() {
-        out[at..end].copy_from_slice(bytes);
-    }
-    end
-}
-
-// Puts a comma at `at`, but none in front of the first item.
-#[tactic(auto, using(crate::proofs::Puts::no_comma, crate::proofs::Puts::comma))]
-fn put_comma(out: &mut [u8], at: usize) -> usize
-    ensures { Put (comma_at at) at out.old result out.new }
-{
-    if at == 0 {
-        return at;
-    }
-    put(b",", out, at)
-}
-
-// Puts an item behind `at` bytes.
-fn put_item(text: &[u8], item: Item, out: &mut [u8], at: usize) -> usize
-    ensures { Put (behind at (part_of (before text) item ∷ [])) at out.old result out.new }
-{
-    let key_at = put_comma(out, at);
-    let value_at = put(&[item.key], out, key_at);
-    put(inside(text, item.value), out, value_at)
-}
-
-// Puts a letter behind `at` bytes, if it is given.
-fn put_attribute(
-    text: &[u8],
-    letter: u8,
-    attribute: Option<Value>,
-    out: &mut [u8],
-    at: usize,
-) -> usize
-    ensures { Put (behind at (given (letter ∷ []) (bytes_given (before text) attribute ∷ []))) at out.old result out.new }
-{
-    match attribute {
-        Some(value) => put_item(text, Item { key: letter, value }, out, at),
-        None => at,
-    }
-}
-
-// What is given of the front letters.
-fn front(declared: Declared) -> [Option<Value>; 11]
-    ensures { result ≡ front_of declared }
+// The front letters, each with what is given of it.
+fn front(declared: Declared) -> [(u8, Option<Value>); 11]
+    ensures { result ≡ zip front_letters (front_of declared) }
 {
     [
-        declared.type_encoding,
-        declared.readonly,
-        declared.copy,
-        declared.retain,
-        declared.nonatomic,
-        declared.dynamic,
-        declared.weak,
-        declared.collectable,
-        declared.getter,
-        declared.setter,
-        declared.old_type_encoding,
+        (b'T', declared.type_encoding),
+        (b'R', declared.readonly),
+        (b'C', declared.copy),
+        (b'&', declared.retain),
+        (b'N', declared.nonatomic),
+        (b'D', declared.dynamic),
+        (b'W', declared.weak),
+        (b'P', declared.collectable),
+        (b'G', declared.getter),
+        (b'S', declared.setter),
+        (b't', declared.old_type_encoding),
     ]
 }
 
-// Puts the letters that come before the unknown ones.
-fn put_front(text: &[u8], declared: Declared, out: &mut [u8]) -> usize
-    ensures { Put (joined (given front_letters (map (bytes_given (before text)) (front_of declared)))) 0 out.old result out.new }
-{
-    let front = front(declared);
-    let mut at = 0;
-    for (letter, attribute) in LETTERS.iter().zip(front.iter()) {
-        at = put_attribute(text, *letter, *attribute, out, at);
-    }
-    at
-}
-
-// The item of row k; a key is a byte.
-fn item_in(rows: &[u64], k: usize) -> Item
-    requires { 3 * k + 3 ≤ length rows.now }
-    ensures { result ≡ item_at (before rows) k }
+// The item of a row; a key is a byte.
+fn item_in(row: &[u64]) -> Item
+    requires { length row.now ≡ 3 }
+    ensures { result ≡ item_at (before row) }
 {
     Item {
-        key: (rows[3 * k] % 256) as u8,
+        key: (row[0] % 256) as u8,
         value: Value {
-            start: rows[3 * k + 1],
-            len: rows[3 * k + 2],
+            start: row[1],
+            len: row[2],
         },
     }
 }
 
-// The lesser of a count and of the whole rows.
-#[tactic(auto, using(crate::proofs::Rows::length_items_in))]
-fn rows_in(rows: &[u64], count: u64) -> usize
-    ensures { result ≡ length (items_in count (before rows)) }
+// The first `count` rows, or those that are there whole.
+#[tactic(auto, using(crate::proofs::Rows::rows_cut))]
+fn rows_in(rows: &[u64], count: u64) -> &[u64]
+    ensures { items_in (length result.now) result.now ≡ items_in count (before rows) }
 {
-    count.min((rows.len() / 3) as u64) as usize
+    let whole = count.min((rows.len() / 3) as u64) as usize;
+    &rows[..3 * whole]
 }
 
-// Puts the items of `count` rows behind `start` bytes.
-fn put_unknown(text: &[u8], count: u64, rows: &[u64], out: &mut [u8], start: usize) -> usize
-    ensures { Put (behind start (map (part_of (before text)) (items_in count (before rows)))) start out.old result out.new }
-{
-    let mut at = start;
-    for k in 0..rows_in(rows, count) {
-        at = put_item(text, item_in(rows, k), out, at);
+// The lent buffer, and where its next byte goes, 2^64 - 1 at most: bytes that do not fit are counted, and not put.
+#[derive(Drop)]
+struct Out<'a> {
+    to: &'a mut [u8],
+    at: usize,
+}
+
+impl Out<'_> {
+    // Puts bytes, if they fit.
+    #[tactic(auto, using(crate::proofs::Puts::put_not, crate::proofs::Puts::put_there))]
+    fn bytes(&mut self, bytes: &[u8])
+        ensures { Puts self.old (before bytes) self.new }
+    {
+        let end = self.at.saturating_add(bytes.len());
+        if end <= self.to.len() {
+            self.to[self.at..end].copy_from_slice(bytes);
+        }
+        self.at = end;
     }
-    at
+
+    // Puts a comma, but none in front of the first item.
+    #[tactic(auto, using(crate::proofs::Puts::no_comma, crate::proofs::Puts::comma))]
+    fn comma(&mut self)
+        ensures { Puts self.old (comma_at self.old.at) self.new }
+    {
+        if self.at != 0 {
+            self.bytes(b",");
+        }
+    }
+
+    // Puts an item.
+    fn item(&mut self, text: &[u8], item: Item)
+        ensures { Puts self.old (behind self.old.at (part_of (before text) item ∷ [])) self.new }
+    {
+        self.comma();
+        self.bytes(&[item.key]);
+        self.bytes(part(text, item.value.start, item.value.len));
+    }
+
+    // Puts a letter, if it is given.
+    fn attribute(&mut self, text: &[u8], letter: u8, attribute: Option<Value>)
+        ensures { Puts self.old (behind self.old.at (given (letter ∷ []) (bytes_given (before text) attribute ∷ []))) self.new }
+    {
+        if let Some(value) = attribute {
+            self.item(text, Item { key: letter, value });
+        }
+    }
+
+    // Puts the letters that come before the unknown ones.
+    fn front(&mut self, text: &[u8], declared: Declared)
+        ensures { Puts self.old (behind self.old.at (given front_letters (map (bytes_given (before text)) (front_of declared)))) self.new }
+    {
+        for (letter, attribute) in front(declared) {
+            self.attribute(text, letter, attribute);
+        }
+    }
+
+    // Puts the items of rows.
+    fn unknown(&mut self, text: &[u8], rows: &[u64])
+        ensures { Puts self.old (behind self.old.at (map (part_of (before text)) (items_in (length rows.now) (before rows)))) self.new }
+    {
+        for row in rows.chunks_exact(3) {
+            self.item(text, item_in(row));
+        }
+    }
 }
 
-// Puts all letters of a property.
-fn put_all(text: &[u8], declared: Declared, unknown: &[u64], out: &mut [u8]) -> usize
-    ensures { Put (written_text (before text) declared (before unknown)) 0 out.old result out.new }
+// Puts all letters of a property: how many bytes they are.
+fn put_all(text: &[u8], declared: Declared, unknown: &[u64], to: &mut [u8]) -> usize
+    ensures { Put (written_text (before text) declared (before unknown)) 0 to.old result to.new }
 {
-    let variable = declared.variable;
-    let front = put_front(text, declared, out);
-    let back = put_unknown(text, declared.unknown_count, unknown, out, front);
-    put_attribute(text, b'V', variable, out, back)
+    let mut out = Out { to, at: 0 };
+    out.front(text, declared);
+    out.unknown(text, rows_in(unknown, declared.unknown_count));
+    out.attribute(text, b'V', declared.variable);
+    out.at
 }
 
 // The text of a declared property, whose values stand in `text` and whose unknown letters are the rows of `unknown`, into the

@@ -25,9 +25,11 @@ use Rattle.dispatch.specs.Appearances.{Rows, appearances}
 use Rattle.dispatch.specs.SlotSources.{slot_rows, slot_total, slot_appearances, settled}
 use Rattle.dispatch.specs.Dispatch.{firsts, effective_of, effective_among, effective, Left, leaves, left}
 use Rattle.dispatch.specs.Position.{ahead, EnteredAt}
+use Rattle.dispatch.specs.Table.{Origins}
 use Rattle.dispatch.specs.Written.{few_firsts, few_rows, Surveyed, RoomFor, WroteAll}
 use Rattle.dispatch.proofs.Asking.{settled_value, settled_number}
 use Rattle.dispatch.proofs.Matches.{left_same}
+use Rattle.dispatch.proofs.Origin.{origins_ahead}
 use Rattle.dispatch.proofs.Places.{appearances_ordered, slots_ordered}
 use Rattle.dispatch.proofs.Plain.{slots_plain}
 use Rattle.dispatch.proofs.Scans.{length_effective, rows_suffice}
@@ -104,6 +106,10 @@ module _ (t : Tables) (s : Side) (c : ObjcClass) (a : Result Source Missing) (o 
       let d = (was_entered f g).came in
       let z : slot_total t - 0 ≡ slot_total t = omega arith in
       rw (← o, d.1 (slot_rows t s c.address 0 (slot_total t)), d.0, z)
+
+  -- From there the record of the class's own list is that of the position.
+  pub own_origins : {start : Position} → r ≡ Ok start → Origins start.origin t (ahead t s c.address start).rows
+  own_origins {start} g = origins_ahead t s c.address start.origin start (was_entered f g).came.0 refl
 
   pub of_start : (files : List (List ℕ)) (result : List ℕ) {start : Position} {l : Left} → r ≡ Ok start
       → l ≡ left (effective_among files (ahead t s c.address start)) result → l ≡ left (effective_among files (slot_appearances t s c)) result

@@ -18,7 +18,8 @@ use Rattle.walks.specs.Slots.{address_in}
 use Rattle.walks.specs.PlainSections.{addresses_in, unless, without, once, listed, plain_categories}
 use Rattle.walks.proofs.Gathers.{gather_none, gather_parts, Held, held_one, held_none, present_held}
 use Rattle.walks.proofs.PlainWalks.{slots_from_lem}
-use Rattle.dispatch.specs.Asking.{optional, each_settled}
+use Rattle.dispatch.specs.Asking.{each_settled}
+use Rattle.reads.specs.Outcome.{optional}
 use Rattle.dispatch.specs.SlotSources.{category_slots, settled, records_in}
 use Rattle.std.specs.Prelude.{None, Some, Result, Ok, Err}
 use Rattle.reads.specs.Answer.{answered}

@@ -1,18 +1,18 @@
--- What `==` says of bytes, the part of a file that a text names, and the tests on two rows.
+-- What `==` says of bytes, and the tests on two rows.
 use Prim.Native.Nat.{ℕ}
-use mathlib.Core.Path.{◌≡◌, refl, ap, sym, ◌∙◌}
+use mathlib.Core.Path.{◌≡◌, refl, ap, ◌∙◌}
 use mathlib.Core.Bool.{Bool, true, false, ◌&&◌, ◌||◌}
 use mathlib.Core.List.{List, [], ◌∷◌}
 use lib.Dec.{eqb, ltb}
-use lib.ListN.{take}
 use Rattle.std.specs.Prelude.{Some, cond}
 use Rattle.std.proofs.Common.{Less, Equal, Greater}
 use Rattle.std.specs.Ordering.{nat_cmp, is_lt, is_some_and, partial_lt, partial_ordering_then}
-use lib.Seq.{drop-nil, take-nil}
 use Rattle.std.specs.Cmp.Lexicographic.{pointwise}
-use Rattle.reads.specs.Place.{part}
 use Rattle.dispatch.specs.declared.rows.Appearance.{Appearance}
-use Rattle.dispatch.specs.Dispatch.{same_bytes, comes_before}
+use Rattle.reads.specs.Files.{file_of}
+use Rattle.reads.specs.Place.{part}
+use Rattle.reads.specs.declared.text.Text.{Text}
+use Rattle.dispatch.specs.Dispatch.{selector_bytes, same_bytes, same_selector, comes_before}
 
 -- What `==` says of two slices of bytes.
 pub bytes_same : (a b : List ℕ) → pointwise eqb a b ≡ same_bytes a b
@@ -21,13 +21,6 @@ bytes_same [] [] = refl
 bytes_same [] (y ∷ b) = refl
 bytes_same (x ∷ a) [] = refl
 bytes_same (x ∷ a) (y ∷ b) = ap (λ t. eqb x y && t) (bytes_same a b)
-
--- The part of a file.
-pub no_part : (offset len : ℕ) {bytes : List ℕ} → [] ≡ bytes → [] ≡ part bytes offset len
-no_part offset len e = rw (← e) (sym (ap (take len) (drop-nil offset) ∙ take-nil len))
-
-pub same_part : (offset len : ℕ) {a b : List ℕ} → a ≡ b → part a offset len ≡ part b offset len
-same_part offset len e = ap (λ x. part x offset len) e
 
 -- What `<` says of the places of two rows.
 pub places_ordered : (b a : Appearance)
@@ -41,3 +34,9 @@ places_ordered b a = go (ltb b.source a.source) (eqb b.source a.source) (ltb b.e
     go false true true s = refl
     go false true false true = refl
     go false true false false = refl
+
+-- The selectors of two texts, the bytes of the first at hand.
+pub same_selector_by : (files : List (List ℕ)) (a : List ℕ) (s u : Text) {r : Bool} → a ≡ file_of files s.file
+    → r ≡ same_bytes (part a s.offset s.len) (selector_bytes files u) → r ≡ same_selector files s u
+unfolding same_selector
+same_selector_by files a s u e w = w ∙ ap (λ (x : List ℕ). same_bytes (part x s.offset s.len) (selector_bytes files u)) e

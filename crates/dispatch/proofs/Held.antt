@@ -4,10 +4,22 @@ use mathlib.Core.Path.{◌≡◌, refl, sym, ap, ◌∙◌}
 use mathlib.Core.Bool.{true, false}
 use mathlib.Core.List.{List, [], ◌∷◌}
 use native.Mathlib.Omega.{arith}
+use lib.Dec.{eqb}
 use lib.ListN.{length, get_or, take}
-use Rattle.reads.specs.Outcome.{Outcome}
+use borrow.Author.Tests.{eqb-true, eqb-false}
+use Rattle.std.specs.Prelude.{Result, Ok, Err, Some, cond}
+use Rattle.std.specs.Option.{option_eq}
+use Rattle.std.specs.Result.{result_ok}
+use Rattle.reads.specs.Answer.{outcome}
+use Rattle.reads.specs.declared.answer.Missing.{Missing}
+use Rattle.reads.specs.declared.answer.Missing.TheVariants.{Absent, Refused}
+use Rattle.reads.specs.declared.answer.Reason.{Reason}
+use Rattle.reads.proofs.Outcomes.{then_came}
+use Rattle.reads.proofs.Tests.{by_choose}
+use Rattle.records.specs.Decode.{run, or0, slot}
+use Rattle.reads.specs.Outcome.{Outcome, value, absent, nonzero}
 use Rattle.pointers.specs.Tables.{Tables}
-use Rattle.walks.specs.Slots.{address_in, among}
+use Rattle.walks.specs.Slots.{decode_address, address_in, among}
 use Rattle.walks.proofs.SlotLaws.{among_other, among_word}
 use Rattle.reads.specs.Text.{or_none}
 use Rattle.dispatch.specs.SlotSources.{category_slots, listed_at, held_in, held, held_before, slot_total}
@@ -26,6 +38,39 @@ held_word t (a ∷ slots) (suc k) h = held_word t slots k (omega arith)
 pub listed_by : (t : Tables) (k a : ℕ) {o : Outcome ℕ} → a ≡ get_or (category_slots t.sections) k 0 → o ≡ address_in t a → o ≡ listed_at t k
 unfolding listed_at
 listed_by t k a e g = g ∙ ap (address_in t) e
+
+-- No slot gives address 0.
+pub address_nonzero : (t : Tables) (a va : ℕ) → address_in t a ≡ value va → va ≡ 0 → ⊥
+unfolding decode_address
+address_nonzero t a va e z =
+    let p = then_came (run t (or0 (slot a))) _ va e in
+    go p.0 p.2
+  where
+    no : {why : Reason} → ◌≡◌ {A = Outcome ℕ} (absent why) (value va) → ⊥
+    no q = let z : ◌≡◌ {A = ℕ} 0 1 = cc in omega arith
+
+    same : {x : ℕ} → ◌≡◌ {A = Outcome ℕ} (value x) (value va) → x ≡ va
+    same q = cc
+
+    go : (x : ℕ) → nonzero x ≡ value va → ⊥
+    go x q =
+        unfold nonzero in
+        by_choose (λ (o : Outcome ℕ). o ≡ value va → ⊥) (λ _ h. no h) (λ g h. eqb-false x 0 g (same h ∙ z)) q
+
+pub listed_nonzero : (t : Tables) (k : ℕ) {va : ℕ} → listed_at t k ≡ value va → va ≡ 0 → ⊥
+unfolding listed_at
+listed_nonzero t k {va} e = address_nonzero t (get_or (category_slots t.sections) k 0) va e
+
+-- Whether an address is the one that a slot gave, if it gave one.
+module _ (va : ℕ) where
+  pub held_there : (r : Result ℕ Missing) {o : Outcome ℕ} → outcome r ≡ o → option_eq eqb (result_ok r) (Some va) ≡ true → or_none o ≡ va
+  held_there (Ok a) e g = ap or_none (sym e) ∙ eqb-true a va g
+  held_there (Err m) e g = let z : ◌≡◌ {A = ℕ} 0 1 = ap (λ b. cond b 1 0) g in absurd (omega arith)
+
+  pub held_other : (r : Result ℕ Missing) {o : Outcome ℕ} → outcome r ≡ o → option_eq eqb (result_ok r) (Some va) ≡ false → (va ≡ 0 → ⊥) → or_none o ≡ va → ⊥
+  held_other (Ok a) e g n q = eqb-false a va g (ap or_none e ∙ q)
+  held_other (Err (Absent why)) e g n q = n (sym q ∙ ap or_none (sym e))
+  held_other (Err (Refused k)) e g n q = n (sym q ∙ ap or_none (sym e))
 
 module _ (t : Tables) where
   pub held_total : length (held t) ≡ slot_total t

@@ -23,7 +23,10 @@ use Rattle.dispatch.specs.declared.sources.Side.{Side}
 use Rattle.dispatch.specs.declared.sources.Source.{Source}
 use Rattle.dispatch.specs.declared.rows.Appearance.{Appearance}
 use Rattle.dispatch.specs.declared.rows.Position.{Position}
+use Rattle.std.specs.Prelude.{Option, Some, None}
+use Rattle.dispatch.specs.declared.rows.RowsOf.{RowsOf}
 use Rattle.dispatch.specs.Position.{in_list, ahead}
+use Rattle.dispatch.specs.RowsLeft.{from_place, rows_ahead}
 use Rattle.dispatch.specs.Sources.{own_source, category_source, of_class}
 use Rattle.dispatch.specs.SlotSources.{slot_source, slot_rows, slot_total, slot_appearances}
 use Rattle.dispatch.specs.Appearances.{Rows, adding, appearing, appearance, entry_rows, list_rows, source_rows, category_rows, appearances}
@@ -163,3 +166,10 @@ ahead_ordered t s class p =
     along_ordered (entries_along t p.source p.origin p.list (entry (image_in t) p.list) (p.list.count - p.entry) p.entry
     (slot_rows t s class p.source (slot_total t - p.source))
     (λ j. along_later (suc p.source) g (slots_along t s class p.source (slot_total t - p.source))))
+
+pub rows_ordered : (w : RowsOf) → Ordered (rows_ahead w).rows
+rows_ordered w = go w.at
+  where
+    go : (at : Option Position) → Ordered (from_place w.of.tables.now w.of.side w.of.class at).rows
+    go (Some p) = ahead_ordered w.of.tables.now w.of.side w.of.class p
+    go None = ordered_none

@@ -8,20 +8,17 @@ use native.Mathlib.Numerals.{add-one}
 use lib.Dec.{eqb}
 use lib.ListN.{length, get_or, take, drop, drop_of_length-le}
 use lib.Seq.{take-suc}
-use borrow.Author.Tests.{ne_eqb, eqb-true, eqb-false}
+use borrow.Author.Tests.{ne_eqb, eqb-true}
 use Rattle.reads.specs.Outcome.{Outcome, value, absent}
-use Rattle.reads.specs.Outcome as outcome
 use Rattle.reads.specs.declared.answer.Reason.{Reason}
 use Rattle.reads.specs.declared.answer.Reason.TheVariants.{NoRecord}
-use Rattle.reads.proofs.Outcomes.{then_came}
 use Rattle.reads.proofs.Tests.{by_choose, choose_true, choose_false}
 use Rattle.pointers.specs.Tables.{Tables}
-use Rattle.records.specs.Decode.{run, or0, slot}
 use Rattle.records.specs.Category.{category_at}
 use Rattle.records.specs.declared.category.ObjcCategory.{ObjcCategory}
 use Rattle.records.specs.declared.class.ObjcClass.{ObjcClass}
 use Rattle.walks.specs.Gather.{gather, of_value, present}
-use Rattle.walks.specs.Slots.{decode_address, address_in, among}
+use Rattle.walks.specs.Slots.{address_in, among}
 use Rattle.walks.specs.PlainSections.{addresses_in, once, plain_categories}
 use Rattle.walks.proofs.Gathers.{Parts, gather_none, gather_parts, Held, held_one, held_none, present_held}
 use Rattle.walks.proofs.SlotLaws.{among_end}
@@ -32,27 +29,9 @@ use Rattle.dispatch.specs.Sources.{own_source, category_source, of_class}
 use Rattle.dispatch.specs.Appearances.{ended, source_rows, category_rows, appearances}
 use Rattle.reads.specs.Text.{or_none}
 use Rattle.dispatch.specs.SlotSources.{category_slots, listed_at, held, held_before, taking, slot_source, slot_rows, slot_total, slot_appearances, settled, records_in}
-use Rattle.dispatch.proofs.Held.{held_total, held_listed}
+use Rattle.dispatch.proofs.Held.{address_nonzero, held_total, held_listed}
 use Rattle.dispatch.proofs.Asking.{settled_value, plain_came, records_plain}
 use Rattle.dispatch.proofs.Matches.{MatchedRows, matched_none, matches_later, source_matched}
-
--- No slot gives address 0.
-address_nonzero : (t : Tables) (a va : ℕ) → address_in t a ≡ value va → va ≡ 0 → ⊥
-unfolding decode_address
-address_nonzero t a va e z =
-    let p = then_came (run t (or0 (slot a))) _ va e in
-    go p.0 p.2
-  where
-    no : {why : Reason} → ◌≡◌ {A = Outcome ℕ} (absent why) (value va) → ⊥
-    no q = let z : ◌≡◌ {A = ℕ} 0 1 = cc in omega arith
-
-    same : {x : ℕ} → ◌≡◌ {A = Outcome ℕ} (value x) (value va) → x ≡ va
-    same q = cc
-
-    go : (x : ℕ) → outcome.nonzero x ≡ value va → ⊥
-    go x q =
-        unfold outcome.nonzero in
-        by_choose (λ (o : Outcome ℕ). o ≡ value va → ⊥) (λ _ h. no h) (λ g h. eqb-false x 0 g (same h ∙ z)) q
 
 module _ (t : Tables) (s : Side) (class : ℕ) where
   abbrev slots : List ℕ

@@ -1,30 +1,32 @@
 -- The passes over the rows: what each knows of the rows ahead, carried over a step.
-use Prim.Native.Nat.{ℕ, suc, ◌-◌, ◌*◌, ◌/◌, ◌<◌, ◌≤◌}
+use Prim.Native.Nat.{ℕ, zero, suc, ◌+◌, ◌*◌, ◌/◌, ◌<◌, ◌≤◌}
 use mathlib.Core.Path.{◌≡◌, refl, ap, sym, subst, ◌∙◌}
 use mathlib.Core.Bool.{Bool, true, false, ◌&&◌, ◌||◌, not}
 use mathlib.Core.List.{List, [], ◌∷◌, ◌++◌}
 use native.Mathlib.Omega.{arith}
 use lib.Dec.{leb, ltb}
-use lib.ListN.{length, drop}
-use borrow.Author.Tests.{le-leb, lt-leb, leb-true, not-true, not-false}
-use Rattle.reads.specs.Outcome.{Outcome, value, choose}
+use lib.ListN.{length, drop, take}
+use borrow.Author.Tests.{le-leb, lt-leb, leb-true}
+use Rattle.reads.specs.Outcome.{value, choose}
 use Rattle.reads.proofs.Tests.{le_same, choose_true, choose_false}
 use Rattle.pointers.specs.Tables.{Tables}
-use Rattle.dispatch.specs.declared.sources.Side.{Side}
 use Rattle.dispatch.specs.declared.rows.Appearance.{Appearance}
 use Rattle.dispatch.specs.declared.effective.Counted.{Counted}
 use Rattle.dispatch.specs.declared.effective.Counted.TheVariants as counted
-use Rattle.dispatch.specs.declared.rows.Position.{Position}
-use Rattle.std.specs.Prelude.{Option, None, Some, Result, Ok}
+use Rattle.std.specs.Prelude.{Option, None, Some, Result, Ok, Err, cond, filter}
 use Rattle.reads.specs.declared.answer.Question.{Question}
-use Rattle.dispatch.specs.Appearances.{Rows, also}
+use Rattle.std.specs.List.{list_any, prefix_len, slice_get}
+use Rattle.std.specs.Option.{MatchOption, is_some, is_none, option_map, unwrap_or}
+use Rattle.dispatch.specs.declared.rows.RowsOf.{RowsOf}
+use Rattle.dispatch.specs.RowsLeft.{rows_ahead, GivesNext}
+use Rattle.reads.specs.declared.answer.Question.{Question}
+use Rattle.dispatch.specs.Appearances.{Rows, ended}
 use Rattle.dispatch.specs.Dispatch.{same_selector, comes_before, has_earlier, firsts, standing_for, effective_of, words, filled}
-use Rattle.dispatch.specs.Position.{ahead, NextFrom, ReachedFrom}
 use Rattle.dispatch.specs.Claims.{In, bytes_of, Ordered, ordered_next}
 use Rattle.dispatch.specs.Table.{marks, note, note_all, Holds, Noted, Origins, Named}
-use Rattle.dispatch.specs.Written.{few_rows, few_firsts, CountedAll, Tabled, WroteAll}
+use Rattle.dispatch.specs.Written.{few_rows, few_firsts, Surveyed, CountedAll, Tabled, WroteAll}
 use Rattle.dispatch.proofs.Effects.{none_earlier, selectors_stand}
-use Rattle.dispatch.proofs.Places.{in_cons, before_true, before_false, before_false_made, ahead_ordered}
+use Rattle.dispatch.proofs.Places.{in_cons, before_true, before_false, before_false_made}
 use Rattle.dispatch.proofs.Notes.{note_effective}
 
 or_here : (x y : Bool) {e : Bool} → x ≡ true → (x || y) ≡ e → true ≡ e
@@ -120,9 +122,13 @@ pub record Noting (files : List (List ℕ)) (all : List Appearance) (old : List 
   pub same : length result ≡ length old
 
 module _ (files : List (List ℕ)) (all : List Appearance) (old : List ℕ) where
-  pub noting_start : Ordered all → Noting files all old all 0 old
+  pub noting_start : Ordered all → {rows : List Appearance} → rows ≡ all → Noting files all old rows 0 old
   unfolding marks
-  noting_start o = record { table = []; holds = record { stored = refl; many = refl }; rest = note_effective files all o; same = refl }
+  noting_start o e =
+      subst (λ l. Noting files all old l 0 old) (sym e) (record { table = []; holds = record { stored = refl; many = refl }; rest = note_effective files all o; same = refl })
+
+  pub noting_all : {rows : List Appearance} {count : ℕ} {result : List ℕ} → Noting files all old rows count result → rows ≡ [] → Noting files all old [] count result
+  noting_all {rows} {count} {result} w e = subst (λ l. Noting files all old l count result) e w
 
   module _ (room : 4 * length (firsts files all all) ≤ length old) {rows : List Appearance} {count : ℕ} {result : List ℕ} (w : Noting files all old rows count result) where
     pub noting_room : 4 * count ≤ length result
@@ -154,145 +160,128 @@ module _ (files : List (List ℕ)) (all : List Appearance) (old : List ℕ) wher
             ∙ ap (λ (i : ℕ). words (effective_of files all) ++ drop (4 * i) old) (sym many);
       }
 
--- The end, and the rows that were read.
-module _ {t : Tables} {s : Side} {class : ℕ} {p q : Position} {r : Result (Option Appearance) Question} (h : NextFrom t s class p q r) where
-  came : {x : Result (Option Appearance) Question} → r ≡ x → NextFrom t s class p q x
-  came e = subst (λ (x : Result (Option Appearance) Question). NextFrom t s class p q x) e h
+-- A row with a's selector among those that stand before it.
+pub earlier_found : (files : List (List ℕ)) (a : Appearance) (rows : List Appearance) → Ordered rows
+    → list_any (λ b. same_selector files a.selector b.selector) (take (prefix_len (λ b. comes_before b a) rows) rows) ≡ has_earlier files a rows
+unfolding has_earlier
+earlier_found files a [] o = refl
+earlier_found files a (b ∷ more) (ordered_next f o) = go (comes_before b a) refl (earlier_found files a more o)
+  where
+    test : Appearance → Bool
+    test x = same_selector files a.selector x.selector
 
-  pub next_reached : {o : Option Appearance} → r ≡ Ok o → ReachedFrom t s class p q o
-  next_reached {o} g = go o (came g)
-    where
-      go : (o : Option Appearance) → NextFrom t s class p q (Ok o) → ReachedFrom t s class p q o
-      go (Some b) w = record { reaches = w.comes }
-      go None w = record { reaches = ap (λ (l : Rows). l.rows) w.comes }
+    go : (x : Bool) → comes_before b a ≡ x → list_any test (take (prefix_len (λ y. comes_before y a) more) more) ≡ has_earlier files a more
+        → list_any test (take (cond x (1 + prefix_len (λ y. comes_before y a) more) 0) (b ∷ more)) ≡ (x && test b) || has_earlier files a more
+    go true e h =
+        let n = prefix_len (λ y. comes_before y a) more in
+        let next : 1 + n ≡ suc n = omega arith in
+        ap (λ i. list_any test (take i (b ∷ more))) next ∙ ap (λ y. test b || y) h
+    go false e h = sym (past_place files a b more o f e) ∙ unfold has_earlier in ap (λ x. (x && test b) || has_earlier files a more) e
 
-  module _ {e : Outcome (Unit {0})} (i : (ahead t s class p).end ≡ e) where
-    pub end_row : {b : Appearance} → r ≡ Ok (Some b) → (ahead t s class q).end ≡ e
-    end_row g = ap (λ (l : Rows). l.end) (sym (came g).comes.0) ∙ i
+-- Question 22: no row beyond the room is the first of its selector.
+pub firsts_filter : (files : List (List ℕ)) (all rows : List Appearance) → filter (λ a. not (has_earlier files a all)) rows ≡ firsts files all rows
+unfolding firsts choose
+firsts_filter files all [] = refl
+firsts_filter files all (a ∷ more) = go (has_earlier files a all) (firsts_filter files all more)
+  where
+    go : (x : Bool) → filter (λ a. not (has_earlier files a all)) more ≡ firsts files all more
+        → cond (not x) (a ∷ filter (λ a. not (has_earlier files a all)) more) (filter (λ a. not (has_earlier files a all)) more) ≡ choose x (firsts files all more) (a ∷ firsts files all more)
+    go true e = e
+    go false e = ap (λ l. a ∷ l) e
 
-    pub end_end : {o : Option Appearance} → r ≡ Ok o → ((b : Appearance) → o ≡ Some b → ⊥) → value tt ≡ e
-    end_end {o} g n = go o (came g) n ∙ i
+none-some : {A X : Type 0} {a : A} → ◌≡◌ {A = Option A} None (Some a) → X
+none-some e = let z : ◌≡◌ {A = ℕ} 0 1 = ap (λ o. cond (is_some o) 1 0) e in absurd (omega arith)
+
+none_beyond : {A : Type 0} (rows : List A) (room : ℕ) → is_none (slice_get rows room) ≡ leb (length rows) room
+none_beyond [] room = sym (le-leb 0 room (omega arith))
+none_beyond (a ∷ more) zero = sym (lt-leb (suc (length more)) 0 (omega arith))
+none_beyond (a ∷ more) (suc room) =
+    none_beyond more room ∙ le_same (length more) room (suc (length more)) (suc room) (λ h. omega arith) (λ h. omega arith)
+
+pub none_fit : (files : List (List ℕ)) (all : List Appearance) (room : ℕ) (r : Option Appearance)
+    → option_map (λ a. a) r ≡ slice_get (filter (λ a. not (has_earlier files a all)) all) room → {b : Bool} → is_some r ≡ not b → b ≡ few_firsts files all all room
+unfolding few_firsts
+none_fit files all room r e {b} n =
+    sym (not-not b) ∙ ap not (sym n) ∙ is_same r ∙ ap is_none e ∙ none_beyond (filter (λ a. not (has_earlier files a all)) all) room
+    ∙ ap (λ l. leb (length l) room) (firsts_filter files all all)
+  where
+    not-not : (x : Bool) → not (not x) ≡ x
+    not-not true = refl
+    not-not false = refl
+
+    is_same : (x : Option Appearance) → not (is_some x) ≡ is_none (option_map (λ a. a) x)
+    is_same (Some a) = refl
+    is_same None = refl
+
+-- The rows counted, up to the end: as many are left as there is room for, none once there were more.
+pub record Ending (rs : Rows) (room : ℕ) (here : Rows) (left : Option ℕ) : Type 0 where
+  pub end : here.end ≡ rs.end
+  pub few : (n : ℕ) → left ≡ Some n → few_rows here.rows n ≡ few_rows rs.rows room
+
+module _ {rs : Rows} {room : ℕ} where
+  pub ending_start : {here : Rows} → here ≡ rs → Ending rs room here (Some room)
+  ending_start {here} e =
+      subst (λ (l : Rows). Ending rs room l (Some room)) (sym e) (record { end = refl; few = λ n q. ap (λ o. few_rows rs.rows (unwrap_or o 0)) (sym q) })
+
+module _ {rs : Rows} {room : ℕ} (w : RowsOf) {left : Option ℕ} (h : Ending rs room (rows_ahead w) left) where
+  module _ (x : RowsOf) {o : Result Appearance Question} (g : GivesNext w (Some o) x) where
+    gives : {r : Result Appearance Question} → o ≡ r → GivesNext w (Some r) x
+    gives e = subst (λ (r : Result Appearance Question). GivesNext w (Some r) x) e g
+
+    pub ending_row : {a : Appearance} → o ≡ Ok a → {P : ℕ → Type 0} {next : Option ℕ} → MatchOption left (next ≡ None) P → ((n : ℕ) → P n → (m : ℕ) → next ≡ Some m → n ≡ suc m)
+        → Ending rs room (rows_ahead x) next
+    unfolding few_rows
+    ending_row {a} e {P} {next} m f = record {
+      end = ap (λ (l : Rows). l.end) (sym (gives e)) ∙ h.end;
+      few = λ n q.
+          let i = length (rows_ahead x).rows in
+          le_same i n (suc i) (suc n) (λ l. omega arith) (λ l. omega arith) ∙ ap (λ (l : Rows). leb (length l.rows) (suc n)) (sym (gives e)) ∙ h.few (suc n) (go left m n q);
+    }
       where
-        go : (o : Option Appearance) → NextFrom t s class p q (Ok o) → ((b : Appearance) → o ≡ Some b → ⊥) → value tt ≡ (ahead t s class p).end
-        go (Some b) w n = absurd (n b refl)
-        go None w n = ap (λ (l : Rows). l.end) (sym w.comes)
+        go : (o : Option ℕ) → MatchOption o (next ≡ None) P → (n : ℕ) → next ≡ Some n → o ≡ Some (suc n)
+        go (Some i) p n q = ap Some (f i p n q)
+        go None p n q = absurd (none-some (sym p ∙ q))
 
-module _ {t : Tables} {s : Side} {class : ℕ} {p q : Position} {r : Option Appearance} (h : ReachedFrom t s class p q r) where
-  was : {x : Option Appearance} → r ≡ x → ReachedFrom t s class p q x
-  was e = subst (λ (x : Option Appearance). ReachedFrom t s class p q x) e h
+    pub ending_refused : {k : Question} → o ≡ Err k → Surveyed rs room (Err k)
+    ending_refused e = record { found = sym h.end ∙ ap (λ (l : Rows). l.end) (gives e).0 }
 
-  -- The rows after a row come after it.
-  rows_after : {b : Appearance} → r ≡ Some b → (x : Appearance) → In x (ahead t s class q).rows → comes_before b x ≡ true
-  rows_after g = first_before (subst (λ (l : Rows). Ordered l.rows) (was g).reaches.0 (ahead_ordered t s class p))
+  pub ending_end : rows_ahead w ≡ ended → {b : Bool} → b ≡ is_some left → Surveyed rs room (Ok b)
+  unfolding few_rows
+  ending_end e {b} g = rw g (go left (λ n q. sym (h.few n q) ∙ ap (λ (l : Rows). leb (length l.rows) n) e ∙ le-leb 0 n (omega arith)))
     where
-      first_before : {b : Appearance} {more : List Appearance} → Ordered (b ∷ more) → (x : Appearance) → In x more → comes_before b x ≡ true
-      first_before (ordered_next f o) = f
+      at_end : rs.end ≡ value tt
+      at_end = sym h.end ∙ ap (λ (l : Rows). l.end) e
 
-  -- No row is left, at the end or where a lookup is refused.
-  none_left : ((b : Appearance) → r ≡ Some b → ⊥) → (ahead t s class p).rows ≡ []
-  none_left n = go r h n
-    where
-      go : (x : Option Appearance) → ReachedFrom t s class p q x → ((b : Appearance) → x ≡ Some b → ⊥) → (ahead t s class p).rows ≡ []
-      go (Some b) w n = absurd (n b refl)
-      go None w n = w.reaches
+      go : (o : Option ℕ) → ((n : ℕ) → o ≡ Some n → few_rows rs.rows room ≡ true) → Surveyed rs room (Ok (is_some o))
+      go (Some n) f = record { found = (at_end, f n refl) }
+      go None f = record { found = at_end }
 
-  -- Whatever is made of the rows ahead.
-  module _ {X : Type 0} (f : Rows → X) {e : X} (i : f (ahead t s class p) ≡ e) where
-    by_row : {b : Appearance} → r ≡ Some b → f (also b (ahead t s class q)) ≡ e
-    by_row g = ap f (sym (was g).reaches.0) ∙ i
+-- The pass that notes rows.
+module _ (files : List (List ℕ)) (all : List Appearance) (old : List ℕ) {rows : List Appearance} {count : ℕ} {result : List ℕ} (w : Noting files all old rows count result)
+    {b : Appearance} {more : List Appearance} (g : rows ≡ b ∷ more) where
+  here : Noting files all old (b ∷ more) count result
+  here = subst (λ (l : List Appearance). Noting files all old l count result) g w
 
-  -- An earlier row with a's selector.
-  module _ (files : List (List ℕ)) (a : Appearance) {e : Bool} (i : has_earlier files a (ahead t s class p).rows ≡ e) where
-    pub earlier_stop : {b : Appearance} {y : Bool} → r ≡ Some b → y ≡ comes_before b a → not y ≡ true → false ≡ e
-    earlier_stop {b} g u v =
-        sym (past_place files a b (ahead t s class q).rows (ahead_ordered t s class q)
-        (rows_after g) (sym u ∙ not-true _ v)) ∙ by_row (λ l. has_earlier files a l.rows) i g
+  pub noting_row : 4 * length (firsts files all all) ≤ length old → {n : ℕ} {after : List ℕ} → Noted files result count b n after → Noting files all old more n after
+  unfolding note_all
+  noting_row room d =
+      let v = here in
+      record {
+        table = note files b v.table;
+        holds = d.holds old v.table v.holds
+            (omega (arith, noted_longer files (note files b v.table) more, ap (λ (l : List Appearance). length l) v.rest, length_effective files all))
+            v.same;
+        rest = v.rest;
+        same = d.same ∙ v.same;
+      }
 
-    module _ {b : Appearance} {y z : Bool} (g : r ≡ Some b) (u : y ≡ comes_before b a) (v : not y ≡ false) (m : z ≡ same_selector files a.selector b.selector) where
-      both : (comes_before b a && same_selector files a.selector b.selector) ≡ z
-      both = rw (sym u ∙ not-false _ v) (sym m)
-
-      pub earlier_here : z ≡ true → true ≡ e
-      unfolding has_earlier
-      earlier_here n = or_here _ _ (both ∙ n) (by_row (λ l. has_earlier files a l.rows) i g)
-
-      pub earlier_row : z ≡ false → has_earlier files a (ahead t s class q).rows ≡ e
-      unfolding has_earlier
-      earlier_row n = or_next _ _ (both ∙ n) (by_row (λ l. has_earlier files a l.rows) i g)
-
-    pub earlier_none : ((b : Appearance) → r ≡ Some b → ⊥) → false ≡ e
-    unfolding has_earlier
-    earlier_none n = rw (none_left n) at i
-
-  -- The rows counted.
-  module _ (room : ℕ) {e : Bool} (i : few_rows (ahead t s class p).rows room ≡ e) where
-    pub rows_row : {b : Appearance} → r ≡ Some b → (room ≡ 0 → ⊥) → few_rows (ahead t s class q).rows (room - 1) ≡ e
-    unfolding few_rows
-    rows_row g n =
-        let m = length (ahead t s class q).rows in
-        le_same m (room - 1) (suc m) room (λ a. omega (arith, n)) (λ a. omega (arith, n)) ∙ by_row (λ l. few_rows l.rows room) i g
-
-    pub rows_end : ((b : Appearance) → r ≡ Some b → ⊥) → true ≡ e
-    unfolding few_rows
-    rows_end g = sym (le-leb 0 room (omega arith)) ∙ rw (none_left g) at i
-
-  -- Question 22.
-  module _ (files : List (List ℕ)) (all : List Appearance) (room : ℕ) {e : Bool} (i : few_firsts files all (ahead t s class p).rows room ≡ e) where
-    pub fit_seen : {b : Appearance} {y : Bool} → r ≡ Some b → y ≡ has_earlier files b all → y ≡ true
-        → few_firsts files all (ahead t s class q).rows room ≡ e
-    unfolding few_firsts
-    fit_seen g u v = ap (λ l. leb (length l) room) (sym (first_seen files all _ _ (sym u ∙ v))) ∙ by_row (λ l. few_firsts files all l.rows room) i g
-
-    fit_new : {b : Appearance} {y : Bool} → r ≡ Some b → y ≡ has_earlier files b all → y ≡ false
-        → leb (suc (length (firsts files all (ahead t s class q).rows))) room ≡ e
-    unfolding few_firsts
-    fit_new g u v = ap (λ l. leb (length l) room) (sym (first_new files all _ _ (sym u ∙ v))) ∙ by_row (λ l. few_firsts files all l.rows room) i g
-
-    pub fit_none : {b : Appearance} {y : Bool} → r ≡ Some b → y ≡ has_earlier files b all → y ≡ false → room ≡ 0 → false ≡ e
-    fit_none g u v z = sym (lt-leb _ room (omega arith)) ∙ fit_new g u v
-
-    pub fit_row : {b : Appearance} {y : Bool} → r ≡ Some b → y ≡ has_earlier files b all → y ≡ false → (room ≡ 0 → ⊥)
-        → few_firsts files all (ahead t s class q).rows (room - 1) ≡ e
-    unfolding few_firsts
-    fit_row g u v n =
-        let m = length (firsts files all (ahead t s class q).rows) in
-        le_same m (room - 1) (suc m) room (λ a. omega (arith, n)) (λ a. omega (arith, n)) ∙ fit_new g u v
-
-    pub fit_all : ((b : Appearance) → r ≡ Some b → ⊥) → true ≡ e
-    unfolding firsts few_firsts
-    fit_all n = sym (le-leb 0 room (omega arith)) ∙ rw (none_left n) at i
-
-  -- The pass that notes rows.
-  module _ (files : List (List ℕ)) (all : List Appearance) (old : List ℕ) {count : ℕ} {result : List ℕ}
-      (w : Noting files all old (ahead t s class p).rows count result) where
-    by : {l : Rows} → ahead t s class p ≡ l → Noting files all old l.rows count result
-    by e = subst (λ (l : Rows). Noting files all old l.rows count result) e w
-
-    pub noting_row : 4 * length (firsts files all all) ≤ length old → {b : Appearance} {n : ℕ} {after : List ℕ} → r ≡ Some b → Noted files result count b n after
-        → Noting files all old (ahead t s class q).rows n after
-    unfolding note_all
-    noting_row room {b} g d =
-        let v = by (was g).reaches.0 in
-        record {
-          table = note files b v.table;
-          holds = d.holds old v.table v.holds
-              (omega (arith, noted_longer files (note files b v.table) (ahead t s class q).rows, ap (λ (l : List Appearance). length l) v.rest, length_effective files all))
-              v.same;
-          rest = v.rest;
-          same = d.same ∙ v.same;
-        }
-
-    pub counting_row : count < length result / 4 → {b : Appearance} {n : ℕ} {after : List ℕ} → r ≡ Some b → Noted files result count b n after
-        → Noting files all old (ahead t s class q).rows n after
-    unfolding note_all
-    counting_row l {b} g d =
-        let v = by (was g).reaches.0 in
-        record {
-          table = note files b v.table;
-          holds = d.holds old v.table v.holds (omega (arith, note_few files b v.table, v.holds.many, v.same)) v.same;
-          rest = v.rest;
-          same = d.same ∙ v.same;
-        }
-
-    pub noting_all : ((b : Appearance) → r ≡ Some b → ⊥) → Noting files all old [] count result
-    noting_all n = subst (λ (l : List Appearance). Noting files all old l count result) (none_left n) w
+  pub counting_row : count < length result / 4 → {n : ℕ} {after : List ℕ} → Noted files result count b n after → Noting files all old more n after
+  unfolding note_all
+  counting_row l d =
+      let v = here in
+      record {
+        table = note files b v.table;
+        holds = d.holds old v.table v.holds (omega (arith, note_few files b v.table, v.holds.many, v.same)) v.same;
+        rest = v.rest;
+        same = d.same ∙ v.same;
+      }

@@ -1,6 +1,6 @@
 -- The table of selectors in the result buffer: its words, what a search finds, what noting a row and naming the records leave.
 use Prim.Native.Nat.{ℕ, zero, suc, ◌+◌, ◌-◌, ◌*◌, ◌<◌, ◌≤◌}
-use mathlib.Core.Path.{◌≡◌, refl, ap, sym, ◌∙◌}
+use mathlib.Core.Path.{◌≡◌, refl, ap, sym, subst, ◌∙◌}
 use mathlib.Core.Bool.{Bool, true, false}
 use mathlib.Core.List.Memᴰ
 use mathlib.Core.List.{List, [], ◌∷◌, ◌++◌, append_assoc}
@@ -11,6 +11,7 @@ use lib.ListN.{length, get_or, drop, take, set, length-set, length-append, drop_
 use borrow.Rule.Slice.PartMut.{put_mid}
 use lib.Seq.{drop-cons, drop-drop, sets, sets-eq, length-sets, take_at, drop-append-add}
 use borrow.Author.Tests.{lt-ltb, le-ltb, eq-eqb, ne_eqb}
+use Rattle.std.specs.Prelude.{Option, None, Some}
 use Rattle.reads.specs.Outcome.{choose, text_of}
 use Rattle.reads.specs.declared.text.Text.{Text}
 use Rattle.reads.proofs.Tests.{choose_true, choose_false}
@@ -20,7 +21,7 @@ use Rattle.dispatch.specs.Claims.{In}
 use Rattle.pointers.specs.Tables.{Tables}
 use Rattle.reads.specs.Text.{or_none}
 use Rattle.dispatch.specs.SlotSources.{listed_at}
-use Rattle.dispatch.specs.Table.{marks, position, note, Holds, FoundIn, Noted, origin_of, Origins, Named}
+use Rattle.dispatch.specs.Table.{marks, position, note, Holds, Finds, FoundIn, Noted, origin_of, Origins, Named}
 
 abbrev pub no_row : Appearance
 no_row = record { selector = text_of 0 0 0; source = 0; entry = 0; origin = 0 }
@@ -118,13 +119,15 @@ module _ (files : List (List ℕ)) where
           let n : get_or result (4 * j + 2) 0 ≡ (get_or table j no_row).selector.len = ap (λ r. get_or r (4 * j + 2) 0) h.stored ∙ mark_len _ table j k in
           sym (t ∙ (λ i. same_selector files (text_of (f i) (o i) (n i)) s))
 
-      pub seek_here : y ≡ true → FoundIn files result count s j
+      pub seek_here : y ≡ true → FoundIn files result count s (Some j)
       seek_here e = record {
-        within = omega arith;
-        place = λ old table h.
-            let k : j < length table = omega (arith, h.many) in
-            let p : position files s (drop j table) ≡ 0 = rw (drop-cons table j no_row k) (position_here s _ _ (entry_test old table h ∙ e)) in
-            omega (arith, seek old table h);
+        finds = (
+          l,
+          λ old table h.
+              let k : j < length table = omega (arith, h.many) in
+              let p : position files s (drop j table) ≡ 0 = rw (drop-cons table j no_row k) (position_here s _ _ (entry_test old table h ∙ e)) in
+              omega (arith, seek old table h),
+        );
       }
 
       pub seek_next : y ≡ false → Seek result count s (j + 1)
@@ -134,11 +137,10 @@ module _ (files : List (List ℕ)) where
           rw (drop-cons table j no_row k, add-one j) (position_next s _ _ (entry_test old table h ∙ e)) in
           omega (arith, seek old table h)
 
-    pub seek_end : count ≤ j → j ≤ count → FoundIn files result count s count
+    pub seek_end : count ≤ j → j ≤ count → FoundIn files result count s None
     unfolding position
     seek_end l m = record {
-      within = omega arith;
-      place = λ old table h.
+      finds = λ old table h.
           let p : position files s (drop j table) ≡ 0 = rw (drop_of_length-le table {i = j} (let q : length table ≤ j = omega (arith, h.many) in q)) in
           omega (arith, seek old table h);
     }
@@ -170,20 +172,23 @@ module _ (files : List (List ℕ)) where
       go true e l ih = absurd (omega (arith, choose_true {t = true} 0 (suc (position files b.selector more)) refl))
       go false e l ih = choose_false _ _ refl ∙ ap (λ x. a ∷ x) (ih (omega (arith, choose_false {t = false} 0 (suc (position files b.selector more)) refl)))
 
-  module _ (result : List ℕ) (count : ℕ) (b : Appearance) (room : 4 * count ≤ length result) (j : ℕ) (found : FoundIn files result count b.selector j) where
-    module _ (l : j < count) where
+  module _ (result : List ℕ) (count : ℕ) (b : Appearance) (room : 4 * count ≤ length result) {r : Option ℕ} (found : FoundIn files result count b.selector r) where
+    module _ {j : ℕ} (e : r ≡ Some j) where
+      here : Finds files result count b.selector (Some j)
+      here = (subst (λ (x : Option ℕ). FoundIn files result count b.selector x) e found).finds
+
       in_table : (old : List ℕ) (table : List Appearance) → Holds old table count result
           → note files b table ≡ choose (ltb (get_or result (4 * j + 3) 0) b.source) (set table j b) table
       in_table old table h =
-          let p : position files b.selector table ≡ j = sym (found.place old table h) in
-          let k : j < length table = omega (arith, h.many) in
+          let p : position files b.selector table ≡ j = sym (here.1 old table h) in
+          let k : j < length table = omega (arith, h.many, here.0) in
           let m : get_or result (4 * j + 3) 0 ≡ (get_or table j no_row).source = ap (λ r. get_or r (4 * j + 3) 0) h.stored ∙ mark_source _ table j k in
           rw m (rw p at (note_found b table (rw p k)))
 
       pub noted_kept : b.source ≤ get_or result (4 * j + 3) 0 → Noted files result count b count result
       noted_kept g = record {
         same = refl;
-        holds = λ old table h r e.
+        holds = λ old table h _ _.
             let n : note files b table ≡ table = in_table old table h ∙ choose_false _ _ (le-ltb (get_or result (4 * j + 3) 0) b.source g) in
             rw n h;
       }
@@ -192,44 +197,46 @@ module _ (files : List (List ℕ)) where
       unfolding marks
       noted_replaced g {after} d = record {
         same = ap (λ (x : List ℕ). length x) d ∙ length-sets result (4 * j) (marks (b ∷ []));
-        holds = λ old table h r e.
+        holds = λ old table h _ _.
             let n : note files b table ≡ set table j b = in_table old table h ∙ choose_true _ _ (lt-ltb (get_or result (4 * j + 3) 0) b.source g) in
-            let k : j < length table = omega (arith, h.many) in
+            let k : j < length table = omega (arith, h.many, here.0) in
             rw n (record {
               stored = d ∙ ap (λ (x : List ℕ). sets x (4 * j) (b.selector.file ∷ b.selector.offset ∷ b.selector.len ∷ b.source ∷ [])) h.stored ∙ mark_set (drop (4 * count) old) table j b k;
               many = simp length-set h.many;
             });
       }
 
-    module _ (l : count ≤ j) where
+    module _ (e : r ≡ None) where
+      here_none : Finds files result count b.selector None
+      here_none = (subst (λ (x : Option ℕ). FoundIn files result count b.selector x) e found).finds
+
       appended : (old : List ℕ) (table : List Appearance) → Holds old table count result → note files b table ≡ table ++ (b ∷ [])
-      appended old table h = note_new b table (omega (arith, found.place old table h, h.many))
+      appended old table h = note_new b table (omega (arith, here_none old table h, h.many))
 
       length_more : (table : List Appearance) → length (table ++ (b ∷ [])) ≡ length table + 1
       length_more table = length-append table (b ∷ [])
 
-      pub noted_full : length result - 4 * j < 4 → Noted files result count b count result
+      pub noted_full : length result - 4 * count < 4 → Noted files result count b count result
       noted_full g = record {
         same = refl;
-        holds = λ old table h r e.
+        holds = λ old table h r q.
             let n : length (note files b table) ≡ length table + 1 = ap (λ (x : List Appearance). length x) (appended old table h) ∙ length_more table in
-            absurd (omega (arith, h.many, found.within));
+            absurd (omega (arith, h.many, n));
       }
 
-      pub noted_added : {after : List ℕ} → 4 ≤ length result - 4 * j → after ≡ sets result (4 * j) (marks (b ∷ [])) → Noted files result count b (count + 1) after
+      pub noted_added : {after : List ℕ} → 4 ≤ length result - 4 * count → after ≡ sets result (4 * count) (marks (b ∷ [])) → Noted files result count b (count + 1) after
       unfolding marks
       noted_added {after} g d = record {
-        same = ap (λ (x : List ℕ). length x) d ∙ length-sets result (4 * j) (marks (b ∷ []));
-        holds = λ old table h r e.
+        same = ap (λ (x : List ℕ). length x) d ∙ length-sets result (4 * count) (marks (b ∷ []));
+        holds = λ old table h r q.
             rw (appended old table h) (record {
               stored =
-                  let q : j ≡ count = omega (arith, found.within) in
-                  let w : length (marks table) ≡ 4 * j = omega (arith, length_marks table, h.many) in
+                  let w : length (marks table) ≡ 4 * count = omega (arith, length_marks table, h.many) in
                   let v : 4 * count + 4 ≡ 4 * (count + 1) = omega arith in
-                  d ∙ sets-eq (marks (b ∷ [])) result (4 * j) (omega arith)
-                  ∙ append_assoc (take (4 * j) result) (marks (b ∷ [])) (drop (4 * j + 4) result)
-                  ∙ ap (λ (x : List ℕ). take (4 * j) x ++ (marks (b ∷ []) ++ drop (4 * j + 4) x)) h.stored
-                  ∙ ap (λ (x : List ℕ). x ++ (marks (b ∷ []) ++ drop (4 * j + 4) (marks table ++ drop (4 * count) old))) (take_at (marks table) (drop (4 * count) old) (4 * j) w)
+                  d ∙ sets-eq (marks (b ∷ [])) result (4 * count) (omega arith)
+                  ∙ append_assoc (take (4 * count) result) (marks (b ∷ [])) (drop (4 * count + 4) result)
+                  ∙ ap (λ (x : List ℕ). take (4 * count) x ++ (marks (b ∷ []) ++ drop (4 * count + 4) x)) h.stored
+                  ∙ ap (λ (x : List ℕ). x ++ (marks (b ∷ []) ++ drop (4 * count + 4) (marks table ++ drop (4 * count) old))) (take_at (marks table) (drop (4 * count) old) (4 * count) w)
                   ∙ ap (λ (x : List ℕ). marks table ++ (marks (b ∷ []) ++ x))
                   (ap (λ (i : ℕ). drop (i + 4) (marks table ++ drop (4 * count) old)) (sym w) ∙ drop-append-add (marks table) (drop (4 * count) old) 4 ∙ drop-drop 4 (4 * count) old ∙ ap (λ (i : ℕ). drop i old) v)
                   ∙ sym (marks_last table b (drop (4 * (count + 1)) old));

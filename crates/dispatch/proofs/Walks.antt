@@ -15,16 +15,20 @@ use Rattle.dispatch.specs.declared.sources.Side.{Side}
 use Rattle.dispatch.specs.declared.sources.Source.{Source}
 use Rattle.dispatch.specs.declared.rows.Appearance.{Appearance}
 use Rattle.dispatch.specs.declared.rows.Position.{Position}
-use Rattle.dispatch.specs.declared.rows.Step.TheVariants as step
+use Rattle.dispatch.specs.declared.rows.Step.{Step}
 use Rattle.dispatch.specs.SlotSources.{slot_source, slot_rows, slot_total}
-use Rattle.dispatch.specs.Appearances.{Rows, adding, appearance, entry_rows, list_rows, source_rows}
-use Rattle.dispatch.specs.Asking.{optional}
+use Rattle.dispatch.specs.Appearances.{Rows, also, adding, appearance, entry_rows, list_rows, source_rows}
+use Rattle.reads.specs.Outcome.{optional}
 use Rattle.dispatch.proofs.Asking.{there_is, none_is, refused_is}
-use Rattle.dispatch.specs.Position.{moved_to, nowhere, in_list, ahead, weight, EnteredAt, SteppedFrom, NextFrom, ReachedFrom}
-use Rattle.std.specs.Result.{result_unwrap_or}
+use Rattle.dispatch.specs.Position.{moved_to, nowhere, in_list, ahead, weight, perhaps, EnteredAt, SteppedFrom}
 use Rattle.std.specs.Prelude.{Option, None, Some, Result, Ok, Err}
 use Rattle.reads.specs.Answer.{outcome, answered}
 use Rattle.reads.specs.declared.answer.Question.{Question}
+
+-- A row that was found, in front.
+adding_found : (o : Outcome Appearance) (row : Option Appearance) → optional o ≡ value row → (rest : Rows) → adding o rest ≡ perhaps row rest
+adding_found o (Some a) e rest = ap (λ q. adding q rest) (there_is o e)
+adding_found o None e rest = ap (λ q. adding q rest) (none_is o e).1
 
 -- Entering source n.
 module _ (t : Tables) (n : ℕ) where
@@ -80,11 +84,10 @@ module _ (t : Tables) (s : Side) (class : ℕ) (p : Position) where
       light = rw moved (lighter h)
 
       module _ {a : Result (Option Appearance) Question} (r : answered a ≡ optional (appearance t p.source p.origin p.list j)) where
-        pub settle_row : {row : Appearance} → a ≡ Ok (Some row) → SteppedFrom t s class p (Ok (step.Row (record { row = row; next = next })))
-        settle_row g = record { went = (rw (next_entry, there_is (appearance t p.source p.origin p.list j) (sym r ∙ ap answered g), moved), light) }
-
-        pub settle_passed : a ≡ Ok None → SteppedFrom t s class p (Ok (step.Passed next))
-        settle_passed g = let q = none_is (appearance t p.source p.origin p.list j) (sym r ∙ ap answered g) in record { went = (rw (next_entry, q.1, moved), light) }
+        pub settle_found : {row : Option Appearance} → a ≡ Ok row → SteppedFrom t s class p (Ok (Some (record { row = row; next = next })))
+        settle_found {row} g = record {
+          went = (next_entry ∙ adding_found (appearance t p.source p.origin p.list j) row (sym r ∙ ap answered g) _ ∙ ap (λ (q : Position). perhaps row (ahead t s class q)) (sym moved), light);
+        }
 
     pub settle_refused : {a : Result (Option Appearance) Question} → answered a ≡ optional (appearance t p.source p.origin p.list j) → {k : Question} → a ≡ Err k
         → SteppedFrom t s class p (Err k)
@@ -96,7 +99,7 @@ module _ (t : Tables) (s : Side) (class : ℕ) (p : Position) where
     unfolding ahead in_list entry_rows
     next_list = rw (rest_of_none (image_in t) p.list p.entry e)
 
-    pub next_end : slot_total t ≤ p.source → SteppedFrom t s class p (Ok step.End)
+    pub next_end : slot_total t ≤ p.source → SteppedFrom t s class p (Ok None)
     unfolding slot_rows
     next_end h = let z : slot_total t - p.source ≡ 0 = omega arith in record { went = next_list ∙ rw z }
 
@@ -108,7 +111,7 @@ module _ (t : Tables) (s : Side) (class : ℕ) (p : Position) where
 
       module _ (a : Result Source Missing) (o : outcome a ≡ slot_source t s class p.source) {r : (Result Position Question)}
           (f : EnteredAt t (p.source + 1) (outcome a) r) where
-        pub next_entered : p.entry < 2 ^ 32 → {q : Position} → r ≡ Ok q → SteppedFrom t s class p (Ok (step.Passed q))
+        pub next_entered : p.entry < 2 ^ 32 → {q : Position} → r ≡ Ok q → SteppedFrom t s class p (Ok (Some (record { row = None; next = q })))
         unfolding ahead weight
         next_entered b {q} g =
             let d = (was_entered f g).came in
@@ -119,9 +122,18 @@ module _ (t : Tables) (s : Side) (class : ℕ) (p : Position) where
             let d = (was_entered f g).came in
             record { went = rw (next_slot, ← o) (d _) }
 
--- A row of what was read.
-pub reached_by : (t : Tables) (s : Side) (class : ℕ) (p q : Position) (r : Result (Option Appearance) Question) → NextFrom t s class p q r
-    → ReachedFrom t s class p q (result_unwrap_or r None)
-reached_by t s class p q (Ok (Some row)) w = record { reaches = w.comes }
-reached_by t s class p q (Ok None) w = record { reaches = ap (λ (l : Rows). l.rows) w.comes }
-reached_by t s class p q (Err k) w = record { reaches = ap (λ (l : Rows). l.rows) w.comes }
+-- What comes next, by the steps.
+module _ {t : Tables} {s : Side} {class : ℕ} {p : Position} where
+  stepped : {r q : Result (Option Step) Question} → SteppedFrom t s class p r → r ≡ q → SteppedFrom t s class p q
+  stepped {r} {q} h e = subst (λ (x : Result (Option Step) Question). SteppedFrom t s class p x) e h
+
+  module _ {r : Result (Option Step) Question} (h : SteppedFrom t s class p r) where
+    pub step_row : {x : Step} → r ≡ Ok (Some x) → {a : Appearance} → x.row ≡ Some a → (ahead t s class p ≡ also a (ahead t s class x.next)) × (weight t x.next < weight t p)
+    step_row {x} e {a} g = let w = (stepped h e).went in (w.0 ∙ ap (λ o. perhaps o (ahead t s class x.next)) g, w.1)
+
+    pub step_none : {x : Step} → r ≡ Ok (Some x) → ((a : Appearance) → x.row ≡ Some a → ⊥) → (ahead t s class p ≡ ahead t s class x.next) × (weight t x.next < weight t p)
+    step_none {x} e n = let w = (stepped h e).went in (w.0 ∙ go x.row n, w.1)
+      where
+        go : (o : Option Appearance) → ((a : Appearance) → o ≡ Some a → ⊥) → perhaps o (ahead t s class x.next) ≡ ahead t s class x.next
+        go (Some a) n = absurd (n a refl)
+        go None n = refl

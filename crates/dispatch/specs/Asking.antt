@@ -1,14 +1,8 @@
 -- What a lookup gives, and a question at each slot: no answer refuses, or the first question that does.
-use Rattle.std.specs.Prelude.{ℕ, ◌<◌, ◌≡◌, List, [], ◌∷◌, length, get_or, Option, None, Some, Result}
-use Rattle.reads.specs.Outcome.{Outcome, value, absent, refused, and_then}
+use Rattle.std.specs.Prelude.{ℕ, ◌<◌, ◌≡◌, List, [], ◌∷◌, length, get_or, Result}
+use Rattle.reads.specs.Outcome.{Outcome, value, and_then}
 use Rattle.reads.specs.Answer.{answered}
 use Rattle.reads.specs.declared.answer.Question.{Question}
-
--- What is there; what is absent gives nothing.
-abbrev pub optional : {A : Type 0} → Outcome A → Outcome (Option A)
-optional (value a) = value (Some a)
-optional (absent why) = value None
-optional (refused k) = refused k
 
 unfoldable pub each_settled : (ℕ → Outcome (Unit {0})) → List ℕ → Outcome (Unit {0})
 each_settled s [] = value tt

@@ -4,6 +4,7 @@ pub mod Appearances
 pub mod Dispatch
 pub mod SlotSources
 pub mod Position
+pub mod RowsLeft
 pub mod Claims
 pub mod Table
 pub mod Written

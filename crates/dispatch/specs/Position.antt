@@ -1,5 +1,5 @@
 -- A position among the rows that take part: what lies ahead of it, and what a step from it gives.
-use Rattle.std.specs.Prelude.{ℕ, [], ◌+◌, ◌-◌, ◌*◌, ◌^◌, ◌<◌, ◌≡◌, Option, None, Some, Result, Ok, Err}
+use Rattle.std.specs.Prelude.{ℕ, ◌+◌, ◌-◌, ◌*◌, ◌^◌, ◌<◌, ◌≡◌, Option, None, Some, Result, Ok, Err}
 use Rattle.reads.specs.Outcome.{Outcome}
 use Rattle.pointers.specs.Tables.{Tables, image_in}
 use Rattle.records.specs.List.{entry}
@@ -10,7 +10,6 @@ use Rattle.dispatch.specs.declared.sources.Source.{Source}
 use Rattle.dispatch.specs.declared.rows.Appearance.{Appearance}
 use Rattle.dispatch.specs.declared.rows.Position.{Position}
 use Rattle.dispatch.specs.declared.rows.Step.{Step}
-use Rattle.dispatch.specs.declared.rows.Step.TheVariants as step
 use Rattle.dispatch.specs.Appearances.{Rows, ended, refusing, also, entry_rows, source_rows}
 use Rattle.dispatch.specs.SlotSources.{slot_rows, slot_total}
 use Rattle.reads.specs.declared.answer.Question.{Question}
@@ -43,14 +42,18 @@ Came t n o (Err k) = (rest : Rows) → source_rows t n o rest ≡ refusing k
 pub record EnteredAt (t : Tables) (n : ℕ) (o : Outcome Source) (r : Result Position Question) : Type 0 where
   pub came : Came t n o r
 
--- What a step gives: the next row and the position after it, or a position with the same rows ahead, or the end; or the question that refuses.
-abbrev pub Went : Tables → Side → ℕ → Position → Result Step Question → Type 0
-Went t s class p (Ok (step.Row r)) = (ahead t s class p ≡ also r.row (ahead t s class r.next)) × (weight t r.next < weight t p)
-Went t s class p (Ok (step.Passed q)) = (ahead t s class p ≡ ahead t s class q) × (weight t q < weight t p)
-Went t s class p (Ok step.End) = ahead t s class p ≡ ended
+-- A row in front, if there is one.
+abbrev pub perhaps : Option Appearance → Rows → Rows
+perhaps (Some a) r = also a r
+perhaps None r = r
+
+-- What a step gives: the next row or none, and the position after it; or the end; or the question that refuses.
+abbrev pub Went : Tables → Side → ℕ → Position → Result (Option Step) Question → Type 0
+Went t s class p (Ok (Some step)) = (ahead t s class p ≡ perhaps step.row (ahead t s class step.next)) × (weight t step.next < weight t p)
+Went t s class p (Ok None) = ahead t s class p ≡ ended
 Went t s class p (Err k) = ahead t s class p ≡ refusing k
 
-pub record SteppedFrom (t : Tables) (s : Side) (class : ℕ) (p : Position) (r : Result Step Question) : Type 0 where
+pub record SteppedFrom (t : Tables) (s : Side) (class : ℕ) (p : Position) (r : Result (Option Step) Question) : Type 0 where
   pub went : Went t s class p r
 
 -- What the next row gives: it, and the position after it; or the end; or the question that refuses.
@@ -61,11 +64,3 @@ Comes t s class p q (Err k) = ahead t s class p ≡ refusing k
 
 pub record NextFrom (t : Tables) (s : Side) (class : ℕ) (p q : Position) (r : Result (Option Appearance) Question) : Type 0 where
   pub comes : Comes t s class p q r
-
--- What can be reached next: a row, and the position after it; at the end, and where a question refuses, there is none.
-abbrev pub Reaches : Tables → Side → ℕ → Position → Position → Option Appearance → Type 0
-Reaches t s class p q (Some row) = (ahead t s class p ≡ also row (ahead t s class q)) × (weight t q < weight t p)
-Reaches t s class p q None = (ahead t s class p).rows ≡ []
-
-pub record ReachedFrom (t : Tables) (s : Side) (class : ℕ) (p q : Position) (r : Option Appearance) : Type 0 where
-  pub reaches : Reaches t s class p q r

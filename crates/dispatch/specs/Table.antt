@@ -1,9 +1,10 @@
 -- The table of selectors that the pass which writes keeps in the result buffer: while it runs, the last word of an entry is the number of
 -- its row's source.
-use Rattle.std.specs.Prelude.{ℕ, suc, ◌-◌, ◌*◌, ◌≤◌, ◌≡◌, List, [], ◌∷◌, ◌++◌, ltb, eqb, length, drop}
+use Rattle.std.specs.Prelude.{ℕ, suc, ◌-◌, ◌*◌, ◌<◌, ◌≤◌, ◌≡◌, Option, None, Some, List, [], ◌∷◌, ◌++◌, ltb, eqb, length, drop}
 use Rattle.reads.specs.Outcome.{choose}
 use Rattle.reads.specs.declared.text.Text.{Text}
 use Rattle.dispatch.specs.declared.rows.Appearance.{Appearance}
+use Rattle.dispatch.specs.declared.table.Selectors.{Selectors}
 use Rattle.pointers.specs.Tables.{Tables}
 use Rattle.reads.specs.Text.{or_none}
 use Rattle.dispatch.specs.SlotSources.{listed_at}
@@ -34,11 +35,20 @@ pub record Holds (old : List ℕ) (table : List Appearance) (count : ℕ) (resul
   pub stored : result ≡ marks table ++ drop (4 * count) old
   pub many : length table ≡ count
 
--- What a search for a selector finds, and what noting a row leaves, whatever table the buffer holds.
-pub record FoundIn (files : List (List ℕ)) (result : List ℕ) (count : ℕ) (s : Text) (r : ℕ) : Type 0 where
-  pub within : r ≤ count
-  pub place : (old : List ℕ) (table : List Appearance) → Holds old table count result → r ≡ position files s table
+-- What a search for a selector finds, whatever table the buffer holds: the entry that has it, if there is one.
+abbrev pub Finds : List (List ℕ) → List ℕ → ℕ → Text → Option ℕ → Type 0
+Finds files result count s (Some j) = (j < count) × ((old : List ℕ) (table : List Appearance) → Holds old table count result → j ≡ position files s table)
+Finds files result count s None = (old : List ℕ) (table : List Appearance) → Holds old table count result → count ≡ position files s table
 
+pub record FoundIn (files : List (List ℕ)) (result : List ℕ) (count : ℕ) (s : Text) (r : Option ℕ) : Type 0 where
+  pub finds : Finds files result count s r
+
+-- A table is in the same words.
+pub record SameWords (o p : Selectors) : Type 0 where
+  pub words : p.words.ghost_name ≡ o.words.ghost_name
+  pub size : length p.words.now ≡ length o.words.now
+
+-- What noting a row leaves, whatever table the buffer holds.
 pub record Noted (files : List (List ℕ)) (result : List ℕ) (count : ℕ) (b : Appearance) (r : ℕ) (after : List ℕ) : Type 0 where
   pub same : length after ≡ length result
   pub holds : (old : List ℕ) (table : List Appearance) → Holds old table count result → 4 * length (note files b table) ≤ length old → length result ≡ length old

@@ -2,48 +2,35 @@
 ghost use Rattle.std.specs.Prelude.{◌≡◌, ℕ};
 ghost use Rattle.reads.specs.Reference.{before};
 ghost use Rattle.reads.specs.Outcome.{Outcome};
-ghost use Rattle.pointers.specs.Tables.{under};
 ghost use Rattle.walks.specs.Gather.{of_value, present};
 ghost use Rattle.walks.specs.PlainSections.{plain_categories};
 ghost use Rattle.records.specs.Category.{category_at};
 ghost use Rattle.dispatch.specs.SlotSources.{category_slots, listed_at, settled};
-ghost use Rattle.dispatch.specs.Asking.{optional, each_settled, AnswersAt};
-ghost use Rattle.reads.specs.Answer.{outcome, answered};
+ghost use Rattle.dispatch.specs.Asking.{each_settled, AnswersAt};
+ghost use Rattle.reads.specs.Answer.{answered};
 
 use crate::slots::listed_at;
-use pointers::setting::Setting;
 use pointers::tables::Tables;
-use reads::answer::{Missing, Question};
+use reads::answer::{Question, optional};
 use records::category::category_at;
 use walks::slots::{Lists, slot_count};
 
-// What is there, nothing where it is absent.
-pub(crate) fn present<T>(found: Result<T, Missing>) -> Result<Option<T>, Question>
-    ensures { answered result ≡ optional (outcome found) }
-{
-    match found {
-        Ok(a) => Ok(Some(a)),
-        Err(Missing::Absent(_)) => Ok(None),
-        Err(Missing::Refused(k)) => Err(k),
-    }
-}
-
 // The slot's lookup.
-fn ask_slot(tables: &Tables, setting: Setting, k: u64) -> Result<(), Question>
-    ensures { let t = under setting tables.now in
+fn ask_slot(tables: &Tables, k: u64) -> Result<(), Question>
+    ensures { let t = tables.now in
         answered result ≡ settled (present (listed_at t k)) }
 {
-    present(listed_at(tables, setting, k))?;
+    optional(listed_at(tables, k))?;
     Ok(())
 }
 
 // The lookups of the category in a slot.
-fn ask_listed(tables: &Tables, setting: Setting, k: u64) -> Result<(), Question>
-    ensures { let t = under setting tables.now in
+fn ask_listed(tables: &Tables, k: u64) -> Result<(), Question>
+    ensures { let t = tables.now in
         answered result ≡ settled (of_value (listed_at t k) (λ va. present (category_at t va))) }
 {
-    if let Some(va) = present(listed_at(tables, setting, k))? {
-        present(category_at(tables, setting, va))?;
+    if let Some(va) = optional(listed_at(tables, k))? {
+        optional(category_at(tables, va))?;
     }
     Ok(())
 }
@@ -62,11 +49,11 @@ fn ask_each<F: Fn(u64) -> Result<(), Question>>(sections: &[u64], ask: F) -> Res
 }
 
 // Whether the categories are listed, or the first question that refuses.
-pub(crate) fn ask_categories(tables: &Tables, setting: Setting) -> Result<(), Question>
-    ensures { let t = under setting tables.now in
+pub(crate) fn ask_categories(tables: &Tables) -> Result<(), Question>
+    ensures { let t = tables.now in
         answered result ≡ settled (plain_categories t) }
 {
     let sections = tables.sections();
-    ask_each(sections, |k| { ask_slot(tables, setting, k) })?;
-    ask_each(sections, |k| { ask_listed(tables, setting, k) })
+    ask_each(sections, |k| { ask_slot(tables, k) })?;
+    ask_each(sections, |k| { ask_listed(tables, k) })
 }

@@ -1,25 +1,26 @@
 // The rows of the lists that take part, one by one, in the order in which they appear.
 ghost use Rattle.std.specs.Prelude.{◌≡◌, ◌<◌, ◌^◌, None, Some};
+ghost use Rattle.std.specs.Iterator.{YieldsFirst, item_count};
 ghost use Rattle.reads.specs.Outcome.{value};
-ghost use Rattle.pointers.specs.Tables.{under, image_in};
+ghost use Rattle.pointers.specs.Tables.{image_in};
 ghost use Rattle.records.specs.Search.{first_readable};
 ghost use Rattle.records.specs.List.{entry_address};
 ghost use Rattle.dispatch.specs.Appearances.{appearance};
-ghost use Rattle.dispatch.specs.Position.{EnteredAt, SteppedFrom, NextFrom, ReachedFrom, moved_to, nowhere};
+ghost use Rattle.dispatch.specs.Position.{EnteredAt, SteppedFrom, NextFrom, moved_to, nowhere};
+ghost use Rattle.dispatch.specs.RowsLeft.{GivesNext, count_ahead, reached_left};
 ghost use Rattle.reads.specs.Answer.{outcome};
 
-use crate::asks::present;
-use crate::sources::{MethodsOf, Source, slot_source};
-use pointers::setting::Setting;
+use crate::sources::{MethodsOf, Source};
 use pointers::tables::Tables;
-use reads::answer::{Missing, Question, Reason};
+use reads::answer::{Missing, Question, Reason, optional};
 use reads::text::Text;
 use records::list::{Layout, ListKind, RowKind, first_readable, list_at};
 use records::row::{Row, row_at};
 use walks::slots::{Lists, slot_count};
 
 // A row as it appears: its selector, the numbers of its source and of its entry, and the address of the record that its list
-// came from.
+// came from. An Option of a slot would be no plainer a source: the next slot is the one of this number, and the table of selectors
+// keeps it in a word and compares it there; both would turn the Option back into it.
 #[derive(Clone, Copy)]
 pub struct Appearance {
     pub selector: Text,
@@ -37,19 +38,24 @@ pub struct Position {
     pub entry: u32,
 }
 
-// A row, and the position after it.
+// A step: the row that it gives, if it gives one, and the position after it.
 #[derive(Clone, Copy)]
-pub struct Reached {
-    pub row: Appearance,
+pub struct Step {
+    pub row: Option<Appearance>,
     pub next: Position,
 }
 
-// A step gives the next row, or nothing from what it took, or there was nothing left.
+// The rows from a position on, in order; a question that refuses comes last. Once they have ended there is no position.
 #[derive(Clone, Copy)]
-pub enum Step {
-    Row(Reached),
-    Passed(Position),
-    End,
+pub(crate) struct RowsOf<'a> {
+    pub of: MethodsOf<'a>,
+    pub at: Option<Position>,
+}
+
+// Those that can be reached: where a question refuses they end.
+#[derive(Clone, Copy)]
+pub(crate) struct Reachable<'a> {
+    pub rows: RowsOf<'a>,
 }
 
 impl Position {
@@ -79,16 +85,11 @@ fn no_rows(source: u64) -> Position
 }
 
 // The first entry of a list.
-fn enter_list(
-    tables: &Tables,
-    setting: Setting,
-    number: u64,
-    source: Source,
-) -> Result<Position, Question>
-    ensures { let t = under setting tables.now in
+fn enter_list(tables: &Tables, number: u64, source: Source) -> Result<Position, Question>
+    ensures { let t = tables.now in
         EnteredAt t number (value source) result }
 {
-    match present(list_at(tables, setting, ListKind::Methods, source.list))? {
+    match optional(list_at(tables, ListKind::Methods, source.list))? {
         Some(list) => Ok(Position {
             source: number,
             origin: source.origin,
@@ -102,33 +103,27 @@ fn enter_list(
 // The first entry of the source of this number; one that is absent has no rows.
 pub(crate) fn enter(
     tables: &Tables,
-    setting: Setting,
     number: u64,
     source: Result<Source, Missing>,
 ) -> Result<Position, Question>
-    ensures { let t = under setting tables.now in
+    ensures { let t = tables.now in
         EnteredAt t number (outcome source) result }
 {
-    match present(source)? {
-        Some(source) => enter_list(tables, setting, number, source),
+    match optional(source)? {
+        Some(source) => enter_list(tables, number, source),
         None => Ok(no_rows(number)),
     }
 }
 
 // The row of entry j; a method list has no other rows.
 #[tactic(auto, using(reads::proofs::Outcomes::missed_then), unfolding(crate::specs::Appearances::appearance))]
-fn appearance_at(
-    tables: &Tables,
-    setting: Setting,
-    p: Position,
-    j: u64,
-) -> Result<Appearance, Missing>
+fn appearance_at(tables: &Tables, p: Position, j: u64) -> Result<Appearance, Missing>
     requires { (j < 2 ^ 32) × (entry_address p.list j < 2 ^ 64) }
-    ensures { let t = under setting tables.now in
+    ensures { let t = tables.now in
         outcome result ≡ appearance t p.source p.origin p.list j }
 {
     let va = p.list.base + j * (p.list.size as u64);
-    match row_at(tables, setting, p.list.kind, va)? {
+    match row_at(tables, p.list.kind, va)? {
         Row::Method(m) => Ok(Appearance {
             selector: m.selector,
             source: p.source,
@@ -139,76 +134,86 @@ fn appearance_at(
     }
 }
 
-// Settles entry j, the next that can be read.
-fn settle(tables: &Tables, of: MethodsOf, p: Position, j: u64) -> Result<Step, Question>
-    requires { first_readable (image_in tables.now) p.list p.entry ≡ Some j }
-    ensures { let t = under of.setting tables.now in
-        SteppedFrom t of.side of.class p result }
-{
-    let found = present(appearance_at(tables, of.setting, p, j))?;
-    let next = p.at(j as u32 + 1);
-    match found {
-        Some(row) => Ok(Step::Row(Reached { row, next })),
-        None => Ok(Step::Passed(next)),
+impl MethodsOf<'_> {
+    // Settles entry j, the next that can be read.
+    fn settle(&self, p: Position, j: u64) -> Result<Option<Step>, Question>
+        requires { first_readable (image_in self.now.tables.now) p.list p.entry ≡ Some j }
+        ensures { let t = self.now.tables.now in
+            SteppedFrom t self.now.side self.now.class p result }
+    {
+        let row = optional(appearance_at(self.tables, p, j))?;
+        let next = p.at(j as u32 + 1);
+        Ok(Some(Step { row, next }))
     }
-}
 
-// Goes on to the next slot.
-#[tactic(auto, using(crate::proofs::Walks::next_end, crate::proofs::Walks::next_refused))]
-fn next_source(tables: &Tables, of: MethodsOf, p: Position) -> Result<Step, Question>
-    requires { first_readable (image_in tables.now) p.list p.entry ≡ None }
-    ensures { let t = under of.setting tables.now in
-        SteppedFrom t of.side of.class p result }
-{
-    let k = p.source;
-    if slot_count(tables.sections(), Lists::Categories) <= k {
-        return Ok(Step::End);
+    // Goes on to the next slot.
+    #[tactic(auto, using(crate::proofs::Walks::next_end, crate::proofs::Walks::next_refused))]
+    fn next_source(&self, p: Position) -> Result<Option<Step>, Question>
+        requires { first_readable (image_in self.now.tables.now) p.list p.entry ≡ None }
+        ensures { let t = self.now.tables.now in
+            SteppedFrom t self.now.side self.now.class p result }
+    {
+        let k = p.source;
+        if slot_count(self.tables.sections(), Lists::Categories) <= k {
+            return Ok(None);
+        }
+        let source = self.slot_source(k);
+        let next = enter(self.tables, k + 1, source)?;
+        Ok(Some(Step { row: None, next }))
     }
-    let source = slot_source(tables, of, k);
-    let q = enter(tables, of.setting, k + 1, source)?;
-    Ok(Step::Passed(q))
-}
 
-// A step: the next entry that can be read, or the next slot.
-fn step_from(tables: &Tables, of: MethodsOf, p: Position) -> Result<Step, Question>
-    ensures { let t = under of.setting tables.now in
-        SteppedFrom t of.side of.class p result }
-{
-    match first_readable(tables.image(), p.list, p.entry) {
-        Some(j) => settle(tables, of, p, j),
-        None => next_source(tables, of, p),
-    }
-}
-
-// The next row, `None` at the end; p stands after it then.
-pub(crate) fn next_row(
-    tables: &Tables,
-    of: MethodsOf,
-    p: &mut Position,
-) -> Result<Option<Appearance>, Question>
-    ensures { let t = under of.setting tables.now in
-        NextFrom t of.side of.class p.old p.new result }
-{
-    // Not a `for`: a step that gives no row goes on from where it came to, until one says that it is done.
-    loop {
-        match step_from(tables, of, *p)? {
-            Step::Row(r) => {
-                *p = r.next;
-                return Ok(Some(r.row));
-            }
-            Step::Passed(q) => {
-                *p = q;
-            }
-            Step::End => return Ok(None),
+    // A step to the next entry that can be read, or to the next slot, if there is one.
+    fn step_from(&self, p: Position) -> Result<Option<Step>, Question>
+        ensures { let t = self.now.tables.now in
+            SteppedFrom t self.now.side self.now.class p result }
+    {
+        match first_readable(self.tables.image(), p.list, p.entry) {
+            Some(j) => self.settle(p, j),
+            None => self.next_source(p),
         }
     }
+
+    // The next row, `None` at the end; p stands after it then.
+    fn next_row(&self, p: &mut Position) -> Result<Option<Appearance>, Question>
+        ensures { let t = self.now.tables.now in
+            NextFrom t self.now.side self.now.class p.old p.new result }
+    {
+        // Not a `for`: a step that gives no row goes on from where it came to, until there is none.
+        while let Some(step) = self.step_from(*p)? {
+            *p = step.next;
+            if let Some(row) = step.row {
+                return Ok(Some(row));
+            }
+        }
+        Ok(None)
+    }
 }
 
-// The row that can be reached next: where a question refuses there is none.
-#[tactic(auto, using(crate::proofs::Walks::reached_by))]
-pub(crate) fn reach_row(tables: &Tables, of: MethodsOf, p: &mut Position) -> Option<Appearance>
-    ensures { let t = under of.setting tables.now in
-        ReachedFrom t of.side of.class p.old p.new result }
-{
-    next_row(tables, of, p).unwrap_or(None)
+impl<'a> Iterator for RowsOf<'a> {
+    type Item = Result<Appearance, Question>;
+
+    ghost next_gives = { GivesNext };
+
+    ghost remaining = { count_ahead };
+
+    fn next(&mut self) -> Option<Result<Appearance, Question>> {
+        let mut p = self.at.take()?;
+        let row = self.of.next_row(&mut p);
+        if let Ok(Some(_)) = row {
+            self.at = Some(p);
+        }
+        row.transpose()
+    }
+}
+
+impl<'a> Iterator for Reachable<'a> {
+    type Item = Appearance;
+
+    ghost next_gives = { YieldsFirst reached_left };
+
+    ghost remaining = { item_count reached_left };
+
+    fn next(&mut self) -> Option<Appearance> {
+        self.rows.next()?.ok()
+    }
 }

@@ -1,13 +1,11 @@
 // The lists that take part: the class's or metaclass's own, and those of the categories of the class.
 ghost use Rattle.std.specs.Prelude.{◌≡◌, ◌≤◌, length};
-ghost use Rattle.pointers.specs.Tables.{under};
 ghost use Rattle.walks.specs.Sections.{meta_of};
 ghost use Rattle.dispatch.specs.Sources.{list_of, metaclass_of, own_source, methods_on};
 ghost use Rattle.dispatch.specs.SlotSources.{category_slots, taking, slot_source};
 ghost use Rattle.reads.specs.Answer.{outcome};
 
 use crate::slots::{held_before, listed_at};
-use pointers::setting::Setting;
 use pointers::tables::Tables;
 use reads::answer::{Missing, Reason, nonzero};
 use records::category::{ObjcCategory, category_at};
@@ -20,10 +18,10 @@ pub enum Side {
     Class,
 }
 
-// Whose methods are gone over: those of the class at an address, on one side.
+// Whose methods are gone over, and in which tables: those of the class at an address, on one side.
 #[derive(Clone, Copy)]
-pub(crate) struct MethodsOf {
-    pub setting: Setting,
+pub(crate) struct MethodsOf<'a> {
+    pub tables: &'a Tables<'a>,
     pub side: Side,
     pub class: u64,
 }
@@ -37,11 +35,11 @@ pub struct Source {
 
 // The method list of a class's class_ro_t.
 #[tactic(auto, using(reads::proofs::Outcomes::missed_then), unfolding(crate::specs::Sources::list_of))]
-fn list_of(tables: &Tables, setting: Setting, class: ObjcClass) -> Result<Source, Missing>
-    ensures { let t = under setting tables.now in
+fn list_of(tables: &Tables, class: ObjcClass) -> Result<Source, Missing>
+    ensures { let t = tables.now in
         outcome result ≡ list_of t class }
 {
-    let ro = ro_of(tables, setting, class)?;
+    let ro = ro_of(tables, class)?;
     Ok(Source {
         origin: class.address,
         list: ro.methods,
@@ -61,30 +59,25 @@ fn meta_of(class: ObjcClass) -> u64
 
 // The metaclass, if isa is neither 0 nor the class and decodes.
 #[tactic(auto, using(reads::proofs::Outcomes::missed_then), unfolding(crate::specs::Sources::metaclass_of))]
-fn metaclass_of(tables: &Tables, setting: Setting, class: ObjcClass) -> Result<ObjcClass, Missing>
-    ensures { let t = under setting tables.now in
+fn metaclass_of(tables: &Tables, class: ObjcClass) -> Result<ObjcClass, Missing>
+    ensures { let t = tables.now in
         outcome result ≡ metaclass_of t class }
 {
     let va = nonzero(meta_of(class))?;
-    class_at(tables, setting, va, true)
+    class_at(tables, va, true)
 }
 
 // The class's own list: of class methods it is the metaclass's.
 #[tactic(auto, using(reads::proofs::Outcomes::missed_then), unfolding(crate::specs::Sources::own_source))]
-pub(crate) fn own_source(
-    tables: &Tables,
-    setting: Setting,
-    side: Side,
-    class: ObjcClass,
-) -> Result<Source, Missing>
-    ensures { let t = under setting tables.now in
+pub(crate) fn own_source(tables: &Tables, side: Side, class: ObjcClass) -> Result<Source, Missing>
+    ensures { let t = tables.now in
         outcome result ≡ own_source t side class }
 {
     match side {
-        Side::Instance => list_of(tables, setting, class),
+        Side::Instance => list_of(tables, class),
         Side::Class => {
-            let metaclass = metaclass_of(tables, setting, class)?;
-            list_of(tables, setting, metaclass)
+            let metaclass = metaclass_of(tables, class)?;
+            list_of(tables, metaclass)
         }
     }
 }
@@ -100,39 +93,35 @@ fn methods_on(side: Side, category: ObjcCategory) -> u64
     }
 }
 
-// The list of a category, if its class address is the class and no slot before k holds it.
-#[tactic(auto, using(std::proofs::lemmas::Bool::Decides::nat_tests), unfolding(crate::specs::SlotSources::taking, reads::specs::Outcome::choose))]
-fn taking(
-    tables: &Tables,
-    of: MethodsOf,
-    k: u64,
-    va: u64,
-    category: ObjcCategory,
-) -> Result<Source, Missing>
-    requires { k ≤ length (category_slots tables.now.sections) }
-    ensures { let t = under of.setting tables.now in
-        outcome result ≡ taking t of.side of.class k va category }
-{
-    if category.class_address != of.class {
-        return Err(Missing::Absent(Reason::NoRecord));
+impl MethodsOf<'_> {
+    // The list of a category, if its class address is the class and no slot before k holds it.
+    #[tactic(auto, using(std::proofs::lemmas::Bool::Decides::nat_tests), unfolding(crate::specs::SlotSources::taking, reads::specs::Outcome::choose))]
+    fn taking(&self, k: u64, va: u64, category: ObjcCategory) -> Result<Source, Missing>
+        requires { (k ≤ length (category_slots self.now.tables.now.sections)) × (va ≡ 0 → ⊥) }
+        ensures { let t = self.now.tables.now in
+            outcome result ≡ taking t self.now.side self.now.class k va category }
+    {
+        if category.class_address != self.class {
+            return Err(Missing::Absent(Reason::NoRecord));
+        }
+        if held_before(self.tables, k, va) {
+            return Err(Missing::Absent(Reason::NoRecord));
+        }
+        Ok(Source {
+            origin: category.address,
+            list: methods_on(self.side, category),
+        })
     }
-    if held_before(tables, of.setting, k, va) {
-        return Err(Missing::Absent(Reason::NoRecord));
-    }
-    Ok(Source {
-        origin: category.address,
-        list: methods_on(of.side, category),
-    })
-}
 
-// The list of the category in slot k, if it takes part.
-#[tactic(auto, using(reads::proofs::Outcomes::missed_then), unfolding(crate::specs::SlotSources::slot_source))]
-pub(crate) fn slot_source(tables: &Tables, of: MethodsOf, k: u64) -> Result<Source, Missing>
-    requires { k ≤ length (category_slots tables.now.sections) }
-    ensures { let t = under of.setting tables.now in
-        outcome result ≡ slot_source t of.side of.class k }
-{
-    let va = listed_at(tables, of.setting, k)?;
-    let category = category_at(tables, of.setting, va)?;
-    taking(tables, of, k, va, category)
+    // The list of the category in slot k, if it takes part.
+    #[tactic(auto, using(reads::proofs::Outcomes::missed_then), unfolding(crate::specs::SlotSources::slot_source))]
+    pub(crate) fn slot_source(&self, k: u64) -> Result<Source, Missing>
+        requires { k ≤ length (category_slots self.now.tables.now.sections) }
+        ensures { let t = self.now.tables.now in
+            outcome result ≡ slot_source t self.now.side self.now.class k }
+    {
+        let va = listed_at(self.tables, k)?;
+        let category = category_at(self.tables, va)?;
+        self.taking(k, va, category)
+    }
 }

@@ -1,37 +1,22 @@
 // The table of selectors that is kept in the result buffer while rows are gone over: four words a selector.
-// Not a struct of the buffer and the count: it would hold a `&mut` that each function takes by `&mut`, and be no shorter.
 ghost use Rattle.std.specs.Prelude.{◌≡◌, ◌∷◌, [], ◌+◌, ◌*◌, ◌≤◌, length};
 ghost use Rattle.std.proofs.lemmas.List.Edits.{sets};
 ghost use Rattle.reads.specs.Reference.{before};
 ghost use Rattle.reads.specs.Files.{files_of};
-ghost use Rattle.pointers.specs.Tables.{under};
-ghost use Rattle.dispatch.specs.Table.{marks, FoundIn, Noted, origin_of, Named};
+ghost use Rattle.dispatch.specs.Table.{marks, FoundIn, SameWords, Noted, origin_of, Named};
 
 use crate::rows::Appearance;
 use crate::selectors::same_selector;
-use crate::slots::held_at;
-use pointers::setting::Setting;
+use crate::slots::listed_at;
 use pointers::tables::Tables;
 use reads::text::Text;
 
-// The number of the entry with a selector, among so many; their number where none has it.
-#[tactic(auto, using(crate::proofs::SelectorTable::seek_next, crate::proofs::SelectorTable::seek_end))]
-fn find(files: &[&[u8]], res: &[u64], count: usize, s: Text) -> usize
-    requires { 4 * count ≤ length res.now }
-    ensures { FoundIn (files_of files) (before res) count s result }
-{
-    for j in 0..count {
-        let at = 4 * j;
-        let u = Text {
-            file: res[at],
-            offset: res[at + 1],
-            len: res[at + 2],
-        };
-        if same_selector(files, u, s) {
-            return j;
-        }
-    }
-    count
+// Its words, and how many selectors it has. That they have room for them stands in the clauses: with a ghost field for it, tried, the
+// words that the lent buffer has at the end did not prove to be these.
+#[derive(Drop)]
+pub(crate) struct Selectors<'a> {
+    pub(crate) words: &'a mut [u64],
+    pub(crate) count: usize,
 }
 
 // The entry of a row: its selector, and the number of its source.
@@ -44,53 +29,70 @@ fn mark(res: &mut [u64], at: usize, b: Appearance)
     res[at..at + 4].copy_from_slice(&[s.file, s.offset, s.len, b.source]);
 }
 
-// Notes a row: it takes the place of one of an earlier source, or comes last if there is room.
-pub(crate) fn note_row(files: &[&[u8]], res: &mut [u64], count: usize, b: Appearance) -> usize
-    requires { 4 * count ≤ length res.old }
-    ensures { Noted (files_of files) res.old count b result res.new }
-{
-    let j = find(files, res, count, b.selector);
-    let at = 4 * j;
-    if j < count {
-        if b.source <= res[at + 3] {
-            return count;
-        }
-        mark(res, at, b);
-        return count;
-    }
-    if res.len() - at < 4 {
-        return count;
-    }
-    mark(res, at, b);
-    count + 1
-}
-
 // The record of a source: the class's own, or the category in slot n - 1.
 #[tactic(auto, using(std::proofs::lemmas::Bool::Decides::nat_tests), unfolding(crate::specs::Table::origin_of, reads::specs::Outcome::choose))]
-fn origin_of(tables: &Tables, setting: Setting, own: u64, n: u64) -> u64
-    ensures { let t = under setting tables.now in
+fn origin_of(tables: &Tables, own: u64, n: u64) -> u64
+    ensures { let t = tables.now in
         result ≡ origin_of own t n }
 {
     if n == 0 {
         return own;
     }
-    held_at(tables, setting, n - 1)
+    listed_at(tables, n - 1).unwrap_or(0)
 }
 
-// Puts the records in place of their numbers.
-pub(crate) fn name_records(
-    tables: &Tables,
-    setting: Setting,
-    own: u64,
-    res: &mut [u64],
-    count: usize,
-)
-    requires { 4 * count ≤ length res.old }
-    ensures { let t = under setting tables.now in
-        Named own t res.old count res.new }
-{
-    for j in 0..count {
-        let at = 4 * j + 3;
-        res[at] = origin_of(tables, setting, own, res[at]);
+impl Selectors<'_> {
+    // The number of the entry with a selector.
+    #[tactic(auto, using(crate::proofs::SelectorTable::seek_next, crate::proofs::SelectorTable::seek_end))]
+    fn find(&self, files: &[&[u8]], s: Text) -> Option<usize>
+        requires { 4 * self.now.count ≤ length self.now.words.now }
+        ensures { FoundIn (files_of files) self.now.words.now self.now.count s result }
+    {
+        for j in 0..self.count {
+            let at = 4 * j;
+            let u = Text {
+                file: self.words[at],
+                offset: self.words[at + 1],
+                len: self.words[at + 2],
+            };
+            if same_selector(files, u, s) {
+                return Some(j);
+            }
+        }
+        None
+    }
+
+    // Notes a row: it takes the place of one of an earlier source, or comes last if there is room.
+    pub(crate) fn note(&mut self, files: &[&[u8]], b: Appearance)
+        requires { 4 * self.old.count ≤ length self.old.words.now }
+        ensures kept { SameWords self.old self.new }
+        ensures noted { Noted (files_of files) self.old.words.now self.old.count b self.new.count self.new.words.now }
+    {
+        if let Some(j) = self.find(files, b.selector) {
+            let at = 4 * j;
+            if self.words[at + 3] < b.source {
+                mark(self.words, at, b);
+            }
+            return;
+        }
+        let at = 4 * self.count;
+        if self.words.len() - at < 4 {
+            return;
+        }
+        mark(self.words, at, b);
+        self.count += 1;
+    }
+
+    // Puts the records in place of their numbers.
+    pub(crate) fn name(&mut self, tables: &Tables, own: u64)
+        requires { 4 * self.old.count ≤ length self.old.words.now }
+        ensures kept { SameWords self.old self.new }
+        ensures count { self.new.count ≡ self.old.count }
+        ensures named { Named own tables.now self.old.words.now self.old.count self.new.words.now }
+    {
+        for j in 0..self.count {
+            let at = 4 * j + 3;
+            self.words[at] = origin_of(tables, own, self.words[at]);
+        }
     }
 }

@@ -1,12 +1,12 @@
 -- What type_words gives and leaves in the lent buffer: by what the machine reads, and in the grammar's words alone.
-use Prim.Native.Nat.{ℕ, ◌*◌, ◌≤◌}
+use Prim.Native.Nat.{ℕ, ◌*◌, ◌/◌, ◌≤◌, ◌<◌}
 use mathlib.Core.Path.{◌≡◌, refl, ap, sym, subst, ◌∙◌}
-use mathlib.Core.Bool.{Bool, true, false, not}
+use mathlib.Core.Bool.{Bool, true, false}
 use mathlib.Core.List.{List, [], ◌∷◌, ◌++◌}
 use native.Mathlib.Omega.{arith}
 use lib.Dec.{leb}
 use lib.ListN.{length}
-use borrow.Author.Tests.{leb-true, leb-false, not-true, not-false}
+use borrow.Author.Tests.{leb-true, leb-false, le-leb, lt-leb}
 use Rattle.reads.specs.Answer.{missed}
 use Rattle.reads.specs.Outcome.{Outcome, value, absent, refused}
 use Rattle.reads.specs.declared.answer.Missing.{Missing}
@@ -65,22 +65,27 @@ module _ (text buffer : List ℕ) {o : Outcome ℕ} {left : List ℕ} (r : Read 
       go (absent k) q c = let a = answers text buffer q in (c ∙ a.0, unchanged ∙ a.1)
       go (refused k) q c = let a = answers text buffer q in (c ∙ a.0, unchanged ∙ a.1)
 
-  module _ (n : ℕ) (e : o ≡ value n) {fits : Bool} (f : fits ≡ words_fit n (length (left ++ buffer))) where
+  module _ (n : ℕ) (e : o ≡ value n) where
     reading : (ts : Types) × (parse 32 text ≡ value ts) × (count ts ≡ n)
     reading = read_of n (parse 32 text) (sym e ∙ r.counts)
 
-    asked : words_fit (count reading.0) (length buffer) ≡ fits
-    asked = ap (λ (k : ℕ). words_fit k (length buffer)) reading.2 ∙ ap (λ (l : List ℕ). words_fit n (length l)) (sym unchanged) ∙ sym f
+    same_room : words_fit (count reading.0) (length buffer) ≡ words_fit n (length (left ++ buffer))
+    same_room = rw (reading.2, unchanged)
 
-    pub answers_number : not fits ≡ true → Answers text buffer (refused ItemRoom) (left ++ buffer)
-    answers_number h = let a = answers_short text buffer reading.1 (asked ∙ not-true fits h) in (a.0, unchanged ∙ a.1)
+    -- The code asks by whole rows of four words.
+    pub answers_number : length (left ++ buffer) / 4 < n → Answers text buffer (refused ItemRoom) (left ++ buffer)
+    unfolding words_fit
+    answers_number h =
+        let no : leb (4 * n) (length (left ++ buffer)) ≡ false = lt-leb _ _ (omega arith) in
+        let a = answers_short text buffer reading.1 (same_room ∙ no) in (a.0, unchanged ∙ a.1)
 
-    pub answers_value : not fits ≡ false → {o' : Outcome ℕ} {now : List ℕ} → Read text (left ++ buffer) o' now → Answers text buffer (value n) now
+    pub answers_value : n ≤ length (left ++ buffer) / 4 → {o' : Outcome ℕ} {now : List ℕ} → Read text (left ++ buffer) o' now → Answers text buffer (value n) now
     unfolding words_fit
     answers_value h q =
-        let yes = asked ∙ not-false fits h in
-        let a = answers_types text buffer reading.1 yes in
-        let room : 4 * count reading.0 ≤ length (left ++ buffer) = rw unchanged (leb-true _ _ yes) in (
+        let yes : leb (4 * n) (length (left ++ buffer)) ≡ true = le-leb _ _ (omega arith) in
+        let fits = same_room ∙ yes in
+        let a = answers_types text buffer reading.1 fits in
+        let room : 4 * count reading.0 ≤ length (left ++ buffer) = rw unchanged (leb-true _ _ fits) in (
           ap value (sym reading.2) ∙ a.0,
           q.holds reading.0 reading.1 room ∙ ap (λ (l : List ℕ). filled reading.0 l) unchanged ∙ a.1,
         )

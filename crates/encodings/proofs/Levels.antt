@@ -11,7 +11,11 @@ use lib.Arith.{mod-mul}
 use lib.Dec.{eqb}
 use lib.ListN.{length, get_or}
 use Rattle.reads.proofs.Tests.{choose_true, choose_false}
-use Rattle.encodings.specs.Parser.{closers, levels_in, below_pointers, closes, below}
+use denote.Enum.Declared.{tag_of}
+use Rattle.encodings.specs.contracts.parser.Level as level_type
+use Rattle.encodings.specs.declared.parser.Level.{Level}
+use Rattle.encodings.specs.declared.parser.Level.TheVariants as level
+use Rattle.encodings.specs.Parser.{closers, closer_of, levels_in, below_pointers, closes, below}
 
 pub levels_length : (n s : ℕ) → length (levels_in n s) ≡ n
 unfolding levels_in
@@ -33,7 +37,7 @@ levels_within (suc n) (suc m) s h =
     top : ((s / 4 % 4 ^ m) * 4 + s % 4) % 4 ≡ s % 4
     top = omega arith
 
-pub levels_push : (n s k : ℕ) → n < 32 → k < 4 → levels_in (n + 1) (s % 0x4000000000000000 * 4 + k) ≡ get_or closers k 0 ∷ levels_in n s
+levels_push : (n s k : ℕ) → n < 32 → k < 4 → levels_in (n + 1) (s % 0x4000000000000000 * 4 + k) ≡ get_or closers k 0 ∷ levels_in n s
 unfolding levels_in
 levels_push n s k h l = rw (add-one n, top, rest) (ap (λ (ls : List ℕ). get_or closers k 0 ∷ ls) (levels_within n 31 s (omega arith)))
   where
@@ -42,6 +46,14 @@ levels_push n s k h l = rw (add-one n, top, rest) (ap (λ (ls : List ℕ). get_o
 
     top : (s % 0x4000000000000000 * 4 + k) % 4 ≡ k
     top = omega arith
+
+-- The same of a kind, by its number.
+pub levels_pushed : (n s : ℕ) (k : Level) → n < 32
+    → levels_in (n + 1) (s % 0x4000000000000000 * 4 + tag_of level_type.the_type k) ≡ closer_of k ∷ levels_in n s
+levels_pushed n s level.Pointer h = levels_push n s 0 h (omega arith)
+levels_pushed n s level.Array h = levels_push n s 1 h (omega arith)
+levels_pushed n s level.Structure h = levels_push n s 2 h (omega arith)
+levels_pushed n s level.Union h = levels_push n s 3 h (omega arith)
 
 pub levels_none : (n s : ℕ) → n ≡ 0 → levels_in n s ≡ []
 unfolding levels_in

@@ -6,11 +6,12 @@ use native.Mathlib.Omega.{arith}
 use lib.ListN.{length, take, drop}
 use lib.Seq.{sets, sets-eq, length-sets}
 use borrow.Rule.Slice.PartMut.{put_mid, Post-is}
+use Rattle.std.specs.Prelude.{Option, unwrap_or}
 use Rattle.encodings.specs.Parser.{type_end, row, RowPut}
 
 -- Four words written over a part of a buffer.
-pub row_put : (l : List ℕ) (k from offset end : ℕ) {mid : ℕ} {part : List ℕ} → 4 * k + 4 ≤ length l → mid ≡ type_end offset end
-    → part ≡ from ∷ (mid - from) ∷ offset ∷ (end - mid) ∷ []
+pub row_put : (l : List ℕ) (k from : ℕ) (offset : Option ℕ) (end : ℕ) {mid : ℕ} {part : List ℕ} → 4 * k + 4 ≤ length l → mid ≡ type_end offset end
+    → part ≡ from ∷ (mid - from) ∷ unwrap_or offset 0 ∷ (end - mid) ∷ []
     → RowPut k from offset end l (put_mid (4 * k) (4 * k + 4 - 4 * k) l part)
 row_put l k from offset end {part = part} h e p =
     let w : put_mid (4 * k) (4 * k + 4 - 4 * k) l part ≡ sets l (4 * k) (row from offset end) =

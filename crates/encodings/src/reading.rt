@@ -1,68 +1,53 @@
 // A text read to its end, and the words of its outermost types.
 ghost use Rattle.std.specs.Prelude.{◌≡◌};
 ghost use Rattle.reads.specs.Reference.{before};
-ghost use Rattle.encodings.specs.Parser.{type_end, Ordered, RowPut, Turned, Read};
+ghost use Rattle.encodings.specs.Parser.{offset_of, Ordered, RowPut, Read};
 ghost use Rattle.reads.specs.Answer.{outcome};
 
-use crate::parser::{Mode, Parser, finish, first, step};
+use crate::parser::{Mode, finish, first, step};
 use reads::answer::Missing;
 
-// Where a type ends: at its frame offset, or where both end.
-#[tactic(auto, using(std::proofs::lemmas::Bool::Decides::nat_tests), unfolding(reads::specs::Outcome::choose))]
-fn type_end(offset: usize, end: usize) -> usize
-    ensures { result ≡ type_end offset end }
-{
-    if offset == 0 {
-        return end;
-    }
-    offset
-}
-
-// Puts the words of a parser's type, which ends at `end`, if they fit.
+// Puts the words of type k, which starts at `start`, has its frame offset where the mode says, and ends at `end`, if they fit.
 #[tactic(auto, using(crate::proofs::Rows::row_put))]
-fn put_row(p: Parser, end: usize, buffer: &mut [u64])
-    requires { Ordered p.start p.offset end }
-    ensures { RowPut p.types p.start p.offset end buffer.old buffer.new }
+fn put_row(mode: Mode, start: usize, k: usize, end: usize, buffer: &mut [u64])
+    requires { Ordered start (offset_of mode) end }
+    ensures { RowPut k start (offset_of mode) end buffer.old buffer.new }
 {
-    if buffer.len() / 4 <= p.types {
+    if buffer.len() / 4 <= k {
         return;
     }
-    let k = 4 * p.types;
-    let mid = type_end(p.offset, end);
+    let offset = mode.offset();
+    let mid = offset.unwrap_or(end);
     let row = [
-        p.start as u64,
-        (mid - p.start) as u64,
-        p.offset as u64,
+        start as u64,
+        (mid - start) as u64,
+        offset.unwrap_or(0) as u64,
         (end - mid) as u64,
     ];
-    buffer[k..k + 4].copy_from_slice(&row);
-}
-
-// Puts the words of a parser's type where the next one begins.
-fn put_before(p: Parser, next: Parser, at: usize, buffer: &mut [u64])
-    requires { Ordered p.start p.offset at }
-    ensures { Turned p next at buffer.old buffer.new }
-{
-    if next.types == p.types {
-        return;
-    }
-    put_row(p, at, buffer);
+    buffer[4 * k..4 * k + 4].copy_from_slice(&row);
 }
 
 // How many outermost types a text has; the words of those that fit are put into the buffer. It stops at the byte that decides.
-#[tactic(auto, using(crate::proofs::Reached::reached_first, crate::proofs::Reached::reached_next))]
+#[tactic(auto, using(crate::proofs::Reached::reached_first, crate::proofs::Reached::reached_on, crate::proofs::Reached::reached_begun))]
 pub fn read_types(text: &[u8], buffer: &mut [u64]) -> Result<u64, Missing>
     ensures { Read (before text) buffer.old (outcome result) buffer.new }
 {
     let mut mode = Mode::Wanted;
     let mut p = first();
+    let mut types = 0;
     for (i, byte) in text.iter().enumerate() {
-        let (next_mode, next) = step(mode, p, *byte, i)?;
-        put_before(p, next, i, buffer);
-        mode = next_mode;
-        p = next;
+        let (before, start) = (mode, p.start);
+        (mode, p) = step(mode, p, *byte, i)?;
+        // The next type begins at this byte, or the same goes on.
+        if p.start == start {
+            continue;
+        }
+        put_row(before, start, types, i, buffer);
+        // Counted by hand: an iterator over types has this loop, its state and `?` in its `next`, and a flag for the last, which the
+        // text's end ends.
+        types += 1;
     }
-    let count = finish(mode, p)?;
-    put_row(p, text.len(), buffer);
-    Ok(count)
+    finish(mode, p)?;
+    put_row(mode, p.start, types, text.len(), buffer);
+    Ok((types + 1) as u64)
 }

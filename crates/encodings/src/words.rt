@@ -1,19 +1,11 @@
 // The words of a text's outermost types.
 ghost use Rattle.std.specs.Prelude.{◌≡◌, length};
 ghost use Rattle.reads.specs.Reference.{before};
-ghost use Rattle.encodings.specs.Words.{words_fit, types_of, types_left};
+ghost use Rattle.encodings.specs.Words.{types_of, types_left};
 ghost use Rattle.reads.specs.Answer.{outcome};
 
 use crate::reading::read_types;
 use reads::answer::{Missing, Question};
-
-// 12: do the words fit?
-#[tactic(auto, using(std::proofs::lemmas::Bool::Decides::nat_tests), unfolding(crate::specs::Words::words_fit))]
-fn words_fit(count: u64, room: usize) -> bool
-    ensures { result ≡ words_fit count room }
-{
-    count <= (room / 4) as u64
-}
 
 // The outermost types of a text, four words each, into the lent buffer: start and length of the type, qualifiers included, then of
 // its frame offset, 0 and 0 if it has none.
@@ -22,7 +14,7 @@ pub fn type_words(text: &[u8], buffer: &mut [u64]) -> Result<u64, Missing>
     ensures contents { buffer.new ≡ types_left (before text) buffer.old }
 {
     let count = read_types(text, &mut buffer[0..0])?;
-    if !words_fit(count, buffer.len()) {
+    if count > (buffer.len() / 4) as u64 {
         return Err(Missing::Refused(Question::ItemRoom));
     }
     let _ = read_types(text, buffer);

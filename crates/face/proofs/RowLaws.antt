@@ -7,7 +7,7 @@ use native.Mathlib.Omega.{arith}
 use native.Mathlib.Numerals.{add-one}
 use lib.Dec.{ltb}
 use lib.Seq.{sets}
-use borrow.Author.Tests.{ne_eqb, lt-ltb, le-ltb}
+use borrow.Author.Tests.{lt-ltb, le-ltb}
 use Rattle.reads.specs.Outcome.{value, refused, choose}
 use Rattle.reads.proofs.Tests.{choose_true, choose_false}
 use Rattle.pointers.specs.Tables.{Tables}
@@ -26,10 +26,6 @@ use Rattle.face.specs.declared.rows.RowWalk.{RowWalk}
 use Rattle.face.specs.declared.rows.RowTurn.{RowTurn}
 use Rattle.reads.specs.declared.answer.Question.{Question}
 use Rattle.reads.specs.declared.answer.Question.TheVariants.{WalkState}
-
-pub lists_nothing : {n : ℕ} → (n ≡ 0 → ⊥) → (n ≡ 1 → ⊥) → (n ≡ 2 → ⊥) → (n ≡ 3 → ⊥) → None ≡ listed n
-unfolding listed
-lists_nothing a b c d = rw (choose_false _ _ (ne_eqb _ _ a), choose_false _ _ (ne_eqb _ _ b), choose_false _ _ (ne_eqb _ _ c), choose_false _ _ (ne_eqb _ _ d))
 
 -- A step, by what is listed.
 module _ (t : Tables) (w : RowWalk) where

@@ -35,6 +35,6 @@ sizes_of n =
       ledger = n / 8 * 2;
     }
 
-abbrev pub ranges_of : ℕ → ℕ → ℕ → ℕ → Ranges
+abbrev pub ranges_of : ℕ → ℕ → ℕ → ℕ → Option Ranges
 ranges_of first_frame last_frame first_slide last_slide =
-    record { first_frame = first_frame; last_frame = last_frame; first_slide = first_slide; last_slide = last_slide }
+    Some (record { first_frame = first_frame; last_frame = last_frame; first_slide = first_slide; last_slide = last_slide })

@@ -1,5 +1,5 @@
 -- The rows of a list for C: a step of its walk, whose state is words, and the steps of a call, one for each row that the lent table has room for.
-use Rattle.std.specs.Prelude.{ℕ, zero, suc, ◌*◌, ◌^◌, List, ltb, eqb, Option, Some, None, Result, Ok, Err}
+use Rattle.std.specs.Prelude.{◌≡◌, ℕ, zero, suc, ◌*◌, ◌^◌, List, ltb, eqb, Option, Some, None, Result, Ok, Err, MatchResult}
 use Rattle.std.proofs.lemmas.List.Edits.{sets}
 use Rattle.reads.specs.Outcome.{choose}
 use Rattle.pointers.specs.Tables.{Tables, under}
@@ -29,6 +29,10 @@ unfoldable pub listed : ℕ → Option Listed
 listed kind =
     choose (eqb kind 0) (Some (Rows Methods))
     (choose (eqb kind 1) (Some (Rows Ivars)) (choose (eqb kind 2) (Some (Rows Properties)) (choose (eqb kind 3) (Some Names) None)))
+
+-- What the code says of a kind: what its list lists, or that it is no state.
+abbrev pub Lists : ℕ → Result Listed Question → Type 0
+Lists kind r = MatchResult r (λ l. listed kind ≡ Some l) (λ q. (listed kind ≡ None) × (q ≡ WalkState))
 
 -- The walk at another cursor.
 abbrev pub moved_to : RowWalk → ℕ → RowWalk

@@ -12,6 +12,7 @@ ghost use Rattle.reads.specs.Answer.{outcome};
 
 use crate::status::Status;
 use crate::words::{CategoryWords, ClassWords, ProtocolWords, RoWords, TextWords, setting_in};
+use pointers::setting::Setting;
 use pointers::tables::Tables;
 use reads::answer::Missing;
 use reads::place::Image;
@@ -73,7 +74,7 @@ pub(crate) fn told<R: Copy, W: Copy + From<R>>(
     }
 }
 
-// A record decoded at an address is given as by a step that reaches it.
+// A record decoded at an address is given as by a step that reaches it. No `?` for what refuses: what is absent is a step before it.
 fn found<R: Copy>(answer: Result<R, Missing>) -> Result<RecordStep<R>, Missing>
     ensures { stepped result ≡ given (outcome answer) }
 {
@@ -103,6 +104,7 @@ pub(crate) fn lent<'a>(
         rebases,
         binds,
         index,
+        setting: Setting::new(),
     }
 }
 
@@ -124,9 +126,10 @@ pub extern "C" fn objclist_class(
     ensures { let t = under (setting_in old_reading) (lent files segments sections info rebases binds index) in
         result ≡ class_told (given (guarded t (class_at t address (is_set is_meta)))) }
 {
-    let tables = lent(files, segments, sections, info, rebases, binds, index);
-    let setting = setting_in(old_reading);
-    let answer = decode_class(&tables, setting, address, is_meta != 0);
+    let tables = lent(files, segments, sections, info, rebases, binds, index).under(setting_in(
+        old_reading,
+    ));
+    let answer = decode_class(&tables, address, is_meta != 0);
     let (status, cls) = told(found(answer), ClassWords::default());
     ClassTold { status, cls }
 }
@@ -147,10 +150,11 @@ pub extern "C" fn objclist_class_ro(
     ensures { let t = under (setting_in old_reading) (lent files segments sections info rebases binds index) in
         result ≡ ro_told (given (guarded t (ro_of t (class_in cls)))) }
 {
-    let tables = lent(files, segments, sections, info, rebases, binds, index);
-    let setting = setting_in(old_reading);
+    let tables = lent(files, segments, sections, info, rebases, binds, index).under(setting_in(
+        old_reading,
+    ));
     let class = ObjcClass::from(cls);
-    let answer = class.ro(&tables, setting);
+    let answer = class.ro(&tables);
     let (status, ro) = told(found(answer), RoWords::default());
     RoTold { status, ro }
 }
@@ -171,9 +175,10 @@ pub extern "C" fn objclist_class_name(
     ensures { let t = under (setting_in old_reading) (lent files segments sections info rebases binds index) in
         result ≡ name_told (given (guarded t (class_name_at t address))) }
 {
-    let tables = lent(files, segments, sections, info, rebases, binds, index);
-    let setting = setting_in(old_reading);
-    let answer = decode_class_name(&tables, setting, address);
+    let tables = lent(files, segments, sections, info, rebases, binds, index).under(setting_in(
+        old_reading,
+    ));
+    let answer = decode_class_name(&tables, address);
     let (status, name) = told(found(answer), TextWords::default());
     NameTold { status, name }
 }
@@ -194,10 +199,11 @@ pub extern "C" fn objclist_superclass_name(
     ensures { let t = under (setting_in old_reading) (lent files segments sections info rebases binds index) in
         result ≡ name_told (given (guarded t (superclass_name t (class_in cls)))) }
 {
-    let tables = lent(files, segments, sections, info, rebases, binds, index);
-    let setting = setting_in(old_reading);
+    let tables = lent(files, segments, sections, info, rebases, binds, index).under(setting_in(
+        old_reading,
+    ));
     let class = ObjcClass::from(cls);
-    let answer = class.superclass_name(&tables, setting);
+    let answer = class.superclass_name(&tables);
     let (status, name) = told(found(answer), TextWords::default());
     NameTold { status, name }
 }
@@ -218,9 +224,10 @@ pub extern "C" fn objclist_protocol(
     ensures { let t = under (setting_in old_reading) (lent files segments sections info rebases binds index) in
         result ≡ protocol_told (given (guarded t (protocol_at t address))) }
 {
-    let tables = lent(files, segments, sections, info, rebases, binds, index);
-    let setting = setting_in(old_reading);
-    let answer = decode_protocol(&tables, setting, address);
+    let tables = lent(files, segments, sections, info, rebases, binds, index).under(setting_in(
+        old_reading,
+    ));
+    let answer = decode_protocol(&tables, address);
     let (status, protocol) = told(found(answer), ProtocolWords::default());
     ProtocolTold { status, protocol }
 }
@@ -241,9 +248,10 @@ pub extern "C" fn objclist_category(
     ensures { let t = under (setting_in old_reading) (lent files segments sections info rebases binds index) in
         result ≡ category_told (given (guarded t (category_at t address))) }
 {
-    let tables = lent(files, segments, sections, info, rebases, binds, index);
-    let setting = setting_in(old_reading);
-    let answer = decode_category(&tables, setting, address);
+    let tables = lent(files, segments, sections, info, rebases, binds, index).under(setting_in(
+        old_reading,
+    ));
+    let answer = decode_category(&tables, address);
     let (status, category) = told(found(answer), CategoryWords::default());
     CategoryTold { status, category }
 }
@@ -264,10 +272,11 @@ pub extern "C" fn objclist_category_class_name(
     ensures { let t = under (setting_in old_reading) (lent files segments sections info rebases binds index) in
         result ≡ name_told (given (guarded t (category_class_name t (category_in category)))) }
 {
-    let tables = lent(files, segments, sections, info, rebases, binds, index);
-    let setting = setting_in(old_reading);
+    let tables = lent(files, segments, sections, info, rebases, binds, index).under(setting_in(
+        old_reading,
+    ));
     let extended = ObjcCategory::from(category);
-    let answer = extended.class_name(&tables, setting);
+    let answer = extended.class_name(&tables);
     let (status, name) = told(found(answer), TextWords::default());
     NameTold { status, name }
 }

@@ -1,10 +1,9 @@
 // A Mach-O file for C (include/objclist_file.h): the part of a universal file, the tables, and the listing, written to a file descriptor.
-ghost use Rattle.std.specs.Prelude.{◌≡◌};
+ghost use Rattle.std.specs.Prelude.{◌≡◌, None, Some};
 ghost use Rattle.reads.specs.Reference.{before};
 ghost use Rattle.reads.specs.declared.text.Reading.TheVariants.{New};
 ghost use Rattle.universal.specs.Architecture.{arch_of};
 ghost use Rattle.universal.specs.Parts.{part_wanted, part_at};
-ghost use Rattle.universal.specs.declared.arch.Wanted.TheVariants as wanted;
 ghost use Rattle.fixups.specs.Fixups.{built_outcome, settled};
 ghost use Rattle.filetables.specs.FileRecords.{file_records};
 ghost use Rattle.printing.specs.Pieces.{begun};
@@ -21,7 +20,7 @@ use pointers::index::HEADS;
 use pointers::section::ObjcSection;
 use pointers::table::{Bind, Rebase};
 use reads::answer::Question;
-use universal::arch::{Arch, Wanted};
+use universal::arch::Arch;
 use universal::fat::Part;
 use universal::part::{find_part, part_at};
 
@@ -94,21 +93,21 @@ impl From<Result<Option<Part>, Question>> for FilePart {
 // The part of a file that is listed: arm64, without it the first 64-bit one.
 #[unsafe(no_mangle)]
 pub extern "C" fn objclist_part(file: &[u8]) -> FilePart
-    ensures { result ≡ part_words (part_wanted (before file) wanted.Default) }
+    ensures { result ≡ part_words (part_wanted (before file) None) }
 {
-    FilePart::from(find_part(file, Wanted::Default))
+    FilePart::from(find_part(file, None))
 }
 
 // The part of an architecture (machine.h); a cpusubtype of 0xffffffff is any.
 #[unsafe(no_mangle)]
 pub extern "C" fn objclist_part_of(file: &[u8], cputype: u64, cpusubtype: u64) -> FilePart
-    ensures { result ≡ part_words (part_wanted (before file) (wanted.Arch (arch_of cputype cpusubtype))) }
+    ensures { result ≡ part_words (part_wanted (before file) (Some (arch_of cputype cpusubtype))) }
 {
     let arch = Arch {
         cputype,
         cpusubtype,
     };
-    FilePart::from(find_part(file, Wanted::Arch(arch)))
+    FilePart::from(find_part(file, Some(arch)))
 }
 
 // Part i of a file, in table order.
@@ -189,12 +188,12 @@ pub extern "C" fn objclist_write<'a, 'b>(
     ensures sections { sections.new ≡ sections_after (ranges_of first_frame last_frame first_slide last_slide) (before file) segments.old sections.old (before rebases) (before binds) index.old }
     ensures index { index.new ≡ index_after (ranges_of first_frame last_frame first_slide last_slide) (before file) segments.old sections.old (before rebases) (before binds) index.old }
 {
-    let ranges = Ranges {
+    let ranges = Some(Ranges {
         first_frame,
         last_frame,
         first_slide,
         last_slide,
-    };
+    });
     let mut lent = Lent {
         segments,
         sections,

@@ -9,6 +9,7 @@ ghost use Rattle.macho.specs.OpenFile.{opening_file, segments_left, sections_lef
 ghost use Rattle.face.specs.Opening.{opened_words, file_words, file_told};
 ghost use Rattle.reads.specs.Answer.{outcome};
 
+use crate::decoding::lent;
 use crate::status::Status;
 use macho::open::{Lent, OpenedFile, open_file};
 use pointers::imageinfo::ImageInfo;
@@ -109,8 +110,8 @@ pub extern "C" fn objclist_open(
     ensures contents { let t = tables_of (files_of files) (before segments) (before sections) (before info) (before rebases) (before binds) index.old in
         index.new ≡ opened_index t }
 {
-    let answer = open(files, segments, sections, info, rebases, binds, index);
-    InfoTold::from(answer)
+    let tables = lent(files, segments, sections, info, rebases, binds, &[]);
+    InfoTold::from(open(&tables, index))
 }
 
 // Opens a Mach-O file: fills the segments and the sections by loader.h and writes the index; with a number all three are as they were.

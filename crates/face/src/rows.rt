@@ -3,7 +3,7 @@ ghost use Rattle.std.specs.Prelude.{◌≡◌, ◌+◌, ◌*◌, ◌/◌, ◌^�
 ghost use Rattle.std.proofs.lemmas.List.Edits.{sets};
 ghost use Rattle.reads.specs.Reference.{before};
 ghost use Rattle.pointers.specs.Tables.{lent};
-ghost use Rattle.face.specs.Rows.{listed, refused_turn, moved_to, list_turn, name_turn, list_over, names_over, turn_over, row_turn, gather};
+ghost use Rattle.face.specs.Rows.{Lists, refused_turn, moved_to, list_turn, name_turn, list_over, names_over, turn_over, row_turn, gather};
 
 use crate::decoding::lent;
 use crate::row::{ROW_WORDS, list_said, names_said};
@@ -49,16 +49,21 @@ pub struct RowTurn {
     pub walk: RowWalk,
 }
 
-// What the kind of a walk says that its list lists.
-fn listed_by(kind: u64) -> Option<Listed>
-    ensures { result ≡ listed kind }
-{
-    match kind {
-        0 => Some(Listed::Rows(ListKind::Methods)),
-        1 => Some(Listed::Rows(ListKind::Ivars)),
-        2 => Some(Listed::Rows(ListKind::Properties)),
-        3 => Some(Listed::Names),
-        _ => None,
+// What the kind of a walk says that its list lists; of another kind it is no state.
+impl TryFrom<u64> for Listed {
+    type Error = Question;
+
+    ghost try_from_gives = { Lists };
+
+    #[tactic(auto, unfolding(crate::specs::Rows::listed, reads::specs::Outcome::choose), using(std::proofs::lemmas::Bool::Decides::nat_tests))]
+    fn try_from(kind: u64) -> Result<Self, Question> {
+        match kind {
+            0 => Ok(Listed::Rows(ListKind::Methods)),
+            1 => Ok(Listed::Rows(ListKind::Ivars)),
+            2 => Ok(Listed::Rows(ListKind::Properties)),
+            3 => Ok(Listed::Names),
+            _ => Err(Question::WalkState),
+        }
     }
 }
 
@@ -120,21 +125,20 @@ impl RowWalk {
     }
 
     // A step over tables that no question refuses.
+    #[tactic(auto, using(crate::proofs::RowLaws::turn_past, crate::proofs::RowLaws::turn_list, crate::proofs::RowLaws::turn_names, crate::proofs::RowLaws::turn_nothing))]
     fn next(self, tables: &Tables) -> RowTurn
         ensures { let t = tables.now in
             result ≡ turn_over t self }
     {
-        let Some(listed) = listed_by(self.kind) else {
-            return self.refused(Question::WalkState);
-        };
-        match listed {
-            Listed::Rows(kind) => {
+        match Listed::try_from(self.kind) {
+            Ok(Listed::Rows(kind)) => {
                 if 0x1_0000_0000 <= self.cursor {
                     return self.refused(Question::WalkState);
                 }
                 self.list_turn(tables, kind)
             }
-            Listed::Names => self.name_turn(tables),
+            Ok(Listed::Names) => self.name_turn(tables),
+            Err(k) => self.refused(k),
         }
     }
 }

@@ -14,7 +14,8 @@ use walks::sections::{CategoryWalk, ClassWalk, ProtocolWalk, RecordStep};
 use walks::slots::SlotWalk;
 
 // Where a walk stands: the next slot; the words of the ledger in use and the highest of them; the address of the metaclass that waits;
-// and whether texts are read under the old reading. All 0 before the first slot.
+// and whether texts are read under the old reading. All 0 before the first slot. Each walk is made of them, and they of it, where it steps: no
+// `From`, since each would have one use, and a walk does not hold the word of its reading, which comes back as given.
 #[repr(C)]
 #[derive(Clone, Copy)]
 pub struct WalkWords {

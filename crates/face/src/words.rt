@@ -187,6 +187,7 @@ impl From<CategoryWords> for ObjcCategory {
 
     fn from(w: CategoryWords) -> ObjcCategory {
         let name = w.name;
+        // The one text that C hands in: a `From` for it would have no other use.
         ObjcCategory {
             address: w.address,
             name: Text {

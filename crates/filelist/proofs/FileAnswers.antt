@@ -36,7 +36,7 @@ use Rattle.printing.specs.Pieces.{listable}
 use Rattle.printing.proofs.BundleAnswers.{first_bytes}
 use Rattle.filelist.specs.FileText.{info_in, framed_file, opened_by, refused_file}
 use Rattle.filelist.specs.FileLent.{index_used, segments_after, sections_after, index_after, tables_by}
-use Rattle.std.specs.Prelude.{Result, Ok, Err}
+use Rattle.std.specs.Prelude.{Result, Ok, Err, Option}
 use Rattle.reads.specs.declared.answer.Question.{Question}
 use Rattle.reads.specs.declared.answer.Question.TheVariants.{FileLength, SegmentTable, SectionTable, Header, LoadCommands, IndexLength}
 use Rattle.reads.specs.Question.{number_of}
@@ -53,7 +53,7 @@ rest_words index k n e = go (leb k (length index)) refl
         rw (h, drop-length index) (sym (drop_of_length-le index {i = k} (le_of_lt less)))
 
 -- Ranges that 23 takes: what opening the file gives, with the frames.
-module _ (x : Ranges) (w : Frames) (e : frames_of x ≡ value w) (file segments sections rebases binds index : List ℕ) where
+module _ (x : Option Ranges) (w : Option Frames) (e : frames_of x ≡ value w) (file segments sections rebases binds index : List ℕ) where
   pub frames_taken : opening_file file segments sections rebases binds index ≡ opened_by file (framed_file x file segments sections rebases binds index)
   unfolding opening_file framed_file
   frames_taken =
@@ -83,7 +83,7 @@ module _ (x : Ranges) (w : Frames) (e : frames_of x ≡ value w) (file segments 
       go (refused k) o = refl
 
 -- Ranges that number k refuses.
-pub frames_refused : (x : Ranges) (k : Question) → frames_of x ≡ refused k → (file segments sections rebases binds index : List ℕ)
+pub frames_refused : (x : Option Ranges) (k : Question) → frames_of x ≡ refused k → (file segments sections rebases binds index : List ℕ)
     → refused_file k file segments sections rebases binds index ≡ framed_file x file segments sections rebases binds index
 unfolding refused_file framed_file
 frames_refused x k e file segments sections rebases binds index =
@@ -97,7 +97,7 @@ info_unrefused body f k =
     (λ t e. let z : ◌≡◌ {A = ℕ} 0 1 = cc in omega arith)
     (λ t e. let z : ◌≡◌ {A = ℕ} 0 1 = cc in omega arith)
 
-first_number : (x : Ranges) (file body : List ℕ) (k : Question) (a o : Outcome (Unit {0}))
+first_number : (x : Option Ranges) (file body : List ℕ) (k : Question) (a o : Outcome (Unit {0}))
     → and_then a (λ _. and_then (and_then o (λ _. image_info body)) (λ i. value (opened_file file i))) ≡ refused k
     → and_then a (λ _. and_then o (λ _. and_then (frames_of x) (λ w. with_frames w (image_info body)))) ≡ refused k
 first_number x file body k (value u) (value v) e = absurd (info_unrefused body (opened_file file) k e)
@@ -106,7 +106,7 @@ first_number x file body k (value u) (refused n) e = let same : n ≡ k = cc in 
 first_number x file body k (absent r) o e = let z : ◌≡◌ {A = ℕ} 0 1 = cc in absurd (omega arith)
 first_number x file body k (refused n) o e = let same : n ≡ k = cc in rw same
 
-pub number_first : (x : Ranges) (file segments sections rebases binds index : List ℕ) (k : Question) → opening_file file segments sections rebases binds index ≡ refused k
+pub number_first : (x : Option Ranges) (file segments sections rebases binds index : List ℕ) (k : Question) → opening_file file segments sections rebases binds index ≡ refused k
     → framed_file x file segments sections rebases binds index ≡ refused k
 unfolding opening_file framed_file opening framed_opening
 number_first x file segments sections rebases binds index k e =
@@ -167,7 +167,7 @@ missed_opened file (Absent r) = refl
 missed_opened file (Refused k) = refl
 
 -- Opening for ranges over the first words of the index.
-module _ (x : Ranges) (file segments sections rebases binds index : List ℕ) (n : ℕ) (e : n ≡ min (index_length rebases binds) (length index)) where
+module _ (x : Option Ranges) (file segments sections rebases binds index : List ℕ) (n : ℕ) (e : n ≡ min (index_length rebases binds) (length index)) where
   abbrev used : List ℕ
   used = index_used rebases binds index
 
@@ -185,7 +185,7 @@ module _ (x : Ranges) (file segments sections rebases binds index : List ℕ) (n
         index = index_after x file segments sections rebases binds index;
       }
 
-  module _ (w : Frames) (g : frames_of x ≡ value w) where
+  module _ (w : Option Frames) (g : frames_of x ≡ value w) where
     pub first_framed : (o : Outcome OpenedFile) → o ≡ opening_file file segments sections rebases binds (take n index)
         → (o ≡ opened_by file (framed_file x file segments sections rebases binds used))
         × (with_frames w (info_in o) ≡ framed_file x file segments sections rebases binds used)

@@ -1,5 +1,6 @@
 -- The text that comes of a file after it was opened is the file's text, marks included, under either reading, whatever the buffers held; with a
 -- number nothing lent is written.
+use Rattle.std.specs.Prelude.{Option}
 use Prim.Native.Nat.{ℕ, ◌*◌, ◌≤◌}
 use mathlib.Core.Path.{◌≡◌, refl, sym, ap, ◌∙◌}
 use mathlib.Core.Bool.{Bool, true, false}
@@ -44,7 +45,7 @@ use Rattle.filelist.proofs.FileAnswers.{frames_taken}
 use Rattle.reads.specs.declared.answer.Question.{Question}
 
 -- Of what it fills and of the index opening asks the length alone.
-opens_same : (x : Ranges) (file rebases binds s t c d i j : List ℕ) → length s ≡ length t → length c ≡ length d → length i ≡ length j
+opens_same : (x : Option Ranges) (file rebases binds s t c d i j : List ℕ) → length s ≡ length t → length c ≡ length d → length i ≡ length j
     → framed_file x file s c rebases binds i ≡ framed_file x file t d rebases binds j
 unfolding framed_file file_tables
 opens_same x file rebases binds s t c d i j a b e =
@@ -116,7 +117,7 @@ module _ (file segments sections rebases binds index : List ℕ) (long : index_l
         ≡ tables_said file rebases binds
     lent_said = ap listable read_said ∙ listable_short (tables_said file rebases binds) (opened_room (tables_said file rebases binds) opened).image_length
 
-module _ (u : Setting) (x : Ranges) (file segments sections rebases binds index l : List ℕ) where
+module _ (u : Setting) (x : Option Ranges) (file segments sections rebases binds index l : List ℕ) where
   abbrev gave : Outcome Framed
   gave = framed_file x file segments sections rebases binds (index_used rebases binds index)
 
@@ -142,7 +143,7 @@ module _ (u : Setting) (x : Ranges) (file segments sections rebases binds index 
         whole : index_used rebases binds index ++ drop (index_length rebases binds) index ≡ index
         whole = take-append-drop (index_length rebases binds) index
 
-        go : (f : Outcome Frames) → frames_of x ≡ f
+        go : (f : Outcome (Option Frames)) → frames_of x ≡ f
             → (left_by f (segments_left file segments sections rebases binds (index_used rebases binds index)) segments ≡ segments)
             × (left_by f (sections_left file segments sections rebases binds (index_used rebases binds index)) sections ≡ sections)
             × (left_by f (index_left file segments sections rebases binds (index_used rebases binds index)) (index_used rebases binds index)
@@ -202,7 +203,7 @@ by_either r t o = go (ascending t.rebases) refl
     go true e = listed_alike t o e (record { reading = r; lookup = Sorted }) (reading_under r) refl
     go false e = refl
 
-module _ (r : Reading) (x : Ranges) (file segments sections rebases binds index l : List ℕ) (long : index_length rebases binds ≤ length index)
+module _ (r : Reading) (x : Option Ranges) (file segments sections rebases binds index l : List ℕ) (long : index_length rebases binds ≤ length index)
     (classes : slot_count (section_table file) 0 1 ≤ length l) (categories : slot_count (section_table file) 2 3 ≤ length l)
     (rows : length segments ≡ segment_table_words) (words : length sections ≡ section_table_words) where
   abbrev u : Setting

@@ -1,4 +1,5 @@
 -- Worked cases of the text of a file: a file of 400 bytes with one class, listed; and two that are refused.
+use Rattle.std.specs.Prelude.{Option, None}
 use Prim.Native.Nat.{ℕ}
 use mathlib.Core.Path.{◌≡◌, refl}
 use mathlib.Core.List.{List, [], ◌∷◌, ◌++◌, flat_map}
@@ -23,7 +24,6 @@ use Rattle.pointers.specs.Symbol.{ascii, starts}
 use Rattle.records.specs.Ask.{picked_in, even_list, entry_size}
 use Rattle.records.specs.Class.{bits_of, decode_data, decode_class, decode_ro_lists, decode_class_ro, decode_ro_of, decode_ro_data, decode_class_name, decode_nonzero_class_name, decode_bound_name, decode_class_name_of}
 use Rattle.records.specs.List.{method_rows, decode_list}
-use Rattle.frames.specs.Frames.{no_ranges}
 use Rattle.frames.specs.Marks.{addresses, in_order, frames_of}
 use Rattle.frames.specs.declared.frames.Ranges.{Ranges}
 use Rattle.marking.specs.Framed.{framed_opening}
@@ -39,7 +39,7 @@ use Rattle.printing.specs.LineText.{none_field, number_field, string_field, part
 use Rattle.macho.specs.Commands.{headed, sectioned, fits, all_fit, asked_commands, of_kind}
 use Rattle.macho.specs.FileTables.{file_tables}
 use Rattle.macho.specs.OpenFile.{segment_table_words, asked_lent, asked_file}
-use Rattle.macho.specs.Sections.{headers_from, sections_of, named, first_named, section_rows}
+use Rattle.macho.specs.Sections.{headers_from, sections_of, named, first_named, section_row, section_rows}
 use Rattle.macho.specs.Segments.{segment_rows}
 use Rattle.pointers.specs.Tables.{reading_new, section_table_words}
 use Rattle.pointers.specs.declared.setting.Setting.{Setting}
@@ -67,18 +67,18 @@ one = header 0xFEEDFACF 1 232 ++ commands ++ records
 abbrev line : List ℕ → List ℕ
 line text = text ++ (10 ∷ [])
 
-pub listed_case : file_text reading_new no_ranges one [] []
+pub listed_case : file_text reading_new None one [] []
     ≡ line (ascii "I 0 40 1") ++ line (ascii "C 1110 0 0 1138 -") ++ line (ascii "R 1138 0 8 8 1:A") ++ line (ascii "E 1 0")
-unfolding file_text file_opening framed_file framed_opening frames_of in_order addresses marked_lines marked flat_map one u32 u64 header command section stripped data_arm64e data64 mapped picked_wide picked file_of longest choose sum64 nonzero le readable_at readable word le_in word_in slot_address rows ends holds placed lookup tabulate text text_from text_in judge utf8 follow_from follow image_info latest indexed asked_opening opening opened_index question image_fits whole_rows every section_fits section_table info_whole segment_files index_fits asked_tables asked_index bind_files names_inside names_utf8 section_at rebase_at bind_name bind_at symbol_of stored resolve pointer_at pointer_or0_at starts picked_in even_list entry_size bits_of decode_data decode_class decode_ro_lists decode_class_ro decode_ro_of decode_ro_data decode_class_name decode_nonzero_class_name decode_bound_name decode_class_name_of method_rows decode_list gather addresses_in without once listed with_meta plain_classes plain_categories plain_protocols decode_protocol_list has_slot slot_names protocol_names meta_of slots_from section_slots decode_address plain_records own_lines record_fields field_lines fields_lines lines_of entries_in field_events record_events events_from plain_listing places hex_text hex_word decimal_text none_field number_field string_field part_field text_field text_fields info_text class_text ro_text end_text line_text refused_text headed sectioned fits all_fit asked_commands of_kind file_tables asked_lent asked_file headers_from sections_of named first_named section_rows segment_rows
+unfolding file_text file_opening framed_file framed_opening frames_of in_order addresses marked_lines marked flat_map one u32 u64 header command section stripped data_arm64e data64 mapped picked_wide picked file_of longest choose sum64 nonzero le readable_at readable word le_in word_in slot_address rows ends holds placed lookup tabulate text text_from text_in judge utf8 follow_from follow image_info latest indexed asked_opening opening opened_index question image_fits whole_rows every section_fits section_table info_whole segment_files index_fits asked_tables asked_index bind_files names_inside names_utf8 section_at rebase_at bind_name bind_at symbol_of stored resolve pointer_at pointer_or0_at starts picked_in even_list entry_size bits_of decode_data decode_class decode_ro_lists decode_class_ro decode_ro_of decode_ro_data decode_class_name decode_nonzero_class_name decode_bound_name decode_class_name_of method_rows decode_list gather addresses_in without once listed with_meta plain_classes plain_categories plain_protocols decode_protocol_list has_slot slot_names protocol_names meta_of slots_from section_slots decode_address plain_records own_lines record_fields field_lines fields_lines lines_of entries_in field_events record_events events_from plain_listing places hex_text hex_word decimal_text none_field number_field string_field part_field text_field text_fields info_text class_text ro_text end_text line_text refused_text headed sectioned fits all_fit asked_commands of_kind file_tables asked_lent asked_file headers_from sections_of named first_named section_row section_rows segment_rows
 listed_case = refl
 
 -- 15: 31 bytes. 16: a command of 7 bytes.
-pub refused_15_case : (u : Setting) (x : Ranges) (rebases binds : List ℕ) → file_text u x (take 31 good) rebases binds ≡ line (ascii "refused 15")
+pub refused_15_case : (u : Setting) (x : Option Ranges) (rebases binds : List ℕ) → file_text u x (take 31 good) rebases binds ≡ line (ascii "refused 15")
 unfolding file_text file_opening refused_text decimal_text places choose
 refused_15_case u x rebases binds =
     rw (number_first x _ _ _ rebases binds _ Header (short_case (replicate segment_table_words 0) (replicate section_table_words 0) rebases binds (zero_index rebases binds)))
 
-pub refused_16_case : (u : Setting) (x : Ranges) (rebases binds : List ℕ) → file_text u x (made 0xFEEDFACF 2 544 7 576 0) rebases binds ≡ line (ascii "refused 16")
+pub refused_16_case : (u : Setting) (x : Option Ranges) (rebases binds : List ℕ) → file_text u x (made 0xFEEDFACF 2 544 7 576 0) rebases binds ≡ line (ascii "refused 16")
 unfolding file_text file_opening refused_text decimal_text places choose
 refused_16_case u x rebases binds =
     rw (number_first x _ _ _ rebases binds _ LoadCommands (seven_case (replicate segment_table_words 0) (replicate section_table_words 0) rebases binds (zero_index rebases binds)))

@@ -1,5 +1,5 @@
 -- What the calls over a file are lent and leave.
-use Rattle.std.specs.Prelude.{ℕ, ◌*◌, List, [], ◌++◌, take, drop}
+use Rattle.std.specs.Prelude.{ℕ, ◌*◌, List, [], ◌++◌, take, drop, Option}
 use Rattle.reads.specs.Outcome.{Outcome, value, absent, refused}
 use Rattle.reads.specs.Place.{part}
 use Rattle.reads.specs.Segment.{segment_words}
@@ -24,15 +24,15 @@ abbrev pub index_used : List ℕ → List ℕ → List ℕ → List ℕ
 index_used rebases binds index = take (index_length rebases binds) index
 
 -- What is lent, after opening for ranges; with a number, 23 too, it is as it was (`file_unwritten`, proofs/FilePrinted.antt).
-abbrev pub segments_after : Ranges → List ℕ → List ℕ → List ℕ → List ℕ → List ℕ → List ℕ → List ℕ
+abbrev pub segments_after : Option Ranges → List ℕ → List ℕ → List ℕ → List ℕ → List ℕ → List ℕ → List ℕ
 segments_after x file segments sections rebases binds index =
     left_by (frames_of x) (segments_left file segments sections rebases binds (index_used rebases binds index)) segments
 
-abbrev pub sections_after : Ranges → List ℕ → List ℕ → List ℕ → List ℕ → List ℕ → List ℕ → List ℕ
+abbrev pub sections_after : Option Ranges → List ℕ → List ℕ → List ℕ → List ℕ → List ℕ → List ℕ → List ℕ
 sections_after x file segments sections rebases binds index =
     left_by (frames_of x) (sections_left file segments sections rebases binds (index_used rebases binds index)) sections
 
-abbrev pub index_after : Ranges → List ℕ → List ℕ → List ℕ → List ℕ → List ℕ → List ℕ → List ℕ
+abbrev pub index_after : Option Ranges → List ℕ → List ℕ → List ℕ → List ℕ → List ℕ → List ℕ → List ℕ
 index_after x file segments sections rebases binds index =
     left_by (frames_of x) (index_left file segments sections rebases binds (index_used rebases binds index)) (index_used rebases binds index)
     ++ drop (index_length rebases binds) index
@@ -49,10 +49,10 @@ tables_lent o file segments sections rebases binds index =
     listable (tables_by o file segments sections rebases binds (index_used rebases binds index))
 
 -- Of what a caller lends as one.
-abbrev pub framed_lent : Ranges → List ℕ → Lent → Outcome Framed
+abbrev pub framed_lent : Option Ranges → List ℕ → Lent → Outcome Framed
 framed_lent x file l = framed_file x file l.segments.now l.sections.now l.rebases.now l.binds.now (index_used l.rebases.now l.binds.now l.index.now)
 
-abbrev pub buffers_after : Ranges → List ℕ → Lent → Buffers
+abbrev pub buffers_after : Option Ranges → List ℕ → Lent → Buffers
 buffers_after x file l =
     record {
       segments = segments_after x file l.segments.now l.sections.now l.rebases.now l.binds.now l.index.now;

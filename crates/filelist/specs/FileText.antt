@@ -1,7 +1,7 @@
 -- What is printed of a Mach-O file (document 02, note 3): `refused` and the number of the first question that says no, 23 last; or the lines of
 -- the plain listing over the tables that loader.h defines for the file, under a setting, which holds the reading, each m row with its mark for
 -- the ranges given (note 11).
-use Rattle.std.specs.Prelude.{ℕ, Bool, true, false, List, length, replicate}
+use Rattle.std.specs.Prelude.{ℕ, Bool, true, false, List, length, replicate, Option}
 use Rattle.reads.specs.Outcome.{Outcome, value, refused, and_then}
 use Rattle.reads.specs.declared.text.Reading.{Reading}
 use Rattle.pointers.specs.Index.{index_length}
@@ -42,7 +42,7 @@ abbrev pub tables_for : List ℕ → List ℕ → List ℕ → Tables
 tables_for file rebases binds = file_tables file rebases binds (zero_index rebases binds)
 
 -- Opening the file over the words lent, and then 23 of the ranges.
-unfoldable pub framed_file : Ranges → List ℕ → List ℕ → List ℕ → List ℕ → List ℕ → List ℕ → Outcome Framed
+unfoldable pub framed_file : Option Ranges → List ℕ → List ℕ → List ℕ → List ℕ → List ℕ → List ℕ → Outcome Framed
 framed_file x file segments sections rebases binds index =
     and_then (asked_file file (length segments) (length sections)) (λ _. framed_opening x (file_tables file rebases binds index))
 
@@ -56,10 +56,10 @@ refused_file k file segments sections rebases binds index =
     and_then (asked_file file (length segments) (length sections)) (λ _. and_then (asked_opening (file_tables file rebases binds index)) (λ _. refused k))
 
 -- Opening over words of zeros, as many as are to be lent.
-unfoldable pub file_opening : Ranges → List ℕ → List ℕ → List ℕ → Outcome Framed
+unfoldable pub file_opening : Option Ranges → List ℕ → List ℕ → List ℕ → Outcome Framed
 file_opening x file rebases binds =
     framed_file x file (replicate segment_table_words 0) (replicate section_table_words 0) rebases binds (zero_index rebases binds)
 
-unfoldable pub file_text : Setting → Ranges → List ℕ → List ℕ → List ℕ → List ℕ
+unfoldable pub file_text : Setting → Option Ranges → List ℕ → List ℕ → List ℕ → List ℕ
 file_text u x file rebases binds =
     opened_text (under u (with_index (tables_for file rebases binds) (opened_index (tables_for file rebases binds)))) (file_opening x file rebases binds)

@@ -1,21 +1,19 @@
 // The listing of a Mach-O file: it is opened over what is lent, and its text handed out piece by piece. Rebases and binds are lent. Of the
 // index as many words are used as question 8 asks. With a number, 23 of the ranges last, nothing lent is written, and the text is `refused` and
 // that number.
-ghost use Rattle.std.specs.Prelude.{◌*◌, ◌≤◌, min, ◌≡◌, length, drop};
+ghost use Rattle.std.specs.Prelude.{◌*◌, ◌≤◌, min, ◌≡◌, None, length, drop};
 ghost use Rattle.reads.specs.Answer.{missed, outcome};
 ghost use Rattle.reads.specs.Reference.{before};
 ghost use Rattle.reads.specs.Segment.{segment_words};
 ghost use Rattle.reads.specs.declared.text.Reading.TheVariants.{New};
 ghost use Rattle.pointers.specs.Index.{index_length};
 ghost use Rattle.macho.specs.OpenFile.{Kept, opening_file, segments_left, sections_left, index_left, buffers};
-ghost use Rattle.frames.specs.Frames.{no_ranges};
 ghost use Rattle.marking.specs.Framed.{with_frames};
 ghost use Rattle.printing.specs.Pieces.{standing_of, begun, listable, to_come, handed_of, piece_of};
 ghost use Rattle.filelist.specs.FileText.{file_setting, info_in, opened_by};
 ghost use Rattle.filelist.specs.FileLent.{framed_lent, opening_first, refused_first, buffers_first, buffers_after, tables_over, tables_opened};
 
 use frames::frames::{Frames, Ranges};
-use macho::header::range_of;
 use macho::open::{Lent, OpenedFile, open_file};
 use marking::framed::{refused_last, with_frames};
 use pointers::imageinfo::ImageInfo;
@@ -27,7 +25,7 @@ use pointers::table::{Bind, Rebase};
 use pointers::tables::Tables;
 use printing::pieces::{Piece, Progress};
 use reads::answer::{Missing, Question};
-use reads::place::Image;
+use reads::place::{Image, part};
 use reads::segment::Segment;
 use reads::text::Reading;
 
@@ -103,6 +101,8 @@ fn open_over(
 }
 
 // Opens the file over the first words of the index.
+// `lent` and `words` are no struct: it would lend `lent` on, and each promise would say that the same is lent still. `Kept` is said in each function
+// because it tells of `lent` before and after, where an invariant tells of one value.
 fn open_first(file: &[u8], lent: &mut Lent, words: usize) -> Result<OpenedFile, Missing>
     requires { words ≤ length lent.old.index.now }
     ensures kept { Kept lent.old lent.new }
@@ -127,7 +127,7 @@ fn open_first(file: &[u8], lent: &mut Lent, words: usize) -> Result<OpenedFile, 
 // Opens the file over the first words of the index, and begins its listing for these frames.
 fn begin(
     setting: Setting,
-    frames: Frames,
+    frames: Option<Frames>,
     file: &[u8],
     lent: &mut Lent,
     words: usize,
@@ -176,8 +176,8 @@ fn file_setting(reading: Reading, rebases: &[u64]) -> Setting
     Setting::under(reading)
 }
 
-// The listing of a file under a setting, its methods marked for frames and slides in these ranges; begun.
-fn list_by(setting: Setting, ranges: Ranges, file: &[u8], lent: &mut Lent) -> FileListing
+// The listing of a file under a setting, its methods marked for frames and slides in these ranges, if any are given; begun.
+fn list_by(setting: Setting, ranges: Option<Ranges>, file: &[u8], lent: &mut Lent) -> FileListing
     ensures kept { Kept lent.old lent.new }
     ensures answer { outcome result.answer ≡ opened_by (before file) (framed_lent ranges (before file) lent.old) }
     ensures progress { standing_of result.progress ≡ begun setting (framed_lent ranges (before file) lent.old) }
@@ -199,17 +199,17 @@ fn list_by(setting: Setting, ranges: Ranges, file: &[u8], lent: &mut Lent) -> Fi
 // The listing of a file under the new reading and without ranges, so that nothing is marked; begun.
 pub fn list_file(file: &[u8], lent: &mut Lent) -> FileListing
     ensures kept { Kept lent.old lent.new }
-    ensures answer { outcome result.answer ≡ opened_by (before file) (framed_lent no_ranges (before file) lent.old) }
-    ensures progress { standing_of result.progress ≡ begun (file_setting New lent.old.rebases.now) (framed_lent no_ranges (before file) lent.old) }
-    ensures left { buffers lent.new ≡ buffers_after no_ranges (before file) lent.old }
+    ensures answer { outcome result.answer ≡ opened_by (before file) (framed_lent None (before file) lent.old) }
+    ensures progress { standing_of result.progress ≡ begun (file_setting New lent.old.rebases.now) (framed_lent None (before file) lent.old) }
+    ensures left { buffers lent.new ≡ buffers_after None (before file) lent.old }
 {
-    list_file_under(Reading::New, Ranges::none(), file, lent)
+    list_file_under(Reading::New, None, file, lent)
 }
 
-// The same under either reading, its methods marked for frames and slides in these ranges.
+// The same under either reading, its methods marked for frames and slides in these ranges, if any are given.
 pub fn list_file_under(
     reading: Reading,
-    ranges: Ranges,
+    ranges: Option<Ranges>,
     file: &[u8],
     lent: &mut Lent,
 ) -> FileListing
@@ -222,6 +222,7 @@ pub fn list_file_under(
 }
 
 // The next piece over the rows of so many segments and the bytes of an image info.
+// `progress`, `opened`, `ledger` and `out` one by one: as at `whole_piece` of filewrite.
 fn piece_over<'a>(
     progress: Progress,
     count: u64,
@@ -248,6 +249,7 @@ fn piece_over<'a>(
         rebases: opened.rebases,
         binds: opened.binds,
         index: &opened.index[0..entries],
+        setting: Setting::new(),
     };
     progress.next_piece(&tables, ledger, out)
 }
@@ -262,7 +264,7 @@ pub fn next_piece(progress: Progress, opened: &Opened, ledger: &mut [u64], out: 
     let file = opened.file;
     match opened.answer {
         Ok(o) => {
-            let info = range_of(file, o.info_at, o.info_len);
+            let info = part(file, o.info_at, o.info_len);
             piece_over(progress, o.segments, info, opened, ledger, out)
         }
         Err(_) => piece_over(progress, 0, &file[0..0], opened, ledger, out),

@@ -1,58 +1,70 @@
 -- Question 25, by the tests that the code makes.
-use Prim.Native.Nat.{ℕ, ◌+◌}
-use mathlib.Core.Path.{◌≡◌, refl}
-use mathlib.Core.Bool.{true, ◌&&◌}
-use mathlib.Core.List.{List, [], ◌∷◌}
+use Prim.Native.Nat.{ℕ, suc, ◌+◌}
+use mathlib.Core.Path.{◌≡◌, refl, sym, ◌∙◌}
+use mathlib.Core.Bool.{Bool, true, false, not, ◌&&◌}
+use mathlib.Core.List.{List, [], ◌∷◌, ◌++◌}
+use native.Mathlib.Omega.{arith}
+use borrow.Author.Tests.{lt-leb}
 use Rattle.std.specs.List.{list_all}
 use lib.Dec.{eqb, leb}
-use Rattle.std.proofs.Math.Bool.{and_assoc}
-use borrow.Author.Tests.{ne_eqb}
+use lib.ListN.{length, length-append}
+use Rattle.std.specs.Prelude.{slice_get}
+use Rattle.std.specs.Option.{is_none}
 use Rattle.reads.specs.Outcome.{value, choose}
 use Rattle.pointers.specs.Question.{question}
 use Rattle.macho.specs.Number.{u32_at}
-use Rattle.macho.specs.Commands.{asked_commands}
-use Rattle.filetables.specs.Kind.{type_read, segment_read, info_read, command_read, all_read, kind_read, carriers, commands_read, is_read, asked_kind}
+use Rattle.macho.specs.Commands.{asked_commands, of_kind}
+use Rattle.fixups.specs.FixupChains.{chained_fixups_kind}
+use Rattle.opcodes.specs.DyldInfo.{dyld_info_kind, dyld_info_only_kind}
+use Rattle.filetables.specs.Kind.{segment_read, info_read, command_read, all_read, carriers, commands_read, is_read, asked_kind}
 
-module _ (t : ℕ) where
-  pub type_first : t ≡ 2 → true ≡ type_read t
-  unfolding type_read
-  type_first e = rw e
-
--- A command of each kind.
-module _ (n : ℕ) (cmds : List ℕ) (kind a : ℕ) where
-  pub read_segment : kind ≡ 0x19 → segment_read n cmds a ≡ command_read n cmds kind a
-  unfolding command_read choose
-  read_segment e = rw e
-
-  pub read_symtab : kind ≡ 0xB → (w : ℕ) → w ≡ u32_at cmds (a + 68) → eqb w 0 ≡ command_read n cmds kind a
-  unfolding command_read choose
-  read_symtab e w g = rw (e, g)
-
-  pub read_encryption : kind ≡ 0x21 → (w : ℕ) → w ≡ u32_at cmds (a + 16) → eqb w 0 ≡ command_read n cmds kind a
-  unfolding command_read choose
-  read_encryption e w g = rw (e, g)
-
-  pub read_encryption_64 : kind ≡ 0x2C → (w : ℕ) → w ≡ u32_at cmds (a + 16) → eqb w 0 ≡ command_read n cmds kind a
-  unfolding command_read choose
-  read_encryption_64 e w g = rw (e, g)
-
-  pub read_info : (kind ≡ 0x19 → ⊥) → (kind ≡ 0xB → ⊥) → (kind ≡ 0x21 → ⊥) → (kind ≡ 0x2C → ⊥) → info_read n cmds a ≡ command_read n cmds kind a
-  unfolding command_read choose
-  read_info x y z w = simp (ne_eqb kind 0x19 x, ne_eqb kind 0xB y, ne_eqb kind 0x21 z, ne_eqb kind 0x2C w)
-
--- The commands that stand at the offsets given.
-pub all_read_by : (n : ℕ) (cmds : List ℕ) (kind : ℕ) (segs : List ℕ) → list_all (command_read n cmds kind) segs ≡ all_read n cmds kind segs
+-- The commands of a kind that stand at the offsets given, by the test of that kind.
+all_by : (n : ℕ) (cmds : List ℕ) (kind : ℕ) (test : ℕ → Bool) → ((a : ℕ) → test a ≡ command_read n cmds kind a) → (segs : List ℕ)
+    → all_read n cmds kind segs ≡ list_all test segs
 unfolding all_read
-all_read_by n cmds kind [] = refl
-all_read_by n cmds kind (a ∷ segs) = rw (all_read_by n cmds kind segs)
+all_by n cmds kind test e [] = refl
+all_by n cmds kind test e (a ∷ segs) = rw (← e a, all_by n cmds kind test e segs)
 
--- The commands of each kind that is asked of, and how many say what is bound.
-abbrev pub kinds : List ℕ
-kinds = 0x19 ∷ 0xB ∷ 0x21 ∷ 0x2C ∷ 0x22 ∷ 0x80000022 ∷ []
+pub commands_by : (n : ℕ) (cmds : List ℕ) (count : ℕ)
+    → (list_all (segment_read n cmds) (of_kind 0x19 cmds count 0)
+    && (list_all (λ a. eqb (u32_at cmds (a + 68)) 0) (of_kind 0xB cmds count 0)
+    && (list_all (λ a. eqb (u32_at cmds (a + 16)) 0) (of_kind 0x21 cmds count 0)
+    && (list_all (λ a. eqb (u32_at cmds (a + 16)) 0) (of_kind 0x2C cmds count 0)
+    && (list_all (info_read n cmds) (of_kind 0x22 cmds count 0)
+    && (list_all (info_read n cmds) (of_kind 0x80000022 cmds count 0)
+    && leb (carriers cmds count) 1)))))) ≡ commands_read n cmds count
+unfolding commands_read command_read choose
+commands_by n cmds count =
+    rw (
+      all_by n cmds 0x19 (segment_read n cmds) (λ a. refl) (of_kind 0x19 cmds count 0),
+      all_by n cmds 0xB (λ a. eqb (u32_at cmds (a + 68)) 0) (λ a. refl) (of_kind 0xB cmds count 0),
+      all_by n cmds 0x21 (λ a. eqb (u32_at cmds (a + 16)) 0) (λ a. refl) (of_kind 0x21 cmds count 0),
+      all_by n cmds 0x2C (λ a. eqb (u32_at cmds (a + 16)) 0) (λ a. refl) (of_kind 0x2C cmds count 0),
+      all_by n cmds 0x22 (info_read n cmds) (λ a. refl) (of_kind 0x22 cmds count 0),
+      all_by n cmds 0x80000022 (info_read n cmds) (λ a. refl) (of_kind 0x80000022 cmds count 0),
+    )
 
-pub commands_by : (n : ℕ) (cmds : List ℕ) (count : ℕ) → (list_all (kind_read n cmds count) kinds && leb (carriers cmds count) 1) ≡ commands_read n cmds count
-unfolding commands_read
-commands_by n cmds count = simp and_assoc
+pub is_not : (a b : Bool) → a ≡ not b → b ≡ not a
+is_not a true e = rw e
+is_not a false e = rw e
+
+-- Whether at most one command says what is bound, by the second.
+few : (xs : List ℕ) → is_none (slice_get xs 1) ≡ leb (length xs) 1
+few [] = refl
+few (x ∷ []) = refl
+few (x ∷ y ∷ xs) = sym (lt-leb (suc (suc (length xs))) 1 (omega arith))
+
+abbrev pub carried : List ℕ → ℕ → List ℕ
+carried cmds count = (of_kind chained_fixups_kind cmds count 0 ++ of_kind dyld_info_kind cmds count 0) ++ of_kind dyld_info_only_kind cmds count 0
+
+pub at_most_one : (cmds : List ℕ) (count : ℕ) → is_none (slice_get (carried cmds count) 1) ≡ leb (carriers cmds count) 1
+unfolding carriers
+at_most_one cmds count =
+    few (carried cmds count)
+    ∙ rw (
+      length-append (of_kind chained_fixups_kind cmds count 0 ++ of_kind dyld_info_kind cmds count 0) (of_kind dyld_info_only_kind cmds count 0),
+      length-append (of_kind chained_fixups_kind cmds count 0) (of_kind dyld_info_kind cmds count 0),
+    )
 
 -- 15 and 16, then 25.
 module _ (file : List ℕ) where

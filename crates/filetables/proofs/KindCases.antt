@@ -6,7 +6,7 @@ use lib.ListN.{set, replicate}
 use Rattle.reads.specs.Outcome.{value, refused, choose}
 use Rattle.reads.specs.Place.{le, le_in}
 use Rattle.pointers.specs.Question.{question}
-use Rattle.macho.specs.Commands.{headed, sectioned, fits, all_fit, asked_commands, of_kind, first_of}
+use Rattle.macho.specs.Commands.{headed, sectioned, fits, all_fit, asked_commands, of_kind}
 use Rattle.fixups.specs.Fixups.{fixups_in, fixups_from, fixups_found}
 use Rattle.opcodes.specs.DyldInfo.{earlier}
 use Rattle.opcodes.specs.Streams.{walk, stream_at, joined, streams_at}
@@ -66,5 +66,5 @@ pub record Kinds : Type 0 where
   pub twice : file_records (file 6 0 2 96 (info ++ info_only)) ≡ refused FileKind
 
 pub kinds : Kinds
-unfolding le le_in choose question headed sectioned fits all_fit asked_commands of_kind first_of fixups_in fixups_from fixups_found earlier walk stream_at joined streams_at binds_from binds_in binds_found type_read segment_read stream_read info_read command_read all_read carriers commands_read is_read asked_kind as_records records_in file_records
+unfolding le le_in choose question headed sectioned fits all_fit asked_commands of_kind fixups_in fixups_from fixups_found earlier walk stream_at joined streams_at binds_from binds_in binds_found type_read segment_read stream_read info_read command_read all_read carriers commands_read is_read asked_kind as_records records_in file_records
 kinds = record { dylib = refl; executable = refl; object = refl; stub = refl; symbols = refl; cached = refl; plain = refl; encrypted = refl; symtab = refl; relocated = refl; noreloc = refl; protected = refl; to_the_end = refl; cut = refl; stream_cut = refl; by_opcodes = refl; by_chains = refl; both = refl; twice = refl }

@@ -8,11 +8,11 @@ use lib.Dec.{leb}
 use lib.ListN.{length}
 use borrow.Author.Tests.{le-leb}
 use Rattle.reads.specs.Outcome.{Outcome, value, absent, refused, and_then, choose}
-use Rattle.reads.proofs.Tests.{choose_true, choose_false}
+use Rattle.reads.proofs.Tests.{choose_true}
 use Rattle.macho.specs.Loader.{ncmds}
-use Rattle.macho.specs.Commands.{command_bytes, first_of}
+use Rattle.macho.specs.Commands.{command_bytes, of_kind}
 use Rattle.macho.specs.Segments.{written}
-use Rattle.macho.specs.declared.command.Found.{Found}
+use Rattle.fixups.proofs.Pages.{next_of}
 use Rattle.fixups.specs.FixupChains.{chained_fixups_kind}
 use Rattle.fixups.specs.Tables.{rebase_row, bind_row, rows_of}
 use Rattle.fixups.specs.Fixups.{Settled, pair, leaves, fixups_found, settled}
@@ -20,8 +20,9 @@ use Rattle.opcodes.specs.Tables.{bind_row as bound_row}
 use Rattle.opcodes.specs.Binds.{binds_found, Settled as BindsResult, leaves as binds_leaves, settled as binds_settled}
 use Rattle.opcodes.specs.declared.binding.Bound.{Bound}
 use Rattle.filetables.specs.Kind.{asked_kind}
-use Rattle.filetables.specs.FileRecords.{as_records, bound_records, records_in, file_records}
+use Rattle.filetables.specs.FileRecords.{as_records, bound_records, records_by, records_in, file_records}
 use Rattle.reads.specs.declared.answer.Question.{Question}
+use Rattle.std.specs.Prelude.{Option, Some, None, MatchOption}
 
 no_rebases : (xs : List Bound) → rows_of rebase_row (as_records xs) ≡ []
 unfolding as_records rows_of
@@ -54,14 +55,17 @@ module _ (rs bs : List ℕ) where
 
 -- Which records there are.
 module _ (file : List ℕ) where
-  module _ (r : Found) (cmds : List ℕ) (count : ℕ) (e : r ≡ first_of chained_fixups_kind cmds count 0) (ec : cmds ≡ command_bytes file) (en : count ≡ ncmds file) where
-    pub is_chained : r.here ≡ true → fixups_found file ≡ records_in file
+  module _ (cmds : List ℕ) (count : ℕ) (ec : cmds ≡ command_bytes file) (en : count ≡ ncmds file) (r : Option ℕ) (others : List ℕ)
+      (f : MatchOption r ((of_kind chained_fixups_kind cmds count 0 ≡ []) × (others ≡ [])) (λ a. of_kind chained_fixups_kind cmds count 0 ≡ a ∷ others)) where
+    by_first : records_by file r ≡ records_in file
     unfolding records_in
-    is_chained h = sym (choose_true _ _ (rw (e, ec, en) at h))
+    by_first = rw (← ec, ← en) (ap (records_by file) (sym (next_of _ others r f).0))
 
-    pub not_chained : r.here ≡ false → bound_records (binds_found file) ≡ records_in file
-    unfolding records_in
-    not_chained h = sym (choose_false _ _ (rw (e, ec, en) at h))
+    pub is_chained : (a : ℕ) → r ≡ Some a → fixups_found file ≡ records_in file
+    is_chained a e = rw e at by_first
+
+    pub not_chained : r ≡ None → bound_records (binds_found file) ≡ records_in file
+    not_chained e = rw e at by_first
 
   pub is_asked : asked_kind file ≡ value tt → records_in file ≡ file_records file
   unfolding file_records

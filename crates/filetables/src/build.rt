@@ -6,12 +6,14 @@ ghost use Rattle.opcodes.specs.Binds.{binds_found};
 ghost use Rattle.filetables.specs.FileRecords.{bound_records, records_in, file_records};
 
 use crate::kind::ask_kind;
-use crate::loader::LC_DYLD_CHAINED_FIXUPS;
 use fixups::build::build_tables;
-use macho::command::find;
-use macho::header::{command_bytes, command_count};
+use fixups::fixup_chains::LC_DYLD_CHAINED_FIXUPS;
+use macho::command::Commands;
 use opcodes::build::bind_table;
 use reads::answer::Question;
+
+// The tables are two parameters, as C lends them: `build_tables` takes both and `bind_table` one, so that a struct of the two slices would
+// be put together in `file_tables` and taken apart again before either call.
 
 // From the bind opcodes, how many rebases and binds were written: such a file's words are the addresses, so that it needs no rebases.
 fn from_opcodes(file: &[u8], rebases: &mut [u64], binds: &mut [u64]) -> Result<(u64, u64), Question>
@@ -25,16 +27,10 @@ fn from_opcodes(file: &[u8], rebases: &mut [u64], binds: &mut [u64]) -> Result<(
 fn from_either(file: &[u8], rebases: &mut [u64], binds: &mut [u64]) -> Result<(u64, u64), Question>
     ensures { leaves (built_outcome result) rebases.new binds.new ≡ settled (records_in (before file)) rebases.old binds.old }
 {
-    let found = find(
-        command_bytes(file),
-        LC_DYLD_CHAINED_FIXUPS,
-        command_count(file),
-        0,
-    );
-    if !found.here {
-        return from_opcodes(file, rebases, binds);
+    match Commands::of(file).of_kind(LC_DYLD_CHAINED_FIXUPS).next() {
+        Some(_) => build_tables(file, rebases, binds),
+        None => from_opcodes(file, rebases, binds),
     }
-    build_tables(file, rebases, binds)
 }
 
 // Builds the rebase and bind tables of a file: both counts, or the number of the first question that says no, with nothing written.

@@ -1,20 +1,24 @@
 // Question 25: is the file of a kind that is read, and whole? Of another rows or names would be missed in silence.
-ghost use Rattle.std.specs.Prelude.{◌≡◌, ◌≤◌, ◌<◌, ◌^◌, length};
+ghost use Rattle.std.specs.Prelude.{◌≡◌, ◌<◌, ◌^◌, ◌+◌, ◌==◌, nat_le};
+ghost use Rattle.std.specs.List.{list_all};
 ghost use Rattle.reads.specs.Reference.{before};
-ghost use Rattle.macho.specs.Commands.{of_kind};
-ghost use Rattle.filetables.specs.Kind.{type_read, segment_read, stream_read, info_read, command_read, kind_read, carriers, commands_read, is_read, asked_kind};
+ghost use Rattle.macho.specs.Number.{u32_at};
+ghost use Rattle.macho.specs.Commands.{of_kind, segments_of};
+ghost use Rattle.filetables.specs.Kind.{type_read, segment_read, stream_read, info_read, carriers, commands_read, is_read, asked_kind};
 ghost use Rattle.reads.specs.Answer.{answered};
 
 use crate::loader::{
-    BIND_OFF, CRYPTID, FILETYPE, FLAGS, LAZY_BIND_OFF, LC_DYLD_CHAINED_FIXUPS, LC_DYLD_INFO,
-    LC_DYLD_INFO_ONLY, LC_DYSYMTAB, LC_ENCRYPTION_INFO, LC_ENCRYPTION_INFO_64, MH_BUNDLE, MH_DYLIB,
-    MH_DYLIB_IN_CACHE, MH_DYLINKER, MH_EXECUTE, NEXTREL, SEGMENT_FLAGS, SG_PROTECTED_VERSION_1,
-    STREAM_SIZE, WEAK_BIND_OFF,
+    CRYPTID, FILETYPE, FLAGS, LC_DYSYMTAB, LC_ENCRYPTION_INFO, LC_ENCRYPTION_INFO_64, MH_BUNDLE,
+    MH_DYLIB, MH_DYLIB_IN_CACHE, MH_DYLINKER, MH_EXECUTE, NEXTREL, SEGMENT_FLAGS,
+    SG_PROTECTED_VERSION_1,
 };
-use macho::command::{ask_commands, commands};
-use macho::header::{command_bytes, command_count};
+use fixups::fixup_chains::LC_DYLD_CHAINED_FIXUPS;
+use macho::command::{Commands, ask_commands};
 use macho::loader::{FILEOFF, FILESIZE, LC_SEGMENT_64};
 use macho::number::field32;
+use opcodes::dyld_info::{
+    BIND_OFF, LAZY_BIND_OFF, LC_DYLD_INFO, LC_DYLD_INFO_ONLY, STREAM_SIZE, WEAK_BIND_OFF,
+};
 use reads::answer::Question;
 use reads::place::u64_from;
 
@@ -23,114 +27,114 @@ use reads::place::u64_from;
 fn type_read(filetype: u64) -> bool
     ensures { result ≡ type_read filetype }
 {
-    if filetype == MH_EXECUTE {
-        return true;
-    }
-    if filetype == MH_DYLIB {
-        return true;
-    }
-    if filetype == MH_DYLINKER {
-        return true;
-    }
-    filetype == MH_BUNDLE
+    matches!(filetype, MH_EXECUTE | MH_DYLIB | MH_DYLINKER | MH_BUNDLE)
 }
 
-// A segment: its part of the file lies in the file, of n bytes, and is not encrypted.
-#[tactic(auto, unfolding(crate::specs::Kind::segment_read), using(std::proofs::lemmas::Bool::Decides::nat_tests))]
-fn segment_read(cmds: &[u8], at: u64, n: u64) -> bool
-    ensures { result ≡ segment_read n (before cmds) at }
-{
-    let from = u64_from(cmds, at, FILEOFF);
-    if n < from {
-        return false;
-    }
-    if n - from < u64_from(cmds, at, FILESIZE) {
-        return false;
-    }
-    field32(cmds, at, SEGMENT_FLAGS) / SG_PROTECTED_VERSION_1 % 2 == 0
+// The load commands of a file, and how many bytes the file has.
+#[derive(Clone, Copy)]
+struct FileCommands<'a> {
+    cmds: Commands<'a>,
+    size: u64,
 }
 
-// A stream of bind opcodes lies in the file: its offset, and its size after it.
-#[tactic(auto, unfolding(crate::specs::Kind::stream_read), using(std::proofs::lemmas::Bool::Decides::nat_tests))]
-fn stream_read(cmds: &[u8], at: u64, field: u64, n: u64) -> bool
-    requires { field < 2 ^ 32 }
-    ensures { result ≡ stream_read n (before cmds) at field }
-{
-    field32(cmds, at, field) + field32(cmds, at, field + STREAM_SIZE) <= n
-}
-
-// The streams of bind opcodes lie in the file.
-#[tactic(auto, unfolding(crate::specs::Kind::info_read), using(std::proofs::lemmas::Bool::Decides::nat_tests))]
-fn info_read(cmds: &[u8], at: u64, n: u64) -> bool
-    ensures { result ≡ info_read n (before cmds) at }
-{
-    if !stream_read(cmds, at, BIND_OFF, n) {
-        return false;
+impl FileCommands<'_> {
+    // A segment: its part of the file lies in the file, and is not encrypted.
+    #[tactic(auto, unfolding(crate::specs::Kind::segment_read), using(std::proofs::lemmas::Bool::Decides::nat_tests))]
+    fn segment_read(self, at: u64) -> bool
+        ensures { result ≡ segment_read self.entry.size self.entry.cmds.bytes.now at }
+    {
+        let from = u64_from(self.cmds.bytes, at, FILEOFF);
+        if self.size < from {
+            return false;
+        }
+        if self.size - from < u64_from(self.cmds.bytes, at, FILESIZE) {
+            return false;
+        }
+        field32(self.cmds.bytes, at, SEGMENT_FLAGS) / SG_PROTECTED_VERSION_1 % 2 == 0
     }
-    if !stream_read(cmds, at, WEAK_BIND_OFF, n) {
-        return false;
-    }
-    stream_read(cmds, at, LAZY_BIND_OFF, n)
-}
 
-// A command of a kind: nothing is bound by relocations, nothing is encrypted; any other is a dyld_info_command.
-fn command_read(cmds: &[u8], at: u64, kind: u64, n: u64) -> bool
-    ensures { result ≡ command_read n (before cmds) kind at }
-{
-    if kind == LC_SEGMENT_64 {
-        return segment_read(cmds, at, n);
+    // A stream of bind opcodes lies in the file: its offset, and its size after it.
+    #[tactic(auto, unfolding(crate::specs::Kind::stream_read), using(std::proofs::lemmas::Bool::Decides::nat_tests))]
+    fn stream_read(self, at: u64, field: u64) -> bool
+        requires { field < 2 ^ 32 }
+        ensures { result ≡ stream_read self.entry.size self.entry.cmds.bytes.now at field }
+    {
+        let size = field32(self.cmds.bytes, at, field + STREAM_SIZE);
+        field32(self.cmds.bytes, at, field) + size <= self.size
     }
-    if kind == LC_DYSYMTAB {
-        return field32(cmds, at, NEXTREL) == 0;
+
+    // The streams of bind opcodes lie in the file.
+    #[tactic(auto, unfolding(crate::specs::Kind::info_read), using(std::proofs::lemmas::Bool::Decides::nat_tests))]
+    fn info_read(self, at: u64) -> bool
+        ensures { result ≡ info_read self.entry.size self.entry.cmds.bytes.now at }
+    {
+        if !self.stream_read(at, BIND_OFF) {
+            return false;
+        }
+        if !self.stream_read(at, WEAK_BIND_OFF) {
+            return false;
+        }
+        self.stream_read(at, LAZY_BIND_OFF)
     }
-    if kind == LC_ENCRYPTION_INFO {
-        return field32(cmds, at, CRYPTID) == 0;
+
+    // All segments.
+    fn segments_read(self) -> bool
+        ensures { result ≡ list_all (segment_read self.entry.size self.entry.cmds.bytes.now) (segments_of self.entry.cmds.bytes.now self.entry.cmds.count) }
+    {
+        self.cmds
+            .of_kind(LC_SEGMENT_64)
+            .all(|at| self.segment_read(at))
     }
-    if kind == LC_ENCRYPTION_INFO_64 {
-        return field32(cmds, at, CRYPTID) == 0;
+
+    // Nothing is bound by relocations.
+    fn no_relocations(self) -> bool
+        ensures { result ≡ list_all (λ a. u32_at self.entry.cmds.bytes.now (a + 68) == 0) (of_kind 0xB self.entry.cmds.bytes.now self.entry.cmds.count 0) }
+    {
+        self.cmds
+            .of_kind(LC_DYSYMTAB)
+            .all(|at| field32(self.cmds.bytes, at, NEXTREL) == 0)
     }
-    info_read(cmds, at, n)
-}
 
-// All commands of a kind.
-fn kind_read(cmds: &[u8], count: u64, kind: u64, n: u64) -> bool
-    ensures { result ≡ kind_read n (before cmds) count kind }
-{
-    commands(cmds, kind, count).all(|at| command_read(cmds, at, kind, n))
-}
+    // Nothing is encrypted, by the encryption_info_commands of a kind.
+    fn none_encrypted(self, kind: u64) -> bool
+        ensures { result ≡ list_all (λ a. u32_at self.entry.cmds.bytes.now (a + 16) == 0) (of_kind kind self.entry.cmds.bytes.now self.entry.cmds.count 0) }
+    {
+        self.cmds
+            .of_kind(kind)
+            .all(|at| field32(self.cmds.bytes, at, CRYPTID) == 0)
+    }
 
-// How many commands of a kind there are.
-fn count_kind(cmds: &[u8], count: u64, kind: u64) -> u64
-    ensures { (result ≡ length (of_kind kind (before cmds) count 0)) × (result ≤ count) }
-{
-    commands(cmds, kind, count).count() as u64
-}
+    // All dyld_info_commands of a kind.
+    fn infos_read(self, kind: u64) -> bool
+        ensures { result ≡ list_all (info_read self.entry.size self.entry.cmds.bytes.now) (of_kind kind self.entry.cmds.bytes.now self.entry.cmds.count 0) }
+    {
+        self.cmds.of_kind(kind).all(|at| self.info_read(at))
+    }
 
-// How many commands say what is bound.
-#[tactic(auto, unfolding(crate::specs::Kind::carriers), using(std::proofs::lemmas::Bool::Decides::nat_tests))]
-fn carriers(cmds: &[u8], count: u64) -> u64
-    requires { count < 2 ^ 32 }
-    ensures { result ≡ carriers (before cmds) count }
-{
-    count_kind(cmds, count, LC_DYLD_CHAINED_FIXUPS)
-        + count_kind(cmds, count, LC_DYLD_INFO)
-        + count_kind(cmds, count, LC_DYLD_INFO_ONLY)
-}
+    // At most one command says what is bound.
+    fn one_carrier(self) -> bool
+        ensures { result ≡ nat_le (carriers self.entry.cmds.bytes.now self.entry.cmds.count) 1 }
+    {
+        self.cmds
+            .of_kind(LC_DYLD_CHAINED_FIXUPS)
+            .chain(self.cmds.of_kind(LC_DYLD_INFO))
+            .chain(self.cmds.of_kind(LC_DYLD_INFO_ONLY))
+            .nth(1)
+            .is_none()
+    }
 
-// The commands of a file of n bytes.
-fn commands_read(cmds: &[u8], count: u64, n: u64) -> bool
-    requires { count < 2 ^ 32 }
-    ensures { result ≡ commands_read n (before cmds) count }
-{
-    let kinds = [
-        LC_SEGMENT_64,
-        LC_DYSYMTAB,
-        LC_ENCRYPTION_INFO,
-        LC_ENCRYPTION_INFO_64,
-        LC_DYLD_INFO,
-        LC_DYLD_INFO_ONLY,
-    ];
-    kinds.iter().all(|kind| kind_read(cmds, count, *kind, n)) && carriers(cmds, count) <= 1
+    // The commands of the file.
+    fn commands_read(self) -> bool
+        ensures { result ≡ commands_read self.entry.size self.entry.cmds.bytes.now self.entry.cmds.count }
+    {
+        self.segments_read()
+            && self.no_relocations()
+            && self.none_encrypted(LC_ENCRYPTION_INFO)
+            && self.none_encrypted(LC_ENCRYPTION_INFO_64)
+            && self.infos_read(LC_DYLD_INFO)
+            && self.infos_read(LC_DYLD_INFO_ONLY)
+            && self.one_carrier()
+    }
 }
 
 // 25.
@@ -144,7 +148,11 @@ fn is_read(file: &[u8]) -> bool
     if field32(file, 0, FLAGS) >= MH_DYLIB_IN_CACHE {
         return false;
     }
-    commands_read(command_bytes(file), command_count(file), file.len() as u64)
+    let commands = FileCommands {
+        cmds: Commands::of(file),
+        size: file.len() as u64,
+    };
+    commands.commands_read()
 }
 
 // 15 and 16, then 25.

@@ -31,19 +31,3 @@ pub(crate) const LC_ENCRYPTION_INFO: u64 = 0x21;
 pub(crate) const LC_ENCRYPTION_INFO_64: u64 = 0x2C;
 
 pub(crate) const CRYPTID: u64 = 16;
-
-// linkedit_data_command and dyld_info_command
-pub(crate) const LC_DYLD_CHAINED_FIXUPS: u64 = 0x8000_0034;
-
-pub(crate) const LC_DYLD_INFO: u64 = 0x22;
-
-pub(crate) const LC_DYLD_INFO_ONLY: u64 = 0x8000_0022;
-
-pub(crate) const BIND_OFF: u64 = 16;
-
-pub(crate) const WEAK_BIND_OFF: u64 = 24;
-
-pub(crate) const LAZY_BIND_OFF: u64 = 32;
-
-// The size of a stream stands this far after its offset.
-pub(crate) const STREAM_SIZE: u64 = 4;

@@ -1,28 +1,25 @@
 -- Where no write failed the text that was handed to the writer is the file's text.
+use Rattle.std.specs.Prelude.{Option}
 use Prim.Native.Nat.{ℕ, ◌≤◌}
-use mathlib.Core.Path.{◌≡◌, sym, ap, ◌∙◌}
-use mathlib.Core.List.{List, [], ◌++◌, append-nil}
+use mathlib.Core.Path.{◌≡◌, ap, ◌∙◌}
+use mathlib.Core.List.{List}
 use lib.ListN.{length}
 use Rattle.reads.specs.declared.text.Reading.TheVariants.{New}
 use Rattle.pointers.specs.Index.{index_length}
-use Rattle.pointers.specs.Tables.{Tables, reading_new, section_table_words}
+use Rattle.pointers.specs.Tables.{reading_new, section_table_words}
 use Rattle.walks.specs.Slots.{slot_count}
 use Rattle.macho.specs.FileTables.{section_table}
 use Rattle.macho.specs.OpenFile.{segment_table_words}
 use Rattle.frames.specs.declared.frames.Ranges.{Ranges}
-use Rattle.printing.specs.Pieces.{Standing, to_come, begun}
+use Rattle.printing.specs.Pieces.{begun}
 use Rattle.filelist.specs.FileText.{file_setting, framed_file, file_text}
 use Rattle.filelist.specs.FileLent.{index_used}
 use Rattle.filelist.proofs.FilePrinted.{file_printed}
 use Rattle.filewrite.specs.Written.{Ends, over, failed, Written, tables_read}
 use Rattle.filewrite.specs.declared.write.Wrote.{Wrote}
-use Rattle.filewrite.proofs.Handing.{text_so_far}
+use Rattle.printing.proofs.Handing.{all_handed}
 
--- Handed over to its end: the whole text.
-all_handed : (t : Tables) (p q : Standing) (b c text : List ℕ) → text ++ to_come t q ≡ to_come t p → to_come t q ≡ [] → text ≡ to_come t p
-all_handed t p q b c text e g = sym (append-nil text) ∙ ap (λ (rest : List ℕ). text ++ rest) (sym g) ∙ e
-
-module _ (x : Ranges) (file segments sections rebases binds index ledger out : List ℕ) (w : Wrote) (l c : List ℕ) where
+module _ (x : Option Ranges) (file segments sections rebases binds index ledger out : List ℕ) (w : Wrote) (l c : List ℕ) where
   abbrev pub FileWritten : Type 0
   FileWritten =
       Written (tables_read x file segments sections rebases binds index)
@@ -37,6 +34,6 @@ module _ (x : Ranges) (file segments sections rebases binds index ledger out : L
     where
       go : Ends (tables_read x file segments sections rebases binds index) h.last w → h.handed.text ≡ file_text reading_new x file rebases binds
       go (over e g) =
-          all_handed _ _ _ out c _ (text_so_far _ _ _ h.handed.pieces) e
+          all_handed _ _ _ _ h.handed.pieces e
           ∙ file_printed New x file segments sections rebases binds index ledger long classes categories rows words
       go (failed e) = absurd (n (ap (λ (v : Wrote). v.status) e))

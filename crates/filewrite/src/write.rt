@@ -1,5 +1,6 @@
-// Writes the text of a file's listing piece by piece. What reaches the reader of the file descriptor is the operating system's.
-ghost use Rattle.std.specs.Prelude.{◌≡◌, true, [], drop};
+// Writes the text of a file's listing piece by piece. What reaches the reader of a file descriptor is the operating system's.
+ghost use Rattle.std.specs.Prelude.{◌≡◌, ◌≢◌, true, [], drop};
+ghost use Rattle.std.specs.Io.KnownBytes.{Appends};
 ghost use Rattle.reads.specs.Reference.{before};
 ghost use Rattle.reads.specs.declared.text.Reading.TheVariants.{New};
 ghost use Rattle.listing.specs.ListingAnswer.{said_of};
@@ -7,17 +8,20 @@ ghost use Rattle.printing.specs.Pieces.{standing_of, to_come, begun, handed_of, 
 ghost use Rattle.macho.specs.OpenFile.{Kept, buffers};
 ghost use Rattle.filelist.specs.FileText.{file_setting};
 ghost use Rattle.filelist.specs.FileLent.{framed_lent, buffers_after, tables_opened};
-ghost use Rattle.filewrite.specs.Written.{piece_bytes, end_of, HandedOver, Written, tables_given, tables_left};
+ghost use Rattle.printing.specs.Written.{HandedOver};
+ghost use Rattle.filewrite.specs.Written.{piece_bytes, end_of, Written, tables_given, tables_left};
 ghost use Rattle.reads.specs.Answer.{outcome};
 
 use filelist::file::{FileListing, Opened, list_file_under, next_piece};
 use frames::frames::Ranges;
 use listing::listing::Said;
 use macho::open::Lent;
+use printing::descriptor::Descriptor;
 use printing::pieces::{Piece, Progress};
 use printing::write;
 use reads::answer::Question;
 use reads::text::Reading;
+use std::io::Write;
 
 // How the writing of a listing ended, for C too: status 0, the whole listing was written; 1, the file was refused, by the number; 3, a write
 // failed.
@@ -36,7 +40,10 @@ impl Wrote {
     pub const FAILED: u64 = 3;
 }
 
-// The next piece, into a buffer of this length.
+// The next piece, into a buffer of this length: here the number takes the place of `length out` once, and not at each step of the loop. Printing's
+// `next_piece` does the same for its own array, over a bundle.
+// `progress`, `opened`, `ledger` and `out` come one by one: `opened` is only read and `progress` is the last piece's; a struct of them would be lent
+// to be written whole, and promise that `opened` stays.
 fn whole_piece(
     progress: Progress,
     opened: &Opened,
@@ -51,17 +58,20 @@ fn whole_piece(
     next_piece(progress, opened, ledger, out)
 }
 
-// Hands all pieces that are still to come to the file descriptor; after a write that failed nothing more.
-// Not one function with printing's: its contract would name the tables that a closure's pieces come from, and be longer than the loop.
-fn write_pieces(
-    fd: i32,
+// Hands all pieces that are still to come to the writer; after a write that failed nothing more.
+// Not one function with printing's: pieces come from an opened file here and from a bundle's words there, so it would take a trait with two impls,
+// longer than the loop, and promise the end only of a buffer that is not empty, which the arrays here never are.
+fn write_pieces<W: Write>(
+    to: &mut W,
     start: Progress,
     opened: &Opened,
     ledger: &mut [u64],
     out: &mut [u8; 65536],
 ) -> write::Written
     ensures handed { let t = tables_opened opened.now in
-        HandedOver t (standing_of start ledger.old) out.old (standing_of result.progress ledger.new) out.new }
+        HandedOver piece_bytes t (standing_of start ledger.old) out.old (standing_of result.progress ledger.new) out.new }
+    ensures written { let t = tables_opened opened.now in
+        (result.whole ≡ true → Appends (W.contents to.old) (W.contents to.new) (to_come t (standing_of start ledger.old))) }
     ensures whole { let t = tables_opened opened.now in
         (result.whole ≡ true → to_come t (standing_of result.progress ledger.new) ≡ []) }
 {
@@ -77,8 +87,7 @@ fn write_pieces(
                 progress,
             };
         }
-        let text: &[u8] = out;
-        if !io::write_all(fd, &text[0..len]) {
+        if to.write_all(&out[0..len]).is_err() {
             return write::Written {
                 whole: false,
                 progress,
@@ -87,9 +96,9 @@ fn write_pieces(
     }
 }
 
-// Hands all pieces of a listing that is begun to the file descriptor.
-fn write_opened<'a>(
-    fd: i32,
+// Hands all pieces of a listing that is begun to the writer.
+fn write_opened<'a, W: Write>(
+    to: &mut W,
     listing: FileListing,
     file: &'a [u8],
     lent: &'a Lent<'a, 'a>,
@@ -97,7 +106,9 @@ fn write_opened<'a>(
     out: &mut [u8; 65536],
 ) -> write::Written
     ensures handed { let t = tables_given (outcome listing.answer) (before file) lent.now in
-        HandedOver t (standing_of listing.progress ledger.old) out.old (standing_of result.progress ledger.new) out.new }
+        HandedOver piece_bytes t (standing_of listing.progress ledger.old) out.old (standing_of result.progress ledger.new) out.new }
+    ensures written { let t = tables_given (outcome listing.answer) (before file) lent.now in
+        (result.whole ≡ true → Appends (W.contents to.old) (W.contents to.new) (to_come t (standing_of listing.progress ledger.old))) }
     ensures whole { let t = tables_given (outcome listing.answer) (before file) lent.now in
         (result.whole ≡ true → to_come t (standing_of result.progress ledger.new) ≡ []) }
 {
@@ -110,7 +121,7 @@ fn write_opened<'a>(
         binds: lent.binds,
         index: lent.index,
     };
-    write_pieces(fd, listing.progress, &opened, ledger, out)
+    write_pieces(to, listing.progress, &opened, ledger, out)
 }
 
 // How a listing ended whose text was handed over to its end, by what its last step said.
@@ -129,11 +140,40 @@ fn ended(said: Result<Said, Question>) -> Wrote
     }
 }
 
-// Writes the listing of a file, under the new reading and with its methods marked for these ranges, to a file descriptor; of a refused file
-// `refused` and the number.
+// Hands the listing of a file, under the new reading and with its methods marked for these ranges, if any are given, to the writer; of a refused file `refused` and
+// the number.
+fn write_file_to<W: Write>(
+    to: &mut W,
+    ranges: Option<Ranges>,
+    file: &[u8],
+    lent: &mut Lent,
+    ledger: &mut [u64],
+    out: &mut [u8; 65536],
+) -> Wrote
+    ensures kept { Kept lent.old lent.new }
+    ensures written { let start = begun (file_setting New lent.old.rebases.now) (framed_lent ranges (before file) lent.old) in
+        Written (tables_left ranges (before file) lent.old) (start ledger.old) out.old result ledger.new out.new }
+    ensures held { let start = begun (file_setting New lent.old.rebases.now) (framed_lent ranges (before file) lent.old) in
+        (result.status ≢ 3 → Appends (W.contents to.old) (W.contents to.new) (to_come (tables_left ranges (before file) lent.old) (start ledger.old))) }
+    ensures left { buffers lent.new ≡ buffers_after ranges (before file) lent.old }
+{
+    let listing = list_file_under(Reading::New, ranges, file, lent);
+    let pieces = write_opened(to, listing, file, lent, ledger, out);
+    if !pieces.whole {
+        return Wrote {
+            status: Wrote::FAILED,
+            number: 0,
+        };
+    }
+    let progress = pieces.progress;
+    let said = progress.said;
+    ended(said)
+}
+
+// The same to a file descriptor.
 pub fn write_file(
     fd: i32,
-    ranges: Ranges,
+    ranges: Option<Ranges>,
     file: &[u8],
     lent: &mut Lent,
     ledger: &mut [u64],
@@ -144,15 +184,12 @@ pub fn write_file(
         Written (tables_left ranges (before file) lent.old) (start ledger.old) out.old result ledger.new out.new }
     ensures left { buffers lent.new ≡ buffers_after ranges (before file) lent.old }
 {
-    let listing = list_file_under(Reading::New, ranges, file, lent);
-    let pieces = write_opened(fd, listing, file, lent, ledger, out);
-    if !pieces.whole {
-        return Wrote {
-            status: Wrote::FAILED,
-            number: 0,
-        };
-    }
-    let progress = pieces.progress;
-    let said = progress.said;
-    ended(said)
+    write_file_to(
+        &mut Descriptor { fd, ended: false },
+        ranges,
+        file,
+        lent,
+        ledger,
+        out,
+    )
 }

@@ -1,23 +1,26 @@
 -- The whole call, by the branches of the code: counting first and then writing gives the tables that the definition says.
-use Rattle.std.proofs.Common.{◌≡◌, ℕ, ◌+◌, ◌/◌, ◌^◌, ◌<◌, ◌≤◌, true, false, List, [], ◌∷◌, length, sym, refl, ◌∙◌, ap₂, arith, le-leb}
+use Rattle.std.proofs.Common.{◌≡◌, ℕ, zero, suc, Bool, cond, ◌+◌, ◌/◌, ◌^◌, ◌<◌, ◌≤◌, true, false, List, [], ◌∷◌, length, sym, refl, ◌∙◌, ap₂, arith, le-leb}
 use borrow.Author.Tests.{lt-leb}
+use Rattle.std.specs.List.{find}
+use lib.ListN.{get_or}
 use Rattle.reads.specs.Outcome.{Outcome, value, absent, refused, choose}
 use Rattle.reads.specs.Place.{part}
 use Rattle.reads.proofs.Tests.{choose_true, choose_false}
 use Rattle.pointers.specs.Tables.{rebase_words, bind_words}
 use Rattle.pointers.specs.Symbol.{ascii}
-use Rattle.macho.specs.Loader.{ncmds, cmdsize, vmaddr}
+use Rattle.macho.specs.Loader.{ncmds, cmdsize, vmaddr, segment_kind}
 use Rattle.macho.specs.Commands.{command_bytes, asked_commands, of_kind, segments_of}
 use Rattle.macho.specs.Segments.{written}
+use Rattle.macho.proofs.Commands.{Room, AllGood, first_good}
 use Rattle.macho.specs.Sections.{named, padded}
-use Rattle.macho.specs.declared.command.Found.{Found}
-use Rattle.macho.proofs.Commands.{Finds}
 use Rattle.fixups.specs.FixupChains.{chained_fixups_kind, dataoff, datasize}
-use Rattle.fixups.specs.Starts.{walk_of}
+use Rattle.fixups.specs.Starts.{image_starts, fixups_of, walk_of}
+use Rattle.fixups.specs.declared.chain.Fixups.{Fixups}
+use Rattle.reads.specs.Answer.{answered}
 use Rattle.fixups.specs.Tables.{rebase_row, bind_row, rows_of, State, state, puts, told, state_of, reached}
 use Rattle.fixups.specs.Fixups.{base_of, fixups_from, fixups_in, fixups_found, pair, leaves, settled}
 use Rattle.fixups.specs.declared.chain.Fixup.{Fixup}
-use Rattle.std.specs.Prelude.{Result, Ok, Err}
+use Rattle.std.specs.Prelude.{Result, Ok, Err, Option, Some, None, MatchOption}
 use Rattle.fixups.proofs.Rows.{rebases_filled, binds_filled, Counted, rebases_counted, binds_counted}
 use Rattle.reads.specs.declared.answer.Question.{Question}
 use Rattle.reads.specs.declared.answer.Question.TheVariants.{RebaseTable, BindTable, FixupData}
@@ -34,22 +37,33 @@ module _ (x : Outcome State) (w : Result (Unit {0}) Question) (s : State) (seen 
   pub uncounted : (k : Question) → w ≡ Err k → refused k ≡ x
   uncounted k e = rw (← seen, e)
 
--- The image base, by the segments that are left.
-module _ (cmds segs : List ℕ) where
-  pub base_none : segs ≡ [] → 0 ≡ base_of cmds segs
-  unfolding base_of
-  base_none e = rw e
+-- The image base, by the first segment of the name.
+abbrev pub is_text : List ℕ → ℕ → Bool
+is_text cmds a = named cmds (padded (ascii "__TEXT")) (a + 8)
 
-  module _ (a : ℕ) (others : List ℕ) (h : segs ≡ a ∷ others) where
-    base_more : base_of cmds segs ≡ choose (named cmds (padded (ascii "__TEXT")) (a + 8)) (vmaddr cmds a) (base_of cmds others)
-    unfolding base_of
-    base_more = rw h
+abbrev pub base_at : List ℕ → Option ℕ → ℕ
+base_at cmds None = 0
+base_at cmds (Some a) = vmaddr cmds a
 
-    pub base_here : named cmds (padded (ascii "__TEXT")) (a + 8) ≡ true → vmaddr cmds a ≡ base_of cmds segs
-    base_here e = sym (base_more ∙ choose_true _ _ e)
+pub base_found : (cmds segs : List ℕ) → base_at cmds (find (is_text cmds) segs) ≡ base_of cmds segs
+unfolding base_of choose
+base_found cmds [] = refl
+base_found cmds (a ∷ segs) = go (is_text cmds a) (base_found cmds segs)
+  where
+    go : (t : Bool) → base_at cmds (find (is_text cmds) segs) ≡ base_of cmds segs
+        → base_at cmds (cond t (Some a) (find (is_text cmds) segs)) ≡ choose t (vmaddr cmds a) (base_of cmds segs)
+    go true h = refl
+    go false h = h
 
-    pub base_next : named cmds (padded (ascii "__TEXT")) (a + 8) ≡ false → base_of cmds segs ≡ base_of cmds others
-    base_next e = base_more ∙ choose_false _ _ e
+pub base_read : (cmds : List ℕ) (n : ℕ) (P : ℕ → Type 0) (r : Option ℕ) → MatchOption r (n ≡ 0) P → ((a : ℕ) → P a → n ≡ vmaddr cmds a) → n ≡ base_at cmds r
+base_read cmds n P None h f = h
+base_read cmds n P (Some a) h f = f a h
+
+-- A segment of those that fit.
+pub segment_room : (cmds segs : List ℕ) → AllGood segment_kind cmds segs → (k d : ℕ) → k < length segs → Room cmds (get_or segs k d)
+segment_room cmds [] h k d l = absurd (omega arith)
+segment_room cmds (a ∷ segs) h zero d l = (first_good segment_kind cmds _ a segs h refl).here
+segment_room cmds (a ∷ segs) h (suc k) d l = segment_room cmds segs (first_good segment_kind cmds _ a segs h refl).later k d (omega arith)
 
 -- A number, and no records.
 pub settled_number : (k : Question) (rs bs : List ℕ) → leaves (refused k) rs bs ≡ settled (refused k) rs bs
@@ -65,10 +79,21 @@ module _ (file cmds : List ℕ) (count a : ℕ) where
   unfolding fixups_from
   from_short h = choose_false _ _ (lt-leb 16 (cmdsize cmds a) h)
 
-  pub from_data : 16 ≤ cmdsize cmds a → (body : List ℕ) (at from size base : ℕ) → body ≡ part file from size → at ≡ dataoff cmds a → from ≡ at → size ≡ datasize cmds a
-      → base ≡ base_of cmds (segments_of cmds count) → walk_of file body cmds at base (segments_of cmds count) ≡ fixups_from file cmds count a
-  unfolding fixups_from
-  from_data h body at from size base eb ea ef es e = rw (eb, e, es, ef, ea) (sym (choose_true _ _ (le-leb 16 (cmdsize cmds a) h)))
+  module _ (h : 16 ≤ cmdsize cmds a) (body : List ℕ) (at from size base : ℕ) (eb : body ≡ part file from size) (ea : at ≡ dataoff cmds a) (ef : from ≡ at)
+      (es : size ≡ datasize cmds a) (e : base ≡ base_of cmds (segments_of cmds count)) where
+    from_data : walk_of file body cmds at base (segments_of cmds count) ≡ fixups_from file cmds count a
+    unfolding fixups_from
+    from_data = rw (eb, e, es, ef, ea) (sym (choose_true _ _ (le-leb 16 (cmdsize cmds a) h)))
+
+    -- r is what the code reads of the header.
+    module _ (r : Result Fixups Question) (er : answered r ≡ fixups_of body at base) where
+      pub from_header : (f : Fixups) → r ≡ Ok f → image_starts file body cmds f (segments_of cmds count) ≡ fixups_from file cmds count a
+      unfolding walk_of
+      from_header f g = rw (← er, g) at from_data
+
+      pub from_no_header : (k : Question) → r ≡ Err k → refused k ≡ fixups_from file cmds count a
+      unfolding walk_of
+      from_no_header k g = rw (← er, g) at from_data
 
 module _ (file : List ℕ) where
   pub found_refused : (k : Question) → refused k ≡ asked_commands file → refused k ≡ fixups_found file
@@ -76,18 +101,19 @@ module _ (file : List ℕ) where
   found_refused k e = rw (← e)
 
   module _ (asked : asked_commands file ≡ value tt) (cmds : List ℕ) (count : ℕ) (ec : cmds ≡ command_bytes file) (en : count ≡ ncmds file)
-      (r : Found) (f : Finds chained_fixups_kind cmds count 0 r) where
+      (r : Option ℕ) (others : List ℕ)
+      (f : MatchOption r ((of_kind chained_fixups_kind cmds count 0 ≡ []) × (others ≡ [])) (λ b. of_kind chained_fixups_kind cmds count 0 ≡ b ∷ others)) where
     found_in : fixups_found file ≡ fixups_in file cmds count (of_kind chained_fixups_kind cmds count 0)
     unfolding fixups_found
     found_in = rw (asked, ec, en)
 
-    pub found_none : r.here ≡ false → value [] ≡ fixups_found file
+    pub found_none : r ≡ None → value [] ≡ fixups_found file
     unfolding fixups_in
-    found_none e = sym (found_in ∙ rw (f.none e))
+    found_none e = let g = rw e at f in sym (found_in ∙ rw g.0)
 
-    pub found_first : r.here ≡ true → fixups_from file cmds count r.at ≡ fixups_found file
+    pub found_first : (b : ℕ) → r ≡ Some b → fixups_from file cmds count b ≡ fixups_found file
     unfolding fixups_in
-    found_first e = sym (found_in ∙ rw (f.more e))
+    found_first b e = let g = rw e at f in sym (found_in ∙ rw g)
 
 -- Both walks. w is what the first gave: it was lent no room.
 module _ (rs bs : List ℕ) (hr : length rs < 2 ^ 64) (hb : length bs < 2 ^ 64) where

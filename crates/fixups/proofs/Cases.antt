@@ -9,7 +9,7 @@ use Rattle.macho.specs.Segments.{written}
 use Rattle.macho.specs.Sections.{named}
 use Rattle.fixups.specs.Imports.{zero_from, text_at, import_at}
 use Rattle.fixups.specs.Chain.{step_of, origin_of, target_of, slot_of, entry_of, visit_of, chain}
-use Rattle.fixups.specs.Starts.{joined, page_at, pages_from, known, segment_starts, first_starts, info_of, infos_from, image_starts, walk_of}
+use Rattle.fixups.specs.Starts.{joined, page_at, pages_from, known, segment_starts, first_starts, info_of, infos_from, image_starts, fixups_of, walk_of}
 use Rattle.fixups.specs.Tables.{rows_of}
 use Rattle.fixups.specs.Fixups.{base_of, fixups_from, fixups_in, fixups_found, pair, leaves, settled}
 use Rattle.fixups.specs.declared.chain.Fixup.TheVariants.{Rebase, Bind}
@@ -34,85 +34,85 @@ small =
 
 -- 0xAB000000_00001010, since the target counts from the image base.
 pub found : fixups_found small ≡ value (Rebase 0x1000 0xAB00000000001010 ∷ Bind 0x1008 209 2 ∷ Rebase 0x1010 0x1020 ∷ [])
-unfolding le_in le choose zero_from text_at import_at step_of origin_of target_of slot_of entry_of visit_of chain joined page_at pages_from known segment_starts first_starts info_of infos_from image_starts walk_of headed sectioned fits all_fit asked_commands question of_kind named starts base_of fixups_from fixups_in fixups_found
+unfolding le_in le choose zero_from text_at import_at step_of origin_of target_of slot_of entry_of visit_of chain joined page_at pages_from known segment_starts first_starts info_of infos_from image_starts fixups_of walk_of headed sectioned fits all_fit asked_commands question of_kind named starts base_of fixups_from fixups_in fixups_found
 found = refl
 
 -- Another magic.
 pub other_magic : fixups_found (set small 0 0) ≡ refused Header
-unfolding le_in le choose zero_from text_at import_at step_of origin_of target_of slot_of entry_of visit_of chain joined page_at pages_from known segment_starts first_starts info_of infos_from image_starts walk_of headed sectioned fits all_fit asked_commands question of_kind named starts base_of fixups_from fixups_in fixups_found
+unfolding le_in le choose zero_from text_at import_at step_of origin_of target_of slot_of entry_of visit_of chain joined page_at pages_from known segment_starts first_starts info_of infos_from image_starts fixups_of walk_of headed sectioned fits all_fit asked_commands question of_kind named starts base_of fixups_from fixups_in fixups_found
 other_magic = refl
 
 -- A third command is counted, and there is none.
 pub third_command : fixups_found (set small 16 3) ≡ refused LoadCommands
-unfolding le_in le choose zero_from text_at import_at step_of origin_of target_of slot_of entry_of visit_of chain joined page_at pages_from known segment_starts first_starts info_of infos_from image_starts walk_of headed sectioned fits all_fit asked_commands question of_kind named starts base_of fixups_from fixups_in fixups_found
+unfolding le_in le choose zero_from text_at import_at step_of origin_of target_of slot_of entry_of visit_of chain joined page_at pages_from known segment_starts first_starts info_of infos_from image_starts fixups_of walk_of headed sectioned fits all_fit asked_commands question of_kind named starts base_of fixups_from fixups_in fixups_found
 third_command = refl
 
 -- A command of 8 bytes.
 pub short_command : fixups_found (set small 108 8) ≡ refused FixupData
-unfolding le_in le choose zero_from text_at import_at step_of origin_of target_of slot_of entry_of visit_of chain joined page_at pages_from known segment_starts first_starts info_of infos_from image_starts walk_of headed sectioned fits all_fit asked_commands question of_kind named starts base_of fixups_from fixups_in fixups_found
+unfolding le_in le choose zero_from text_at import_at step_of origin_of target_of slot_of entry_of visit_of chain joined page_at pages_from known segment_starts first_starts info_of infos_from image_starts fixups_of walk_of headed sectioned fits all_fit asked_commands question of_kind named starts base_of fixups_from fixups_in fixups_found
 short_command = refl
 
 -- Import format 2.
 pub other_imports : fixups_found (set small 164 2) ≡ refused FixupData
-unfolding le_in le choose zero_from text_at import_at step_of origin_of target_of slot_of entry_of visit_of chain joined page_at pages_from known segment_starts first_starts info_of infos_from image_starts walk_of headed sectioned fits all_fit asked_commands question of_kind named starts base_of fixups_from fixups_in fixups_found
+unfolding le_in le choose zero_from text_at import_at step_of origin_of target_of slot_of entry_of visit_of chain joined page_at pages_from known segment_starts first_starts info_of infos_from image_starts fixups_of walk_of headed sectioned fits all_fit asked_commands question of_kind named starts base_of fixups_from fixups_in fixups_found
 other_imports = refl
 
 -- Symbol format 1.
 pub packed_symbols : fixups_found (set small 168 1) ≡ refused FixupData
-unfolding le_in le choose zero_from text_at import_at step_of origin_of target_of slot_of entry_of visit_of chain joined page_at pages_from known segment_starts first_starts info_of infos_from image_starts walk_of headed sectioned fits all_fit asked_commands question of_kind named starts base_of fixups_from fixups_in fixups_found
+unfolding le_in le choose zero_from text_at import_at step_of origin_of target_of slot_of entry_of visit_of chain joined page_at pages_from known segment_starts first_starts info_of infos_from image_starts fixups_of walk_of headed sectioned fits all_fit asked_commands question of_kind named starts base_of fixups_from fixups_in fixups_found
 packed_symbols = refl
 
 -- Pointer format 1.
 pub other_pointers : fixups_found (set small 186 1) ≡ refused FixupData
-unfolding le_in le choose zero_from text_at import_at step_of origin_of target_of slot_of entry_of visit_of chain joined page_at pages_from known segment_starts first_starts info_of infos_from image_starts walk_of headed sectioned fits all_fit asked_commands question of_kind named starts base_of fixups_from fixups_in fixups_found
+unfolding le_in le choose zero_from text_at import_at step_of origin_of target_of slot_of entry_of visit_of chain joined page_at pages_from known segment_starts first_starts info_of infos_from image_starts fixups_of walk_of headed sectioned fits all_fit asked_commands question of_kind named starts base_of fixups_from fixups_in fixups_found
 other_pointers = refl
 
 -- A page start marked multiple.
 pub several_starts : fixups_found (set small 203 128) ≡ refused FixupData
-unfolding le_in le choose zero_from text_at import_at step_of origin_of target_of slot_of entry_of visit_of chain joined page_at pages_from known segment_starts first_starts info_of infos_from image_starts walk_of headed sectioned fits all_fit asked_commands question of_kind named starts base_of fixups_from fixups_in fixups_found
+unfolding le_in le choose zero_from text_at import_at step_of origin_of target_of slot_of entry_of visit_of chain joined page_at pages_from known segment_starts first_starts info_of infos_from image_starts fixups_of walk_of headed sectioned fits all_fit asked_commands question of_kind named starts base_of fixups_from fixups_in fixups_found
 several_starts = refl
 
 -- Page start 0xFFFF.
 pub no_chain : fixups_found (set (set small 202 255) 203 255) ≡ value []
-unfolding le_in le choose zero_from text_at import_at step_of origin_of target_of slot_of entry_of visit_of chain joined page_at pages_from known segment_starts first_starts info_of infos_from image_starts walk_of headed sectioned fits all_fit asked_commands question of_kind named starts base_of fixups_from fixups_in fixups_found
+unfolding le_in le choose zero_from text_at import_at step_of origin_of target_of slot_of entry_of visit_of chain joined page_at pages_from known segment_starts first_starts info_of infos_from image_starts fixups_of walk_of headed sectioned fits all_fit asked_commands question of_kind named starts base_of fixups_from fixups_in fixups_found
 no_chain = refl
 
 -- Seg_info_offset 0.
 pub no_starts : fixups_found (set small 176 0) ≡ value []
-unfolding le_in le choose zero_from text_at import_at step_of origin_of target_of slot_of entry_of visit_of chain joined page_at pages_from known segment_starts first_starts info_of infos_from image_starts walk_of headed sectioned fits all_fit asked_commands question of_kind named starts base_of fixups_from fixups_in fixups_found
+unfolding le_in le choose zero_from text_at import_at step_of origin_of target_of slot_of entry_of visit_of chain joined page_at pages_from known segment_starts first_starts info_of infos_from image_starts fixups_of walk_of headed sectioned fits all_fit asked_commands question of_kind named starts base_of fixups_from fixups_in fixups_found
 no_starts = refl
 
 -- The last slot goes on by 12 steps, to the end of the page.
 pub leaves_page : fixups_found (set small 142 96) ≡ refused FixupSlot
-unfolding le_in le choose zero_from text_at import_at step_of origin_of target_of slot_of entry_of visit_of chain joined page_at pages_from known segment_starts first_starts info_of infos_from image_starts walk_of headed sectioned fits all_fit asked_commands question of_kind named starts base_of fixups_from fixups_in fixups_found
+unfolding le_in le choose zero_from text_at import_at step_of origin_of target_of slot_of entry_of visit_of chain joined page_at pages_from known segment_starts first_starts info_of infos_from image_starts fixups_of walk_of headed sectioned fits all_fit asked_commands question of_kind named starts base_of fixups_from fixups_in fixups_found
 leaves_page = refl
 
 -- Ordinal 1 of one import.
 pub no_import : fixups_found (set small 128 1) ≡ refused FixupSlot
-unfolding le_in le choose zero_from text_at import_at step_of origin_of target_of slot_of entry_of visit_of chain joined page_at pages_from known segment_starts first_starts info_of infos_from image_starts walk_of headed sectioned fits all_fit asked_commands question of_kind named starts base_of fixups_from fixups_in fixups_found
+unfolding le_in le choose zero_from text_at import_at step_of origin_of target_of slot_of entry_of visit_of chain joined page_at pages_from known segment_starts first_starts info_of infos_from image_starts fixups_of walk_of headed sectioned fits all_fit asked_commands question of_kind named starts base_of fixups_from fixups_in fixups_found
 no_import = refl
 
 -- The name's zero is cut off.
 pub no_zero : fixups_found (take 211 small) ≡ refused FixupData
-unfolding le_in le choose zero_from text_at import_at step_of origin_of target_of slot_of entry_of visit_of chain joined page_at pages_from known segment_starts first_starts info_of infos_from image_starts walk_of headed sectioned fits all_fit asked_commands question of_kind named starts base_of fixups_from fixups_in fixups_found
+unfolding le_in le choose zero_from text_at import_at step_of origin_of target_of slot_of entry_of visit_of chain joined page_at pages_from known segment_starts first_starts info_of infos_from image_starts fixups_of walk_of headed sectioned fits all_fit asked_commands question of_kind named starts base_of fixups_from fixups_in fixups_found
 no_zero = refl
 
 -- No chained fixups.
 pub no_command : fixups_found (set small 107 0) ≡ value []
-unfolding le_in le choose zero_from text_at import_at step_of origin_of target_of slot_of entry_of visit_of chain joined page_at pages_from known segment_starts first_starts info_of infos_from image_starts walk_of headed sectioned fits all_fit asked_commands question of_kind named starts base_of fixups_from fixups_in fixups_found
+unfolding le_in le choose zero_from text_at import_at step_of origin_of target_of slot_of entry_of visit_of chain joined page_at pages_from known segment_starts first_starts info_of infos_from image_starts fixups_of walk_of headed sectioned fits all_fit asked_commands question of_kind named starts base_of fixups_from fixups_in fixups_found
 no_command = refl
 
 -- Its two rebases and its bind, in tables that have a word to spare; 6 without room for the bind, and both tables as they were.
 pub tables_filled : settled (fixups_found small) (replicate 5 7) (replicate 5 7)
     ≡ leaves (value (pair 2 1)) (0x1000 ∷ 0xAB00000000001010 ∷ 0x1010 ∷ 0x1020 ∷ 7 ∷ []) (0x1008 ∷ 209 ∷ 2 ∷ 0 ∷ 7 ∷ [])
-unfolding settled rows_of written le_in le choose zero_from text_at import_at step_of origin_of target_of slot_of entry_of visit_of chain joined page_at pages_from known segment_starts first_starts info_of infos_from image_starts walk_of headed sectioned fits all_fit asked_commands question of_kind named starts base_of fixups_from fixups_in fixups_found
+unfolding settled rows_of written le_in le choose zero_from text_at import_at step_of origin_of target_of slot_of entry_of visit_of chain joined page_at pages_from known segment_starts first_starts info_of infos_from image_starts fixups_of walk_of headed sectioned fits all_fit asked_commands question of_kind named starts base_of fixups_from fixups_in fixups_found
 tables_filled = refl
 
 pub short_binds : settled (fixups_found small) (replicate 5 7) (replicate 3 7) ≡ leaves (refused BindTable) (replicate 5 7) (replicate 3 7)
-unfolding settled rows_of written le_in le choose zero_from text_at import_at step_of origin_of target_of slot_of entry_of visit_of chain joined page_at pages_from known segment_starts first_starts info_of infos_from image_starts walk_of headed sectioned fits all_fit asked_commands question of_kind named starts base_of fixups_from fixups_in fixups_found
+unfolding settled rows_of written le_in le choose zero_from text_at import_at step_of origin_of target_of slot_of entry_of visit_of chain joined page_at pages_from known segment_starts first_starts info_of infos_from image_starts fixups_of walk_of headed sectioned fits all_fit asked_commands question of_kind named starts base_of fixups_from fixups_in fixups_found
 short_binds = refl
 
 -- 5 before 6.
 pub short_both : settled (fixups_found small) (replicate 3 7) (replicate 3 7) ≡ leaves (refused RebaseTable) (replicate 3 7) (replicate 3 7)
-unfolding settled rows_of written le_in le choose zero_from text_at import_at step_of origin_of target_of slot_of entry_of visit_of chain joined page_at pages_from known segment_starts first_starts info_of infos_from image_starts walk_of headed sectioned fits all_fit asked_commands question of_kind named starts base_of fixups_from fixups_in fixups_found
+unfolding settled rows_of written le_in le choose zero_from text_at import_at step_of origin_of target_of slot_of entry_of visit_of chain joined page_at pages_from known segment_starts first_starts info_of infos_from image_starts fixups_of walk_of headed sectioned fits all_fit asked_commands question of_kind named starts base_of fixups_from fixups_in fixups_found
 short_both = refl

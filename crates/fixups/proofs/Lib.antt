@@ -8,3 +8,4 @@ pub mod Pages
 pub mod Building
 pub mod Slots
 pub mod Cases
+pub mod Options

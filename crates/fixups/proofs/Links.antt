@@ -3,10 +3,9 @@ use Rattle.std.proofs.Common.{◌≡◌, ℕ, zero, suc, ◌+◌, ◌-◌, ◌^�
 use borrow.Author.Tests.{eqb-false}
 use Rattle.reads.specs.Outcome.{Outcome, value, absent, refused, and_then, choose}
 use Rattle.fixups.specs.FixupChains.{lies}
-use Rattle.fixups.specs.Chain.{visit_of, entry_of, slot_word, step_of, Met, met, chain, chain_at}
+use Rattle.fixups.specs.Chain.{Starts, visit_of, entry_of, slot_word, step_of, Met, met, chain, chain_at}
 use Rattle.fixups.specs.Tables.{put, puts, told, State, Stepped, stepped, stepped_of}
 use Rattle.fixups.specs.declared.chain.Fixups.{Fixups}
-use Rattle.fixups.specs.declared.chain.Starts.{Starts}
 use Rattle.fixups.specs.declared.chain.Fixup.{Fixup}
 use Rattle.std.specs.Prelude.{Result, Ok, Err}
 use Rattle.fixups.proofs.Visits.{after}

@@ -1,18 +1,14 @@
 -- Pages and segments, by the branches of the code.
-use Rattle.std.proofs.Common.{◌≡◌, ℕ, suc, ◌+◌, ◌-◌, ◌*◌, ◌<◌, ◌≤◌, Bool, true, false, eqb, List, [], length, sym, refl, mul-le-mul, arith, le-ltb, lt-ltb, eq-eqb, ne_eqb, le-leb}
+use Rattle.std.proofs.Common.{◌≡◌, ℕ, suc, ◌+◌, ◌-◌, ◌*◌, ◌<◌, ◌≤◌, true, false, List, [], ◌∷◌, length, drop, slice_get, Option, Some, None, MatchOption, sym, refl, mul-le-mul, arith, le-ltb, lt-ltb, eq-eqb, ne_eqb, le-leb}
 use borrow.Author.Tests.{lt-leb}
-use Rattle.reads.specs.Outcome.{Outcome, value, refused, choose}
+use Rattle.reads.specs.Outcome.{value, refused, choose}
 use Rattle.macho.specs.Number.{u16_at, u32_at}
-use Rattle.macho.specs.Loader.{segment_kind}
-use Rattle.macho.specs.Commands.{of_kind}
-use Rattle.macho.specs.declared.command.Found.{Found}
-use Rattle.macho.proofs.Commands.{Finds}
-use Rattle.fixups.specs.Chain.{chain_at}
-use Rattle.fixups.specs.Starts.{joined, page_at, pages_from, known, starts_of, segment_starts, first_starts, info_of, infos_from, image_starts, fixups_of, walk_of}
+use Rattle.fixups.specs.Chain.{Starts, number_of, chain_at}
+use Rattle.fixups.specs.Starts.{joined, page_at, pages_from, known, starts_of, segment_starts, first_starts, info_of, infos_from, image_starts, header_of, fixups_of}
 use Rattle.fixups.specs.Tables.{told, State}
+use Rattle.fixups.specs.declared.chain.PointerFormat.{PointerFormat}
+use Rattle.fixups.specs.declared.chain.PointerFormat.TheVariants.{Ptr64, Ptr64Offset}
 use Rattle.fixups.specs.declared.chain.Fixups.{Fixups}
-use Rattle.fixups.specs.declared.chain.Starts.{Starts}
-use Rattle.fixups.specs.declared.chain.Fixup.{Fixup}
 use Rattle.fixups.proofs.Joining.{told_none, told_number}
 use Rattle.reads.specs.declared.answer.Question.TheVariants.{FixupData}
 
@@ -55,13 +51,10 @@ module _ (file body : List ℕ) (f : Fixups) (s : Starts) (at count p : ℕ) whe
   pages_done st h = let e : count - p ≡ 0 = omega arith in rw e (told_none st)
 
 -- A known format.
-pub known_2 : (n : ℕ) → n ≡ 2 → known n ≡ true
+pub known_by : (format : PointerFormat) (n : ℕ) → number_of format ≡ n → known n ≡ true
 unfolding known
-known_2 n e = rw e
-
-pub known_6 : (n : ℕ) → n ≡ 6 → known n ≡ true
-unfolding known
-known_6 n e = rw e
+known_by Ptr64 n e = rw (← e)
+known_by Ptr64Offset n e = rw (← e)
 
 pub known_not : (n : ℕ) → (n ≡ 2 → ⊥) → (n ≡ 6 → ⊥) → known n ≡ false
 unfolding known
@@ -82,19 +75,26 @@ module _ (file body cmds : List ℕ) (f : Fixups) (at a : ℕ) (st : State) wher
     unfolding segment_starts choose
     segment_pages k s count es ec = rw (es, ec) (simp (le-leb (at + 22) (length body) h, rw ef at k))
 
--- One entry of seg_info_offset, as the code takes it: `here` if there is a segment, whose part is y.
-module _ (offset : ℕ) (here : Bool) (y : Outcome (List Fixup)) (st : State) where
-  pub info_none : offset ≡ 0 → value st ≡ told (choose (eqb offset 0) (value []) (choose here y (refused FixupData))) st
-  unfolding choose
+-- One entry of seg_info_offset.
+module _ (file body cmds : List ℕ) (f : Fixups) (offset : ℕ) (segment : Option ℕ) (st : State) where
+  pub info_none : offset ≡ 0 → value st ≡ told (info_of file body cmds f offset segment) st
+  unfolding info_of choose
   info_none e = simp (eq-eqb offset 0 e) (sym (told_none st))
 
-  pub info_absent : (offset ≡ 0 → ⊥) → here ≡ false → refused FixupData ≡ told (choose (eqb offset 0) (value []) (choose here y (refused FixupData))) st
-  unfolding choose
-  info_absent n e = simp (ne_eqb offset 0 n, e) (sym (told_number FixupData st))
+  pub info_absent : (offset ≡ 0 → ⊥) → segment ≡ None → refused FixupData ≡ told (info_of file body cmds f offset segment) st
+  unfolding info_of first_starts choose
+  info_absent n e = rw e (simp (ne_eqb offset 0 n) (sym (told_number FixupData st)))
 
-  pub info_there : (offset ≡ 0 → ⊥) → here ≡ true → told y st ≡ told (choose (eqb offset 0) (value []) (choose here y (refused FixupData))) st
-  unfolding choose
-  info_there n e = simp (ne_eqb offset 0 n, e)
+  pub info_there : (offset ≡ 0 → ⊥) → (a at : ℕ) → segment ≡ Some a → at ≡ f.starts + offset
+      → told (segment_starts file body cmds f at a) st ≡ told (info_of file body cmds f offset segment) st
+  unfolding info_of first_starts choose
+  info_there n a at e g = rw (e, g) (simp (ne_eqb offset 0 n))
+
+-- What the next of some segments is, and which are left after it.
+pub next_of : (segs others : List ℕ) (r : Option ℕ) → MatchOption r ((segs ≡ []) × (others ≡ [])) (λ a. segs ≡ a ∷ others)
+    → (slice_get segs 0 ≡ r) × (drop 1 segs ≡ others)
+next_of segs others None h = rw (h.0, h.1) (refl, refl)
+next_of segs others (Some a) h = rw h (refl, refl)
 
 module _ (file body cmds : List ℕ) (f : Fixups) where
   pub starts_out : (segs : List ℕ) (st : State) → length body < f.starts + 4 → refused FixupData ≡ told (image_starts file body cmds f segs) st
@@ -117,42 +117,33 @@ module _ (file body cmds : List ℕ) (f : Fixups) where
         let e : total - i ≡ suc (total - (i + 1)) = omega arith in
         rw e (simp (lt-leb (f.starts + 4 + 4 * i + 4) (length body) (omega arith)) (told_number FixupData st))
 
-    -- The entry, and then the others, over the segments as a search finds them.
-    module _ (offset k a : ℕ) (r : Found) (l : from + 4 ≤ length body) (eo : offset ≡ u32_at body from) (found : Finds segment_kind cmds k a r) where
-      first_of : first_starts file body cmds f (f.starts + offset) (of_kind segment_kind cmds k a)
-          ≡ choose r.here (segment_starts file body cmds f (f.starts + offset) r.at) (refused FixupData)
-      unfolding first_starts choose
-      first_of = go r.here refl
-        where
-          go : (t : Bool) → r.here ≡ t → first_starts file body cmds f (f.starts + offset) (of_kind segment_kind cmds k a)
-              ≡ choose t (segment_starts file body cmds f (f.starts + offset) r.at) (refused FixupData)
-          go true e = rw (found.more e)
-          go false e = rw (found.none e)
+    -- The entry of the next segment, and then the others.
+    pub infos_more : from + 4 ≤ length body → (offset : ℕ) → offset ≡ u32_at body from → (segs others : List ℕ) (r : Option ℕ)
+        → MatchOption r ((segs ≡ []) × (others ≡ [])) (λ a. segs ≡ a ∷ others)
+        → infos_from file body cmds f (total - i) i segs
+        ≡ joined (info_of file body cmds f offset r) (infos_from file body cmds f (total - (i + 1)) (i + 1) others)
+    unfolding infos_from choose
+    infos_more l offset eo segs others r s =
+        let e : total - i ≡ suc (total - (i + 1)) = omega arith in
+        let eo' : u32_at body (f.starts + 4 + 4 * i) ≡ offset = rw (eo, ef) in
+        let n = next_of segs others r s in
+        rw e (simp (le-leb (f.starts + 4 + 4 * i + 4) (length body) (omega arith), eo', n.0, n.1))
 
-      pub infos_more : infos_from file body cmds f (total - i) i (of_kind segment_kind cmds k a)
-          ≡ joined (choose (eqb offset 0) (value []) (choose r.here (segment_starts file body cmds f (f.starts + offset) r.at) (refused FixupData)))
-          (infos_from file body cmds f (total - (i + 1)) (i + 1) (of_kind segment_kind cmds r.left r.next))
-      unfolding infos_from info_of choose
-      infos_more =
-          let e : total - i ≡ suc (total - (i + 1)) = omega arith in
-          let eo' : u32_at body (f.starts + 4 + 4 * i) ≡ offset = rw (eo, ef) in
-          rw (e, ← first_of, found.rest) (simp (le-leb (f.starts + 4 + 4 * i + 4) (length body) (omega arith), eo'))
-
-module _ (file body cmds : List ℕ) (at base : ℕ) (segs : List ℕ) (st : State) where
-  pub walk_out : length body < 28 → refused FixupData ≡ told (walk_of file body cmds at base segs) st
-  unfolding walk_of choose
-  walk_out h = simp (lt-leb (0 + 28) (length body) h) (sym (told_number FixupData st))
+-- The header.
+module _ (body : List ℕ) (at base : ℕ) where
+  pub header_out : length body < 28 → refused FixupData ≡ fixups_of body at base
+  unfolding fixups_of choose
+  header_out h = simp (lt-leb (0 + 28) (length body) h)
 
   module _ (h : 28 ≤ length body) where
-    pub walk_imports : (u32_at body 20 ≡ 1 → ⊥) → refused FixupData ≡ told (walk_of file body cmds at base segs) st
-    unfolding walk_of choose
-    walk_imports n = simp (le-leb (0 + 28) (length body) h, ne_eqb (u32_at body 20) 1 n) (sym (told_number FixupData st))
+    pub other_imports : (u32_at body 20 ≡ 1 → ⊥) → refused FixupData ≡ fixups_of body at base
+    unfolding fixups_of choose
+    other_imports n = simp (le-leb (0 + 28) (length body) h, ne_eqb (u32_at body 20) 1 n)
 
-    pub walk_symbols : u32_at body 20 ≡ 1 → (u32_at body 24 ≡ 0 → ⊥) → refused FixupData ≡ told (walk_of file body cmds at base segs) st
-    unfolding walk_of choose
-    walk_symbols e n = simp (le-leb (0 + 28) (length body) h, eq-eqb (u32_at body 20) 1 e, ne_eqb (u32_at body 24) 0 n) (sym (told_number FixupData st))
+    pub packed_symbols : u32_at body 20 ≡ 1 → (u32_at body 24 ≡ 0 → ⊥) → refused FixupData ≡ fixups_of body at base
+    unfolding fixups_of choose
+    packed_symbols e n = simp (le-leb (0 + 28) (length body) h, eq-eqb (u32_at body 20) 1 e, ne_eqb (u32_at body 24) 0 n)
 
-    pub walk_in : u32_at body 20 ≡ 1 → u32_at body 24 ≡ 0 → (f : Fixups) → f ≡ fixups_of body at base
-        → told (image_starts file body cmds f segs) st ≡ told (walk_of file body cmds at base segs) st
-    unfolding walk_of choose
-    walk_in e n f g = rw g (simp (le-leb (0 + 28) (length body) h, eq-eqb (u32_at body 20) 1 e, eq-eqb (u32_at body 24) 0 n))
+    pub header_in : u32_at body 20 ≡ 1 → u32_at body 24 ≡ 0 → (f : Fixups) → f ≡ header_of body at base → value f ≡ fixups_of body at base
+    unfolding fixups_of choose
+    header_in e n f g = rw g (simp (le-leb (0 + 28) (length body) h, eq-eqb (u32_at body 20) 1 e, eq-eqb (u32_at body 24) 0 n))

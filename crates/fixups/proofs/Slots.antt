@@ -4,12 +4,11 @@ use borrow.Author.Tests.{eqb-false}
 use Rattle.reads.specs.Outcome.{Outcome, value, absent, refused, and_then, choose}
 use Rattle.fixups.specs.FixupChains.{lies}
 use Rattle.fixups.specs.Imports.{Span, import_at}
-use Rattle.fixups.specs.Chain.{slot_of, target_of, step_of, entry_of, visit_of, slot_word, Met, met, chain, chain_at}
+use Rattle.fixups.specs.Chain.{Starts, slot_of, target_of, step_of, entry_of, visit_of, slot_word, Met, met, chain, chain_at}
 use Rattle.fixups.specs.Slots.{slot_address, slots, InPage, Once, onwards, visited, Climbs, addresses}
 use Rattle.fixups.specs.Slots.Climbs.{top, up}
 use Rattle.fixups.specs.Slots.InPage.{none, slot}
 use Rattle.fixups.specs.declared.chain.Fixups.{Fixups}
-use Rattle.fixups.specs.declared.chain.Starts.{Starts}
 use Rattle.fixups.specs.declared.chain.Fixup.{Fixup}
 use Rattle.fixups.specs.declared.chain.Fixup.TheVariants.{Rebase, Bind}
 use Rattle.reads.specs.declared.answer.Question.TheVariants.{FixupSlot}

@@ -3,10 +3,9 @@ use Rattle.std.proofs.Common.{◌≡◌, ℕ, ◌+◌, ◌*◌, ◌/◌, ◌%◌
 use borrow.Author.Tests.{lt-leb}
 use Rattle.reads.specs.Outcome.{Outcome, value, refused, and_then, choose}
 use Rattle.macho.specs.Number.{u64_at}
-use Rattle.fixups.specs.Chain.{step_of, entry_of, visit_of, Met, met}
+use Rattle.fixups.specs.Chain.{Starts, step_of, entry_of, visit_of, Met, met}
 use Rattle.fixups.specs.Tables.{Part, put_row, put, State, stepped, Stepped}
 use Rattle.fixups.specs.declared.chain.Fixups.{Fixups}
-use Rattle.fixups.specs.declared.chain.Starts.{Starts}
 use Rattle.fixups.specs.declared.chain.Fixup.{Fixup}
 use Rattle.fixups.specs.declared.chain.Fixup.TheVariants.{Rebase, Bind}
 use Rattle.std.specs.Prelude.{Result, Ok, Err}

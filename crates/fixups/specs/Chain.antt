@@ -4,11 +4,28 @@ use Rattle.reads.specs.Outcome.{Outcome, value, refused, and_then, choose}
 use Rattle.macho.specs.Number.{u64_at}
 use Rattle.fixups.specs.FixupChains.{lies}
 use Rattle.fixups.specs.Imports.{import_at}
+use Rattle.fixups.specs.declared.chain.PointerFormat.{PointerFormat}
+use Rattle.fixups.specs.declared.chain.PointerFormat.TheVariants.{Ptr64, Ptr64Offset}
 use Rattle.fixups.specs.declared.chain.Fixups.{Fixups}
-use Rattle.fixups.specs.declared.chain.Starts.{Starts}
+use Rattle.fixups.specs.declared.chain.Starts as code
 use Rattle.fixups.specs.declared.chain.Fixup.{Fixup}
 use Rattle.fixups.specs.declared.chain.Fixup.TheVariants.{Rebase, Bind}
 use Rattle.reads.specs.declared.answer.Question.TheVariants.{FixupSlot}
+
+-- A segment with starts: its command's vmaddr and fileoff, its starts' pointer_format and page_size.
+pub record Starts : Type 0 where
+  pub vmaddr : ℕ
+  pub fileoff : ℕ
+  pub format : ℕ
+  pub size : ℕ
+
+-- The number of a format that is read: DYLD_CHAINED_PTR_64, DYLD_CHAINED_PTR_64_OFFSET.
+abbrev pub number_of : PointerFormat → ℕ
+number_of Ptr64 = 2
+number_of Ptr64Offset = 6
+
+abbrev pub starts_in : code.Starts → Starts
+starts_in s = record { vmaddr = s.vmaddr; fileoff = s.fileoff; format = number_of s.format; size = s.size }
 
 -- The bytes to the next slot: next, bits 51 to 62, counts steps of 4.
 unfoldable pub step_of : ℕ → ℕ

@@ -1,9 +1,8 @@
 -- What is claimed of the slots that a chain visits.
 use Rattle.std.specs.Prelude.{◌≡◌, ℕ, zero, suc, ◌+◌, ◌<◌, ◌≤◌, List, [], ◌∷◌, length, ◌==◌, ◌≢◌, nat_lt, slice_index}
 use Rattle.reads.specs.Outcome.{Outcome, value, absent, refused, choose}
-use Rattle.fixups.specs.Chain.{slot_of, Met, visit_of}
+use Rattle.fixups.specs.Chain.{Starts, slot_of, Met, visit_of}
 use Rattle.fixups.specs.declared.chain.Fixups.{Fixups}
-use Rattle.fixups.specs.declared.chain.Starts.{Starts}
 use Rattle.fixups.specs.declared.chain.Fixup.{Fixup}
 use Rattle.fixups.specs.declared.chain.Fixup.TheVariants.{Rebase, Bind}
 

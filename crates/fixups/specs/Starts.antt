@@ -1,12 +1,13 @@
 -- Where chains start (fixup-chains.h, dyld_chained_starts_in_image and dyld_chained_starts_in_segment), in walk order.
-use Rattle.std.specs.Prelude.{ℕ, zero, suc, ◌+◌, ◌*◌, Bool, ◌||◌, List, [], ◌∷◌, ◌++◌, drop, ◌==◌, nat_lt}
+use Rattle.std.specs.Prelude.{◌≡◌, ℕ, zero, suc, ◌+◌, ◌*◌, Bool, false, ◌||◌, Result, MatchResult, List, [], ◌++◌, drop, ◌==◌, nat_lt, slice_get, Option, None, Some}
 use Rattle.reads.specs.Outcome.{Outcome, value, refused, and_then, choose}
 use Rattle.macho.specs.Loader.{vmaddr, fileoff}
 use Rattle.fixups.specs.FixupChains.{lies, starts_offset, imports_offset, symbols_offset, imports_count, imports_format, symbols_format, seg_count, seg_info_offset, page_size, pointer_format, page_count, page_start}
-use Rattle.fixups.specs.Chain.{chain_at}
+use Rattle.fixups.specs.Chain.{Starts, number_of, chain_at}
+use Rattle.fixups.specs.declared.chain.PointerFormat.{PointerFormat}
 use Rattle.fixups.specs.declared.chain.Fixups.{Fixups}
-use Rattle.fixups.specs.declared.chain.Starts.{Starts}
 use Rattle.fixups.specs.declared.chain.Fixup.{Fixup}
+use Rattle.reads.specs.declared.answer.Question.{Question}
 use Rattle.reads.specs.declared.answer.Question.TheVariants.{FixupData}
 
 -- What one part of a walk finds, and then the next.
@@ -33,6 +34,10 @@ pages_from file body f s at (suc k) p = joined (page_at file body f s at p) (pag
 unfoldable pub known : ℕ → Bool
 known format = format == 2 || format == 6
 
+-- What the code reads of a format's number: the format, or 19.
+abbrev pub Reads : ℕ → Result PointerFormat Question → Type 0
+Reads n r = MatchResult r (λ format. number_of format ≡ n) (λ q. (known n ≡ false) × (q ≡ FixupData))
+
 -- The starts at `at` in the fixup data, of the segment whose command stands at a.
 abbrev pub starts_of : List ℕ → ℕ → List ℕ → ℕ → Starts
 starts_of cmds a body at =
@@ -46,21 +51,21 @@ segment_starts file body cmds f at a =
     (refused FixupData))
     (refused FixupData)
 
--- Of the first of the segments, if there is one: starts without a segment are 19.
-unfoldable pub first_starts : List ℕ → List ℕ → List ℕ → Fixups → ℕ → List ℕ → Outcome (List Fixup)
-first_starts file body cmds f at [] = refused FixupData
-first_starts file body cmds f at (a ∷ segs) = segment_starts file body cmds f at a
+-- Of a segment, if there is one: starts without a segment are 19.
+unfoldable pub first_starts : List ℕ → List ℕ → List ℕ → Fixups → ℕ → Option ℕ → Outcome (List Fixup)
+first_starts file body cmds f at None = refused FixupData
+first_starts file body cmds f at (Some a) = segment_starts file body cmds f at a
 
 -- seg_info_offset 0: no starts.
-unfoldable pub info_of : List ℕ → List ℕ → List ℕ → Fixups → ℕ → List ℕ → Outcome (List Fixup)
-info_of file body cmds f offset segs = choose (offset == 0) (value []) (first_starts file body cmds f (f.starts + offset) segs)
+unfoldable pub info_of : List ℕ → List ℕ → List ℕ → Fixups → ℕ → Option ℕ → Outcome (List Fixup)
+info_of file body cmds f offset segment = choose (offset == 0) (value []) (first_starts file body cmds f (f.starts + offset) segment)
 
 -- k entries of seg_info_offset from entry i on, over the segments from the i-th on.
 unfoldable pub infos_from : List ℕ → List ℕ → List ℕ → Fixups → ℕ → ℕ → List ℕ → Outcome (List Fixup)
 infos_from file body cmds f zero i segs = value []
 infos_from file body cmds f (suc k) i segs =
     choose (lies body (f.starts + 4 + 4 * i) 4)
-    (joined (info_of file body cmds f (seg_info_offset body f.starts i) segs) (infos_from file body cmds f k (i + 1) (drop 1 segs)))
+    (joined (info_of file body cmds f (seg_info_offset body f.starts i) (slice_get segs 0)) (infos_from file body cmds f k (i + 1) (drop 1 segs)))
     (refused FixupData)
 
 -- The segments of the image, seg_count of them.
@@ -69,8 +74,8 @@ image_starts file body cmds f segs =
     choose (lies body f.starts 4) (infos_from file body cmds f (seg_count body f.starts) 0 segs) (refused FixupData)
 
 -- What the header says of fixup data that stands at `at` in the file.
-abbrev pub fixups_of : List ℕ → ℕ → ℕ → Fixups
-fixups_of body at base =
+abbrev pub header_of : List ℕ → ℕ → ℕ → Fixups
+header_of body at base =
     record {
       at = at;
       starts = starts_offset body;
@@ -80,12 +85,13 @@ fixups_of body at base =
       base = base;
     }
 
--- The fixup data over the segments whose commands stand at segs: its header, with imports of format 1 (DYLD_CHAINED_IMPORT) and plain
--- symbol text (format 0), then the starts.
-unfoldable pub walk_of : List ℕ → List ℕ → List ℕ → ℕ → ℕ → List ℕ → Outcome (List Fixup)
-walk_of file body cmds at base segs =
+-- The same of a header that is read: with imports of format 1 (DYLD_CHAINED_IMPORT) and plain symbol text (format 0).
+unfoldable pub fixups_of : List ℕ → ℕ → ℕ → Outcome Fixups
+fixups_of body at base =
     choose (lies body 0 28)
-    (choose (imports_format body == 1)
-    (choose (symbols_format body == 0) (image_starts file body cmds (fixups_of body at base) segs) (refused FixupData))
-    (refused FixupData))
+    (choose (imports_format body == 1) (choose (symbols_format body == 0) (value (header_of body at base)) (refused FixupData)) (refused FixupData))
     (refused FixupData)
+
+-- The fixup data over the segments whose commands stand at segs: its header, then the starts.
+unfoldable pub walk_of : List ℕ → List ℕ → List ℕ → ℕ → ℕ → List ℕ → Outcome (List Fixup)
+walk_of file body cmds at base segs = and_then (fixups_of body at base) (λ f. image_starts file body cmds f segs)

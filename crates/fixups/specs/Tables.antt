@@ -78,6 +78,11 @@ abbrev pub reached : Result (Unit {0}) Question → State → Outcome State
 reached (Ok u) s = value s
 reached (Err k) s = refused k
 
+-- What a walk that finds x, and its answer r, leave of the tables o: they are the same tables, with the records of x.
+pub record Walks (x : Outcome (List Fixup)) (r : Result (Unit {0}) Question) (o p : Lists) : Type 0 where
+  pub kept : Kept o p
+  pub told : reached r (state_in p) ≡ told x (state_in o)
+
 -- And an answer of both counts.
 abbrev pub state_of : Result (ℕ × ℕ) Question → List ℕ → List ℕ → Outcome State
 state_of (Ok n) rs bs = value (state n.0 n.1 rs bs)

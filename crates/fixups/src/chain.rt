@@ -1,16 +1,38 @@
 // The chain of a page (fixup-chains.h, dyld_chained_ptr_64_rebase and dyld_chained_ptr_64_bind).
-ghost use Rattle.std.specs.Prelude.{◌≡◌, ◌<◌};
+ghost use Rattle.std.specs.Prelude.{◌≡◌, ◌+◌};
 ghost use Rattle.reads.specs.Reference.{before};
 ghost use Rattle.reads.specs.Outcome.{value, and_then};
-ghost use Rattle.fixups.specs.Chain.{target_of, entry_of, visit_of, chain_at};
-ghost use Rattle.fixups.specs.Tables.{Kept, state_in, put, told, reached, stepped, stepped_of};
+ghost use Rattle.fixups.specs.Chain.{number_of, starts_in, target_of, entry_of, visit_of, chain_at};
+ghost use Rattle.fixups.specs.Starts.{Reads};
+ghost use Rattle.fixups.specs.Tables.{Kept, Walks, state_in, put, stepped, stepped_of};
 ghost use Rattle.reads.specs.Answer.{answered};
 
-use crate::fixup_chains::DYLD_CHAINED_PTR_64_OFFSET;
-use crate::name::import_at;
+use crate::fixup_chains::{DYLD_CHAINED_PTR_64, DYLD_CHAINED_PTR_64_OFFSET};
 use crate::table::{Lists, put_bind, put_rebase};
 use reads::answer::Question;
 use reads::place::u64_from;
+
+// The pointer formats that are read (DYLD_CHAINED_PTR_64, DYLD_CHAINED_PTR_64_OFFSET).
+#[derive(Clone, Copy)]
+pub enum PointerFormat {
+    Ptr64,
+    Ptr64Offset,
+}
+
+impl TryFrom<u16> for PointerFormat {
+    type Error = Question;
+
+    ghost try_from_gives = { Reads };
+
+    #[tactic(auto, unfolding(crate::specs::Starts::known), using(std::proofs::lemmas::Bool::Decides::nat_tests))]
+    fn try_from(format: u16) -> Result<Self, Question> {
+        match format {
+            DYLD_CHAINED_PTR_64 => Ok(PointerFormat::Ptr64),
+            DYLD_CHAINED_PTR_64_OFFSET => Ok(PointerFormat::Ptr64Offset),
+            _ => Err(Question::FixupData),
+        }
+    }
+}
 
 // What the header of the fixup data says (starts_offset, imports_offset, symbols_offset, imports_count), where the fixup data stands
 // in the file, and the image base.
@@ -24,12 +46,21 @@ pub struct Fixups {
     pub base: u64,
 }
 
-// A segment with starts: its command's vmaddr and fileoff, its starts' pointer_format and page_size.
+// The fixup data of a file: the file, the fixup data's bytes, and what their header says.
+#[derive(Clone, Copy)]
+pub(crate) struct Data<'a> {
+    pub(crate) file: &'a [u8],
+    pub(crate) body: &'a [u8],
+    pub(crate) fixups: Fixups,
+}
+
+// A segment with starts: its command's vmaddr and fileoff, its seg_info_offset, its starts' pointer_format and page_size.
 #[derive(Clone, Copy)]
 pub struct Starts {
     pub vmaddr: u64,
     pub fileoff: u64,
-    pub format: u16,
+    pub info: u32,
+    pub format: PointerFormat,
     pub size: u16,
 }
 
@@ -42,27 +73,14 @@ pub enum Fixup {
 
 // The address that a rebase word holds: target 36 bits, then high8.
 #[tactic(auto, unfolding(crate::specs::Chain::target_of, crate::specs::Chain::origin_of, reads::specs::Outcome::choose), using(std::proofs::lemmas::Bool::Decides::nat_tests))]
-fn rebased(format: u16, base: u64, word: u64) -> u64
-    ensures { result ≡ target_of format base word }
+fn rebased(format: PointerFormat, base: u64, word: u64) -> u64
+    ensures { result ≡ target_of (number_of format) base word }
 {
     let own = word % 0x10_0000_0000 + word / 0x10_0000_0000 % 0x100 * 0x100_0000_0000_0000;
-    if format == DYLD_CHAINED_PTR_64_OFFSET {
-        return own.wrapping_add(base);
+    match format {
+        PointerFormat::Ptr64 => own,
+        PointerFormat::Ptr64Offset => own.wrapping_add(base),
     }
-    own
-}
-
-// The record of a slot that stands at bytes into its segment.
-#[tactic(auto, unfolding(crate::specs::Chain::entry_of, crate::specs::Chain::slot_of, reads::specs::Outcome::choose), using(std::proofs::lemmas::Bool::Decides::nat_tests))]
-fn entry_at(body: &[u8], f: Fixups, s: Starts, at: u64, word: u64) -> Result<Fixup, Question>
-    ensures { answered result ≡ entry_of (before body) f s at word }
-{
-    let slot = s.vmaddr.wrapping_add(at);
-    if word < 0x8000_0000_0000_0000 {
-        return Ok(Fixup::Rebase(slot, rebased(s.format, f.base, word)));
-    }
-    let (offset, len) = import_at(body, f, (word % 0x100_0000) as u32)?;
-    Ok(Fixup::Bind(slot, offset, len))
 }
 
 impl Lists<'_> {
@@ -82,57 +100,61 @@ impl Lists<'_> {
     }
 }
 
-// One slot of a chain: the bytes to the next.
-fn visit_slot(
-    file: &[u8],
-    body: &[u8],
-    f: Fixups,
-    s: Starts,
-    at: u64,
-    lists: &mut Lists,
-) -> Result<u64, Question>
-    requires { at < 17179869184 }
-    ensures kept { Kept lists.old lists.new }
-    ensures told { stepped_of result (state_in lists.new) ≡ and_then (visit_of (before file) (before body) f s at)
-        (λ m. value (stepped m.step (put m.fixup (state_in lists.old)))) }
-{
-    let n = file.len() as u64;
-    if n < s.fileoff {
-        return Err(Question::FixupSlot);
-    }
-    if n - s.fileoff < at + 8 {
-        return Err(Question::FixupSlot);
-    }
-    let word = u64_from(file, s.fileoff, at);
-    let x = entry_at(body, f, s, at, word)?;
-    lists.put(x);
-    Ok(word / 0x8_0000_0000_0000 % 0x1000 * 4)
-}
-
-// The chain that starts at bytes into a page.
-pub(crate) fn chain(
-    file: &[u8],
-    body: &[u8],
-    f: Fixups,
-    s: Starts,
-    page: u64,
-    start: u64,
-    lists: &mut Lists,
-) -> Result<(), Question>
-    requires { page < 8589934592 }
-    ensures kept { Kept lists.old lists.new }
-    ensures told { reached result (state_in lists.new)
-        ≡ told (chain_at (before file) (before body) f s page start) (state_in lists.old) }
-{
-    let size = u64::from(s.size);
-    let mut o = start;
-    // Not a `for`: the offset moves by the step that each slot holds.
-    while o < size {
-        let step = visit_slot(file, body, f, s, page + o, lists)?;
-        if step == 0 {
-            return Ok(());
+impl Data<'_> {
+    // The record of a slot that stands at bytes into its segment.
+    #[tactic(auto, unfolding(crate::specs::Chain::entry_of, crate::specs::Chain::slot_of, reads::specs::Outcome::choose), using(std::proofs::lemmas::Bool::Decides::nat_tests))]
+    fn entry_at(self, s: Starts, at: u64, word: u64) -> Result<Fixup, Question>
+        ensures { answered result ≡ entry_of self.entry.body.now self.entry.fixups (starts_in s) at word }
+    {
+        let slot = s.vmaddr.wrapping_add(at);
+        if word < 0x8000_0000_0000_0000 {
+            let target = rebased(s.format, self.fixups.base, word);
+            return Ok(Fixup::Rebase(slot, target));
         }
-        o += step;
+        let (offset, len) = self.import_at((word % 0x100_0000) as u32)?;
+        Ok(Fixup::Bind(slot, offset, len))
     }
-    Err(Question::FixupSlot)
+
+    // One slot of a chain, o bytes into a page: the bytes to the next.
+    fn visit_slot(self, s: Starts, page: u32, o: u32, lists: &mut Lists) -> Result<u32, Question>
+        ensures kept { Kept lists.old lists.new }
+        ensures told { stepped_of result (state_in lists.new) ≡ and_then (visit_of self.entry.file.now self.entry.body.now self.entry.fixups (starts_in s) (page + o))
+            (λ m. value (stepped m.step (put m.fixup (state_in lists.old)))) }
+    {
+        let at = u64::from(page) + u64::from(o);
+        let n = self.file.len() as u64;
+        if n < s.fileoff {
+            return Err(Question::FixupSlot);
+        }
+        if n - s.fileoff < at + 8 {
+            return Err(Question::FixupSlot);
+        }
+        let word = u64_from(self.file, s.fileoff, at);
+        let x = self.entry_at(s, at, word)?;
+        lists.put(x);
+        Ok((word / 0x8_0000_0000_0000 % 0x1000 * 4) as u32)
+    }
+
+    // The chain that starts at bytes into a page.
+    pub(crate) fn chain(
+        self,
+        s: Starts,
+        page: u32,
+        start: u16,
+        lists: &mut Lists,
+    ) -> Result<(), Question>
+        ensures { Walks (chain_at self.entry.file.now self.entry.body.now self.entry.fixups (starts_in s) page start) result lists.old lists.new }
+    {
+        let size = u32::from(s.size);
+        let mut o = u32::from(start);
+        // Not a `for`: the offset moves by the step that each slot holds.
+        while o < size {
+            let step = self.visit_slot(s, page, o, lists)?;
+            if step == 0 {
+                return Ok(());
+            }
+            o += step;
+        }
+        Err(Question::FixupSlot)
+    }
 }

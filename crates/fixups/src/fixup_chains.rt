@@ -1,7 +1,7 @@
 // The structs of fixup-chains.h that are read here: their sizes in bytes, where their fields stand, and the values that they may have.
 
 // linkedit_data_command (loader.h)
-pub(crate) const LC_DYLD_CHAINED_FIXUPS: u64 = 0x8000_0034;
+pub const LC_DYLD_CHAINED_FIXUPS: u64 = 0x8000_0034;
 
 pub(crate) const SIZEOF_LINKEDIT_DATA_COMMAND: u64 = 16;
 

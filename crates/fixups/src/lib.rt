@@ -3,7 +3,7 @@
 
 pub mod build;
 mod chain;
-mod fixup_chains;
+pub mod fixup_chains;
 pub mod name;
 mod starts;
 pub mod table;

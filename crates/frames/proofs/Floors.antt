@@ -8,7 +8,7 @@ use native.Mathlib.Omega.{arith}
 use borrow.Author.Tests.{leb-true, leb-false, ltb-true, ltb-false}
 use Rattle.reads.proofs.Tests.{by_choose}
 use Rattle.std.specs.Prelude.{Option, None, Some}
-use Rattle.frames.specs.Marks.{later, raised, met, met_all}
+use Rattle.frames.specs.Marks.{later, raised, met_in, met_all}
 use Rattle.frames.specs.declared.frames.Frames.{Frames}
 
 pub record Greatest (starts : List ℕ) (limit a : ℕ) : Type 0 where
@@ -79,14 +79,18 @@ floor_of_all limit starts = floor_after limit starts [] None (λ b m. absurd (Me
 
 -- Each floor is raised by itself.
 pub met_each : (w : Frames) (starts : List ℕ)
-    → met_all w starts
-    ≡ record {
-      any = w.any;
+    → met_all (Some w) starts
+    ≡ Some (record {
       low = w.low;
       high = w.high;
       low_floor = foldl (raised w.low) w.low_floor starts;
       high_floor = foldl (raised w.high) w.high_floor starts;
-    }
-unfolding met
+    })
+unfolding met_in
 met_each w [] = refl
-met_each w (b ∷ bs) = met_each (met w b) bs
+met_each w (b ∷ bs) = met_each (met_in w b) bs
+
+-- Where no address is possible, none is once starts are met.
+pub none_met : (starts : List ℕ) → met_all None starts ≡ None
+none_met [] = refl
+none_met (b ∷ bs) = none_met bs

@@ -1,7 +1,7 @@
 -- Floors, by what the library says of options.
 use Prim.Native.Nat.{ℕ, ◌≤◌, ◌<◌}
 use mathlib.Core.Path.{◌≡◌, refl}
-use mathlib.Core.Bool.{Bool, false}
+use mathlib.Core.Bool.{Bool}
 use native.Mathlib.Omega.{arith}
 use Rattle.std.proofs.lemmas.Bool.Decides.{nat_tests}
 use lib.Dec.{eqb}
@@ -10,8 +10,7 @@ use Rattle.std.specs.Option.{option_eq, option_cmp}
 use Rattle.std.specs.Ordering.{nat_cmp, ord_max}
 use borrow.Author.Tests.{le-leb, lt-leb}
 use Rattle.reads.specs.Outcome.{choose}
-use Rattle.frames.specs.Marks.{later, raised, is_at, mark_of}
-use Rattle.frames.specs.declared.frames.Frames.{Frames}
+use Rattle.frames.specs.Marks.{later, raised, is_at}
 
 module _ (limit : ℕ) (f : Option ℕ) (start : ℕ) where
   pub raised_past : limit < start → f ≡ raised limit f start
@@ -30,8 +29,3 @@ module _ (limit : ℕ) (f : Option ℕ) (start : ℕ) where
 pub eq_at : {b : Bool} (f : Option ℕ) (start : ℕ) → b ≡ option_eq eqb f (Some start) → b ≡ is_at f start
 eq_at None start e = e
 eq_at (Some a) start e = e
-
--- Nothing is marked where no address is possible.
-pub mark_no_pair : (w : Frames) (start : ℕ) → w.any ≡ false → 0 ≡ mark_of w start
-unfolding mark_of choose
-mark_no_pair w start e = simp e

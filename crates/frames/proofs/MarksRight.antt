@@ -8,12 +8,14 @@ use lib.Dec.{leb}
 use borrow.Author.Tests.{leb-true, leb-false, ltb-true, ltb-false, eqb-true, eqb-false}
 use Rattle.reads.specs.Outcome.{value, refused, choose}
 use Rattle.reads.proofs.Tests.{by_choose, both_true}
-use Rattle.frames.specs.Frames.{no_ranges, Pair, unslid, Says, none, marked, certain}
+use Rattle.frames.specs.Frames.{Pair, unslid, Says, none, marked, certain}
 use Rattle.std.specs.Prelude.{Option, None, Some}
-use Rattle.frames.specs.Marks.{is_at, any_pair, lowest, highest, addresses, in_order, frames_of, no_frames, met_all, mark_of}
+use Rattle.frames.specs.Marks.{is_at, any_pair, lowest, highest, addresses, in_order, frames_of, met_all, mark_in, mark_of}
 use Rattle.frames.specs.declared.frames.Frames.{Frames}
+use Rattle.frames.specs.declared.frames.Mark.{Mark}
+use Rattle.frames.specs.declared.frames.Mark.TheVariants.{Unmarked, Marked, Certain}
 use Rattle.frames.specs.declared.frames.Ranges.{Ranges}
-use Rattle.frames.proofs.Floors.{Greatest, IsFloor, floor_of_all, met_each}
+use Rattle.frames.proofs.Floors.{Greatest, IsFloor, floor_of_all, met_each, none_met}
 use Rattle.reads.specs.declared.answer.Question.TheVariants.{RangeOrder}
 
 -- A listed start at or before a limit is its floor, or another one lies after it.
@@ -85,11 +87,11 @@ module _ (x : Ranges) (frames_in_order : x.first_frame ≤ x.last_frame) (slides
 
   module _ (starts : List ℕ) (a : ℕ) where
     -- Every pair is below zero.
-    says_no_pair : x.last_frame < x.first_slide → Says x starts a 0
+    says_no_pair : x.last_frame < x.first_slide → Says x starts a Unmarked
     says_no_pair h = none (λ k. let p = k.pair in omega arith)
 
     -- It starts after the highest address.
-    says_past : highest x < a → Says x starts a 0
+    says_past : highest x < a → Says x starts a Unmarked
     says_past h = none (λ k. let q = k.holds.before in let r = to_highest k.pair in omega arith)
 
     module _ (any : x.first_slide ≤ x.last_frame) where
@@ -100,7 +102,7 @@ module _ (x : Ranges) (frames_in_order : x.first_frame ≤ x.last_frame) (slides
       at_highest = pair_at any (highest x) (omega arith) (omega arith)
 
       -- It starts after the lowest address: it holds its own, and not the lowest.
-      says_between : a ≤ highest x → lowest x < a → Says x starts a 1
+      says_between : a ≤ highest x → lowest x < a → Says x starts a Marked
       says_between h l =
           let own = pair_at any a (omega arith) h in
           let first = at_lowest in
@@ -109,7 +111,7 @@ module _ (x : Ranges) (frames_in_order : x.first_frame ≤ x.last_frame) (slides
 
       module _ (l : a ≤ lowest x) where
         -- No other start up to the highest address, so none up to any.
-        says_certain : Greatest starts (highest x) a → Says x starts a 2
+        says_certain : Greatest starts (highest x) a → Says x starts a Certain
         says_certain g =
             certain
             (record {
@@ -122,7 +124,7 @@ module _ (x : Ranges) (frames_in_order : x.first_frame ≤ x.last_frame) (slides
             })
 
         -- No other start up to the lowest address, and one up to the highest.
-        says_first : Greatest starts (lowest x) a → Other starts (highest x) a → Says x starts a 1
+        says_first : Greatest starts (lowest x) a → Other starts (highest x) a → Says x starts a Marked
         says_first g o =
             let first = at_lowest in
             let last = at_highest in
@@ -134,19 +136,17 @@ module _ (x : Ranges) (frames_in_order : x.first_frame ≤ x.last_frame) (slides
             (λ k. (k.holds last.pair).no_other o.start o.member o.after (rw last.is o.within))
 
         -- Another start up to the lowest address, so up to every one.
-        says_passed : Other starts (lowest x) a → Says x starts a 0
+        says_passed : Other starts (lowest x) a → Says x starts a Unmarked
         says_passed o =
             none (λ k. let from = from_lowest k.pair in k.holds.no_other o.start o.member o.after (omega (arith, o.within)))
 
     abbrev frames_at : Option ℕ → Option ℕ → Frames
-    frames_at f g = record { any = any_pair x; low = lowest x; high = highest x; low_floor = f; high_floor = g }
+    frames_at f g = record { low = lowest x; high = highest x; low_floor = f; high_floor = g }
 
-    says_mark : Memᴰ a starts → (f g : Option ℕ) → IsFloor starts (lowest x) f → IsFloor starts (highest x) g → Says x starts a (mark_of (frames_at f g) a)
-    unfolding mark_of
-    says_mark m f g p q =
-        by_choose (Says x starts a)
-        (λ some.
-        let any = leb-true x.first_slide x.last_frame some in
+    says_mark : x.first_slide ≤ x.last_frame → Memᴰ a starts → (f g : Option ℕ) → IsFloor starts (lowest x) f → IsFloor starts (highest x) g
+        → Says x starts a (mark_in (frames_at f g) a)
+    unfolding mark_in
+    says_mark any m f g p q =
         by_choose (Says x starts a) (λ past. says_past (ltb-true (highest x) a past))
         (λ not_past.
         let h = ltb-false (highest x) a not_past in
@@ -157,25 +157,32 @@ module _ (x : Ranges) (frames_in_order : x.first_frame ≤ x.last_frame) (slides
         (λ not_at_highest.
         by_choose (Says x starts a)
         (λ at_lowest. says_first any l (at_floor starts (lowest x) f p a at_lowest) (below_floor starts (highest x) g q a m h not_at_highest))
-        (λ not_at_lowest. says_passed any l (below_floor starts (lowest x) f p a m l not_at_lowest))))))
-        (λ no_pair. says_no_pair (leb-false x.first_slide x.last_frame no_pair))
+        (λ not_at_lowest. says_passed any l (below_floor starts (lowest x) f p a m l not_at_lowest)))))
 
--- No pair is possible where no ranges are given.
-pub no_pair_given : Pair no_ranges → ⊥
-no_pair_given p = omega (arith, p.frame_to, p.slide_from, p.not_below_zero)
+    says_met : Memᴰ a starts → Says x starts a (mark_of (met_all (addresses x) starts) a)
+    unfolding addresses choose
+    says_met m = go (any_pair x) refl
+      where
+        go : (t : Bool) → any_pair x ≡ t
+            → Says x starts a (mark_of (met_all (choose t (Some (frames_at None None)) None) starts) a)
+        go true e =
+            rw (met_each (frames_at None None) starts)
+            (says_mark (leb-true x.first_slide x.last_frame e) m _ _ (floor_of_all (lowest x) starts) (floor_of_all (highest x) starts))
+        go false e = rw (none_met starts) (says_no_pair (leb-false x.first_slide x.last_frame e))
 
-pub none_of_no_ranges : frames_of no_ranges ≡ value no_frames
-unfolding frames_of in_order addresses choose
-none_of_no_ranges = refl
+-- Where no ranges are given, nothing is marked.
+pub none_marked : (w : Option Frames) → frames_of None ≡ value w → (starts : List ℕ) (a : ℕ) → mark_of (met_all w starts) a ≡ Unmarked
+unfolding frames_of
+none_marked w e starts a = let same : None ≡ w = cc in rw (← same, none_met starts) refl
 
 -- Ranges that 23 does not refuse are in order.
-module _ (x : Ranges) (w : Frames) where
+module _ (x : Ranges) (w : Option Frames) where
   pub record Accepted : Type 0 where
     pub frames_in_order : x.first_frame ≤ x.last_frame
     pub slides_in_order : x.first_slide ≤ x.last_slide
     pub is : w ≡ addresses x
 
-  pub accepted : frames_of x ≡ value w → Accepted
+  pub accepted : frames_of (Some x) ≡ value w → Accepted
   unfolding frames_of in_order choose
   accepted e = go (in_order x) refl e
     where
@@ -189,17 +196,15 @@ module _ (x : Ranges) (w : Frames) where
           }
       go false h e = let z : ◌≡◌ {A = ℕ} 0 1 = cc in absurd (omega arith)
 
--- The mark of a listed start, after every listed start was met, in whatever order: 0 iff it is not marked, 2 iff it is certain.
-pub marks_right : (x : Ranges) (w : Frames) → frames_of x ≡ value w → (starts : List ℕ) (a : ℕ) → Memᴰ a starts
+-- The mark of a listed start, after every listed start was met, in whatever order: `Unmarked` iff it is not marked, `Certain` iff it is certain.
+pub marks_right : (x : Ranges) (w : Option Frames) → frames_of (Some x) ≡ value w → (starts : List ℕ) (a : ℕ) → Memᴰ a starts
     → Says x starts a (mark_of (met_all w starts) a)
-unfolding addresses
 marks_right x w e starts a m =
     let ok = accepted x w e in
-    rw (ok.is, met_each (addresses x) starts)
-    (says_mark x ok.frames_in_order ok.slides_in_order starts a m _ _ (floor_of_all (lowest x) starts) (floor_of_all (highest x) starts))
+    rw ok.is (says_met x ok.frames_in_order ok.slides_in_order starts a m)
 
--- One number alone says what is so.
-pub says_one : {x : Ranges} {starts : List ℕ} {a m n : ℕ} → Says x starts a m → Says x starts a n → m ≡ n
+-- One mark alone says what is so.
+pub says_one : {x : Ranges} {starts : List ℕ} {a : ℕ} {m n : Mark} → Says x starts a m → Says x starts a n → m ≡ n
 says_one (none p) (none q) = refl
 says_one (none p) (marked q r) = absurd (p q)
 says_one (none p) (certain q) = absurd (p (record { pair = q.some; holds = q.holds q.some }))

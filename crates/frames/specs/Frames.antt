@@ -2,11 +2,9 @@
 -- over pairs of a frame and a slide and over the list of starts.
 use Rattle.std.specs.Prelude.{ℕ, ◌-◌, ◌≤◌, ◌<◌}
 use mathlib.Core.List.{List, Memᴰ}
+use Rattle.frames.specs.declared.frames.Mark.{Mark}
+use Rattle.frames.specs.declared.frames.Mark.TheVariants as mark
 use Rattle.frames.specs.declared.frames.Ranges.{Ranges}
-
--- The ranges of a listing that is asked for without any: their only pair is below zero, so nothing is marked.
-abbrev pub no_ranges : Ranges
-no_ranges = record { first_frame = 0; last_frame = 0; first_slide = 1; last_slide = 1 }
 
 -- A possible pair: a frame and a slide of the two ranges, both ends included. Pairs below zero are left out.
 pub record Pair (x : Ranges) : Type 0 where
@@ -37,8 +35,8 @@ pub record Certain (x : Ranges) (starts : List ℕ) (start : ℕ) : Type 0 where
   pub some : Pair x
   pub holds : (pair : Pair x) → Holds starts start (unslid pair)
 
--- What the mark of a listed start says: 0 none, 1 marked, 2 certain.
-pub data Says (x : Ranges) (starts : List ℕ) (start : ℕ) : ℕ → Type 0 where
-  none : (Marked x starts start → ⊥) → Says x starts start 0
-  marked : Marked x starts start → (Certain x starts start → ⊥) → Says x starts start 1
-  certain : Certain x starts start → Says x starts start 2
+-- What the mark of a listed start says.
+pub data Says (x : Ranges) (starts : List ℕ) (start : ℕ) : Mark → Type 0 where
+  none : (Marked x starts start → ⊥) → Says x starts start mark.Unmarked
+  marked : Marked x starts start → (Certain x starts start → ⊥) → Says x starts start mark.Marked
+  certain : Certain x starts start → Says x starts start mark.Certain

@@ -3,6 +3,8 @@
 use Rattle.std.specs.Prelude.{ℕ, ◌-◌, Bool, false, ◌&&◌, leb, ltb, eqb, Option, None, Some}
 use mathlib.Core.List.{List, foldl}
 use Rattle.reads.specs.Outcome.{Outcome, value, refused, choose}
+use Rattle.frames.specs.declared.frames.Mark.{Mark}
+use Rattle.frames.specs.declared.frames.Mark.TheVariants.{Unmarked, Marked, Certain}
 use Rattle.frames.specs.declared.frames.Ranges.{Ranges}
 use Rattle.frames.specs.declared.frames.Frames.{Frames}
 use Rattle.reads.specs.declared.answer.Question.TheVariants.{RangeOrder}
@@ -23,23 +25,15 @@ lowest x = x.first_frame - x.last_slide
 abbrev pub highest : Ranges → ℕ
 highest x = x.last_frame - x.first_slide
 
--- The possible unslid addresses, before any start is met.
-unfoldable pub addresses : Ranges → Frames
+-- The possible unslid addresses, before any start is met; none where each pair is below zero.
+unfoldable pub addresses : Ranges → Option Frames
 addresses x =
-    record {
-      any = any_pair x;
-      low = lowest x;
-      high = highest x;
-      low_floor = None;
-      high_floor = None;
-    }
+    choose (any_pair x) (Some (record { low = lowest x; high = highest x; low_floor = None; high_floor = None })) None
 
-unfoldable pub frames_of : Ranges → Outcome Frames
-frames_of x = choose (in_order x) (value (addresses x)) (refused RangeOrder)
-
--- No possible address: what the ranges that a listing without any is given leave (proofs/MarksRight.antt, `none_of_no_ranges`).
-abbrev pub no_frames : Frames
-no_frames = record { any = false; low = 0; high = 0; low_floor = None; high_floor = None }
+-- Of the ranges that are given, if any are.
+unfoldable pub frames_of : Option Ranges → Outcome (Option Frames)
+frames_of None = value None
+frames_of (Some x) = choose (in_order x) (value (addresses x)) (refused RangeOrder)
 
 -- The greater of a floor and a start.
 abbrev pub later : Option ℕ → ℕ → Option ℕ
@@ -51,18 +45,21 @@ unfoldable pub raised : ℕ → Option ℕ → ℕ → Option ℕ
 raised limit f start = choose (leb start limit) (later f start) f
 
 -- A start is met.
-unfoldable pub met : Frames → ℕ → Frames
-met w start =
+unfoldable pub met_in : Frames → ℕ → Frames
+met_in w start =
     record {
-      any = w.any;
       low = w.low;
       high = w.high;
       low_floor = raised w.low w.low_floor start;
       high_floor = raised w.high w.high_floor start;
     }
 
+abbrev pub met : Option Frames → ℕ → Option Frames
+met None start = None
+met (Some w) start = Some (met_in w start)
+
 -- Starts are met, one after the other.
-abbrev pub met_all : Frames → List ℕ → Frames
+abbrev pub met_all : Option Frames → List ℕ → Option Frames
 met_all w starts = foldl met w starts
 
 abbrev pub is_at : Option ℕ → ℕ → Bool
@@ -70,11 +67,20 @@ is_at None start = false
 is_at (Some a) start = eqb a start
 
 -- The mark of a start, once all starts are met.
-unfoldable pub mark_of : Frames → ℕ → ℕ
-mark_of w start =
-    choose w.any
-    (choose (ltb w.high start) 0
-    (choose (ltb w.low start) 1
-    (choose (is_at w.high_floor start) 2
-    (choose (is_at w.low_floor start) 1 0))))
-    0
+unfoldable pub mark_in : Frames → ℕ → Mark
+mark_in w start =
+    choose (ltb w.high start) Unmarked
+    (choose (ltb w.low start) Marked
+    (choose (is_at w.high_floor start) Certain
+    (choose (is_at w.low_floor start) Marked Unmarked)))
+
+-- Without a possible address nothing is marked.
+abbrev pub mark_of : Option Frames → ℕ → Mark
+mark_of None start = Unmarked
+mark_of (Some w) start = mark_in w start
+
+-- The number that a mark is printed as.
+abbrev pub mark_number : Mark → ℕ
+mark_number Unmarked = 0
+mark_number Marked = 1
+mark_number Certain = 2

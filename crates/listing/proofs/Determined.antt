@@ -1,6 +1,5 @@
 -- A listing of the code is determined by its state in the words of the definitions: what a step hands back is one listing.
-use Rattle.std.proofs.Common.{◌≡◌, ℕ, ◌+◌, ◌*◌, ◌/◌, ◌%◌, ◌^◌, ◌<◌, sym, ap, ◌∙◌}
-use lib.Arith.{digits_div, digits_mod}
+use Rattle.std.proofs.Common.{◌≡◌, ℕ, ap}
 use Rattle.walks.specs.Sections.{Walk}
 use Rattle.walks.specs.Slots.{slot_walk}
 use Rattle.walks.specs.declared.slots.SlotWalk.{SlotWalk}
@@ -35,26 +34,17 @@ section_back x =
 section_same : (x y : Section) → section_walk_of x ≡ section_walk_of y → x ≡ y
 section_same x y e = ap section_back e
 
-abbrev listing_of : Setting → At → Section → ℕ → ℕ → ℕ → Listing
-listing_of u place section records high low = record { setting = u; at = place; section = section; records = records; settled_high = high; settled_low = low }
+abbrev listing_of : Setting → At → Section → ℕ → ℕ → Listing
+listing_of u place section records settled = record { setting = u; at = place; section = section; records = records; settled = settled }
 
-listing_same : {v w : Setting} {a b : At} {x y : Section} {i j h k m n : ℕ} → v ≡ w → a ≡ b → x ≡ y → i ≡ j → h ≡ k → m ≡ n
-    → listing_of v a x i h m ≡ listing_of w b y j k n
-listing_same o p q r s u = cc
+listing_same : {v w : Setting} {a b : At} {x y : Section} {i j h k : ℕ} → v ≡ w → a ≡ b → x ≡ y → i ≡ j → h ≡ k
+    → listing_of v a x i h ≡ listing_of w b y j k
+listing_same o p q r s = cc
 
-pub state_determines : (r s : Listing) → r.settled_low < 2 ^ 64 → s.settled_low < 2 ^ 64 → state_of r ≡ state_of s → r ≡ s
-state_determines r s p q e =
+pub state_determines : (r s : Listing) → state_of r ≡ state_of s → r ≡ s
+state_determines r s e =
     let under : r.setting ≡ s.setting = ap (λ (x : State). x.setting) e in
     let place : r.at ≡ s.at = ap (λ (x : State). x.at) e in
     let walk = section_same r.section s.section (ap (λ (x : State). x.section) e) in
     let records : r.records ≡ s.records = ap (λ (x : State). x.records) e in
-    let settled : r.settled_high * 2 ^ 64 + r.settled_low ≡ s.settled_high * 2 ^ 64 + s.settled_low = ap (λ (x : State). x.settled) e in
-    let high : r.settled_high ≡ s.settled_high =
-    sym (digits_div r.settled_high {m = 2 ^ 64} {r = r.settled_low} p)
-    ∙ ap (λ (n : ℕ). n / 2 ^ 64) settled
-    ∙ digits_div s.settled_high {m = 2 ^ 64} {r = s.settled_low} q in
-    let low : r.settled_low ≡ s.settled_low =
-    sym (digits_mod r.settled_high {m = 2 ^ 64} {r = r.settled_low} p)
-    ∙ ap (λ (n : ℕ). n % 2 ^ 64) settled
-    ∙ digits_mod s.settled_high {m = 2 ^ 64} {r = s.settled_low} q in
-    listing_same under place walk records high low
+    listing_same under place walk records (ap (λ (x : State). x.settled) e)

@@ -102,7 +102,7 @@ five_lines =
     ∷ class_line_lem
     ∷ line.Ro hub_class_ro
     ∷ row_line_lem
-    ∷ line.End (record { records = 1; settled_high = 0; settled_low = 2 })
+    ∷ line.End (record { records = 1; settled = 2 })
     ∷ []
 
 pub hub_listing : plain.plain_listing hub ≡ value five_lines

@@ -2,8 +2,6 @@
 pub mod Measured
 pub mod BundleWords
 pub mod BundleCases
-pub mod TwoWords
-pub mod ListFields
 pub mod ListingSteps
 pub mod Determined
 pub mod Remaining
@@ -30,3 +28,4 @@ pub mod NodeListing
 pub mod EndingCases
 pub mod HubListing
 pub mod Cases
+pub mod TwoWords

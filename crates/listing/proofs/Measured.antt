@@ -9,7 +9,8 @@ use Rattle.pointers.specs.Question.{every}
 use Rattle.pointers.specs.Tables.{section_table_words}
 use Rattle.pointers.proofs.Questions.{every_at}
 use Rattle.listing.specs.declared.bundle.Counts.{Counts}
-use Rattle.std.specs.Prelude.{Result, Ok}
+use Rattle.std.specs.Prelude.{Result, Ok, Bool, ◌&&◌, refl}
+use Rattle.std.specs.List.{list_all, range_with_len}
 use Rattle.reads.specs.Answer.{outcome}
 use Rattle.reads.specs.declared.answer.Missing.{Missing}
 use Rattle.reads.specs.declared.answer.Question.TheVariants.{BundleLength}
@@ -18,6 +19,21 @@ use Rattle.reads.specs.declared.answer.Question.TheVariants.{BundleLength}
 pub said_length_lem : (c : Counts)
     → said_length c ≡ 96 + 8 * (5 * c.segments + 15 + 2 * c.rebases + 4 * c.binds) + c.image0 + c.image1 + c.image2 + c.image3
 said_length_lem c = omega arith
+
+-- Seven tests, from the first on and from the last.
+pub all_seven : (test : ℕ → Bool) → list_all test (range_with_len 0 7) ≡ every test 7
+unfolding every
+all_seven test = go (test 0) (test 1) (test 2) (test 3) (test 4) (test 5) (test 6)
+  where
+    go : (a b c d e f g : Bool) → a && (b && (c && (d && (e && (f && (g && true)))))) ≡ ((((((true && a) && b) && c) && d) && e) && f) && g
+    go false b c d e f g = refl
+    go true false c d e f g = refl
+    go true true false d e f g = refl
+    go true true true false e f g = refl
+    go true true true true false f g = refl
+    go true true true true true false g = refl
+    go true true true true true true false = refl
+    go true true true true true true true = refl
 
 module _ (bytes : List ℕ) where
   -- A count above 32,768 alone makes the said length greater: the counts of a short bundle fit.

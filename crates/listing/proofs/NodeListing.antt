@@ -194,7 +194,7 @@ twelve_lines =
     ∷ plain.row_line 0 go_row
     ∷ plain.row_line 1 go_row
     ∷ plain.name_line 2 (text_of 1 5 5)
-    ∷ line.End (record { records = 4; settled_high = 0; settled_low = 6 })
+    ∷ line.End (record { records = 4; settled = 6 })
     ∷ []
 
 -- Both entries of the list are settled once for each field that names it: by the metaclass, which is record 1, and twice by the category.

@@ -1,10 +1,12 @@
--- Numbers of two words of 64 bits, high x 2^64 + low: their words, and one more.
-use Rattle.std.proofs.Common.{◌≡◌, ℕ, ◌+◌, ◌*◌, ◌/◌, ◌%◌, ◌^◌, ◌<◌, Bool, true, false, ltb, sym, refl, ap, ◌∙◌, mod-eq_of_lt, arith, ltb-false, ltb-true, eq-eqb, ne_eqb}
+-- Numbers of two words of 64 bits, high x 2^64 + low, as which a number of 128 bits was counted: their words, and one more.
+use Rattle.std.proofs.Common.{◌≡◌, ℕ, ◌+◌, ◌*◌, ◌/◌, ◌%◌, ◌^◌, ◌<◌, Bool, true, false, ltb, sym, refl, ap, ◌∙◌, mod-eq_of_lt, arith, ltb-false, ltb-true, eqb, eq-eqb, ne_eqb, ◌≤◌}
 use lib.Arith.{digits_div, digits_mod, mod-mul}
 use Rattle.reads.proofs.Tests.{choose_true, choose_false}
-use Rattle.listing.specs.Listing.{carried}
-use Rattle.listing.specs.PlainListing.{end_line}
-use Rattle.listing.specs.declared.line.Line.TheVariants as line
+use Rattle.reads.specs.Outcome.{choose}
+
+-- A high word, after the low word became `low` by one more.
+abbrev pub carried : ℕ → ℕ → ℕ
+carried high low = choose (eqb low 0) ((high + 1) % 2 ^ 64) high
 
 -- The words of a number modulo 2^128.
 words_modulo : (n q r : ℕ) → n ≡ q * 2 ^ 64 + r → r < 2 ^ 64 → n % 2 ^ 128 ≡ q % 2 ^ 64 * 2 ^ 64 + r
@@ -37,7 +39,6 @@ one_more high low h g = go (ltb (low + 1) (2 ^ 64)) refl
         let zero : (low + 1) % 2 ^ 64 ≡ 0 = rw full in
         rw (zero, choose_true _ high (eq-eqb 0 0 refl)) (next_high high low full)
 
--- The line E of two words.
-pub end_words : (records high low : ℕ) → low < 2 ^ 64
-    → line.End (record { records = records; settled_high = high; settled_low = low }) ≡ end_line records (high * 2 ^ 64 + low)
-end_words records high low h = rw (digits_div high {m = 2 ^ 64} {r = low} h, digits_mod high {m = 2 ^ 64} {r = low} h)
+-- A number of at least k that is not k is above k.
+pub past_key : (k n : ℕ) → k ≤ n → (n ≡ k → ⊥) → k + 1 ≤ n
+past_key k n h e = omega arith

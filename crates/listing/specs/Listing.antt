@@ -1,7 +1,7 @@
 -- The listing, step by step (document 01, "The program's listing" and Steps): its state, and what a step says, hands back and leaves in the
 -- ledger.
-use Rattle.std.specs.Prelude.{ℕ, zero, suc, ◌+◌, ◌%◌, ◌^◌, List, [], ◌∷◌, drop, ◌==◌, Option}
-use Rattle.reads.specs.Outcome.{Outcome, value, absent, refused, choose}
+use Rattle.std.specs.Prelude.{ℕ, zero, suc, ◌+◌, ◌%◌, ◌^◌, List, [], ◌∷◌, drop, Option}
+use Rattle.reads.specs.Outcome.{Outcome, value, absent, refused}
 use Rattle.reads.specs.declared.answer.Reason.{Reason}
 use Rattle.pointers.specs.Question.{asked, guarded}
 use Rattle.pointers.specs.Tables.{Tables, under}
@@ -23,6 +23,8 @@ use Rattle.listing.specs.declared.absence.Absence.{Absence}
 use Rattle.listing.specs.declared.absence.Absence.TheVariants as absence
 use Rattle.listing.specs.declared.at.At.{At}
 use Rattle.listing.specs.declared.at.At.TheVariants as place
+use Rattle.listing.specs.declared.at.Field as declared
+use Rattle.listing.specs.declared.at.Field.TheVariants as a_field
 use Rattle.listing.specs.declared.at.FieldWalk.{FieldWalk}
 use Rattle.listing.specs.declared.at.FieldWalk.TheVariants as field_walk
 use Rattle.listing.specs.declared.at.Owner.{Owner}
@@ -43,10 +45,19 @@ owner_fields (an_owner.Category c) = category_fields c
 abbrev pub in_list : Owner → ℕ → FieldWalk → At
 in_list o n w = place.List n (record { walk = w; owner = o })
 
--- At the start of list n, which a field names; the walk over it begins under a setting.
+-- The field that the code finds.
+abbrev pub field_of : declared.Field → Field
+field_of (a_field.Rows k va) = row_list k va
+field_of (a_field.Names va) = name_list va
+
+-- The walk over the list that a field names, begun under a setting.
+abbrev pub started : Setting → Field → FieldWalk
+started u (row_list k va) = field_walk.Rows (walk_of u va k 0)
+started u (name_list va) = field_walk.Names (walk_at u va 0)
+
+-- At the start of list n, which a field names.
 abbrev pub at_field : Setting → Owner → ℕ → Field → At
-at_field u o n (row_list k va) = in_list o n (field_walk.Rows (walk_of u va k 0))
-at_field u o n (name_list va) = in_list o n (field_walk.Names (walk_at u va 0))
+at_field u o n f = in_list o n (started u f)
 
 -- At the first of the fields from list n on; with none left the section goes on.
 abbrev pub at_first : Setting → Owner → ℕ → List Field → At
@@ -122,7 +133,7 @@ state u at section records settled = record { setting = u; at = at; section = se
 abbrev pub start : Setting → State
 start u = state u place.Info (classes u at_start) 0 0
 
--- The state at another place, under its setting; in another section; with one record more; with one entry settled more, a number of two words.
+-- The state at another place, under its setting; in another section; with one record more; with one entry settled more, a number of 128 bits.
 abbrev pub go_to : State → At → State
 go_to s next = state s.setting next s.section s.records s.settled
 
@@ -134,10 +145,6 @@ with_record s next = state s.setting next s.section ((s.records + 1) % 2 ^ 64) s
 
 abbrev pub with_entry : State → At → State
 with_entry s next = state s.setting next s.section s.records ((s.settled + 1) % 2 ^ 128)
-
--- A high word, after the low word became `low` by one more.
-abbrev pub carried : ℕ → ℕ → ℕ
-carried high low = choose (low == 0) ((high + 1) % 2 ^ 64) high
 
 -- What a step says where no question refuses it: a line; what is absent and why, of which nothing is printed; nothing; or the end.
 pub data Answer : Type 0 where

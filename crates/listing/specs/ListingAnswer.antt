@@ -1,5 +1,5 @@
 -- What the code's listing and its answers mean in the words of the definitions.
-use Rattle.std.specs.Prelude.{ℕ, ◌+◌, ◌*◌, ◌^◌, List, Result, Ok, Err}
+use Rattle.std.specs.Prelude.{ℕ, List, Result, Ok, Err}
 use Rattle.reads.specs.Outcome.{Outcome, value, refused}
 use Rattle.walks.specs.Sections.{record_answer, class_walk, category_walk, protocol_walk}
 use Rattle.listing.specs.Listing.{Begun, begun, SectionWalk, walks, SectionLeft, State, state, Answer, says, lacks, nothing, ended, Left, leaves}
@@ -34,7 +34,7 @@ section_left_of r l = record { answer = record_answer r.taken; section = section
 
 -- The entries settled are a number of two words.
 abbrev pub state_of : Listing → State
-state_of s = state s.setting s.at (section_walk_of s.section) s.records (s.settled_high * 2 ^ 64 + s.settled_low)
+state_of s = state s.setting s.at (section_walk_of s.section) s.records s.settled
 
 abbrev pub answer_of : Said → Answer
 answer_of (said.Line x) = says x

@@ -1,7 +1,7 @@
 -- The plain listing of tables (document 01, "The program's listing"): a direct definition from the section walks' records and the readable
 -- entries of their lists, with no state and no ledger. A number that a lookup gives is its outcome; over what opening accepted there is none.
-use Rattle.std.specs.Prelude.{ℕ, suc, ◌/◌, ◌%◌, ◌^◌, List, [], ◌∷◌, ◌++◌, length, Some, None, Option}
-use Rattle.reads.specs.Outcome.{Outcome, value, absent, refused, and_then}
+use Rattle.std.specs.Prelude.{ℕ, suc, List, [], ◌∷◌, ◌++◌, length, Some, None, Option}
+use Rattle.reads.specs.Outcome.{Outcome, value, absent, refused, and_then, optional}
 use Rattle.reads.specs.Place.{le_in}
 use Rattle.reads.specs.declared.text.Text.{Text}
 use Rattle.reads.specs.declared.answer.Reason.{Reason}
@@ -25,6 +25,7 @@ use Rattle.records.specs.declared.row.Row.{Row}
 use Rattle.walks.specs.Gather.{joined, gather, of_value, as_each}
 use Rattle.walks.specs.PlainSections.{plain_classes, plain_protocols, plain_categories}
 use Rattle.walks.specs.ProtocolNames.{protocol_names}
+use Rattle.frames.specs.declared.frames.Mark.TheVariants.{Unmarked}
 use Rattle.listing.specs.declared.at.Record.{Record}
 use Rattle.listing.specs.declared.at.Record.TheVariants as a_record
 use Rattle.listing.specs.declared.line.Line.{Line}
@@ -40,9 +41,7 @@ info_line i u = line.Info (record { info = i; reading = u.reading })
 
 -- A name, or none; a number stays.
 abbrev pub name_or_none : Outcome Text → Outcome (Option Text)
-name_or_none (value t) = value (Some t)
-name_or_none (absent r) = value None
-name_or_none (refused k) = refused k
+name_or_none o = optional o
 
 -- C or M; K.
 abbrev pub class_line : ObjcClass → Option Text → Line
@@ -53,15 +52,14 @@ category_line c name = line.Category (record { category = c; class_name = name }
 
 -- m, v or p, before a method gets its mark; q: under the list's number.
 abbrev pub row_line : ℕ → Row → Line
-row_line n r = line.Row (record { list = n; row = r; mark = 0 })
+row_line n r = line.Row (record { list = n; row = r; mark = Unmarked })
 
 abbrev pub name_line : ℕ → Text → Line
 name_line n name = line.Name (record { list = n; name = name })
 
--- E: the second number in two words.
+-- E.
 abbrev pub end_line : ℕ → ℕ → Line
-end_line records settled =
-    line.End (record { records = records; settled_high = settled / 2 ^ 64; settled_low = settled % 2 ^ 64 })
+end_line records settled = line.End (record { records = records; settled = settled })
 
 -- A list that a field of a record names: of rows, or of protocol names.
 pub data Field : Type 0 where

@@ -1,7 +1,8 @@
 // Where a listing stands: before a line that is due, in a section, in a list of a record, or at its end.
-ghost use Rattle.std.specs.Prelude.{◌≡◌, suc, drop};
-ghost use Rattle.listing.specs.PlainListing.{row_list, name_list, ro_fields, protocol_fields, category_fields};
-ghost use Rattle.listing.specs.Listing.{at_field, at_first, enter};
+ghost use Rattle.std.specs.Prelude.{◌≡◌, suc, map, slice_get};
+ghost use Rattle.std.specs.Option.{option_map};
+ghost use Rattle.listing.specs.PlainListing.{ro_fields, protocol_fields, category_fields};
+ghost use Rattle.listing.specs.Listing.{owner_fields, field_of, started, enter};
 
 use pointers::setting::Setting;
 use records::category::ObjcCategory;
@@ -43,7 +44,8 @@ pub struct ListAt {
 
 // What the next step does: the line of the image info; a step of the section walk; the line of a record that the section gave; the line
 // of a class's class_ro; a step over the record's list of that number; nothing, after the last line. The number has 16 bits: it parts the
-// seven bytes between the case and the words after it, which would be copied by themselves at each step (docs/PERFORMANCE.md).
+// seven bytes between the case and the words after it, which each step would copy by themselves, in two overlapping halves for which the next
+// load waits, into one, two and four, which are copied as numbers (docs/DECISIONS.md, 62).
 #[derive(Clone, Copy)]
 pub enum At {
     Info,
@@ -54,93 +56,74 @@ pub enum At {
     End,
 }
 
+// A list of a record: of rows of a kind, or of protocol names; and its address.
+#[derive(Clone, Copy)]
+pub(crate) enum Field {
+    Rows(ListKind, u64),
+    Names(u64),
+}
+
+impl Field {
+    // The walk over it, before its first entry.
+    fn start(self, setting: Setting) -> FieldWalk
+        ensures { result ≡ started setting (field_of self) }
+    {
+        match self {
+            Field::Rows(kind, list) => FieldWalk::Rows(ListWalk::starting(setting, list, kind)),
+            Field::Names(list) => FieldWalk::Names(ProtocolNameWalk::starting(setting, list)),
+        }
+    }
+}
+
+// Methods, ivars, properties, protocols.
+fn class_lists(ro: ClassRo) -> [Field; 4]
+    ensures { map field_of result ≡ ro_fields ro }
+{
+    [
+        Field::Rows(ListKind::Methods, ro.methods),
+        Field::Rows(ListKind::Ivars, ro.ivars),
+        Field::Rows(ListKind::Properties, ro.properties),
+        Field::Names(ro.protocols),
+    ]
+}
+
+// As stored, with class properties sixth and protocols last.
+fn protocol_lists(protocol: ObjcProtocol) -> [Field; 7]
+    ensures { map field_of result ≡ protocol_fields protocol }
+{
+    [
+        Field::Rows(ListKind::Methods, protocol.instance_methods),
+        Field::Rows(ListKind::Methods, protocol.class_methods),
+        Field::Rows(ListKind::Methods, protocol.optional_instance_methods),
+        Field::Rows(ListKind::Methods, protocol.optional_class_methods),
+        Field::Rows(ListKind::Properties, protocol.instance_properties),
+        Field::Rows(ListKind::Properties, protocol.class_properties),
+        Field::Names(protocol.protocols),
+    ]
+}
+
+// Methods, class methods, protocols, properties, class properties.
+fn category_lists(category: ObjcCategory) -> [Field; 5]
+    ensures { map field_of result ≡ category_fields category }
+{
+    [
+        Field::Rows(ListKind::Methods, category.instance_methods),
+        Field::Rows(ListKind::Methods, category.class_methods),
+        Field::Names(category.protocols),
+        Field::Rows(ListKind::Properties, category.instance_properties),
+        Field::Rows(ListKind::Properties, category.class_properties),
+    ]
+}
+
 impl Owner {
-    // The start of list n, a list of rows, under a setting.
-    fn row_list(self, setting: Setting, n: u16, kind: ListKind, list: u64) -> At
-        ensures { result ≡ at_field setting self n (row_list kind list) }
+    // List n, if the record has so many.
+    fn list(self, n: usize) -> Option<Field>
+        ensures { option_map field_of result ≡ slice_get (owner_fields self) n }
     {
-        At::List(
-            n,
-            ListAt {
-                walk: FieldWalk::Rows(ListWalk::starting(setting, list, kind)),
-                owner: self,
-            },
-        )
-    }
-
-    // The start of list n, a list of protocol names.
-    fn name_list(self, setting: Setting, n: u16, list: u64) -> At
-        ensures { result ≡ at_field setting self n (name_list list) }
-    {
-        At::List(
-            n,
-            ListAt {
-                walk: FieldWalk::Names(ProtocolNameWalk::starting(setting, list)),
-                owner: self,
-            },
-        )
-    }
-
-    // List n of a class: methods, ivars, properties, protocols.
-    fn class_list(self, setting: Setting, ro: ClassRo, n: u16) -> At
-        ensures { result ≡ at_first setting self n (drop n (ro_fields ro)) }
-    {
-        match n {
-            0 => self.row_list(setting, n, ListKind::Methods, ro.methods),
-            1 => self.row_list(setting, n, ListKind::Ivars, ro.ivars),
-            2 => self.row_list(setting, n, ListKind::Properties, ro.properties),
-            3 => self.name_list(setting, n, ro.protocols),
-            _ => At::Section,
-        }
-    }
-
-    // List n of a protocol: as stored, with class properties sixth and protocols last.
-    fn protocol_list(self, setting: Setting, protocol: ObjcProtocol, n: u16) -> At
-        ensures { result ≡ at_first setting self n (drop n (protocol_fields protocol)) }
-    {
-        match n {
-            0 => self.row_list(setting, n, ListKind::Methods, protocol.instance_methods),
-            1 => self.row_list(setting, n, ListKind::Methods, protocol.class_methods),
-            2 => self.row_list(
-                setting,
-                n,
-                ListKind::Methods,
-                protocol.optional_instance_methods,
-            ),
-            3 => self.row_list(
-                setting,
-                n,
-                ListKind::Methods,
-                protocol.optional_class_methods,
-            ),
-            4 => self.row_list(
-                setting,
-                n,
-                ListKind::Properties,
-                protocol.instance_properties,
-            ),
-            5 => self.row_list(setting, n, ListKind::Properties, protocol.class_properties),
-            6 => self.name_list(setting, n, protocol.protocols),
-            _ => At::Section,
-        }
-    }
-
-    // List n of a category: methods, class methods, protocols, properties, class properties.
-    fn category_list(self, setting: Setting, category: ObjcCategory, n: u16) -> At
-        ensures { result ≡ at_first setting self n (drop n (category_fields category)) }
-    {
-        match n {
-            0 => self.row_list(setting, n, ListKind::Methods, category.instance_methods),
-            1 => self.row_list(setting, n, ListKind::Methods, category.class_methods),
-            2 => self.name_list(setting, n, category.protocols),
-            3 => self.row_list(
-                setting,
-                n,
-                ListKind::Properties,
-                category.instance_properties,
-            ),
-            4 => self.row_list(setting, n, ListKind::Properties, category.class_properties),
-            _ => At::Section,
+        match self {
+            Owner::Class(ro) => class_lists(ro).get(n).copied(),
+            Owner::Protocol(protocol) => protocol_lists(protocol).get(n).copied(),
+            Owner::Category(category) => category_lists(category).get(n).copied(),
         }
     }
 
@@ -148,23 +131,22 @@ impl Owner {
     pub(crate) fn enter(self, setting: Setting, n: u16) -> At
         ensures { result ≡ enter setting self n }
     {
-        match self {
-            Owner::Class(ro) => self.class_list(setting, ro, n),
-            Owner::Protocol(protocol) => self.protocol_list(setting, protocol, n),
-            Owner::Category(category) => self.category_list(setting, category, n),
+        match self.list(n as usize) {
+            Some(list) => At::List(
+                n,
+                ListAt {
+                    walk: list.start(setting),
+                    owner: self,
+                },
+            ),
+            None => At::Section,
         }
     }
-
-    // The most lists of a record.
-    const MOST_LISTS: u16 = 7;
 
     // The start of the list after list n.
     pub(crate) fn enter_after(self, setting: Setting, n: u16) -> At
         ensures { result ≡ enter setting self (suc n) }
     {
-        if n < Owner::MOST_LISTS {
-            return self.enter(setting, n + 1);
-        }
-        At::Section
+        self.enter(setting, n.saturating_add(1))
     }
 }

@@ -27,7 +27,8 @@ const FIRST_SLIDE_AT: u64 = LAST_FRAME_AT + 8;
 const LAST_SLIDE_AT: u64 = FIRST_SLIDE_AT + 8;
 
 // How many segments, rebases and binds a bundle has, and how many bytes each of the image's four files. Counts of an
-// accepted bundle fit 32 bits, and no sum below passes 64 bits then.
+// accepted bundle fit 32 bits, and no sum below passes 64 bits then. Four fields and not `[u32; 4]` with one `image_at(k)`: that would be a sum
+// by a loop, with k below 4 in its contract, and what follows from the four places would need it taken apart again.
 #[derive(Clone, Copy)]
 pub struct Counts {
     pub segments: u32,
@@ -156,12 +157,7 @@ pub fn words_at(bundle: &[u8], offset: usize, to: &mut [u64])
 fn counts_fit(bundle: &[u8]) -> bool
     ensures { result ≡ counts_fit (before bundle) }
 {
-    for k in 0..COUNTS {
-        if word_at(bundle, 8 * k) > LONGEST {
-            return false;
-        }
-    }
-    true
+    (0..COUNTS).all(|k| word_at(bundle, 8 * k) <= LONGEST)
 }
 
 // Count k of seven that fit.

@@ -1,4 +1,5 @@
 // The lines of a listing (document 01, "The program's listing"): each line's fields, which a program only prints.
+use frames::frames::Mark;
 use pointers::imageinfo::ImageInfo;
 use reads::text::{Reading, Text};
 use records::category::ObjcCategory;
@@ -27,12 +28,12 @@ pub struct CategoryLine {
     pub class_name: Option<Text>,
 }
 
-// m, v or p: a row of the record's list of that number; and the mark of a method, which crate `marking` sets: 0 before that, and of v and p.
+// m, v or p: a row of the record's list of that number; and the mark of a method, which crate `marking` sets: `Unmarked` before that, and of v and p.
 #[derive(Clone, Copy)]
 pub struct RowLine {
     pub list: u16,
     pub row: Row,
-    pub mark: u8,
+    pub mark: Mark,
 }
 
 // q: a protocol name of the record's list of that number.
@@ -42,12 +43,11 @@ pub struct NameLine {
     pub name: Text,
 }
 
-// E: records (lines C, M, P and K), and entries settled, a number of two words: high x 2^64 + low.
+// E: records (lines C, M, P and K), and entries settled.
 #[derive(Clone, Copy)]
 pub struct EndLine {
     pub records: u64,
-    pub settled_high: u64,
-    pub settled_low: u64,
+    pub settled: u128,
 }
 
 #[derive(Clone, Copy)]

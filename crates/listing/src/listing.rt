@@ -9,7 +9,7 @@ ghost use Rattle.walks.specs.ProtocolNames.{name_left};
 ghost use Rattle.walks.specs.Walk.{row_left};
 ghost use Rattle.listing.specs.PlainListing.{version_and_flags, name_or_none, end_line};
 ghost use Rattle.listing.specs.declared.at.At.TheVariants as place;
-ghost use Rattle.listing.specs.Listing.{enter, start, go_to, in_section, with_record, with_entry, carried, says, lacks, nothing, leaves, onward, after_section, on_section, record_said, class_said, category_said, record_step, by_ro, after_row, after_name, list_step, step_at, listing_step};
+ghost use Rattle.listing.specs.Listing.{enter, start, go_to, in_section, with_record, with_entry, says, lacks, nothing, leaves, onward, after_section, on_section, record_said, class_said, category_said, record_step, by_ro, after_row, after_name, list_step, step_at, listing_step};
 ghost use Rattle.listing.specs.ListingAnswer.{section_walk_of, section_left_of, state_of, left_of};
 ghost use Rattle.reads.specs.Answer.{outcome, answered};
 
@@ -17,11 +17,12 @@ use crate::absence::{Absence, SkippedEntry, UnnamedSlot};
 use crate::at::{At, FieldWalk, ListAt, Owner, Record};
 use crate::line::{CategoryLine, ClassLine, EndLine, InfoLine, Line, NameLine, RowLine};
 use crate::section::{Section, SectionStepped};
+use frames::frames::Mark;
 use pointers::imageinfo::ImageInfo;
 use pointers::question::ask;
 use pointers::setting::Setting;
 use pointers::tables::Tables;
-use reads::answer::{Missing, Question};
+use reads::answer::{Missing, Question, optional};
 use reads::place::u32_from;
 use reads::text::{Reading, Text};
 use records::category::ObjcCategory;
@@ -30,18 +31,18 @@ use walks::list_walk::{ListStep, ListStepped};
 use walks::protocol_names::{NameStep, ProtocolNameStepped};
 use walks::sections::RecordStep;
 
-// The setting that the listing began with; where it stands; the records so far; the entries settled so far, high x 2^64 + low.
+// The setting that the listing began with; where it stands; the records so far; the entries settled so far.
 #[derive(Clone, Copy)]
 pub struct Listing {
     setting: Setting,
     at: At,
     section: Section,
     records: u64,
-    settled_high: u64,
-    settled_low: u64,
+    settled: u128,
 }
 
-// What a step says: a line; what is absent and why; nothing; or the listing has ended.
+// What a step says: a line; what is absent and why; nothing; or the listing has ended. `Nothing` is a step with nothing to print, a case and no
+// Option: with one each match would have two levels, `Ok(Some(Said::Line(line)))` and `Ok(None)`.
 #[derive(Clone, Copy)]
 pub enum Said {
     Line(Line),
@@ -57,34 +58,14 @@ pub struct Listed {
     pub listing: Listing,
 }
 
-// An absent name is none.
-fn name_or_none(answer: Result<Text, Missing>) -> Result<Option<Text>, Question>
-    ensures { answered result ≡ name_or_none (outcome answer) }
-{
-    match answer {
-        Ok(text) => Ok(Some(text)),
-        Err(Missing::Absent(_)) => Ok(None),
-        Err(Missing::Refused(k)) => Err(k),
-    }
-}
-
-// The image info of at least 8 bytes.
+// The image info of at least 8 bytes. Not `ImageInfo::parse`: question 4, which the step asks, finds fewer, so its absence would be an arm that
+// never runs.
 fn version_and_flags(info: &[u8]) -> ImageInfo
     ensures { result ≡ version_and_flags (before info) }
 {
     let version = u32_from(info, 0, 0);
     let flags = u32_from(info, 0, 4);
     ImageInfo { version, flags }
-}
-
-// The high word after the low word became `low` by one more.
-fn carried(high: u64, low: u64) -> u64
-    ensures { result ≡ carried high low }
-{
-    if low == 0 {
-        return high.wrapping_add(1);
-    }
-    high
 }
 
 impl Listing {
@@ -97,8 +78,7 @@ impl Listing {
             at: At::Info,
             section: Section::at_stage(setting, Section::CLASSES),
             records: 0,
-            settled_high: 0,
-            settled_low: 0,
+            settled: 0,
         }
     }
 
@@ -153,15 +133,13 @@ impl Listing {
         }
     }
 
-    // At another place, with one entry settled more: the high word takes the low word's carry.
+    // At another place, with one entry settled more.
     fn with_entry(self, at: At) -> Listing
         ensures { state_of result ≡ with_entry (state_of self) at }
     {
-        let settled_low = self.settled_low.wrapping_add(1);
         Listing {
             at,
-            settled_high: carried(self.settled_high, settled_low),
-            settled_low,
+            settled: self.settled.wrapping_add(1),
             ..self
         }
     }
@@ -237,12 +215,9 @@ impl Listing {
     fn end(self) -> Line
         ensures { result ≡ end_line self.records (state_of self).settled }
     {
-        let high = self.settled_high;
-        let low = self.settled_low;
         Line::End(EndLine {
             records: self.records,
-            settled_high: high,
-            settled_low: low,
+            settled: self.settled,
         })
     }
 
@@ -317,7 +292,7 @@ impl Listing {
     fn class_said(self, class: ObjcClass, name: Result<Text, Missing>) -> Listed
         ensures { (l : List ℕ) → left_of result l ≡ class_said (state_of self) l class (name_or_none (outcome name)) }
     {
-        match name_or_none(name) {
+        match optional(name) {
             Ok(superclass_name) => {
                 let line = Line::Class(ClassLine {
                     class,
@@ -333,7 +308,7 @@ impl Listing {
     fn category_said(self, category: ObjcCategory, name: Result<Text, Missing>) -> Listed
         ensures { (l : List ℕ) → left_of result l ≡ category_said (state_of self) l category (name_or_none (outcome name)) }
     {
-        match name_or_none(name) {
+        match optional(name) {
             Ok(class_name) => {
                 let line = Line::Category(CategoryLine {
                     category,
@@ -355,7 +330,7 @@ impl Listing {
         let setting = self.setting;
         match found {
             Record::Class(class) => {
-                let name = class.superclass_name(tables, setting);
+                let name = class.superclass_name(&tables.under(setting));
                 self.class_said(class, name)
             }
             Record::Protocol(protocol) => {
@@ -364,7 +339,7 @@ impl Listing {
                 self.if_asked(tables, listed)
             }
             Record::Category(category) => {
-                let name = category.class_name(tables, setting);
+                let name = category.class_name(&tables.under(setting));
                 self.category_said(category, name)
             }
         }
@@ -416,7 +391,11 @@ impl Listing {
         match walked {
             Ok(ListStep::Row(row)) => {
                 let listing = self.with_entry(at);
-                listing.says(Line::Row(RowLine { list, row, mark: 0 }))
+                listing.says(Line::Row(RowLine {
+                    list,
+                    row,
+                    mark: Mark::Unmarked,
+                }))
             }
             Ok(ListStep::Skipped(index, why)) => {
                 let listing = self.with_entry(at);
@@ -500,7 +479,7 @@ impl Listing {
             At::Record(found) => self.record_step(tables, found),
             At::Ro(class) => {
                 let setting = self.setting;
-                let answer = class.ro(tables, setting);
+                let answer = class.ro(&tables.under(setting));
                 self.ro_said(answer)
             }
             At::List(n, list) => self.list_step(tables, n, list),

@@ -13,7 +13,8 @@ use reads::answer::Question;
 use walks::sections::{CategoryWalk, ClassWalk, ProtocolWalk, RecordStep};
 
 // The section walks side by side, and which is under way: 0, 1, and from 2 on the last. The others stand at their starts, or where a state
-// that no step handed back has them. The stage is a word, so that no hole stands before the walks (docs/PERFORMANCE.md).
+// that no step handed back has them. The stage is a word: an enum's byte before the walks leaves seven, which each step would copy by themselves,
+// in two overlapping halves for which the next load waits (docs/DECISIONS.md, 62).
 #[derive(Clone, Copy)]
 pub struct Section {
     pub(crate) stage: u64,

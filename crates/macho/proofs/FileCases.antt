@@ -13,7 +13,7 @@ use Rattle.pointers.specs.Question.{question, image_fits, whole_rows, section_fi
 use Rattle.pointers.specs.Symbol.{ascii, starts}
 use Rattle.macho.specs.Commands.{headed, sectioned, fits, all_fit, asked_commands, of_kind}
 use Rattle.macho.specs.Segments.{segment_rows, written}
-use Rattle.macho.specs.Sections.{headers_from, sections_of, named, first_named, section_rows}
+use Rattle.macho.specs.Sections.{headers_from, sections_of, named, first_named, section_row, section_rows}
 use Rattle.macho.specs.FileTables.{over_file, file_tables}
 use Rattle.macho.specs.OpenFile.{segment_table_words, asked_lent, asked_file, opening_file, segments_left}
 use Rattle.reads.specs.declared.answer.Question.TheVariants.{SegmentTable, SectionTable, ImageInfoLength, Header, LoadCommands}
@@ -70,7 +70,7 @@ pub tables_case : (rebases binds index : List ℕ) → file_tables good rebases 
     (1 ∷ 0x1000 ∷ 16 ∷ 0 ∷ 0 ∷ 0 ∷ 0 ∷ 0 ∷ 0 ∷ 0 ∷ 0 ∷ 0 ∷ 1 ∷ 0x1040 ∷ 0 ∷ [])
     (0 ∷ 0 ∷ 0 ∷ 0 ∷ 0x40 ∷ 0 ∷ 0 ∷ 0 ∷ [])
     rebases binds index
-unfolding file_tables good made header commands command sections section u32 u64 le_in le fits sectioned of_kind segment_rows headers_from sections_of named starts first_named section_rows choose
+unfolding file_tables good made header commands command sections section u32 u64 le_in le fits sectioned of_kind segment_rows headers_from sections_of named starts first_named section_row section_rows choose
 tables_case rebases binds index = refl
 
 -- 15: 31 bytes; the magic of a 32-bit file.
@@ -114,35 +114,35 @@ lent_sections_case rebases binds index = refl
 
 -- 3: a section longer than the file, 585 bytes of 584.
 pub long_section_case : (rebases binds index : List ℕ) → opening_file (made 0xFEEDFACF 2 544 472 576 585) (replicate segment_table_words 0) (replicate 15 0) rebases binds index ≡ refused SectionTable
-unfolding good made header commands command sections section u32 u64 le_in le choose opening_file asked_file asked_commands asked_lent question headed all_fit fits sectioned image_fits of_kind file_tables segment_rows headers_from sections_of named starts first_named section_rows opening asked_opening asked_tables whole_rows segment_files longest section_table every section_fits
+unfolding good made header commands command sections section u32 u64 le_in le choose opening_file asked_file asked_commands asked_lent question headed all_fit fits sectioned image_fits of_kind file_tables segment_rows headers_from sections_of named starts first_named section_row section_rows opening asked_opening asked_tables whole_rows segment_files longest section_table every section_fits
 long_section_case rebases binds index = refl
 
 -- 4: no section of image info; seven bytes of it before the file's end.
 pub no_info_case : (rebases binds index : List ℕ) → opening_file (made 0xFEEDFACF 1 544 472 576 0) (replicate segment_table_words 0) (replicate 15 0) rebases binds index ≡ refused ImageInfoLength
-unfolding good made header commands command sections section u32 u64 le_in le choose opening_file asked_file asked_commands asked_lent question headed all_fit fits sectioned image_fits of_kind file_tables segment_rows headers_from sections_of named starts first_named section_rows opening asked_opening asked_tables whole_rows segment_files longest section_table every section_fits info_whole
+unfolding good made header commands command sections section u32 u64 le_in le choose opening_file asked_file asked_commands asked_lent question headed all_fit fits sectioned image_fits of_kind file_tables segment_rows headers_from sections_of named starts first_named section_row section_rows opening asked_opening asked_tables whole_rows segment_files longest section_table every section_fits info_whole
 no_info_case rebases binds index = refl
 
 pub cut_info_case : (rebases binds index : List ℕ) → opening_file (made 0xFEEDFACF 2 544 472 577 0) (replicate segment_table_words 0) (replicate 15 0) rebases binds index ≡ refused ImageInfoLength
-unfolding good made header commands command sections section u32 u64 le_in le choose opening_file asked_file asked_commands asked_lent question headed all_fit fits sectioned image_fits of_kind file_tables segment_rows headers_from sections_of named starts first_named section_rows opening asked_opening asked_tables whole_rows segment_files longest section_table every section_fits info_whole
+unfolding good made header commands command sections section u32 u64 le_in le choose opening_file asked_file asked_commands asked_lent question headed all_fit fits sectioned image_fits of_kind file_tables segment_rows headers_from sections_of named starts first_named section_row section_rows opening asked_opening asked_tables whole_rows segment_files longest section_table every section_fits info_whole
 cut_info_case rebases binds index = refl
 
 -- The file itself: two segments, and image info at 576. Bytes that sizeofcmds counts after the last command are no matter.
 pub opened_case : opening_file good (replicate segment_table_words 7) (replicate 15 7) [] [] (replicate 8192 0)
     ≡ value (record { segments = 2; info = info_of 0 0x40; info_at = 576; info_len = 8 })
-unfolding good made header commands command sections section u32 u64 le_in le choose opening_file asked_file asked_commands asked_lent question headed all_fit fits sectioned image_fits of_kind file_tables segment_rows headers_from sections_of named starts first_named section_rows opening asked_opening asked_tables whole_rows segment_files longest section_table every section_fits info_whole bind_files names_inside names_utf8 asked_index index_fits image_info
+unfolding good made header commands command sections section u32 u64 le_in le choose opening_file asked_file asked_commands asked_lent question headed all_fit fits sectioned image_fits of_kind file_tables segment_rows headers_from sections_of named starts first_named section_row section_rows opening asked_opening asked_tables whole_rows segment_files longest section_table every section_fits info_whole bind_files names_inside names_utf8 asked_index index_fits image_info
 opened_case = refl
 
 pub spare_case : opening_file (made 0xFEEDFACF 2 552 472 576 0) (replicate segment_table_words 7) (replicate 15 7) [] [] (replicate 8192 0)
     ≡ value (record { segments = 2; info = info_of 0 0x40; info_at = 576; info_len = 8 })
-unfolding good made header commands command sections section u32 u64 le_in le choose opening_file asked_file asked_commands asked_lent question headed all_fit fits sectioned image_fits of_kind file_tables segment_rows headers_from sections_of named starts first_named section_rows opening asked_opening asked_tables whole_rows segment_files longest section_table every section_fits info_whole bind_files names_inside names_utf8 asked_index index_fits image_info
+unfolding good made header commands command sections section u32 u64 le_in le choose opening_file asked_file asked_commands asked_lent question headed all_fit fits sectioned image_fits of_kind file_tables segment_rows headers_from sections_of named starts first_named section_row section_rows opening asked_opening asked_tables whole_rows segment_files longest section_table every section_fits info_whole bind_files names_inside names_utf8 asked_index index_fits image_info
 spare_case = refl
 
 -- Its rows at the start of the segment table, and the words past them as they were; with 3 all words as they were.
 pub segments_left_case : segments_left good (replicate segment_table_words 7) (replicate 15 7) [] [] (replicate 8192 0)
     ≡ 0 ∷ 0x1000 ∷ 0 ∷ 0x240 ∷ 0 ∷ 0x1000 ∷ 0x2000 ∷ 0x240 ∷ 0x40 ∷ 0 ∷ replicate (segment_table_words - 2 * segment_words) 7
-unfolding segments_left written good made header commands command sections section u32 u64 le_in le choose opening_file asked_file asked_commands asked_lent question headed all_fit fits sectioned image_fits of_kind file_tables segment_rows headers_from sections_of named starts first_named section_rows opening asked_opening asked_tables whole_rows segment_files longest section_table every section_fits info_whole bind_files names_inside names_utf8 asked_index index_fits image_info
+unfolding segments_left written good made header commands command sections section u32 u64 le_in le choose opening_file asked_file asked_commands asked_lent question headed all_fit fits sectioned image_fits of_kind file_tables segment_rows headers_from sections_of named starts first_named section_row section_rows opening asked_opening asked_tables whole_rows segment_files longest section_table every section_fits info_whole bind_files names_inside names_utf8 asked_index index_fits image_info
 segments_left_case = refl
 
 pub segments_kept_case : (rebases binds index : List ℕ) → segments_left (made 0xFEEDFACF 2 544 472 576 585) (replicate segment_table_words 7) (replicate 15 7) rebases binds index ≡ replicate segment_table_words 7
-unfolding segments_left written good made header commands command sections section u32 u64 le_in le choose opening_file asked_file asked_commands asked_lent question headed all_fit fits sectioned image_fits of_kind file_tables segment_rows headers_from sections_of named starts first_named section_rows opening asked_opening asked_tables whole_rows segment_files longest section_table every section_fits
+unfolding segments_left written good made header commands command sections section u32 u64 le_in le choose opening_file asked_file asked_commands asked_lent question headed all_fit fits sectioned image_fits of_kind file_tables segment_rows headers_from sections_of named starts first_named section_row section_rows opening asked_opening asked_tables whole_rows segment_files longest section_table every section_fits
 segments_kept_case rebases binds index = refl

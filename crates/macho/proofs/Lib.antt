@@ -1,5 +1,4 @@
 -- Laws that the proofs of macho share, and that the crates above cite.
-pub mod Numbers
 pub mod Commands
 pub mod Tables
 pub mod Asking

@@ -16,7 +16,7 @@ use Rattle.pointers.proofs.Opens.{opened_index_by}
 use Rattle.macho.specs.Loader.{ncmds}
 use Rattle.macho.specs.Commands.{command_bytes, segments_of}
 use Rattle.macho.specs.Segments.{segment_table_of, written}
-use Rattle.macho.specs.Sections.{section_named, info_name, section_table_of}
+use Rattle.macho.specs.Sections.{info_section_of, section_table_of}
 use Rattle.macho.specs.FileTables.{segment_table, section_table, over_file, file_tables}
 use Rattle.macho.specs.OpenFile.{asked_file, opened_file, opening_file, segments_left, sections_left, index_left, Buffers}
 use Rattle.macho.specs.declared.section.Section.{Section}
@@ -43,7 +43,7 @@ module _ (file segments sections rebases binds index : List ℕ) (asked : asked_
   -- What the code read of the file, and what opening over that answered.
   module _
       (cmds : List ℕ) (count : ℕ) (s : Section) (body : List ℕ)
-      (c : cmds ≡ command_bytes file) (n : count ≡ ncmds file) (f : s ≡ section_named cmds count info_name) (b : body ≡ part file s.offset s.size)
+      (c : cmds ≡ command_bytes file) (n : count ≡ ncmds file) (f : s ≡ info_section_of cmds count) (b : body ≡ part file s.offset s.size)
       (w : Result ImageInfo Missing) (e : outcome w ≡ opening (over_file file (segment_table_of cmds count) (section_table_of cmds count) body rebases binds index)) where
     same : over_file file (segment_table_of cmds count) (section_table_of cmds count) body rebases binds index ≡ file_tables file rebases binds index
     unfolding file_tables

@@ -1,10 +1,9 @@
 -- The header and the load commands of a 64-bit little-endian Mach-O file (loader.h), and what 15 and 16 ask of them (document 02, note 3).
-use Rattle.std.specs.Prelude.{ℕ, zero, suc, ◌+◌, Bool, true, false, ◌&&◌, List, [], ◌∷◌, ◌++◌, leb, eqb, length}
+use Rattle.std.specs.Prelude.{ℕ, zero, suc, ◌+◌, Bool, true, ◌&&◌, List, [], ◌∷◌, ◌++◌, leb, eqb, length}
 use Rattle.reads.specs.Outcome.{Outcome, and_then, choose}
 use Rattle.reads.specs.Place.{part}
 use Rattle.pointers.specs.Question.{question}
 use Rattle.macho.specs.Loader.{magic, ncmds, sizeofcmds, cmd, cmdsize, segment_kind, nsects, size_with_sections}
-use Rattle.macho.specs.declared.command.Found.{Found}
 use Rattle.macho.specs.declared.command.CommandsOfKind.{CommandsOfKind}
 use Rattle.reads.specs.declared.answer.Question.TheVariants.{Header, LoadCommands}
 
@@ -45,20 +44,6 @@ of_kind kind cmds (suc k) a =
 abbrev pub segments_of : List ℕ → ℕ → List ℕ
 segments_of cmds count = of_kind segment_kind cmds count 0
 
-abbrev pub found_at : ℕ → ℕ → ℕ → Found
-found_at at left next = record { here = true; at = at; left = left; next = next }
-
-abbrev pub found_none : Found
-found_none = record { here = false; at = 0; left = 0; next = 0 }
-
--- The first of one kind among the k commands from a on, and how many commands are left after it, from where on.
-unfoldable pub first_of : ℕ → List ℕ → ℕ → ℕ → Found
-first_of kind cmds zero a = found_none
-first_of kind cmds (suc k) a =
-    choose (fits cmds a)
-    (choose (eqb (cmd cmds a) kind) (found_at a k (a + cmdsize cmds a)) (first_of kind cmds k (a + cmdsize cmds a)))
-    found_none
-
 -- Where those stand that the iterator has yet to give.
 abbrev pub offsets : CommandsOfKind → List ℕ
-offsets c = of_kind c.kind c.cmds.now c.left c.at
+offsets c = of_kind c.kind c.bytes.now c.left c.at

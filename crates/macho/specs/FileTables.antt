@@ -5,7 +5,7 @@ use Rattle.pointers.specs.Tables.{Tables, tables_of}
 use Rattle.macho.specs.Loader.{ncmds}
 use Rattle.macho.specs.Commands.{command_bytes, segments_of}
 use Rattle.macho.specs.Segments.{segment_table_of}
-use Rattle.macho.specs.Sections.{section_named, info_name, section_table_of}
+use Rattle.macho.specs.Sections.{info_section_of, section_table_of}
 use Rattle.macho.specs.declared.section.Section.{Section}
 
 -- The segment commands of the file, and its two tables.
@@ -20,7 +20,7 @@ section_table file = section_table_of (command_bytes file) (ncmds file)
 
 -- The section of the image info, and the bytes that its offset and size name, cut at the file's end; none where it is absent.
 abbrev pub info_section : List ℕ → Section
-info_section file = section_named (command_bytes file) (ncmds file) info_name
+info_section file = info_section_of (command_bytes file) (ncmds file)
 
 abbrev pub info_bytes : List ℕ → List ℕ
 info_bytes file = part file (info_section file).offset (info_section file).size

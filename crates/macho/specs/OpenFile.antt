@@ -10,13 +10,13 @@ use Rattle.pointers.specs.Index.{indexed}
 use Rattle.pointers.specs.Open.{opening, left_by}
 use Rattle.pointers.specs.declared.imageinfo.ImageInfo.{ImageInfo}
 use Rattle.macho.specs.Commands.{asked_commands}
-use Rattle.macho.specs.Segments.{written}
+use Rattle.macho.specs.Segments.{segment_table_of, written}
+use Rattle.macho.specs.Sections.{section_table_of}
 use Rattle.macho.specs.FileTables.{file_segments, segment_table, section_table, info_section, info_bytes, over_file, file_tables}
 use Rattle.macho.specs.declared.open.OpenedFile.{OpenedFile}
 use Rattle.macho.specs.declared.open.Lent.{Lent}
 use Rattle.reads.specs.declared.answer.Question.TheVariants.{FileLength, SegmentTable, SectionTable}
 
--- Document 01's outcome of each case of the code's answer.
 -- The words lent for 64 segments.
 abbrev pub segment_table_words : ℕ
 segment_table_words = 64 * segment_words
@@ -69,6 +69,11 @@ later_tables file segments sections rebases binds index o =
 abbrev pub opening_lent : List ℕ → Lent → Outcome OpenedFile
 opening_lent file l = opening_file file l.segments.now l.sections.now l.rebases.now l.binds.now l.index.now
 
+-- The tables that the commands of a file define, with its image info and what is lent as one.
+abbrev pub tables_over : List ℕ → List ℕ → ℕ → List ℕ → Lent → Tables
+tables_over file cmds count info l =
+    over_file file (segment_table_of cmds count) (section_table_of cmds count) info l.rebases.now l.binds.now l.index.now
+
 -- What the buffers that opening writes hold, and what it leaves there.
 pub record Buffers : Type 0 where
   pub segments : List ℕ
@@ -77,6 +82,10 @@ pub record Buffers : Type 0 where
 
 abbrev pub buffers : Lent → Buffers
 buffers l = record { segments = l.segments.now; sections = l.sections.now; index = l.index.now }
+
+-- The buffers as they are, but for what the index then holds.
+abbrev pub indexed_by : Lent → List ℕ → Buffers
+indexed_by l index = record { segments = l.segments.now; sections = l.sections.now; index = index }
 
 abbrev pub buffers_left : List ℕ → Lent → Buffers
 buffers_left file l =

@@ -1,5 +1,6 @@
 -- The section table that loader.h defines (section_64): the first section of each name.
-use Rattle.std.specs.Prelude.{ℕ, zero, suc, ◌+◌, ◌-◌, Bool, List, [], ◌∷◌, ◌++◌, length, replicate}
+use Rattle.std.specs.Prelude.{ℕ, zero, suc, ◌+◌, ◌-◌, Bool, List, [], ◌∷◌, ◌++◌, length, replicate, Option, None, Some}
+use Rattle.std.specs.Option.{unwrap_or}
 use Rattle.reads.specs.Outcome.{choose}
 use Rattle.pointers.specs.Symbol.{ascii, starts}
 use Rattle.macho.specs.Loader.{nsects, addr, size, offset, name_at}
@@ -17,22 +18,22 @@ sections_of cmds [] = []
 sections_of cmds (a ∷ others) = headers_from (nsects cmds a) (a + 72) ++ sections_of cmds others
 
 abbrev pub section_at : List ℕ → ℕ → Section
-section_at cmds b = record { present = 1; addr = addr cmds b; size = size cmds b; offset = offset cmds b }
+section_at cmds b = record { addr = addr cmds b; size = size cmds b; offset = offset cmds b }
 
--- An absent section: its words are 0.
+-- One without bytes.
 abbrev pub section_none : Section
-section_none = record { present = 0; addr = 0; size = 0; offset = 0 }
+section_none = record { addr = 0; size = 0; offset = 0 }
 
 -- The name at an offset is this one, of 16 bytes: all 16 are equal.
 unfoldable pub named : List ℕ → List ℕ → ℕ → Bool
 named cmds name at = starts name (name_at cmds at)
 
 -- The first section of a name, among the headers that stand at the offsets given.
-unfoldable pub first_named : List ℕ → List ℕ → List ℕ → Section
-first_named cmds name [] = section_none
-first_named cmds name (b ∷ bs) = choose (named cmds name b) (section_at cmds b) (first_named cmds name bs)
+unfoldable pub first_named : List ℕ → List ℕ → List ℕ → Option Section
+first_named cmds name [] = None
+first_named cmds name (b ∷ bs) = choose (named cmds name b) (Some (section_at cmds b)) (first_named cmds name bs)
 
-abbrev pub section_named : List ℕ → ℕ → List ℕ → Section
+abbrev pub section_named : List ℕ → ℕ → List ℕ → Option Section
 section_named cmds count name = first_named cmds name (sections_of cmds (segments_of cmds count))
 
 -- A name is 16 bytes, filled with zeros.
@@ -52,9 +53,14 @@ section_names =
 abbrev pub info_name : List ℕ
 info_name = padded (ascii "__objc_imageinfo")
 
--- present, vmaddr, length.
-abbrev pub section_row : Section → List ℕ
-section_row s = s.present ∷ s.addr ∷ s.size ∷ []
+-- The section of the image info: one without bytes where it is absent.
+abbrev pub info_section_of : List ℕ → ℕ → Section
+info_section_of cmds count = unwrap_or (section_named cmds count info_name) section_none
+
+-- present, vmaddr, length: zeros for an absent one.
+unfoldable pub section_row : Option Section → List ℕ
+section_row None = 0 ∷ 0 ∷ 0 ∷ []
+section_row (Some s) = 1 ∷ s.addr ∷ s.size ∷ []
 
 -- The rows of the sections of the names given, among the headers that stand at the offsets given.
 unfoldable pub section_rows : List ℕ → List ℕ → List (List ℕ) → List ℕ

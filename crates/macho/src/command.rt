@@ -1,33 +1,42 @@
-// The load commands (loader.h, load_command): their bytes are lent as `cmds`.
-ghost use Rattle.std.specs.Prelude.{◌≡◌};
+// The load commands (loader.h, load_command).
+ghost use Rattle.std.specs.Prelude.{◌≡◌, ◌<◌, ◌^◌};
 ghost use Rattle.reads.specs.Reference.{before};
 ghost use Rattle.std.specs.Iterator.{YieldsFirst, item_count};
-ghost use Rattle.macho.specs.Commands.{fits, all_fit, asked_commands, first_of, of_kind, offsets};
+ghost use Rattle.macho.specs.Loader.{ncmds};
+ghost use Rattle.macho.specs.Commands.{fits, all_fit, asked_commands, command_bytes, of_kind, offsets};
 ghost use Rattle.reads.specs.Answer.{answered};
 
-use crate::header::{command_bytes, command_count, headed};
+use crate::header::headed;
 use crate::loader::{
-    CMD, CMDSIZE, LC_SEGMENT_64, NSECTS, SIZEOF_LOAD_COMMAND, SIZEOF_SECTION_64,
-    SIZEOF_SEGMENT_COMMAND_64,
+    CMD, CMDSIZE, LC_SEGMENT_64, NCMDS, NSECTS, SIZEOF_LOAD_COMMAND, SIZEOF_MACH_HEADER_64,
+    SIZEOF_SECTION_64, SIZEOF_SEGMENT_COMMAND_64, SIZEOFCMDS,
 };
 use crate::number::field32;
 use reads::answer::Question;
+use reads::place::part;
 
-// A command that was looked for: where it stands, and how many commands are left after it, from where on.
+// The bytes of the commands, and how many the header counts.
 #[derive(Clone, Copy)]
-pub struct Found {
-    pub here: bool,
-    pub at: u64,
-    pub left: u64,
-    pub next: u64,
+pub struct Commands<'a> {
+    pub bytes: &'a [u8],
+    pub count: u64,
+}
+
+// The commands of a kind, in order, as where each stands; one that does not fit ends them.
+#[derive(Clone, Copy)]
+pub struct CommandsOfKind<'a> {
+    bytes: &'a [u8],
+    kind: u64,
+    left: u64,
+    at: u64,
 }
 
 // 16, of the command at an offset.
 #[tactic(auto, unfolding(crate::specs::Commands::fits, crate::specs::Commands::sectioned, reads::specs::Outcome::choose), using(std::proofs::lemmas::Bool::Decides::nat_tests))]
-fn command_fits(cmds: &[u8], at: u64) -> bool
-    ensures { result ≡ fits (before cmds) at }
+fn command_fits(bytes: &[u8], at: u64) -> bool
+    ensures { result ≡ fits (before bytes) at }
 {
-    let n = cmds.len() as u64;
+    let n = bytes.len() as u64;
     if n < at {
         return false;
     }
@@ -35,93 +44,57 @@ fn command_fits(cmds: &[u8], at: u64) -> bool
     if room < SIZEOF_LOAD_COMMAND {
         return false;
     }
-    let size = field32(cmds, at, CMDSIZE);
+    let size = field32(bytes, at, CMDSIZE);
     if size < SIZEOF_LOAD_COMMAND {
         return false;
     }
     if room < size {
         return false;
     }
-    if field32(cmds, at, CMD) != LC_SEGMENT_64 {
+    if field32(bytes, at, CMD) != LC_SEGMENT_64 {
         return true;
     }
-    SIZEOF_SEGMENT_COMMAND_64 + SIZEOF_SECTION_64 * field32(cmds, at, NSECTS) <= size
+    SIZEOF_SEGMENT_COMMAND_64 + SIZEOF_SECTION_64 * field32(bytes, at, NSECTS) <= size
 }
 
-// 16: does each command fit?
-fn commands_fit(cmds: &[u8], count: u64) -> bool
-    ensures { result ≡ all_fit (before cmds) count 0 }
-{
-    let mut at = 0;
-    for _ in 0..count {
-        if !command_fits(cmds, at) {
-            return false;
+impl<'a> Commands<'a> {
+    // Those of a file.
+    pub fn of(file: &'a [u8]) -> Commands<'a>
+        ensures bytes { result.bytes.now ≡ command_bytes (before file) }
+        ensures count { (result.count ≡ ncmds (before file)) × (result.count < 2 ^ 32) }
+    {
+        let size = field32(file, 0, SIZEOFCMDS);
+        Commands {
+            bytes: part(file, SIZEOF_MACH_HEADER_64, size),
+            count: field32(file, 0, NCMDS),
         }
-        at += field32(cmds, at, CMDSIZE);
     }
-    true
-}
 
-// 15, then 16.
-#[tactic(auto, unfolding(crate::specs::Commands::asked_commands), using(pointers::proofs::Questions::in_order))]
-pub fn ask_commands(file: &[u8]) -> Result<(), Question>
-    ensures { answered result ≡ asked_commands (before file) }
-{
-    if !headed(file) {
-        return Err(Question::Header);
-    }
-    if !commands_fit(command_bytes(file), command_count(file)) {
-        return Err(Question::LoadCommands);
-    }
-    Ok(())
-}
-
-// The first command of a kind among `count` commands from an offset on; one that does not fit ends them.
-pub fn find(cmds: &[u8], kind: u64, count: u64, from: u64) -> Found
-    ensures { result ≡ first_of kind (before cmds) count from }
-{
-    let mut at = from;
-    for left in (0..count).rev() {
-        if !command_fits(cmds, at) {
-            break;
+    // 16: does each command fit?
+    fn fit(self) -> bool
+        ensures { result ≡ all_fit self.entry.bytes.now self.entry.count 0 }
+    {
+        // `at` is moved by hand: only a command's own bytes say where the next stands.
+        let mut at = 0;
+        for _ in 0..self.count {
+            if !command_fits(self.bytes, at) {
+                return false;
+            }
+            at += field32(self.bytes, at, CMDSIZE);
         }
-        let next = at + field32(cmds, at, CMDSIZE);
-        if field32(cmds, at, CMD) == kind {
-            return Found {
-                here: true,
-                at,
-                left,
-                next,
-            };
+        true
+    }
+
+    // Those of a kind.
+    pub fn of_kind(self, kind: u64) -> CommandsOfKind<'a>
+        ensures { offsets result ≡ of_kind kind self.entry.bytes.now self.entry.count 0 }
+    {
+        CommandsOfKind {
+            bytes: self.bytes,
+            kind,
+            left: self.count,
+            at: 0,
         }
-        at = next;
-    }
-    Found {
-        here: false,
-        at: 0,
-        left: 0,
-        next: 0,
-    }
-}
-
-// The commands of a kind, in order, as where each stands; one that does not fit ends them.
-#[derive(Clone, Copy)]
-pub struct CommandsOfKind<'a> {
-    cmds: &'a [u8],
-    kind: u64,
-    left: u64,
-    at: u64,
-}
-
-// Those among `count` commands.
-pub fn commands(cmds: &[u8], kind: u64, count: u64) -> CommandsOfKind
-    ensures { offsets result ≡ of_kind kind (before cmds) count 0 }
-{
-    CommandsOfKind {
-        cmds,
-        kind,
-        left: count,
-        at: 0,
     }
 }
 
@@ -133,9 +106,34 @@ impl Iterator for CommandsOfKind<'_> {
     ghost remaining = { item_count offsets };
 
     fn next(&mut self) -> Option<u64> {
-        let found = find(self.cmds, self.kind, self.left, self.at);
-        self.left = found.left;
-        self.at = found.next;
-        if found.here { Some(found.at) } else { None }
+        // `at` is moved by hand, as in `fit`.
+        let mut at = self.at;
+        for left in (0..self.left).rev() {
+            if !command_fits(self.bytes, at) {
+                break;
+            }
+            let next = at + field32(self.bytes, at, CMDSIZE);
+            if field32(self.bytes, at, CMD) == self.kind {
+                self.left = left;
+                self.at = next;
+                return Some(at);
+            }
+            at = next;
+        }
+        None
     }
+}
+
+// 15, then 16.
+#[tactic(auto, unfolding(crate::specs::Commands::asked_commands), using(pointers::proofs::Questions::in_order))]
+pub fn ask_commands(file: &[u8]) -> Result<(), Question>
+    ensures { answered result ≡ asked_commands (before file) }
+{
+    if !headed(file) {
+        return Err(Question::Header);
+    }
+    if !Commands::of(file).fit() {
+        return Err(Question::LoadCommands);
+    }
+    Ok(())
 }

@@ -2,7 +2,7 @@
 #![tactic(auto)]
 
 pub mod command;
-pub mod header;
+mod header;
 pub mod loader;
 pub mod number;
 pub mod open;

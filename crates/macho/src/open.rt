@@ -8,18 +8,20 @@ ghost use Rattle.macho.specs.Commands.{segments_of};
 ghost use Rattle.macho.specs.Segments.{segment_table_of};
 ghost use Rattle.macho.specs.Sections.{section_table_of};
 ghost use Rattle.macho.specs.FileTables.{over_file};
-ghost use Rattle.macho.specs.OpenFile.{Kept, asked_lent, asked_file, opening_lent, buffers, buffers_left};
+ghost use Rattle.macho.specs.OpenFile.{Kept, asked_lent, asked_file, opening_lent, tables_over, buffers, indexed_by, buffers_left};
 ghost use Rattle.reads.specs.Answer.{outcome, answered};
 
-use crate::command::ask_commands;
-use crate::header::{command_bytes, command_count, range_of};
-use crate::section::{IMAGE_INFO, section_named, write_sections};
+use crate::command::{Commands, ask_commands};
+use crate::section::{info_section, write_sections};
 use crate::segment::{segment_count, write_segments};
 use pointers::imageinfo::ImageInfo;
 use pointers::open::open;
 use pointers::question::image_fits;
 use pointers::section::ObjcSection;
+use pointers::setting::Setting;
+use pointers::tables::Tables;
 use reads::answer::{Missing, Question};
+use reads::place::{Image, part};
 use reads::segment::Segment;
 
 // The most segments that question 2 takes, and the words that are lent for them.
@@ -58,7 +60,7 @@ fn ask_lent(file: &[u8], segments: usize, sections: usize) -> Result<(), Questio
     if segments != SEGMENT_TABLE_WORDS {
         return Err(Question::SegmentTable);
     }
-    if segment_count(command_bytes(file), command_count(file)) > MOST_SEGMENTS {
+    if segment_count(Commands::of(file)) > MOST_SEGMENTS {
         return Err(Question::SegmentTable);
     }
     if sections != ObjcSection::TABLE_WORDS {
@@ -76,60 +78,39 @@ fn ask_file(file: &[u8], segments: usize, sections: usize) -> Result<(), Questio
     ask_lent(file, segments, sections)
 }
 
-// Opens over the first words of a segment table.
-// Not a struct, here and below: the two put together what `pointers::open::open` takes.
-fn open_part(
-    file: &[u8],
-    segments: &[u64],
-    words: usize,
-    sections: &[u64],
-    info: &[u8],
-    rebases: &[u64],
-    binds: &[u64],
-    index: &mut [u32],
-) -> Result<ImageInfo, Missing>
-    requires { words ≤ length segments.now }
-    ensures outcome { let t = over_file (before file) (take words (before segments)) (before sections) (before info) (before rebases) (before binds) index.old in
-        outcome result ≡ opening t }
-    ensures contents { let t = over_file (before file) (take words (before segments)) (before sections) (before info) (before rebases) (before binds) index.old in
-        index.new ≡ opened_index t }
-{
-    let files = [file];
-    open(
-        &files,
-        &segments[0..words],
-        sections,
-        info,
-        rebases,
-        binds,
-        index,
-    )
-}
-
-// Opens over the tables that would be filled: they are made here, so that nothing lent is written where a question says no.
+// Opens over the tables that would be filled: they are made here, so that nothing lent but the index is written.
 fn open_tables(
     file: &[u8],
-    cmds: &[u8],
-    count: u64,
+    cmds: Commands,
     info: &[u8],
-    rebases: &[u64],
-    binds: &[u64],
-    index: &mut [u32],
+    lent: &mut Lent,
 ) -> Result<ImageInfo, Missing>
-    requires { length (segments_of cmds.now count) ≤ 64 }
-    ensures outcome { let t = over_file (before file) (segment_table_of (before cmds) count) (section_table_of (before cmds) count) (before info) (before rebases) (before binds) index.old in
+    requires { length (segments_of cmds.bytes.now cmds.count) ≤ 64 }
+    ensures kept { Kept lent.old lent.new }
+    ensures outcome { let t = tables_over (before file) cmds.entry.bytes.now cmds.entry.count (before info) lent.old in
         outcome result ≡ opening t }
-    ensures contents { let t = over_file (before file) (segment_table_of (before cmds) count) (section_table_of (before cmds) count) (before info) (before rebases) (before binds) index.old in
-        index.new ≡ opened_index t }
+    ensures left { let t = tables_over (before file) cmds.entry.bytes.now cmds.entry.count (before info) lent.old in
+        buffers lent.new ≡ indexed_by lent.old (opened_index t) }
 {
     let mut segments = [0u64; SEGMENT_TABLE_WORDS];
-    write_segments(cmds, count, &mut segments);
-    let words = Segment::WORDS * segment_count(cmds, count) as usize;
+    write_segments(cmds, &mut segments);
+    let words = Segment::WORDS * segment_count(cmds) as usize;
     let mut sections = [0u64; ObjcSection::TABLE_WORDS];
-    write_sections(cmds, count, &mut sections);
-    open_part(
-        file, &segments, words, &sections, info, rebases, binds, index,
-    )
+    write_sections(cmds, &mut sections);
+    let files = [file];
+    let tables = Tables {
+        image: Image {
+            files: &files,
+            segments: &segments[0..words],
+        },
+        sections: &sections,
+        info,
+        rebases: lent.rebases,
+        binds: lent.binds,
+        index: &[],
+        setting: Setting::new(),
+    };
+    open(&tables, lent.index)
 }
 
 // Opens over the tables for the file; then fills them into what is lent.
@@ -139,19 +120,14 @@ fn fill_file(file: &[u8], lent: &mut Lent) -> Result<OpenedFile, Missing>
     ensures outcome { outcome result ≡ opening_lent (before file) lent.old }
     ensures left { buffers lent.new ≡ buffers_left (before file) lent.old }
 {
-    let cmds = command_bytes(file);
-    let count = command_count(file);
-    let name = IMAGE_INFO;
-    let section = section_named(cmds, count, &name);
-    let info = range_of(file, section.offset, section.size);
-    let rebases = lent.rebases;
-    let binds = lent.binds;
-    let index = &mut *lent.index;
-    let i = open_tables(file, cmds, count, info, rebases, binds, index)?;
-    write_segments(cmds, count, lent.segments);
-    write_sections(cmds, count, lent.sections);
+    let cmds = Commands::of(file);
+    let section = info_section(cmds);
+    let info = part(file, section.offset, section.size);
+    let i = open_tables(file, cmds, info, lent)?;
+    write_segments(cmds, lent.segments);
+    write_sections(cmds, lent.sections);
     Ok(OpenedFile {
-        segments: segment_count(cmds, count),
+        segments: segment_count(cmds),
         info: i,
         info_at: section.offset,
         info_len: info.len() as u64,

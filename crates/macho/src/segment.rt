@@ -6,7 +6,7 @@ ghost use Rattle.reads.specs.Segment.{segment_words};
 ghost use Rattle.macho.specs.Commands.{segments_of};
 ghost use Rattle.macho.specs.Segments.{segment_row, segment_table_of, written};
 
-use crate::command::commands;
+use crate::command::Commands;
 use crate::loader::{FILEOFF, FILESIZE, LC_SEGMENT_64, VMADDR, VMSIZE};
 use reads::place::u64_from;
 use reads::segment::Segment;
@@ -15,34 +15,34 @@ use reads::segment::Segment;
 const FILE: u64 = 0;
 
 // How many segments there are.
-pub(crate) fn segment_count(cmds: &[u8], count: u64) -> u64
-    ensures { result ≡ length (segments_of (before cmds) count) }
+#[tactic(auto, using(crate::proofs::Commands::few))]
+pub(crate) fn segment_count(cmds: Commands) -> u64
+    ensures { result ≡ length (segments_of cmds.entry.bytes.now cmds.entry.count) }
 {
-    commands(cmds, LC_SEGMENT_64, count).count() as u64
+    cmds.of_kind(LC_SEGMENT_64).count() as u64
 }
 
 // Writes the row of the segment command at an offset, from word i on.
-fn put_segment(cmds: &[u8], at: u64, table: &mut [u64], i: usize)
+#[tactic(auto, using(crate::proofs::Tables::part_put))]
+fn put_segment(bytes: &[u8], at: u64, table: &mut [u64], i: usize)
     requires { i + segment_words ≤ length table.old }
-    ensures { table.new ≡ sets table.old i (segment_row (before cmds) at) }
+    ensures { table.new ≡ sets table.old i (segment_row (before bytes) at) }
 {
     table[i..i + Segment::WORDS].copy_from_slice(&[
-        u64_from(cmds, at, VMADDR),
-        u64_from(cmds, at, VMSIZE),
-        u64_from(cmds, at, FILEOFF),
-        u64_from(cmds, at, FILESIZE),
+        u64_from(bytes, at, VMADDR),
+        u64_from(bytes, at, VMSIZE),
+        u64_from(bytes, at, FILEOFF),
+        u64_from(bytes, at, FILESIZE),
         FILE,
     ]);
 }
 
 // Writes the row of each segment, in command order.
-pub(crate) fn write_segments(cmds: &[u8], count: u64, table: &mut [u64])
-    requires { segment_words * length (segments_of cmds.now count) ≤ length table.old }
-    ensures { table.new ≡ written (segment_table_of (before cmds) count) table.old }
+pub(crate) fn write_segments(cmds: Commands, table: &mut [u64])
+    requires { segment_words * length (segments_of cmds.bytes.now cmds.count) ≤ length table.old }
+    ensures { table.new ≡ written (segment_table_of cmds.entry.bytes.now cmds.entry.count) table.old }
 {
-    let mut i = 0;
-    for at in commands(cmds, LC_SEGMENT_64, count) {
-        put_segment(cmds, at, table, i);
-        i += Segment::WORDS;
+    for (k, at) in cmds.of_kind(LC_SEGMENT_64).enumerate() {
+        put_segment(cmds.bytes, at, table, Segment::WORDS * k);
     }
 }

@@ -1,7 +1,6 @@
--- Members of what a list's parts give, and functions that agree on a list.
-use mathlib.Core.Path.{◌≡◌, refl}
+-- Members of what a list's parts give.
 use mathlib.Core.List.Memᴰ
-use mathlib.Core.List.{List, [], ◌∷◌, map, flat_map, Memᴰ}
+use mathlib.Core.List.{List, [], ◌∷◌, flat_map, Memᴰ}
 use mathlib.Core.Logic.{⊎_elim}
 
 pub in_flat : {B C : Type 0} (g : B → List C) {c : C} {x : B} (xs : List B) → Memᴰ x xs → Memᴰ c (g x) → Memᴰ c (flat_map g xs)
@@ -9,7 +8,3 @@ unfolding flat_map
 in_flat g [] m n = absurd (Memᴰ.not-nil m)
 in_flat g {c} {x} (y ∷ ys) m n =
     ⊎_elim (λ e. Memᴰ.append_left (flat_map g ys) (rw e at n)) (λ m'. Memᴰ.append_right (g y) (in_flat g ys m' n)) (Memᴰ.cases_cons m)
-
-pub map_same : {B C : Type 0} (f g : B → C) → ((x : B) → f x ≡ g x) → (xs : List B) → map f xs ≡ map g xs
-map_same f g e [] = refl
-map_same f g e (x ∷ xs) = rw (e x, map_same f g e xs)

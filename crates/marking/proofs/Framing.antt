@@ -6,11 +6,11 @@ use mathlib.Core.List.{List, []}
 use native.Mathlib.Omega.{arith}
 use lib.Dec.{eqb}
 use lib.ListN.{length}
+use denote.Enum.Bare.{sameb, same_true}
 use borrow.Author.Tests.{lt-leb, ne_eqb}
 use Rattle.reads.specs.Answer.{missed}
 use Rattle.reads.specs.Outcome.{Outcome, value, absent, refused, and_then, choose}
 use Rattle.reads.specs.Table.{records}
-use Rattle.reads.specs.declared.answer.Reason.{Reason}
 use Rattle.reads.specs.declared.answer.Missing.{Missing}
 use Rattle.reads.specs.declared.answer.Missing.TheVariants.{Absent, Refused}
 use Rattle.reads.proofs.Outcomes.{then_then, then_came}
@@ -20,35 +20,65 @@ use Rattle.pointers.specs.Question.{question, index_fits, asked_tables, asked_in
 use Rattle.pointers.specs.Tables.{Tables, with_index, rebase_words, bind_words, chains}
 use Rattle.pointers.specs.declared.imageinfo.ImageInfo.{ImageInfo}
 use Rattle.frames.specs.Marks.{frames_of}
+use Rattle.std.specs.Prelude.{Option}
 use Rattle.frames.specs.declared.frames.Frames.{Frames}
 use Rattle.frames.specs.declared.frames.Ranges.{Ranges}
 use Rattle.marking.specs.Framed.{with_frames, last_refusal, framed_opening, framed_index}
 use Rattle.marking.specs.declared.framed.Framed.{Framed}
 use Rattle.reads.specs.declared.answer.Question.{Question}
-use Rattle.reads.specs.declared.answer.Question.TheVariants.{NameInside, IndexLength, NameUtf8, FileLent, FileLength, SegmentTable, SectionTable, ImageInfoLength, RebaseTable, BindTable}
+use Rattle.reads.specs.declared.answer.Question.TheVariants.{FileLength, SegmentTable, SectionTable, ImageInfoLength, RebaseTable, BindTable, NameInside, IndexLength, ChainOrder, WalkState, LedgerLength, ItemRoom, BundleLength, NameUtf8, Header, LoadCommands, Depth, FileLent, FixupData, FixupSlot, AncestryRoom, SelectorRoom, RangeOrder, RangeRoom, FileKind}
 use Rattle.reads.specs.Question.{number_of}
+use Rattle.reads.specs.contracts.answer.Question.{the_type}
+
+-- 8 is the number of one question.
+numbered_8 : (j : Question) → eqb (number_of j) 8 ≡ sameb the_type j IndexLength
+numbered_8 FileLength = refl
+numbered_8 SegmentTable = refl
+numbered_8 SectionTable = refl
+numbered_8 ImageInfoLength = refl
+numbered_8 RebaseTable = refl
+numbered_8 BindTable = refl
+numbered_8 NameInside = refl
+numbered_8 IndexLength = refl
+numbered_8 ChainOrder = refl
+numbered_8 WalkState = refl
+numbered_8 LedgerLength = refl
+numbered_8 ItemRoom = refl
+numbered_8 BundleLength = refl
+numbered_8 NameUtf8 = refl
+numbered_8 Header = refl
+numbered_8 LoadCommands = refl
+numbered_8 Depth = refl
+numbered_8 FileLent = refl
+numbered_8 FixupData = refl
+numbered_8 FixupSlot = refl
+numbered_8 AncestryRoom = refl
+numbered_8 SelectorRoom = refl
+numbered_8 RangeOrder = refl
+numbered_8 RangeRoom = refl
+numbered_8 FileKind = refl
 
 -- What refuses at last, by the tests that the code makes.
-module _ (m : Missing) (fits : Bool) (k : Question) where
-  pub last_absent : (r : Reason) → m ≡ Absent r → Absent r ≡ last_refusal fits k m
-  last_absent r e = rw e
+module _ (m : Missing) (fits : Bool) (k j : Question) (e : m ≡ Refused j) where
+  pub last_ranges : fits ≡ true → sameb the_type j IndexLength ≡ true → Refused k ≡ last_refusal fits k m
+  unfolding choose
+  last_ranges f h = rw (e, numbered_8 j, h, f)
 
-  module _ (j : Question) (e : m ≡ Refused j) where
-    pub last_other : (number_of j ≡ 8 → ⊥) → Refused j ≡ last_refusal fits k m
-    unfolding choose
-    last_other h = rw (e, ne_eqb (number_of j) 8 h)
+  pub last_other : sameb the_type j IndexLength ≡ false → m ≡ last_refusal fits k m
+  unfolding choose
+  last_other h = rw (e, numbered_8 j, h)
 
-    pub last_ranges : number_of j ≡ 8 → fits ≡ true → Refused k ≡ last_refusal fits k m
-    unfolding choose
-    last_ranges h f = rw (e, h, f)
-
-    pub last_index : number_of j ≡ 8 → fits ≡ false → Refused IndexLength ≡ last_refusal fits k m
-    unfolding choose
-    last_index h f = rw (e, h, f)
+  pub last_unfit : fits ≡ false → m ≡ last_refusal fits k m
+  unfolding choose
+  last_unfit f = go (sameb the_type j IndexLength) refl
+    where
+      go : (b : Bool) → sameb the_type j IndexLength ≡ b → m ≡ last_refusal fits k m
+      go true h = rw (e, same_true the_type tt j IndexLength h, f)
+      go false h = last_other h
 
 -- By what 23 says of the ranges.
-module _ (x : Ranges) (t : Tables) where
-  pub framed_accepted : (w : Frames) → frames_of x ≡ value w → with_frames w (opening t) ≡ framed_opening x t
+module _ (x : Option Ranges) (t : Tables) where
+  pub framed_accepted : (w : Option Frames) → frames_of x ≡ value w → with_frames w (opening t) ≡ framed_opening x t
   unfolding opening framed_opening
   framed_accepted w e = rw e (then_then (asked_opening t) (λ _. image_info t.info) (λ info. value (record { info = info; frames = w })))
 
@@ -56,7 +86,7 @@ module _ (x : Ranges) (t : Tables) where
   unfolding framed_opening
   framed_refused k e = rw e
 
-  pub index_accepted : (w : Frames) → frames_of x ≡ value w → opened_index t ≡ framed_index x t
+  pub index_accepted : (w : Option Frames) → frames_of x ≡ value w → opened_index t ≡ framed_index x t
   unfolding framed_index
   index_accepted w e = rw e
 
@@ -65,7 +95,7 @@ module _ (x : Ranges) (t : Tables) where
   index_refused k e = rw e
 
   -- The call, by what it made of opening's answer.
-  pub opens_framed : (w : Frames) → frames_of x ≡ value w → (o : Outcome ImageInfo) (r : Outcome Framed) (i : List ℕ) → r ≡ with_frames w o
+  pub opens_framed : (w : Option Frames) → frames_of x ≡ value w → (o : Outcome ImageInfo) (r : Outcome Framed) (i : List ℕ) → r ≡ with_frames w o
       → ((o ≡ opening t) × (i ≡ opened_index t)) → ((r ≡ framed_opening x t) × (i ≡ framed_index x t))
   opens_framed w g o r i e h = (e ∙ ap (with_frames w) h.0 ∙ framed_accepted w g, h.1 ∙ index_accepted w g)
 
@@ -74,11 +104,11 @@ module _ (x : Ranges) (t : Tables) where
   opens_refused k g r i h = (h.0 ∙ framed_refused k g, h.1 ∙ index_refused k g)
 
 -- What opening and 23 gave.
-pub record Given (x : Ranges) (t : Tables) (f : Framed) : Type 0 where
+pub record Given (x : Option Ranges) (t : Tables) (f : Framed) : Type 0 where
   pub frames : frames_of x ≡ value f.frames
   pub info : opening t ≡ value f.info
 
-pub framed_given : (x : Ranges) (t : Tables) (f : Framed) → framed_opening x t ≡ value f → Given x t f
+pub framed_given : (x : Option Ranges) (t : Tables) (f : Framed) → framed_opening x t ≡ value f → Given x t f
 unfolding framed_opening opening
 framed_given x t f e =
     let asked = then_came (asked_opening t) _ f e in

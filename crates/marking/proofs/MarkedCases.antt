@@ -7,7 +7,7 @@ use Rattle.reads.specs.Outcome.{choose, text_of}
 use Rattle.records.specs.Row.{method_of}
 use Rattle.records.specs.declared.method.MethodKind.TheVariants as kind
 use Rattle.records.specs.declared.row.Row.TheVariants as row
-use Rattle.frames.specs.Marks.{raised, addresses, met, mark_of}
+use Rattle.frames.specs.Marks.{raised, addresses, met_in, mark_in, mark_number}
 use Rattle.frames.specs.declared.frames.Ranges.{Ranges}
 use Rattle.listing.specs.PlainListing.{class_line, row_line}
 use Rattle.listing.specs.declared.line.Line.{Line}
@@ -29,35 +29,35 @@ method i = row_line 0 (row.Method (method_of (text_of 0 0 0) (text_of 0 0 0) i k
 abbrev two_classes : List Line
 two_classes = class 1 ∷ method (Some 0x10) ∷ class 2 ∷ method None ∷ method (Some 0x20) ∷ []
 
-abbrev mark_in : Line → List ℕ
-mark_in (line.Info i) = []
-mark_in (line.Class c) = []
-mark_in (line.Ro r) = []
-mark_in (line.Protocol p) = []
-mark_in (line.Category k) = []
-mark_in (line.Row r) = r.mark ∷ []
-mark_in (line.Name n) = []
-mark_in (line.End e) = []
+abbrev row_marks : Line → List ℕ
+row_marks (line.Info i) = []
+row_marks (line.Class c) = []
+row_marks (line.Ro r) = []
+row_marks (line.Protocol p) = []
+row_marks (line.Category k) = []
+row_marks (line.Row r) = mark_number r.mark ∷ []
+row_marks (line.Name n) = []
+row_marks (line.End e) = []
 
 abbrev marks : Ranges → List Line → List ℕ
-marks x lines = flat_map mark_in (marked_lines (addresses x) lines)
+marks x lines = flat_map row_marks (marked_lines (addresses x) lines)
 
 -- ◆ All four ends 0: the listing is as it was.
 pub hub_unmarked : marked_lines (addresses (ranges 0 0 0 0)) five_lines ≡ five_lines
-unfolding marked_lines marked flat_map addresses met raised mark_of choose
+unfolding marked_lines marked flat_map addresses met_in raised mark_in choose
 hub_unmarked = refl
 
 -- 0x2004 to 0x2008 lie in its one method.
 pub hub_certain : marks (ranges 0x3004 0x3008 0x1000 0x1000) five_lines ≡ 2 ∷ []
-unfolding marked_lines marked flat_map addresses met raised mark_of choose
+unfolding marked_lines marked flat_map addresses met_in raised mark_in choose
 hub_certain = refl
 
 -- 0x28: the start of the other class lies between.
 pub other_record : marks (ranges 0x28 0x28 0 0) two_classes ≡ 0 ∷ 0 ∷ 2 ∷ []
-unfolding marked_lines marked flat_map addresses met raised mark_of choose
+unfolding marked_lines marked flat_map addresses met_in raised mark_in choose
 other_record = refl
 
 -- 0x18 to 0x28.
 pub both_marked : marks (ranges 0x18 0x28 0 0) two_classes ≡ 1 ∷ 0 ∷ 1 ∷ []
-unfolding marked_lines marked flat_map addresses met raised mark_of choose
+unfolding marked_lines marked flat_map addresses met_in raised mark_in choose
 both_marked = refl

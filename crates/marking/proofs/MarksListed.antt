@@ -1,4 +1,4 @@
--- The mark of each m row says what the note says, by pairs and over the starts of all m rows; a method without imp has mark 0.
+-- The mark of each m row says what the note says, by pairs and over the starts of all m rows; a method without imp is unmarked.
 use Prim.Native.Nat.{ℕ}
 use mathlib.Core.Path.{◌≡◌, refl}
 use mathlib.Core.List.{List, Memᴰ}
@@ -15,8 +15,8 @@ use Rattle.marking.specs.Marked.{row_imp, line_starts, starts_in, imp_mark, mark
 use Rattle.marking.proofs.Folds.{in_flat}
 use Rattle.std.specs.Prelude.{Option, Some, None}
 
-module _ (x : Ranges) (w : Frames) (given : frames_of x ≡ value w) (lines : List Line) where
-  abbrev found : Frames
+module _ (x : Ranges) (w : Option Frames) (given : frames_of (Some x) ≡ value w) (lines : List Line) where
+  abbrev found : Option Frames
   found = met_all w (starts_in lines)
 
   imp_says : (i : Option ℕ) → ((a : ℕ) → i ≡ Some a → Memᴰ a (starts_in lines)) → ImpSays x (starts_in lines) i (imp_mark found i)
@@ -44,7 +44,7 @@ module _ (x : Ranges) (w : Frames) (given : frames_of x ≡ value w) (lines : Li
   line_says (line.End d) r m e = let z : ◌≡◌ {A = ℕ} 0 1 = cc in absurd (omega arith)
 
 -- Of every m row, for ranges that 23 does not refuse.
-pub marks_listed : (x : Ranges) (w : Frames) → frames_of x ≡ value w → (lines : List Line) (r : RowLine) → Memᴰ (line.Row r) (marked_lines w lines)
+pub marks_listed : (x : Ranges) (w : Option Frames) → frames_of (Some x) ≡ value w → (lines : List Line) (r : RowLine) → Memᴰ (line.Row r) (marked_lines w lines)
     → ImpSays x (starts_in lines) (row_imp r.row) r.mark
 unfolding marked_lines
 marks_listed x w given lines r m =

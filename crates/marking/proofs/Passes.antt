@@ -5,22 +5,15 @@ use mathlib.Core.Bool.{Bool, true, false}
 use mathlib.Core.List.{List}
 use Rattle.reads.specs.Outcome.{Outcome}
 use Rattle.pointers.specs.Tables.{Tables}
-use Rattle.pointers.specs.declared.setting.Setting.{Setting}
-use Rattle.frames.specs.declared.frames.Frames.{Frames}
-use Rattle.listing.specs.Listing.{State, start, Answer, listing_step}
+use Rattle.listing.specs.Listing.{Answer, listing_step}
 use Rattle.listing.specs.ListingAnswer.{state_of, said_of, left_of}
 use Rattle.listing.specs.declared.listing.Listed.{Listed}
-use Rattle.listing.specs.declared.listing.Listing.{Listing}
 use Rattle.listing.specs.declared.listing.Said.{Said}
 use Rattle.std.specs.Prelude.{Result}
 use Rattle.reads.specs.declared.answer.Question.{Question}
-use Rattle.marking.specs.MarkedListing.{marking, marked_start, marked_leaves, finds, marked_answer, tells, in_pass, marked_step, marking_of, marked_left_of}
+use Rattle.marking.specs.MarkedListing.{marking, marked_leaves, finds, marked_answer, tells, in_pass, marked_step, marking_of, marked_left_of}
 use Rattle.marking.specs.declared.marked_listing.MarkedListed.{MarkedListed}
 use Rattle.marking.specs.declared.marked_listing.MarkedListing.{MarkedListing}
-
--- The start.
-pub started : (u : Setting) (w : Frames) (s : Listing) → state_of s ≡ start u → marking w.any w (state_of s) ≡ marked_start u w
-started u w s e = ap (λ (v : State). marking w.any w v) e
 
 -- The step, in either.
 module _ (t : Tables) (m : MarkedListing) (l k : List ℕ) (x : Listed) where

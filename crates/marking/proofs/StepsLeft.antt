@@ -8,6 +8,7 @@ use native.Mathlib.Omega.{arith}
 use Rattle.reads.specs.Outcome.{Outcome, value, absent, refused}
 use Rattle.pointers.specs.Tables.{Tables, under, reading_new}
 use Rattle.pointers.specs.declared.setting.Setting.{Setting}
+use Rattle.std.specs.Prelude.{Option}
 use Rattle.frames.specs.declared.frames.Frames.{Frames}
 use Rattle.listing.specs.Listing.{State, start, Answer, says, lacks, nothing, ended, listing_step}
 use Rattle.listing.proofs.Falls.{falls_to}
@@ -36,7 +37,7 @@ pub start_words : (u : Setting) → InWords (start u)
 start_words u = record { slot = omega arith; cursor = omega arith }
 
 -- Marks change nothing in whether a listing goes on.
-told_on : (w : Frames) (o : Outcome Answer) → goes_on (marked_answer w o) ≡ goes_on o
+told_on : (w : Option Frames) (o : Outcome Answer) → goes_on (marked_answer w o) ≡ goes_on o
 told_on w (value (says x)) = refl
 told_on w (value (lacks x)) = refl
 told_on w (value nothing) = refl
@@ -44,7 +45,7 @@ told_on w (value ended) = refl
 told_on w (absent r) = refl
 told_on w (refused k) = refl
 
-module _ (w : Frames) (v : State) (l : List ℕ) where
+module _ (w : Option Frames) (v : State) (l : List ℕ) where
   finds_words : (o : Outcome Answer) → (goes_on o ≡ true → InWords v) → goes_on (finds_by w v l o).answer ≡ true → InWords (finds_by w v l o).state.state
   finds_words (value (says x)) h e = h refl
   finds_words (value (lacks x)) h e = h refl

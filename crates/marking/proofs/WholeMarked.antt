@@ -2,8 +2,8 @@
 -- listing's lines, each m row with the mark that these starts give it, and then that the listing has ended.
 use Prim.Native.Nat.{ℕ, ◌≤◌}
 use mathlib.Core.Path.{◌≡◌, refl, sym, ap, ◌∙◌, subst}
-use mathlib.Core.Bool.{Bool, true, false}
-use mathlib.Core.List.{List, [], ◌∷◌, map, flat_map, foldl-append}
+use mathlib.Core.Bool.{true, false}
+use mathlib.Core.List.{List, ◌∷◌, map, flat_map, foldl-append}
 use lib.ListN.{length}
 use Rattle.reads.specs.Outcome.{value}
 use Rattle.pointers.specs.Open.{Opened}
@@ -11,21 +11,19 @@ use Rattle.pointers.specs.Tables.{Tables}
 use Rattle.pointers.specs.declared.setting.Setting.{Setting}
 use Rattle.frames.specs.Marks.{met, met_all}
 use Rattle.frames.specs.declared.frames.Frames.{Frames}
-use Rattle.frames.proofs.MarkSteps.{mark_no_pair}
+use Rattle.frames.proofs.Floors.{none_met}
 use Rattle.walks.specs.Slots.{slot_count}
 use Rattle.walks.proofs.Gathers.{there_known}
 use Rattle.listing.specs.PlainListing.{Event, plain_listing}
 use Rattle.listing.specs.Listing.{State, Left, start, nothing, listing_step}
 use Rattle.listing.specs.declared.line.Line.{Line}
-use Rattle.listing.specs.declared.line.Line.TheVariants as line
 use Rattle.listing.proofs.PlainThere.{plain_events_there}
 use Rattle.listing.proofs.Rest.{Rest, over, silent, telling, saying}
 use Rattle.listing.proofs.WholeListing.{whole_rest}
-use Rattle.marking.specs.Marked.{line_starts, starts_in, imp_mark, marked, marked_lines, row_imp}
+use Rattle.marking.specs.Marked.{line_starts, starts_in, marked, marked_lines}
 use Rattle.marking.specs.MarkedListing.{Marking, marking, marked_start, marked_leaves, finds, tells, marked_step}
 use Rattle.marking.specs.MarkedRun as run
 use Rattle.marking.specs.MarkedRun.{Silent, Tells, Finds}
-use Rattle.marking.proofs.Folds.{map_same}
 use Rattle.marking.proofs.StepKeeps.{step_keeps}
 use Rattle.std.specs.Prelude.{Option, Some, None}
 
@@ -36,7 +34,7 @@ then_tells (run.step e s) r = run.silent e (then_tells s r)
 
 module _ (t : Tables) where
   -- The second pass says the lines with their marks.
-  tells_rest : (w : Frames) {s : State} {l : List ℕ} {xs : List Line} {es : List Event} → Rest t s l xs es → Tells t (marking false w s) l (map (marked w) xs)
+  tells_rest : (w : Option Frames) {s : State} {l : List ℕ} {xs : List Line} {es : List Event} → Rest t s l xs es → Tells t (marking false w s) l (map (marked w) xs)
   tells_rest w (over e f) = run.over (ap (tells w) e)
   tells_rest w (silent e f r) = run.silent (ap (tells w) e) (tells_rest w r)
   tells_rest w (telling e f r) = run.lacking (ap (tells w) e) (tells_rest w r)
@@ -51,16 +49,16 @@ module _ (t : Tables) where
 
   -- One silent step more.
   module _ {m n : Marking} {l k : List ℕ} {u : Setting} (e : marked_step t m l ≡ marked_leaves (value nothing) n k) (room : length k ≡ length l) where
-    one_more : (w v : Frames) (xs ys : List Line) → met_all w (starts_in xs) ≡ met_all v (starts_in ys) → Finds t n k u w xs → Finds t m l u v ys
+    one_more : (w v : Option Frames) (xs ys : List Line) → met_all w (starts_in xs) ≡ met_all v (starts_in ys) → Finds t n k u w xs → Finds t m l u v ys
     one_more w v xs ys g r =
         record {
           ledger = r.ledger;
           room = r.room ∙ room;
-          steps = run.step e (subst (λ (z : Frames). Silent t n k (marking false z (start u)) r.ledger) g r.steps);
+          steps = run.step e (subst (λ (z : Option Frames). Silent t n k (marking false z (start u)) r.ledger) g r.steps);
         }
 
   -- The first pass meets the starts of the lines.
-  finds_rest : (u : Setting) (w : Frames) {s : State} {l : List ℕ} {xs : List Line} {es : List Event} → Rest t s l xs es → s.setting ≡ u → Finds t (marking true w s) l u w xs
+  finds_rest : (u : Setting) (w : Option Frames) {s : State} {l : List ℕ} {xs : List Line} {es : List Event} → Rest t s l xs es → s.setting ≡ u → Finds t (marking true w s) l u w xs
   unfolding flat_map
   finds_rest u w (over {s = s} {l = l} e f) h =
       record {
@@ -76,29 +74,7 @@ module _ (t : Tables) where
       one_more (ap (finds w) e) (room_kept s l e) (met_all w (line_starts x)) w xs (x ∷ xs) (sym (foldl-append met w (line_starts x) (starts_in xs)))
       (finds_rest u (met_all w (line_starts x)) r (setting_kept s l e h))
 
--- Without a possible pair no start that is met changes a mark.
-any_kept : (w : Frames) (starts : List ℕ) → (met_all w starts).any ≡ w.any
-unfolding met
-any_kept w [] = refl
-any_kept w (a ∷ rest) = any_kept (met w a) rest
-
-module _ (w v : Frames) (e : w.any ≡ false) (f : v.any ≡ false) where
-  imp_unmarked : (i : Option ℕ) → imp_mark v i ≡ imp_mark w i
-  imp_unmarked (Some a) = sym (mark_no_pair v a f) ∙ mark_no_pair w a e
-  imp_unmarked None = refl
-
-  unmarked_same : (x : Line) → marked v x ≡ marked w x
-  unfolding marked
-  unmarked_same (line.Info i) = refl
-  unmarked_same (line.Class c) = refl
-  unmarked_same (line.Ro r) = refl
-  unmarked_same (line.Protocol p) = refl
-  unmarked_same (line.Category k) = refl
-  unmarked_same (line.Row r) = rw (imp_unmarked (row_imp r.row))
-  unmarked_same (line.Name n) = refl
-  unmarked_same (line.End d) = refl
-
-module _ (t : Tables) (o : Opened t) (w : Frames) (lines : List Line) (plain : plain_listing t ≡ value lines) where
+module _ (t : Tables) (o : Opened t) (w : Option Frames) (lines : List Line) (plain : plain_listing t ≡ value lines) where
   rest_of : (l : List ℕ) → slot_count t.sections 0 1 ≤ length l → slot_count t.sections 2 3 ≤ length l
       → Rest t (start t.setting) l lines (there_known (plain_events_there t o)).known
   rest_of l classes categories = whole_rest t o l classes categories lines _ plain (there_known (plain_events_there t o)).is
@@ -110,12 +86,10 @@ module _ (t : Tables) (o : Opened t) (w : Frames) (lines : List Line) (plain : p
 
     pub whole_marked : Tells t (marked_start t.setting w) l (marked_lines w lines)
     unfolding marked_lines
-    whole_marked = go w.any refl
+    whole_marked = go w refl
       where
-        go : (b : Bool) → w.any ≡ b → Tells t (marking b w (start t.setting)) l (map (marked (met_all w (starts_in lines))) lines)
-        go true e =
-            let f = starts_found in
-            then_tells f.steps (tells_rest t (met_all w (starts_in lines)) (rest_of f.ledger (rw f.room classes) (rw f.room categories)))
-        go false e =
-            rw (map_same (marked (met_all w (starts_in lines))) (marked w) (unmarked_same w (met_all w (starts_in lines)) e (any_kept w (starts_in lines) ∙ e)) lines)
-            (tells_rest t w (rest_of l classes categories))
+        go : (v : Option Frames) → w ≡ v → Tells t (marked_start t.setting v) l (map (marked (met_all v (starts_in lines))) lines)
+        go (Some f) e =
+            let found = starts_found in
+            rw (← e) (then_tells found.steps (tells_rest t (met_all w (starts_in lines)) (rest_of found.ledger (rw found.room classes) (rw found.room categories))))
+        go None e = rw (none_met (starts_in lines)) (tells_rest t None (rest_of l classes categories))

@@ -1,5 +1,5 @@
 -- Opening an image whose methods are to be marked (document 02, note 11): opening's questions, then 23 of the ranges; then the index is written.
-use Rattle.std.specs.Prelude.{ℕ, Bool, List, eqb}
+use Rattle.std.specs.Prelude.{ℕ, Bool, List, Option, eqb}
 use Rattle.reads.specs.Outcome.{Outcome, value, and_then, choose}
 use Rattle.reads.specs.declared.answer.Missing.{Missing}
 use Rattle.reads.specs.declared.answer.Missing.TheVariants.{Absent, Refused}
@@ -17,15 +17,15 @@ use Rattle.reads.specs.declared.answer.Question.TheVariants.{IndexLength}
 
 -- Document 01's outcome of each case of the code's answer.
 -- The image info of what opening gave, with frames.
-abbrev pub with_frames : Frames → Outcome ImageInfo → Outcome Framed
+abbrev pub with_frames : Option Frames → Outcome ImageInfo → Outcome Framed
 with_frames w o = and_then o (λ info. value (record { info = info; frames = w }))
 
 -- Opening's questions, then 23.
-unfoldable pub framed_opening : Ranges → Tables → Outcome Framed
+unfoldable pub framed_opening : Option Ranges → Tables → Outcome Framed
 framed_opening x t = and_then (asked_opening t) (λ _. and_then (frames_of x) (λ w. with_frames w (image_info t.info)))
 
 -- What is left of the index; with a number, 23 too, it is as it was.
-unfoldable pub framed_index : Ranges → Tables → List ℕ
+unfoldable pub framed_index : Option Ranges → Tables → List ℕ
 framed_index x t = left_by (frames_of x) (opened_index t) t.index
 
 -- What refuses where k refuses the ranges, by what opening over no index missed; `fits` says whether question IndexLength takes the index that is lent.

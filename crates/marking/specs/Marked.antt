@@ -8,6 +8,8 @@ use Rattle.records.specs.declared.row.Row.TheVariants as row
 use Rattle.frames.specs.Frames.{Says}
 use Rattle.frames.specs.Marks.{met_all, mark_of}
 use Rattle.frames.specs.declared.frames.Frames.{Frames}
+use Rattle.frames.specs.declared.frames.Mark.{Mark}
+use Rattle.frames.specs.declared.frames.Mark.TheVariants.{Unmarked}
 use Rattle.frames.specs.declared.frames.Ranges.{Ranges}
 use Rattle.listing.specs.PlainListing.{plain_listing}
 use Rattle.listing.specs.declared.line.Line.{Line}
@@ -41,16 +43,16 @@ abbrev pub starts_in : List Line → List ℕ
 starts_in lines = flat_map line_starts lines
 
 -- The starts of a line are met.
-abbrev pub met_line : Frames → Line → Frames
+abbrev pub met_line : Option Frames → Line → Option Frames
 met_line w x = met_all w (line_starts x)
 
 -- Methods without imp never are marked.
-abbrev pub imp_mark : Frames → Option ℕ → ℕ
+abbrev pub imp_mark : Option Frames → Option ℕ → Mark
 imp_mark w (Some a) = mark_of w a
-imp_mark w None = 0
+imp_mark w None = Unmarked
 
 -- A line with its mark.
-unfoldable pub marked : Frames → Line → Line
+unfoldable pub marked : Option Frames → Line → Line
 marked w (line.Info i) = line.Info i
 marked w (line.Class c) = line.Class c
 marked w (line.Ro r) = line.Ro r
@@ -61,13 +63,13 @@ marked w (line.Name n) = line.Name n
 marked w (line.End e) = line.End e
 
 -- Lines, each m row with the mark that the starts of all of them give it; w is the frames before any start is met.
-unfoldable pub marked_lines : Frames → List Line → List Line
+unfoldable pub marked_lines : Option Frames → List Line → List Line
 marked_lines w lines = map (marked (met_all w (starts_in lines))) lines
 
-abbrev pub marked_listing : Frames → Tables → Outcome (List Line)
+abbrev pub marked_listing : Option Frames → Tables → Outcome (List Line)
 marked_listing w t = and_then (plain_listing t) (λ lines. value (marked_lines w lines))
 
--- What the mark of a row says of its imp, over the starts of a listing: what the note says, and 0 without an imp.
-abbrev pub ImpSays : Ranges → List ℕ → Option ℕ → ℕ → Type 0
+-- What the mark of a row says of its imp, over the starts of a listing: what the note says, and `Unmarked` without an imp.
+abbrev pub ImpSays : Ranges → List ℕ → Option ℕ → Mark → Type 0
 ImpSays x starts (Some a) mark = Says x starts a mark
-ImpSays x starts None mark = mark ≡ 0
+ImpSays x starts None mark = mark ≡ Unmarked

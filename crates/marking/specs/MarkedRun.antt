@@ -1,5 +1,5 @@
 -- The steps of a marked listing, one after the other: those that say nothing, and those that say lines to the end.
-use Rattle.std.specs.Prelude.{ℕ, ◌≡◌, false, List, [], ◌∷◌, length}
+use Rattle.std.specs.Prelude.{ℕ, ◌≡◌, false, Option, List, [], ◌∷◌, length}
 use Rattle.reads.specs.Outcome.{value}
 use Rattle.pointers.specs.Tables.{Tables}
 use Rattle.pointers.specs.declared.setting.Setting.{Setting}
@@ -25,7 +25,7 @@ pub data Tells (t : Tables) : Marking → List ℕ → List Line → Type 0 wher
 
 -- The first pass from a state and a ledger on: it says nothing, and leaves the frames with these lines' starts met, the listing before its first
 -- line under a setting, and a ledger of the same length.
-pub record Finds (t : Tables) (m : Marking) (l : List ℕ) (u : Setting) (w : Frames) (lines : List Line) : Type 0 where
+pub record Finds (t : Tables) (m : Marking) (l : List ℕ) (u : Setting) (w : Option Frames) (lines : List Line) : Type 0 where
   pub ledger : List ℕ
   pub room : length ledger ≡ length l
   pub steps : Silent t m l (marking false (met_all w (starts_in lines)) (start u)) ledger

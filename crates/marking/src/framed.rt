@@ -1,10 +1,8 @@
 // Opening an image whose methods are to be marked (note 11): opening's questions, then 23 of the ranges; then the index is written.
 ghost use Rattle.std.specs.Prelude.{◌≡◌};
 ghost use Rattle.reads.specs.Outcome.{and_then, refused};
-ghost use Rattle.reads.specs.Files.{files_of};
-ghost use Rattle.reads.specs.Reference.{before};
 ghost use Rattle.pointers.specs.Open.{asked_opening};
-ghost use Rattle.pointers.specs.Tables.{tables_of};
+ghost use Rattle.pointers.specs.Tables.{with_index};
 ghost use Rattle.marking.specs.Framed.{with_frames, last_refusal, framed_opening, framed_index};
 ghost use Rattle.reads.specs.Answer.{outcome};
 
@@ -13,18 +11,22 @@ use pointers::imageinfo::ImageInfo;
 use pointers::open::open;
 use pointers::question::index_fits;
 use pointers::table::{Bind, Rebase};
+use pointers::tables::Tables;
 use reads::answer::{Missing, Question};
 
 // An opened image: its image info, and the frames, which have met no start.
 #[derive(Clone, Copy)]
 pub struct Framed {
     pub info: ImageInfo,
-    pub frames: Frames,
+    pub frames: Option<Frames>,
 }
 
 // What opening answered, with the frames.
 #[tactic(auto, using(reads::proofs::Outcomes::missed_then))]
-pub fn with_frames(answer: Result<ImageInfo, Missing>, frames: Frames) -> Result<Framed, Missing>
+pub fn with_frames(
+    answer: Result<ImageInfo, Missing>,
+    frames: Option<Frames>,
+) -> Result<Framed, Missing>
     ensures { outcome result ≡ with_frames frames (outcome answer) }
 {
     let info = answer?;
@@ -37,74 +39,42 @@ pub fn refused_last(m: Missing, fits: bool, k: Question) -> Missing
     ensures { result ≡ last_refusal fits k m }
 {
     match m {
-        Missing::Absent(why) => Missing::Absent(why),
-        Missing::Refused(j) => {
-            if j.number() != Question::IndexLength.number() {
-                return Missing::Refused(j);
-            }
-            if fits {
-                return Missing::Refused(k);
-            }
-            Missing::Refused(Question::IndexLength)
-        }
+        Missing::Refused(j) if fits && j == Question::IndexLength => Missing::Refused(k),
+        m => m,
     }
 }
 
-// The same over tables. Not a struct, here and below: the index is written, as in `pointers::open::open`.
-fn ranges_refused(
-    files: &[&[u8]],
-    segments: &[u64],
-    sections: &[u64],
-    info: &[u8],
-    rebases: &[u64],
-    binds: &[u64],
-    index: &mut [u32],
-    k: Question,
-) -> Result<Framed, Missing>
-    ensures outcome { let t = tables_of (files_of files) (before segments) (before sections) (before info) (before rebases) (before binds) index.old in
+// The same over tables.
+fn ranges_refused(tables: &Tables, index: &mut [u32], k: Question) -> Result<Framed, Missing>
+    ensures outcome { let t = with_index tables.now index.old in
         outcome result ≡ and_then (asked_opening t) (λ _. refused k) }
     ensures contents { index.new ≡ index.old }
 {
     let fits = index_fits(
-        rebases.len() / Rebase::WORDS,
-        binds.len() / Bind::WORDS,
+        tables.rebases().len() / Rebase::WORDS,
+        tables.binds().len() / Bind::WORDS,
         index.len(),
     );
-    match open(
-        files,
-        segments,
-        sections,
-        info,
-        rebases,
-        binds,
-        &mut index[0..0],
-    ) {
+    match open(tables, &mut index[0..0]) {
         Ok(_) => Err(Missing::Refused(k)),
         Err(m) => Err(refused_last(m, fits, k)),
     }
 }
 
 // The image info and the frames, with the index written; or the number of the first question that says no, 23 last, with the index as it was.
+// The index that stands in the tables is not read.
 pub fn open_framed(
-    ranges: Ranges,
-    files: &[&[u8]],
-    segments: &[u64],
-    sections: &[u64],
-    info: &[u8],
-    rebases: &[u64],
-    binds: &[u64],
+    ranges: Option<Ranges>,
+    tables: &Tables,
     index: &mut [u32],
 ) -> Result<Framed, Missing>
-    ensures outcome { let t = tables_of (files_of files) (before segments) (before sections) (before info) (before rebases) (before binds) index.old in
+    ensures outcome { let t = with_index tables.now index.old in
         outcome result ≡ framed_opening ranges t }
-    ensures contents { let t = tables_of (files_of files) (before segments) (before sections) (before info) (before rebases) (before binds) index.old in
+    ensures contents { let t = with_index tables.now index.old in
         index.new ≡ framed_index ranges t }
 {
     match Frames::new(ranges) {
-        Ok(frames) => with_frames(
-            open(files, segments, sections, info, rebases, binds, index),
-            frames,
-        ),
-        Err(k) => ranges_refused(files, segments, sections, info, rebases, binds, index, k),
+        Ok(frames) => with_frames(open(tables, index), frames),
+        Err(k) => ranges_refused(tables, index, k),
     }
 }

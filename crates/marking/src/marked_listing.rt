@@ -13,11 +13,12 @@ use pointers::tables::Tables;
 use reads::answer::Question;
 use reads::text::Reading;
 
-// Whether the starts are still being found; the frames with the starts met so far; and the listing that is gone over.
+// Whether the starts are still being found; the frames with the starts met so far; and the listing that is gone over. A bool, not an enum of
+// the passes with the frames in each case: both hold the same Option, which `meet_line` and `marked` take.
 #[derive(Clone, Copy)]
 pub struct MarkedListing {
     finding: bool,
-    frames: Frames,
+    frames: Option<Frames>,
     listing: Listing,
 }
 
@@ -29,7 +30,7 @@ pub struct MarkedListed {
 }
 
 // A step of the first pass, by what the listing said. After its last line it begins anew.
-fn finds(frames: Frames, listed: Listed) -> MarkedListed
+fn finds(frames: Option<Frames>, listed: Listed) -> MarkedListed
     ensures { (l : List ℕ) → marked_left_of result l ≡ finds frames (left_of listed l) }
 {
     let listing = listed.listing;
@@ -68,7 +69,7 @@ fn finds(frames: Frames, listed: Listed) -> MarkedListed
 }
 
 // What a step of the second pass says: a line with its mark.
-fn marked_said(frames: Frames, said: Result<Said, Question>) -> Result<Said, Question>
+fn marked_said(frames: Option<Frames>, said: Result<Said, Question>) -> Result<Said, Question>
     ensures { said_of result ≡ marked_answer frames (said_of said) }
 {
     match said {
@@ -79,25 +80,25 @@ fn marked_said(frames: Frames, said: Result<Said, Question>) -> Result<Said, Que
 
 impl MarkedListing {
     // The start under the new reading, for frames that have met no start.
-    pub fn new(frames: Frames) -> MarkedListing
+    pub fn new(frames: Option<Frames>) -> MarkedListing
         ensures { marking_of result ≡ marked_start reading_new frames }
     {
         MarkedListing::under(Reading::New, frames)
     }
 
     // The same under either reading.
-    pub fn under(reading: Reading, frames: Frames) -> MarkedListing
+    pub fn under(reading: Reading, frames: Option<Frames>) -> MarkedListing
         ensures { marking_of result ≡ marked_start (reading_under reading) frames }
     {
         MarkedListing::starting(Setting::under(reading), frames)
     }
 
     // The same under any setting.
-    pub fn starting(setting: Setting, frames: Frames) -> MarkedListing
+    pub fn starting(setting: Setting, frames: Option<Frames>) -> MarkedListing
         ensures { marking_of result ≡ marked_start setting frames }
     {
         MarkedListing {
-            finding: frames.any,
+            finding: frames.is_some(),
             frames,
             listing: Listing::starting(setting),
         }

@@ -2,7 +2,7 @@
 ghost use Rattle.std.specs.Prelude.{◌≡◌};
 ghost use Rattle.marking.specs.Marked.{row_imp, line_imp, met_line, imp_mark, marked};
 
-use frames::frames::Frames;
+use frames::frames::{Frames, Mark};
 use listing::line::{Line, RowLine};
 use records::row::Row;
 
@@ -12,8 +12,7 @@ fn row_imp(row: Row) -> Option<u64>
 {
     match row {
         Row::Method(method) => method.implementation,
-        Row::Ivar(_) => None,
-        Row::Property(_) => None,
+        _ => None,
     }
 }
 
@@ -22,59 +21,44 @@ fn line_imp(line: Line) -> Option<u64>
     ensures { result ≡ line_imp line }
 {
     match line {
-        Line::Info(_) => None,
-        Line::Class(_) => None,
-        Line::Ro(_) => None,
-        Line::Protocol(_) => None,
-        Line::Category(_) => None,
-        Line::Row(r) => {
-            let row = r.row;
-            row_imp(row)
-        }
-        Line::Name(_) => None,
-        Line::End(_) => None,
+        Line::Row(r) => row_imp(r.row),
+        _ => None,
     }
 }
 
 // The start of a line, if it has one, is met.
-pub fn meet_line(frames: Frames, line: Line) -> Frames
+pub fn meet_line(frames: Option<Frames>, line: Line) -> Option<Frames>
     ensures { result ≡ met_line frames line }
 {
-    match line_imp(line) {
-        Some(start) => frames.meet(start),
-        None => frames,
-    }
+    let Some(start) = line_imp(line) else {
+        return frames;
+    };
+    Some(frames?.meet(start))
 }
 
-// The mark of an imp: a method without one is never marked.
-fn imp_mark(frames: Frames, imp: Option<u64>) -> u8
+// The mark of an imp: a method without one is never marked, and none is where no address is possible.
+fn imp_mark(frames: Option<Frames>, imp: Option<u64>) -> Mark
     ensures { result ≡ imp_mark frames imp }
 {
-    match imp {
-        Some(start) => frames.mark(start),
-        None => 0,
-    }
+    let Some(start) = imp else {
+        return Mark::Unmarked;
+    };
+    let Some(frames) = frames else {
+        return Mark::Unmarked;
+    };
+    frames.mark(start)
 }
 
 // A line with its mark, once all starts are met.
-pub fn marked(frames: Frames, line: Line) -> Line
+#[tactic(auto, unfolding(crate::specs::Marked::marked))]
+pub fn marked(frames: Option<Frames>, line: Line) -> Line
     ensures { result ≡ marked frames line }
 {
     match line {
-        Line::Info(i) => Line::Info(i),
-        Line::Class(c) => Line::Class(c),
-        Line::Ro(r) => Line::Ro(r),
-        Line::Protocol(p) => Line::Protocol(p),
-        Line::Category(k) => Line::Category(k),
-        Line::Row(r) => {
-            let row = r.row;
-            Line::Row(RowLine {
-                list: r.list,
-                row,
-                mark: imp_mark(frames, row_imp(row)),
-            })
-        }
-        Line::Name(n) => Line::Name(n),
-        Line::End(e) => Line::End(e),
+        Line::Row(r) => Line::Row(RowLine {
+            mark: imp_mark(frames, row_imp(r.row)),
+            ..r
+        }),
+        line => line,
     }
 }

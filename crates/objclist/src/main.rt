@@ -1,6 +1,7 @@
 // The listing of the bundle on standard input, under the new reading of texts.
 #![tactic(auto)]
 
+use printing::descriptor::Descriptor;
 use printing::program::list_input;
 use reads::text::Reading;
 
@@ -11,6 +12,14 @@ fn main() {
     let mut ledger = [0u64; 8192];
     let mut out = [0u8; 4096];
     list_input(
+        &mut Descriptor {
+            fd: 0,
+            ended: false,
+        },
+        &mut Descriptor {
+            fd: 1,
+            ended: false,
+        },
         Reading::New,
         b"objclist: standard output\n",
         b"objclist: the bundle is refused\n",

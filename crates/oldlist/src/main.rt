@@ -1,6 +1,7 @@
 // The same as objclist under the old reading of texts, which is the Rust's (document 02, note 12).
 #![tactic(auto)]
 
+use printing::descriptor::Descriptor;
 use printing::program::list_input;
 use reads::text::Reading;
 
@@ -11,6 +12,14 @@ fn main() {
     let mut ledger = [0u64; 8192];
     let mut out = [0u8; 4096];
     list_input(
+        &mut Descriptor {
+            fd: 0,
+            ended: false,
+        },
+        &mut Descriptor {
+            fd: 1,
+            ended: false,
+        },
         Reading::Old,
         b"oldlist: standard output\n",
         b"oldlist: the bundle is refused\n",

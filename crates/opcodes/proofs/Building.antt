@@ -1,22 +1,22 @@
 -- The whole call, by the branches of the code: counting first and then writing gives the table that the definition says.
-use Rattle.std.proofs.Common.{◌≡◌, ℕ, ◌/◌, ◌^◌, ◌<◌, ◌≤◌, true, false, List, [], ◌∷◌, length, sym, refl, ap, ◌∙◌, arith, le-leb}
+use Rattle.std.proofs.Common.{◌≡◌, ℕ, ◌/◌, ◌^◌, ◌<◌, ◌≤◌, List, [], ◌∷◌, length, sym, refl, ap, ◌∙◌, ap₂, arith, le-leb}
 use borrow.Author.Tests.{lt-leb}
 use Rattle.reads.specs.Outcome.{Outcome, value, absent, refused, choose}
 use Rattle.reads.proofs.Tests.{choose_true, choose_false}
 use Rattle.pointers.specs.Tables.{bind_words}
 use Rattle.macho.specs.Loader.{ncmds, cmdsize}
-use Rattle.macho.specs.Commands.{command_bytes, asked_commands, segments_of}
+use Rattle.macho.specs.Commands.{command_bytes, asked_commands, of_kind, segments_of}
 use Rattle.macho.specs.Segments.{written}
-use Rattle.macho.specs.declared.command.Found.{Found}
 use Rattle.fixups.specs.Tables.{rows_of, Part, part, put_rows}
 use Rattle.fixups.proofs.Building.{nil_of}
+use Rattle.fixups.proofs.Pages.{next_of}
 use Rattle.fixups.proofs.Rows.{Sized, whole, Counted, table_filled, table_counted}
-use Rattle.opcodes.specs.DyldInfo.{first_info}
+use Rattle.opcodes.specs.DyldInfo.{dyld_info_kind, dyld_info_only_kind, earlier, first_info}
 use Rattle.opcodes.specs.Streams.{streams_at}
 use Rattle.opcodes.specs.Tables.{bind_row, told, part_of, reached}
 use Rattle.opcodes.specs.Binds.{binds_from, binds_in, binds_found, leaves, settled}
 use Rattle.opcodes.specs.declared.binding.Bound.{Bound}
-use Rattle.std.specs.Prelude.{Result, Ok, Err}
+use Rattle.std.specs.Prelude.{Result, Ok, Err, Option, None, Some, MatchOption}
 use Rattle.reads.specs.declared.answer.Question.{Question}
 use Rattle.reads.specs.declared.answer.Question.TheVariants.{BindTable, FixupData}
 
@@ -35,25 +35,34 @@ module _ (file : List ℕ) where
   found_refused k e = rw (← e)
 
   module _ (asked : asked_commands file ≡ value tt) (cmds : List ℕ) (count : ℕ) (ec : cmds ≡ command_bytes file) (en : count ≡ ncmds file)
-      (r : Found) (er : r ≡ first_info cmds count) where
-    found_in : binds_found file ≡ choose r.here (binds_from file cmds count r.at) (value [])
-    unfolding binds_found binds_in
+      (r : Option ℕ) (er : r ≡ first_info cmds count) where
+    found_in : binds_found file ≡ binds_in file cmds count r
+    unfolding binds_found
     found_in = rw (asked, er, ec, en)
 
-    pub found_none : r.here ≡ false → value [] ≡ binds_found file
-    found_none e = sym (found_in ∙ choose_false _ _ e)
+    pub found_none : r ≡ None → value [] ≡ binds_found file
+    unfolding binds_in
+    found_none e = sym (found_in ∙ rw e)
 
-    module _ (h : r.here ≡ true) where
-      found_first : binds_from file cmds count r.at ≡ binds_found file
-      found_first = sym (found_in ∙ choose_true _ _ h)
+    module _ (a : ℕ) (e : r ≡ Some a) where
+      found_first : binds_from file cmds count a ≡ binds_found file
+      unfolding binds_in
+      found_first = sym (found_in ∙ rw e)
 
-      pub found_short : cmdsize cmds r.at < 48 → refused FixupData ≡ binds_found file
+      pub found_short : cmdsize cmds a < 48 → refused FixupData ≡ binds_found file
       unfolding binds_from
-      found_short l = sym (choose_false _ _ (lt-leb 48 (cmdsize cmds r.at) l)) ∙ found_first
+      found_short l = sym (choose_false _ _ (lt-leb 48 (cmdsize cmds a) l)) ∙ found_first
 
-      pub found_long : 48 ≤ cmdsize cmds r.at → streams_at file cmds (segments_of cmds count) r.at ≡ binds_found file
+      pub found_long : 48 ≤ cmdsize cmds a → streams_at file cmds (segments_of cmds count) a ≡ binds_found file
       unfolding binds_from
-      found_long l = sym (choose_true _ _ (le-leb 48 (cmdsize cmds r.at) l)) ∙ found_first
+      found_long l = sym (choose_true _ _ (le-leb 48 (cmdsize cmds a) l)) ∙ found_first
+
+-- The first command of either kind, as the code finds those of each.
+module _ (cmds : List ℕ) (count : ℕ) (l m : List ℕ) (x y : Option ℕ) where
+  pub info_by : MatchOption x ((of_kind dyld_info_kind cmds count 0 ≡ []) × (l ≡ [])) (λ a. of_kind dyld_info_kind cmds count 0 ≡ a ∷ l)
+      → MatchOption y ((of_kind dyld_info_only_kind cmds count 0 ≡ []) × (m ≡ [])) (λ a. of_kind dyld_info_only_kind cmds count 0 ≡ a ∷ m)
+      → earlier x y ≡ first_info cmds count
+  info_by f g = ap₂ earlier (sym (next_of _ l x f).0) (sym (next_of _ m y g).0)
 
 -- The count of a walk that was lent no room: w, with the table that it leaves.
 module _ (x : Outcome Part) (w : Result (Unit {0}) Question) (p : Part) (seen : reached w p ≡ x) where

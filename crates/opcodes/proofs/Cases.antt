@@ -5,12 +5,12 @@ use Rattle.reads.specs.Place.{le, le_in}
 use Rattle.reads.specs.Signed.{twos}
 use Rattle.reads.specs.Leb128.{digit_count, unsigned_digits, negative, signed_digits, within64, within_signed64, uleb_of, sleb_of, uleb128, sleb128}
 use Rattle.pointers.specs.Question.{question}
-use Rattle.macho.specs.Commands.{headed, sectioned, fits, all_fit, asked_commands, of_kind, first_of}
+use Rattle.macho.specs.Commands.{headed, sectioned, fits, all_fit, asked_commands, of_kind}
 use Rattle.macho.specs.Segments.{written}
 use Rattle.fixups.specs.Imports.{zero_from}
 use Rattle.fixups.specs.Tables.{rows_of}
 use Rattle.opcodes.specs.DyldInfo.{earlier}
-use Rattle.opcodes.specs.Opcodes.{plain, takes_number, numbered, with_number, symbol_at, addend, skipping, times_skipping, by_opcode, decode}
+use Rattle.opcodes.specs.Opcodes.{opcode_of, with_number, typed, symbol_at, addend, skipping, times_skipping, by_opcode, decode}
 use Rattle.opcodes.specs.Binding.{bound, bound_by, run, in_segment, perform}
 use Rattle.opcodes.specs.Streams.{walk, stream_at, joined, streams_at}
 use Rattle.opcodes.specs.Binds.{binds_from, binds_in, binds_found, leaves, settled}
@@ -103,17 +103,17 @@ pub record Table : Type 0 where
   pub refusing : settled (binds (from 0 (0x90 ∷ 0xE0 ∷ []))) (replicate 9 7) ≡ leaves (refused FixupData) (replicate 9 7)
 
 pub opcodes_read : Opcodes
-unfolding le le_in choose twos digit_count unsigned_digits negative signed_digits within64 within_signed64 uleb_of sleb_of uleb128 sleb128 question headed sectioned fits all_fit asked_commands of_kind first_of zero_from earlier plain takes_number numbered with_number symbol_at addend skipping times_skipping by_opcode decode bound_by run in_segment perform walk stream_at joined streams_at binds_from binds_in binds_found
+unfolding le le_in choose twos digit_count unsigned_digits negative signed_digits within64 within_signed64 uleb_of sleb_of uleb128 sleb128 question headed sectioned fits all_fit asked_commands of_kind zero_from earlier opcode_of with_number typed symbol_at addend skipping times_skipping by_opcode decode bound_by run in_segment perform walk stream_at joined streams_at binds_from binds_in binds_found
 opcodes_read = record { do_bind = refl; passed_over = refl; add_addr = refl; add_addr_wraps = refl; bind_add_addr = refl; bind_add_scaled = refl; times_skipping_lem = refl; times_none = refl; name_set_again = refl; last_slot = refl }
 
 pub streams_read : Streams
-unfolding le le_in choose twos digit_count unsigned_digits negative signed_digits within64 within_signed64 uleb_of sleb_of uleb128 sleb128 question headed sectioned fits all_fit asked_commands of_kind first_of zero_from earlier plain takes_number numbered with_number symbol_at addend skipping times_skipping by_opcode decode bound_by run in_segment perform walk stream_at joined streams_at binds_from binds_in binds_found
+unfolding le le_in choose twos digit_count unsigned_digits negative signed_digits within64 within_signed64 uleb_of sleb_of uleb128 sleb128 question headed sectioned fits all_fit asked_commands of_kind zero_from earlier opcode_of with_number typed symbol_at addend skipping times_skipping by_opcode decode bound_by run in_segment perform walk stream_at joined streams_at binds_from binds_in binds_found
 streams_read = record { done_ends = refl; done_ends_weak = refl; done_parts_lazy = refl; in_order = refl; cut_at_end = refl; no_command = refl; dyld_info = refl }
 
 pub refusals : Refused
-unfolding le le_in choose twos digit_count unsigned_digits negative signed_digits within64 within_signed64 uleb_of sleb_of uleb128 sleb128 question headed sectioned fits all_fit asked_commands of_kind first_of zero_from earlier plain takes_number numbered with_number symbol_at addend skipping times_skipping by_opcode decode bound_by run in_segment perform walk stream_at joined streams_at binds_from binds_in binds_found
+unfolding le le_in choose twos digit_count unsigned_digits negative signed_digits within64 within_signed64 uleb_of sleb_of uleb128 sleb128 question headed sectioned fits all_fit asked_commands of_kind zero_from earlier opcode_of with_number typed symbol_at addend skipping times_skipping by_opcode decode bound_by run in_segment perform walk stream_at joined streams_at binds_from binds_in binds_found
 refusals = record { other_magic = refl; third_command = refl; short_command = refl; unknown_opcode = refl; threaded = refl; other_type = refl; number_open = refl; number_of_65_bits = refl; addend_open = refl; name_open = refl; no_segment = refl; bind_without_name = refl; bind_without_segment = refl; past_segment = refl; past_file = refl; run_past_segment = refl; run_in_place = refl; read_before_bound = refl; later_stream = refl }
 
 pub tables : Table
-unfolding le le_in choose twos digit_count unsigned_digits negative signed_digits within64 within_signed64 uleb_of sleb_of uleb128 sleb128 question headed sectioned fits all_fit asked_commands of_kind first_of zero_from earlier plain takes_number numbered with_number symbol_at addend skipping times_skipping by_opcode decode bound_by run in_segment perform walk stream_at joined streams_at binds_from binds_in binds_found rows_of written settled
+unfolding le le_in choose twos digit_count unsigned_digits negative signed_digits within64 within_signed64 uleb_of sleb_of uleb128 sleb128 question headed sectioned fits all_fit asked_commands of_kind zero_from earlier opcode_of with_number typed symbol_at addend skipping times_skipping by_opcode decode bound_by run in_segment perform walk stream_at joined streams_at binds_from binds_in binds_found rows_of written settled
 tables = record { filled = refl; too_short = refl; refusing = refl }

@@ -5,5 +5,6 @@ pub mod Bindings
 pub mod Runs
 pub mod Names
 pub mod Walks
+pub mod Earlier
 pub mod Building
 pub mod Cases

@@ -6,14 +6,15 @@ use Rattle.reads.specs.Leb128.{uleb128, sleb128}
 use Rattle.reads.proofs.Tests.{by_choose}
 use Rattle.macho.specs.Loader.{ncmds}
 use Rattle.macho.specs.Commands.{command_bytes, asked_commands, segments_of}
-use Rattle.macho.specs.declared.command.Found.{Found}
 use Rattle.fixups.specs.Imports.{zero_from}
 use Rattle.opcodes.specs.DyldInfo.{bind_off, weak_bind_off, lazy_bind_off, stream_off, stream_size, first_info}
-use Rattle.opcodes.specs.Opcodes.{Opcode, opcode, operand, plain, numbered, with_number, symbol_at, addend, skipping, times_skipping, by_opcode, decode}
+use Rattle.opcodes.specs.Opcodes.{Opcode, opcode, operand, opcode_of, with_number, typed, symbol_at, addend, skipping, times_skipping, by_opcode, decode}
 use Rattle.opcodes.specs.Binding.{bound, unset, further, with_symbol, with_segment, name_of, bound_at, bound_by, Moved, moved, run, in_segment, perform}
 use Rattle.opcodes.specs.Streams.{walk, stream_at, joined, streams_at}
 use Rattle.opcodes.specs.Binds.{binds_from, binds_in, binds_found}
 use Rattle.opcodes.specs.Names.{NamesIn, none, name}
+use Rattle.opcodes.specs.declared.opcode.BindOpcode.{BindOpcode}
+use Rattle.opcodes.specs.declared.opcode.BindOpcode.TheVariants.{Done, SetDylibOrdinalImm, SetDylibOrdinalUleb, SetDylibSpecialImm, SetSymbolTrailingFlagsImm, SetTypeImm, SetAddendSleb, SetSegmentAndOffsetUleb, AddAddrUleb, DoBind, DoBindAddAddrUleb, DoBindAddAddrImmScaled, DoBindUlebTimesSkippingUleb}
 use Rattle.opcodes.specs.declared.opcode.Instruction.{Instruction}
 use Rattle.opcodes.specs.declared.opcode.Instruction.TheVariants.{Pass, Symbol, Segment, Add, Bind}
 use Rattle.opcodes.specs.declared.binding.Place.{Place}
@@ -121,22 +122,13 @@ module _ (n : ℕ) where
   onto : {A : Type 0} (o : Outcome A) (f : A → Outcome Opcode) → ((a : A) → o ≡ value a → Named (f a)) → Named (and_then o f)
   onto o f h = each_then (λ d. NameIn n d.says) o f h
 
-  numbered_named : (op imm k : ℕ) → NameIn n (numbered op imm k)
-  unfolding numbered
-  numbered_named op imm k =
-      by_choose (NameIn n) (λ _. unnamed_pass) (λ _.
-      by_choose (NameIn n) (λ _. unnamed_segment imm k) (λ _.
-      by_choose (NameIn n) (λ _. unnamed_add k) (λ _. unnamed_bind 1 ((8 + k) % 2 ^ 64))))
+  number_named : (rest : List ℕ) (f : ℕ → Instruction) → ((k : ℕ) → NameIn n (f k)) → Named (with_number rest f)
+  unfolding with_number
+  number_named rest f h = onto (operand (uleb128 rest)) _ (λ u e. one_named _ _ (h u.value))
 
-  plain_named : (parts : Bool) (rest : List ℕ) (op imm : ℕ) → Named (plain parts rest op imm)
-  unfolding plain
-  plain_named parts rest op imm =
-      by_choose Named (λ _. one_named Pass _ unnamed_pass) (λ _.
-      by_choose Named (λ _. one_named Pass 0 unnamed_pass) (λ _.
-      by_choose Named (λ _. one_named Pass 0 unnamed_pass) (λ _.
-      by_choose Named (λ _. by_choose Named (λ _. one_named Pass 0 unnamed_pass) (λ _. no FixupData)) (λ _.
-      by_choose Named (λ _. one_named (Bind 1 8) 0 (unnamed_bind 1 8)) (λ _.
-      by_choose Named (λ _. one_named (Bind 1 (8 + 8 * imm)) 0 (unnamed_bind 1 (8 + 8 * imm))) (λ _. no FixupData))))))
+  type_named : (imm : ℕ) → Named (typed imm)
+  unfolding typed
+  type_named imm = by_choose Named (λ _. one_named Pass 0 unnamed_pass) (λ _. no FixupData)
 
   times_named : (rest : List ℕ) → Named (times_skipping rest)
   unfolding times_skipping skipping
@@ -145,14 +137,26 @@ module _ (n : ℕ) where
       onto (operand (uleb128 (drop u.consumed rest))) _ (λ v g.
       by_choose Named (λ t. one_named (Bind u.value (v.value + 8)) _ (unnamed_bind u.value (v.value + 8))) (λ _. no FixupSlot)))
 
+  opcode_named : (parts : Bool) (place : ℕ) (rest : List ℕ) → place + length rest ≤ n → (op : BindOpcode) (imm : ℕ) → Named (by_opcode parts place rest op imm)
+  unfolding by_opcode symbol_at addend Below
+  opcode_named parts place rest h Done imm = one_named Pass _ unnamed_pass
+  opcode_named parts place rest h SetDylibOrdinalImm imm = one_named Pass 0 unnamed_pass
+  opcode_named parts place rest h SetDylibOrdinalUleb imm = number_named rest (λ k. Pass) (λ k. unnamed_pass)
+  opcode_named parts place rest h SetDylibSpecialImm imm = one_named Pass 0 unnamed_pass
+  opcode_named parts place rest h SetSymbolTrailingFlagsImm imm =
+      onto (zero_from 0 rest) _ (λ k e. one_named (Symbol place k) _ (named_symbol place k (omega (arith, zero_in 0 rest k e))))
+  opcode_named parts place rest h SetTypeImm imm = type_named imm
+  opcode_named parts place rest h SetAddendSleb imm = onto (operand (sleb128 rest)) _ (λ s e. one_named Pass _ unnamed_pass)
+  opcode_named parts place rest h SetSegmentAndOffsetUleb imm = number_named rest (λ k. Segment imm k) (unnamed_segment imm)
+  opcode_named parts place rest h AddAddrUleb imm = number_named rest (λ k. Add k) unnamed_add
+  opcode_named parts place rest h DoBind imm = one_named (Bind 1 8) 0 (unnamed_bind 1 8)
+  opcode_named parts place rest h DoBindAddAddrUleb imm = number_named rest (λ k. Bind 1 ((8 + k) % 2 ^ 64)) (λ k. unnamed_bind 1 ((8 + k) % 2 ^ 64))
+  opcode_named parts place rest h DoBindAddAddrImmScaled imm = one_named (Bind 1 (8 + 8 * imm)) 0 (unnamed_bind 1 (8 + 8 * imm))
+  opcode_named parts place rest h DoBindUlebTimesSkippingUleb imm = times_named rest
+
   decode_named : (parts : Bool) (place b : ℕ) (rest : List ℕ) → place + length rest ≤ n → Named (decode parts place b rest)
-  unfolding decode by_opcode symbol_at addend with_number Below
-  decode_named parts place b rest h =
-      by_choose Named (λ _. onto (zero_from 0 rest) _ (λ k e. one_named (Symbol place k) _ (named_symbol place k (omega (arith, zero_in 0 rest k e))))) (λ _.
-      by_choose Named (λ _. onto (operand (sleb128 rest)) _ (λ s e. one_named Pass _ unnamed_pass)) (λ _.
-      by_choose Named (λ _. times_named rest) (λ _.
-      by_choose Named (λ _. onto (operand (uleb128 rest)) _ (λ u e. one_named _ _ (numbered_named (b - b % 16) (b % 16) u.value)))
-      (λ _. plain_named parts rest (b - b % 16) (b % 16)))))
+  unfolding decode
+  decode_named parts place b rest h = onto (opcode_of (b - b % 16)) _ (λ op e. opcode_named parts place rest h op (b % 16))
 
 -- A stream.
 module _ (n end : ℕ) (cmds segs : List ℕ) (parts : Bool) where
@@ -196,13 +200,12 @@ streams_named file cmds segs a =
     (stream_named file cmds segs a bind_off false)
     (joined_named (length file) (stream_at file cmds segs a weak_bind_off false) (stream_at file cmds segs a lazy_bind_off true) (stream_named file cmds segs a weak_bind_off false) (stream_named file cmds segs a lazy_bind_off true))
 
-from_named : (file cmds : List ℕ) (count : ℕ) (r : Found) → Held (length file) (binds_in file cmds count r)
+from_named : (file cmds : List ℕ) (count : ℕ) (r : Option ℕ) → Held (length file) (binds_in file cmds count r)
 unfolding binds_in binds_from
-from_named file cmds count r =
-    by_choose (Held (length file))
-    (λ _. by_choose (Held (length file)) (λ _. streams_named file cmds (segments_of cmds count) r.at)
-    (λ _. λ xs e. let z : ◌≡◌ {A = ℕ} 0 1 = cc in absurd (omega arith)))
-    (λ _. λ xs e. let p : ◌≡◌ {A = List Bound} [] xs = cc in subst (NamesIn (length file)) p none)
+from_named file cmds count (Some a) =
+    by_choose (Held (length file)) (λ _. streams_named file cmds (segments_of cmds count) a)
+    (λ _. λ xs e. let z : ◌≡◌ {A = ℕ} 0 1 = cc in absurd (omega arith))
+from_named file cmds count None = λ xs e. let p : ◌≡◌ {A = List Bound} [] xs = cc in subst (NamesIn (length file)) p none
 
 pub names_in_file : (file : List ℕ) (xs : List Bound) → binds_found file ≡ value xs → NamesIn (length file) xs
 unfolding binds_found

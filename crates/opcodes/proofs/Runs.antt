@@ -5,8 +5,10 @@ use Rattle.reads.specs.Outcome.{Outcome, value, refused}
 use Rattle.reads.proofs.Tests.{by_choose, both_true}
 use Rattle.reads.specs.Leb128.{uleb128, sleb128}
 use Rattle.fixups.specs.Imports.{zero_from}
-use Rattle.opcodes.specs.Opcodes.{Opcode, opcode, operand, plain, numbered, with_number, symbol_at, addend, skipping, times_skipping, by_opcode, decode}
+use Rattle.opcodes.specs.Opcodes.{Opcode, opcode, operand, opcode_of, with_number, typed, symbol_at, addend, skipping, times_skipping, by_opcode, decode}
 use Rattle.opcodes.specs.Binding.{further, with_symbol, inside, bound_at, bound_by, Moved, moved, run, in_segment, perform}
+use Rattle.opcodes.specs.declared.opcode.BindOpcode.{BindOpcode}
+use Rattle.opcodes.specs.declared.opcode.BindOpcode.TheVariants.{Done, SetDylibOrdinalImm, SetDylibOrdinalUleb, SetDylibSpecialImm, SetSymbolTrailingFlagsImm, SetTypeImm, SetAddendSleb, SetSegmentAndOffsetUleb, AddAddrUleb, DoBind, DoBindAddAddrUleb, DoBindAddAddrImmScaled, DoBindUlebTimesSkippingUleb}
 use Rattle.opcodes.specs.declared.opcode.Instruction.{Instruction}
 use Rattle.opcodes.specs.declared.opcode.Instruction.TheVariants.{Pass, Symbol, Segment, Add, Bind}
 use Rattle.opcodes.specs.declared.binding.Place.{Place}
@@ -107,22 +109,13 @@ one_paced x n h = each_value (λ d. Paced d.says) x n h
 none : (k : Question) → Strides (refused k)
 none k = each_number (λ d. Paced d.says) k
 
-numbered_paced : (op imm n : ℕ) → Paced (numbered op imm n)
-unfolding numbered
-numbered_paced op imm n =
-    by_choose Paced (λ _. paced_pass) (λ _.
-    by_choose Paced (λ _. paced_segment imm n) (λ _.
-    by_choose Paced (λ _. paced_add n) (λ _. paced_one ((8 + n) % 2 ^ 64))))
+number_paced : (rest : List ℕ) (f : ℕ → Instruction) → ((n : ℕ) → Paced (f n)) → Strides (with_number rest f)
+unfolding with_number
+number_paced rest f h = each_then (λ d. Paced d.says) (operand (uleb128 rest)) _ (λ u e. one_paced _ _ (h u.value))
 
-plain_paced : (parts : Bool) (rest : List ℕ) (op imm : ℕ) → Strides (plain parts rest op imm)
-unfolding plain
-plain_paced parts rest op imm =
-    by_choose Strides (λ _. one_paced Pass _ paced_pass) (λ _.
-    by_choose Strides (λ _. one_paced Pass 0 paced_pass) (λ _.
-    by_choose Strides (λ _. one_paced Pass 0 paced_pass) (λ _.
-    by_choose Strides (λ _. by_choose Strides (λ _. one_paced Pass 0 paced_pass) (λ _. none FixupData)) (λ _.
-    by_choose Strides (λ _. one_paced (Bind 1 8) 0 (paced_one 8)) (λ _.
-    by_choose Strides (λ _. one_paced (Bind 1 (8 + 8 * imm)) 0 (paced_one (8 + 8 * imm))) (λ _. none FixupData))))))
+type_paced : (imm : ℕ) → Strides (typed imm)
+unfolding typed
+type_paced imm = by_choose Strides (λ _. one_paced Pass 0 paced_pass) (λ _. none FixupData)
 
 times_paced : (rest : List ℕ) → Strides (times_skipping rest)
 unfolding times_skipping skipping
@@ -133,15 +126,27 @@ times_paced rest =
     (λ t. one_paced (Bind u.value (v.value + 8)) _ (paced_run u.value (v.value + 8) (omega arith) (ltb-true (v.value + 8) (2 ^ 64) t)))
     (λ _. none FixupSlot)))
 
+opcode_paced : (parts : Bool) (place : ℕ) (rest : List ℕ) (op : BindOpcode) (imm : ℕ) → Strides (by_opcode parts place rest op imm)
+unfolding by_opcode symbol_at addend
+opcode_paced parts place rest Done imm = one_paced Pass _ paced_pass
+opcode_paced parts place rest SetDylibOrdinalImm imm = one_paced Pass 0 paced_pass
+opcode_paced parts place rest SetDylibOrdinalUleb imm = number_paced rest (λ n. Pass) (λ n. paced_pass)
+opcode_paced parts place rest SetDylibSpecialImm imm = one_paced Pass 0 paced_pass
+opcode_paced parts place rest SetSymbolTrailingFlagsImm imm =
+    each_then (λ d. Paced d.says) (zero_from 0 rest) _ (λ n e. one_paced (Symbol place n) _ (paced_symbol place n))
+opcode_paced parts place rest SetTypeImm imm = type_paced imm
+opcode_paced parts place rest SetAddendSleb imm = each_then (λ d. Paced d.says) (operand (sleb128 rest)) _ (λ s e. one_paced Pass _ paced_pass)
+opcode_paced parts place rest SetSegmentAndOffsetUleb imm = number_paced rest (λ n. Segment imm n) (paced_segment imm)
+opcode_paced parts place rest AddAddrUleb imm = number_paced rest (λ n. Add n) paced_add
+opcode_paced parts place rest DoBind imm = one_paced (Bind 1 8) 0 (paced_one 8)
+opcode_paced parts place rest DoBindAddAddrUleb imm = number_paced rest (λ n. Bind 1 ((8 + n) % 2 ^ 64)) (λ n. paced_one ((8 + n) % 2 ^ 64))
+opcode_paced parts place rest DoBindAddAddrImmScaled imm = one_paced (Bind 1 (8 + 8 * imm)) 0 (paced_one (8 + 8 * imm))
+opcode_paced parts place rest DoBindUlebTimesSkippingUleb imm = times_paced rest
+
 decode_paced : (parts : Bool) (place b : ℕ) (rest : List ℕ) → Strides (decode parts place b rest)
-unfolding decode by_opcode symbol_at addend with_number
+unfolding decode
 decode_paced parts place b rest =
-    by_choose Strides (λ _. each_then (λ d. Paced d.says) (zero_from 0 rest) _ (λ n e. one_paced (Symbol place n) _ (paced_symbol place n))) (λ _.
-    by_choose Strides (λ _. each_then (λ d. Paced d.says) (operand (sleb128 rest)) _ (λ s e. one_paced Pass _ paced_pass)) (λ _.
-    by_choose Strides (λ _. times_paced rest) (λ _.
-    by_choose Strides
-    (λ _. each_then (λ d. Paced d.says) (operand (uleb128 rest)) _ (λ u e. one_paced _ _ (numbered_paced (b - b % 16) (b % 16) u.value)))
-    (λ _. plain_paced parts rest (b - b % 16) (b % 16)))))
+    each_then (λ d. Paced d.says) (opcode_of (b - b % 16)) _ (λ op e. opcode_paced parts place rest op (b % 16))
 
 -- A run makes as many binds as it counts.
 run_count : (end stride k : ℕ) (s : State) (m : Moved) → run end k stride s ≡ value m → length m.binds ≡ k

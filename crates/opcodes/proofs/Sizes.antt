@@ -1,13 +1,15 @@
 -- The operands of an opcode lie in the bytes after it.
-use Rattle.std.proofs.Common.{◌≡◌, ℕ, ◌+◌, ◌-◌, ◌%◌, ◌<◌, ◌≤◌, Bool, List, [], ◌∷◌, length, take, drop, refl, ap, subst, arith, length-drop, length-take}
+use Rattle.std.proofs.Common.{◌≡◌, ℕ, ℤ, ◌+◌, ◌-◌, ◌%◌, ◌^◌, ◌<◌, ◌≤◌, Bool, List, [], ◌∷◌, length, take, drop, refl, ap, subst, arith, length-drop, length-take}
 use Rattle.reads.specs.Outcome.{Outcome, value, absent, refused, and_then, choose}
-use Rattle.reads.specs.Leb128.{uleb128, sleb128, digit_count, uleb_of, sleb_of, within64, within_signed64, unsigned_digits, signed_digits, unsigned_read, signed_read}
-use Rattle.reads.specs.declared.leb128.Uleb.{Uleb}
-use Rattle.reads.specs.declared.leb128.Sleb.{Sleb}
+use Rattle.reads.specs.Leb128.{uleb128, sleb128, digit_count, uleb_of, sleb_of, within64, within_signed64, unsigned_digits, signed_digits, leb}
+use Rattle.reads.specs.declared.leb128.Leb.{Leb}
 use Rattle.reads.proofs.Tests.{by_choose}
 use Rattle.fixups.specs.Imports.{zero_from}
-use Rattle.opcodes.specs.Opcodes.{Opcode, opcode, operand, plain, with_number, symbol_at, addend, skipping, times_skipping, by_opcode, decode}
+use Rattle.opcodes.specs.Opcodes.{Opcode, opcode, operand, opcode_of, with_number, typed, symbol_at, addend, skipping, times_skipping, by_opcode, decode}
+use Rattle.opcodes.specs.declared.opcode.BindOpcode.{BindOpcode}
+use Rattle.opcodes.specs.declared.opcode.BindOpcode.TheVariants.{Done, SetDylibOrdinalImm, SetDylibOrdinalUleb, SetDylibSpecialImm, SetSymbolTrailingFlagsImm, SetTypeImm, SetAddendSleb, SetSegmentAndOffsetUleb, AddAddrUleb, DoBind, DoBindAddAddrUleb, DoBindAddAddrImmScaled, DoBindUlebTimesSkippingUleb}
 use Rattle.opcodes.specs.declared.opcode.Instruction.{Instruction}
+use Rattle.opcodes.specs.declared.opcode.Instruction.TheVariants.{Pass, Segment, Add, Bind}
 use Rattle.reads.specs.declared.answer.Question.{Question}
 use Rattle.reads.specs.declared.answer.Question.TheVariants.{FixupData, FixupSlot}
 
@@ -21,21 +23,22 @@ operand_value (value a) b e = e
 operand_value (absent r) b e = let z : ◌≡◌ {A = ℕ} 0 1 = cc in absurd (omega arith)
 operand_value (refused k) b e = let z : ◌≡◌ {A = ℕ} 0 1 = cc in absurd (omega arith)
 
-pub uleb_in : (bytes : List ℕ) (u : Uleb) → operand (uleb128 bytes) ≡ value u → u.consumed ≤ length bytes
-unfolding uleb128 uleb_of
-uleb_in bytes u e =
-    let p = then_value (digit_count bytes) (λ k. uleb_of (take k bytes)) u (operand_value (uleb128 bytes) u e) in
-    let q = then_value (within64 (unsigned_digits (take p.0 bytes))) (λ n. value (unsigned_read n (length (take p.0 bytes)))) u p.2 in
-    let r : unsigned_read q.0 (length (take p.0 bytes)) ≡ u = cc in
-    omega (arith, ap (λ (v : Uleb). v.consumed) r, length-take p.0 bytes)
+-- A number takes bytes that are there, whatever its digits say.
+leb_in : {A : Type 0} (bytes : List ℕ) (g : List ℕ → Outcome A) (u : Leb A)
+    → operand (and_then (digit_count bytes) (λ k. and_then (g (take k bytes)) (λ n. value (leb n (length (take k bytes)))))) ≡ value u → u.consumed ≤ length bytes
+leb_in {A} bytes g u e =
+    let p = then_value (digit_count bytes) (λ k. and_then (g (take k bytes)) (λ n. value (leb n (length (take k bytes))))) u (operand_value _ u e) in
+    let q = then_value (g (take p.0 bytes)) (λ n. value (leb n (length (take p.0 bytes)))) u p.2 in
+    let r : leb q.0 (length (take p.0 bytes)) ≡ u = cc in
+    omega (arith, ap (λ (v : Leb A). v.consumed) r, length-take p.0 bytes)
 
-sleb_in : (bytes : List ℕ) (s : Sleb) → operand (sleb128 bytes) ≡ value s → s.consumed ≤ length bytes
+pub uleb_in : (bytes : List ℕ) (u : Leb ℕ) → operand (uleb128 bytes) ≡ value u → u.consumed ≤ length bytes
+unfolding uleb128 uleb_of
+uleb_in bytes u e = leb_in bytes (λ ds. within64 (unsigned_digits ds)) u e
+
+sleb_in : (bytes : List ℕ) (s : Leb ℤ) → operand (sleb128 bytes) ≡ value s → s.consumed ≤ length bytes
 unfolding sleb128 sleb_of
-sleb_in bytes s e =
-    let p = then_value (digit_count bytes) (λ k. sleb_of (take k bytes)) s (operand_value (sleb128 bytes) s e) in
-    let q = then_value (within_signed64 (signed_digits (take p.0 bytes))) (λ n. value (signed_read n (length (take p.0 bytes)))) s p.2 in
-    let r : signed_read q.0 (length (take p.0 bytes)) ≡ s = cc in
-    omega (arith, ap (λ (v : Sleb). v.consumed) r, length-take p.0 bytes)
+sleb_in bytes s e = leb_in bytes (λ ds. within_signed64 (signed_digits ds)) s e
 
 unfoldable pub Below : ℕ → Outcome ℕ → Type 0
 Below n o = (k : ℕ) → o ≡ value k → k < n
@@ -82,19 +85,13 @@ module _ (rest : List ℕ) where
   none_left : (t : Bool) → choose t 0 (length rest) ≤ length rest
   none_left t = by_choose (λ (n : ℕ). n ≤ length rest) {t = t} (λ _. omega arith) (λ _. omega arith)
 
-  plain_within : (parts : Bool) (op imm : ℕ) → Within (plain parts rest op imm)
-  unfolding plain
-  plain_within parts op imm =
-      by_choose Within (λ _. within_value _ _ (none_left parts)) (λ _.
-      by_choose Within (λ _. within_value _ 0 (omega arith)) (λ _.
-      by_choose Within (λ _. within_value _ 0 (omega arith)) (λ _.
-      by_choose Within (λ _. by_choose Within (λ _. within_value _ 0 (omega arith)) (λ _. within_number FixupData)) (λ _.
-      by_choose Within (λ _. within_value _ 0 (omega arith)) (λ _.
-      by_choose Within (λ _. within_value _ 0 (omega arith)) (λ _. within_number FixupData))))))
+  type_within : (imm : ℕ) → Within (typed imm)
+  unfolding typed
+  type_within imm = by_choose Within (λ _. within_value _ 0 (omega arith)) (λ _. within_number FixupData)
 
-  number_within : (op imm : ℕ) → Within (with_number rest op imm)
+  number_within : (f : ℕ → Instruction) → Within (with_number rest f)
   unfolding with_number
-  number_within op imm = within_then (operand (uleb128 rest)) _ (λ u e. within_value _ u.consumed (uleb_in rest u e))
+  number_within f = within_then (operand (uleb128 rest)) _ (λ u e. within_value _ u.consumed (uleb_in rest u e))
 
   symbol_within : (place : ℕ) → Within (symbol_at place rest)
   unfolding symbol_at Below
@@ -114,10 +111,22 @@ module _ (rest : List ℕ) where
       (omega (arith, uleb_in rest u e, uleb_in (drop u.consumed rest) v g, length-drop u.consumed rest)))
       (λ _. within_number FixupSlot)))
 
+  opcode_within : (parts : Bool) (place : ℕ) (op : BindOpcode) (imm : ℕ) → Within (by_opcode parts place rest op imm)
+  unfolding by_opcode
+  opcode_within parts place Done imm = within_value _ _ (none_left parts)
+  opcode_within parts place SetDylibOrdinalImm imm = within_value _ 0 (omega arith)
+  opcode_within parts place SetDylibOrdinalUleb imm = number_within (λ n. Pass)
+  opcode_within parts place SetDylibSpecialImm imm = within_value _ 0 (omega arith)
+  opcode_within parts place SetSymbolTrailingFlagsImm imm = symbol_within place
+  opcode_within parts place SetTypeImm imm = type_within imm
+  opcode_within parts place SetAddendSleb imm = addend_within
+  opcode_within parts place SetSegmentAndOffsetUleb imm = number_within (λ n. Segment imm n)
+  opcode_within parts place AddAddrUleb imm = number_within (λ n. Add n)
+  opcode_within parts place DoBind imm = within_value _ 0 (omega arith)
+  opcode_within parts place DoBindAddAddrUleb imm = number_within (λ n. Bind 1 ((8 + n) % 2 ^ 64))
+  opcode_within parts place DoBindAddAddrImmScaled imm = within_value _ 0 (omega arith)
+  opcode_within parts place DoBindUlebTimesSkippingUleb imm = times_within
+
   pub decode_within : (parts : Bool) (place b : ℕ) (d : Opcode) → decode parts place b rest ≡ value d → d.size ≤ length rest
-  unfolding decode by_opcode Each
-  decode_within parts place b =
-      by_choose Within (λ _. symbol_within place) (λ _.
-      by_choose Within (λ _. addend_within) (λ _.
-      by_choose Within (λ _. times_within) (λ _.
-      by_choose Within (λ _. number_within (b - b % 16) (b % 16)) (λ _. plain_within parts (b - b % 16) (b % 16)))))
+  unfolding decode Each
+  decode_within parts place b = within_then (opcode_of (b - b % 16)) _ (λ op e. opcode_within parts place op (b % 16))

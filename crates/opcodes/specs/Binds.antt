@@ -1,11 +1,10 @@
 -- The binds of a file by its bind opcodes, and the table that a call leaves.
-use Rattle.std.specs.Prelude.{ℕ, ◌/◌, List, [], length, nat_le}
+use Rattle.std.specs.Prelude.{ℕ, ◌/◌, List, [], length, nat_le, Option, None, Some}
 use Rattle.reads.specs.Outcome.{Outcome, value, absent, refused, and_then, choose}
 use Rattle.pointers.specs.Tables.{bind_words}
 use Rattle.macho.specs.Loader.{ncmds, cmdsize}
 use Rattle.macho.specs.Commands.{command_bytes, asked_commands, segments_of}
 use Rattle.macho.specs.Segments.{written}
-use Rattle.macho.specs.declared.command.Found.{Found}
 use Rattle.fixups.specs.Tables.{rows_of}
 use Rattle.opcodes.specs.DyldInfo.{first_info}
 use Rattle.opcodes.specs.Streams.{streams_at}
@@ -19,8 +18,9 @@ binds_from file cmds count a =
     choose (nat_le 48 (cmdsize cmds a)) (streams_at file cmds (segments_of cmds count) a) (refused FixupData)
 
 -- Without one there are no binds.
-unfoldable pub binds_in : List ℕ → List ℕ → ℕ → Found → Outcome (List Bound)
-binds_in file cmds count found = choose found.here (binds_from file cmds count found.at) (value [])
+unfoldable pub binds_in : List ℕ → List ℕ → ℕ → Option ℕ → Outcome (List Bound)
+binds_in file cmds count None = value []
+binds_in file cmds count (Some a) = binds_from file cmds count a
 
 -- 15 and 16, then the binds in order, or 19 or 20, the first met.
 unfoldable pub binds_found : List ℕ → Outcome (List Bound)

@@ -1,9 +1,7 @@
 -- dyld_info_command (loader.h), 48 bytes: its streams of bind opcodes, by the offset of the two fields of each.
-use Rattle.std.specs.Prelude.{ℕ, ◌+◌, List, nat_lt}
-use Rattle.reads.specs.Outcome.{choose}
+use Rattle.std.specs.Prelude.{ℕ, ◌+◌, List, min, slice_get, Option, None, Some}
 use Rattle.macho.specs.Number.{u32_at}
-use Rattle.macho.specs.Commands.{first_of}
-use Rattle.macho.specs.declared.command.Found.{Found}
+use Rattle.macho.specs.Commands.{of_kind}
 
 -- LC_DYLD_INFO and LC_DYLD_INFO_ONLY.
 abbrev pub dyld_info_kind : ℕ
@@ -29,10 +27,12 @@ stream_off cmds a field = u32_at cmds (a + field)
 abbrev pub stream_size : List ℕ → ℕ → ℕ → ℕ
 stream_size cmds a field = u32_at cmds (a + (field + 4))
 
--- The one of two commands that stands first.
-unfoldable pub earlier : Found → Found → Found
-earlier x y = choose x.here (choose y.here (choose (nat_lt x.at y.at) x y) x) y
+-- Where the one of two commands stands that is there and stands first.
+unfoldable pub earlier : Option ℕ → Option ℕ → Option ℕ
+earlier None y = y
+earlier (Some a) None = Some a
+earlier (Some a) (Some b) = Some (min a b)
 
--- The first command of either kind.
-abbrev pub first_info : List ℕ → ℕ → Found
-first_info cmds count = earlier (first_of dyld_info_kind cmds count 0) (first_of dyld_info_only_kind cmds count 0)
+-- Where the first command of either kind stands.
+abbrev pub first_info : List ℕ → ℕ → Option ℕ
+first_info cmds count = earlier (slice_get (of_kind dyld_info_kind cmds count 0) 0) (slice_get (of_kind dyld_info_only_kind cmds count 0) 0)

@@ -1,8 +1,10 @@
 -- The bind opcodes (loader.h, BIND_OPCODE_*): the upper four bits of a byte are the opcode, the lower four its immediate; its operands follow.
-use Rattle.std.specs.Prelude.{ℕ, ◌+◌, ◌-◌, ◌*◌, ◌%◌, ◌^◌, Bool, ◌||◌, List, length, drop, ◌==◌, nat_lt, Result, Ok, Err}
+use Rattle.std.specs.Prelude.{ℕ, ◌+◌, ◌-◌, ◌*◌, ◌%◌, ◌^◌, Bool, List, length, drop, ◌==◌, nat_lt, Result, Ok, Err}
 use Rattle.reads.specs.Outcome.{Outcome, value, absent, refused, and_then, choose}
 use Rattle.reads.specs.Leb128.{uleb128, sleb128}
 use Rattle.fixups.specs.Imports.{zero_from}
+use Rattle.opcodes.specs.declared.opcode.BindOpcode.{BindOpcode}
+use Rattle.opcodes.specs.declared.opcode.BindOpcode.TheVariants.{Done, SetDylibOrdinalImm, SetDylibOrdinalUleb, SetDylibSpecialImm, SetSymbolTrailingFlagsImm, SetTypeImm, SetAddendSleb, SetSegmentAndOffsetUleb, AddAddrUleb, DoBind, DoBindAddAddrUleb, DoBindAddAddrImmScaled, DoBindUlebTimesSkippingUleb}
 use Rattle.opcodes.specs.declared.opcode.Instruction.{Instruction}
 use Rattle.opcodes.specs.declared.opcode.Instruction.TheVariants.{Pass, Symbol, Segment, Add, Bind}
 use Rattle.reads.specs.declared.answer.Question.{Question}
@@ -26,31 +28,27 @@ operand (value a) = value a
 operand (absent r) = refused FixupData
 operand (refused k) = refused FixupData
 
--- Opcodes without operands; one that is none of all, BIND_OPCODE_THREADED (0xD0) among them, is 19. DONE parts the entries of the lazy stream;
--- any other stream it ends: no byte after it is an opcode.
-unfoldable pub plain : Bool → List ℕ → ℕ → ℕ → Outcome Opcode
-plain parts rest op imm =
-    choose (op == 0x00) (value (opcode Pass (choose parts 0 (length rest))))  -- BIND_OPCODE_DONE
-    (choose (op == 0x10) (value (opcode Pass 0))  -- BIND_OPCODE_SET_DYLIB_ORDINAL_IMM
-    (choose (op == 0x30) (value (opcode Pass 0))  -- BIND_OPCODE_SET_DYLIB_SPECIAL_IMM
-    (choose (op == 0x50) (choose (imm == 1) (value (opcode Pass 0)) (refused FixupData))  -- BIND_OPCODE_SET_TYPE_IMM, BIND_TYPE_POINTER
-    (choose (op == 0x90) (value (opcode (Bind 1 8) 0))  -- BIND_OPCODE_DO_BIND
-    (choose (op == 0xB0) (value (opcode (Bind 1 (8 + 8 * imm)) 0))  -- BIND_OPCODE_DO_BIND_ADD_ADDR_IMM_SCALED
-    (refused FixupData))))))
+-- The opcodes that are read, by their numbers (BIND_OPCODE_*); any other, BIND_OPCODE_THREADED (0xD0) among them, is 19.
+unfoldable pub opcode_of : ℕ → Outcome BindOpcode
+opcode_of op =
+    choose (op == 0x00) (value Done)
+    (choose (op == 0x10) (value SetDylibOrdinalImm)
+    (choose (op == 0x20) (value SetDylibOrdinalUleb)
+    (choose (op == 0x30) (value SetDylibSpecialImm)
+    (choose (op == 0x40) (value SetSymbolTrailingFlagsImm)
+    (choose (op == 0x50) (value SetTypeImm)
+    (choose (op == 0x60) (value SetAddendSleb)
+    (choose (op == 0x70) (value SetSegmentAndOffsetUleb)
+    (choose (op == 0x80) (value AddAddrUleb)
+    (choose (op == 0x90) (value DoBind)
+    (choose (op == 0xA0) (value DoBindAddAddrUleb)
+    (choose (op == 0xB0) (value DoBindAddAddrImmScaled)
+    (choose (op == 0xC0) (value DoBindUlebTimesSkippingUleb)
+    (refused FixupData)))))))))))))
 
--- Opcodes with one number: 0x20, 0x70, 0x80 and 0xA0.
-unfoldable pub takes_number : ℕ → Bool
-takes_number op = op == 0x20 || (op == 0x70 || (op == 0x80 || op == 0xA0))
-
-unfoldable pub numbered : ℕ → ℕ → ℕ → Instruction
-numbered op imm n =
-    choose (op == 0x20) Pass  -- BIND_OPCODE_SET_DYLIB_ORDINAL_ULEB
-    (choose (op == 0x70) (Segment imm n)  -- BIND_OPCODE_SET_SEGMENT_AND_OFFSET_ULEB
-    (choose (op == 0x80) (Add n)  -- BIND_OPCODE_ADD_ADDR_ULEB
-    (Bind 1 ((8 + n) % 2 ^ 64))))  -- BIND_OPCODE_DO_BIND_ADD_ADDR_ULEB
-
-unfoldable pub with_number : List ℕ → ℕ → ℕ → Outcome Opcode
-with_number rest op imm = and_then (operand (uleb128 rest)) (λ u. value (opcode (numbered op imm u.value) u.consumed))
+-- An opcode with one number, n, says f n.
+unfoldable pub with_number : List ℕ → (ℕ → Instruction) → Outcome Opcode
+with_number rest f = and_then (operand (uleb128 rest)) (λ u. value (opcode (f u.value) u.consumed))
 
 -- BIND_OPCODE_SET_SYMBOL_TRAILING_FLAGS_IMM: the name stands at `place` in the file, and ends at its zero.
 unfoldable pub symbol_at : ℕ → List ℕ → Outcome Opcode
@@ -69,14 +67,26 @@ skipping rest count n =
 unfoldable pub times_skipping : List ℕ → Outcome Opcode
 times_skipping rest = and_then (operand (uleb128 rest)) (λ u. skipping rest u.value u.consumed)
 
--- An opcode with its immediate, before the bytes `rest`, which stand at `place` in the file.
-unfoldable pub by_opcode : Bool → ℕ → List ℕ → ℕ → ℕ → Outcome Opcode
-by_opcode parts place rest op imm =
-    choose (op == 0x40) (symbol_at place rest)
-    (choose (op == 0x60) (addend rest)
-    (choose (op == 0xC0) (times_skipping rest)
-    (choose (takes_number op) (with_number rest op imm)
-    (plain parts rest op imm))))
+-- BIND_OPCODE_SET_TYPE_IMM: BIND_TYPE_POINTER, 1.
+unfoldable pub typed : ℕ → Outcome Opcode
+typed imm = choose (imm == 1) (value (opcode Pass 0)) (refused FixupData)
+
+-- An opcode with its immediate, before the bytes `rest`, which stand at `place` in the file. DONE parts the entries of the lazy stream; any
+-- other stream it ends: no byte after it is an opcode.
+unfoldable pub by_opcode : Bool → ℕ → List ℕ → BindOpcode → ℕ → Outcome Opcode
+by_opcode parts place rest Done imm = value (opcode Pass (choose parts 0 (length rest)))
+by_opcode parts place rest SetDylibOrdinalImm imm = value (opcode Pass 0)
+by_opcode parts place rest SetDylibOrdinalUleb imm = with_number rest (λ n. Pass)
+by_opcode parts place rest SetDylibSpecialImm imm = value (opcode Pass 0)
+by_opcode parts place rest SetSymbolTrailingFlagsImm imm = symbol_at place rest
+by_opcode parts place rest SetTypeImm imm = typed imm
+by_opcode parts place rest SetAddendSleb imm = addend rest
+by_opcode parts place rest SetSegmentAndOffsetUleb imm = with_number rest (λ n. Segment imm n)
+by_opcode parts place rest AddAddrUleb imm = with_number rest (λ n. Add n)
+by_opcode parts place rest DoBind imm = value (opcode (Bind 1 8) 0)
+by_opcode parts place rest DoBindAddAddrUleb imm = with_number rest (λ n. Bind 1 ((8 + n) % 2 ^ 64))
+by_opcode parts place rest DoBindAddAddrImmScaled imm = value (opcode (Bind 1 (8 + 8 * imm)) 0)
+by_opcode parts place rest DoBindUlebTimesSkippingUleb imm = times_skipping rest
 
 unfoldable pub decode : Bool → ℕ → ℕ → List ℕ → Outcome Opcode
-decode parts place b rest = by_opcode parts place rest (b - b % 16) (b % 16)
+decode parts place b rest = and_then (opcode_of (b - b % 16)) (λ op. by_opcode parts place rest op (b % 16))

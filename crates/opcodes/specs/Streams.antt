@@ -2,9 +2,11 @@
 use Rattle.std.specs.Prelude.{ℕ, zero, suc, ◌+◌, Bool, true, false, List, [], ◌∷◌, ◌++◌, length}
 use Rattle.reads.specs.Outcome.{Outcome, value, and_then}
 use Rattle.reads.specs.Place.{part}
+use Rattle.macho.specs.Commands.{segments_of}
 use Rattle.opcodes.specs.DyldInfo.{bind_off, weak_bind_off, lazy_bind_off, stream_off, stream_size}
 use Rattle.opcodes.specs.Opcodes.{decode}
 use Rattle.opcodes.specs.Binding.{unset, perform}
+use Rattle.opcodes.specs.declared.dyld_info.Info.{Info}
 use Rattle.opcodes.specs.declared.binding.State.{State}
 use Rattle.opcodes.specs.declared.binding.Bound.{Bound}
 
@@ -30,3 +32,13 @@ joined x y = and_then x (λ xs. and_then y (λ ys. value (xs ++ ys)))
 unfoldable pub streams_at : List ℕ → List ℕ → List ℕ → ℕ → Outcome (List Bound)
 streams_at file cmds segs a =
     joined (stream_at file cmds segs a bind_off false) (joined (stream_at file cmds segs a weak_bind_off false) (stream_at file cmds segs a lazy_bind_off true))
+
+-- The same of the command that the code is lent: its segments, its streams.
+abbrev pub segments_in : Info → List ℕ
+segments_in i = segments_of i.cmds.bytes.now i.cmds.count
+
+abbrev pub stream_in : Info → ℕ → Bool → Outcome (List Bound)
+stream_in i field parts = stream_at i.file.now i.cmds.bytes.now (segments_in i) i.at field parts
+
+abbrev pub streams_in : Info → Outcome (List Bound)
+streams_in i = streams_at i.file.now i.cmds.bytes.now (segments_in i) i.at

@@ -30,6 +30,11 @@ abbrev pub reached : Result (Unit {0}) Question → Part → Outcome Part
 reached (Ok u) p = value p
 reached (Err k) p = refused k
 
+-- What a walk that makes the binds x, and its answer r, leave of the table o: it is the same table, with the rows of x.
+pub record Walks (x : Outcome (List Bound)) (r : Result (Unit {0}) Question) (o p : Binds) : Type 0 where
+  pub kept : Kept o p
+  pub told : reached r (part_in p) ≡ told x (part_in o)
+
 -- And an answer of the count.
 abbrev pub part_of : Result ℕ Question → List ℕ → Outcome Part
 part_of (Ok n) t = value (part n t)
@@ -49,6 +54,11 @@ told_by x p = and_then x (λ m. value (told_at m.state (put_rows bind_row m.bind
 abbrev pub ran_of : Result State Question → Part → Outcome Told
 ran_of (Ok s) p = value (told_at s p)
 ran_of (Err k) p = refused k
+
+-- What a run that makes x, and its answer r, leave of the table o.
+pub record Runs (x : Outcome Moved) (r : Result State Question) (o p : Binds) : Type 0 where
+  pub kept : Kept o p
+  pub told : ran_of r (part_in p) ≡ told_by x (part_in o)
 
 -- And with the bytes of the opcode's operands.
 pub record Next : Type 0 where

@@ -2,7 +2,7 @@
 ghost use Rattle.std.specs.Prelude.{◌≡◌};
 ghost use Rattle.fixups.specs.Tables.{put_row};
 ghost use Rattle.opcodes.specs.Binding.{further, bound_by, run};
-ghost use Rattle.opcodes.specs.Tables.{Kept, part_in, bind_row, told_by, ran_of};
+ghost use Rattle.opcodes.specs.Tables.{Kept, Runs, part_in, bind_row};
 ghost use Rattle.reads.specs.Answer.{answered};
 
 use fixups::table::put_bind;
@@ -100,8 +100,7 @@ pub(crate) fn run(
     s: State,
     binds: &mut Binds,
 ) -> Result<State, Question>
-    ensures kept { Kept binds.old binds.new }
-    ensures told { ran_of result (part_in binds.new) ≡ told_by (run end count stride s) (part_in binds.old) }
+    ensures { Runs (run end count stride s) result binds.old binds.new }
 {
     let mut here = s;
     for _ in 0..count {

@@ -3,7 +3,7 @@
 
 mod binding;
 pub mod build;
-mod dyld_info;
+pub mod dyld_info;
 mod opcode;
 mod segment;
 mod stream;

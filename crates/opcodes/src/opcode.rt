@@ -1,11 +1,13 @@
 // The bind opcodes (loader.h): the upper four bits of a byte are the opcode, the lower four its immediate; its operands follow.
-ghost use Rattle.std.specs.Prelude.{◌≡◌, ◌<◌, ◌≤◌, length};
+ghost use Rattle.std.specs.Prelude.{◌≡◌, ◌≤◌, length};
 ghost use Rattle.reads.specs.Reference.{before};
-ghost use Rattle.opcodes.specs.Opcodes.{decoded_outcome, plain, takes_number, numbered, with_number, symbol_at, addend, skipping, times_skipping, decode};
+ghost use Rattle.opcodes.specs.Opcodes.{opcode_of, decoded_outcome, operand, symbol_at, addend, skipping, times_skipping, typed, by_opcode, decode};
+ghost use Rattle.reads.specs.Answer.{answered};
+ghost use Rattle.reads.specs.Leb128.{uleb128};
 
 use fixups::name::first_zero;
 use reads::answer::Question;
-use reads::leb128::{read_sleb128, read_uleb128};
+use reads::leb128::{Leb, read_sleb128, read_uleb128};
 
 const BIND_OPCODE_DONE: u8 = 0x00;
 
@@ -37,6 +39,52 @@ const BIND_TYPE_POINTER: u8 = 1;
 
 const SIZEOF_POINTER: u64 = 8;
 
+// The opcodes that are read (BIND_OPCODE_*).
+#[derive(Clone, Copy)]
+pub enum BindOpcode {
+    Done,
+    SetDylibOrdinalImm,
+    SetDylibOrdinalUleb,
+    SetDylibSpecialImm,
+    SetSymbolTrailingFlagsImm,
+    SetTypeImm,
+    SetAddendSleb,
+    SetSegmentAndOffsetUleb,
+    AddAddrUleb,
+    DoBind,
+    DoBindAddAddrUleb,
+    DoBindAddAddrImmScaled,
+    DoBindUlebTimesSkippingUleb,
+}
+
+impl TryFrom<u8> for BindOpcode {
+    type Error = Question;
+
+    ghost try_from_gives = { λ n r. answered r ≡ opcode_of n };
+
+    #[tactic(auto, unfolding(crate::specs::Opcodes::opcode_of, reads::specs::Outcome::choose), using(std::proofs::lemmas::Bool::Decides::nat_tests))]
+    fn try_from(op: u8) -> Result<Self, Question> {
+        match op {
+            BIND_OPCODE_DONE => Ok(BindOpcode::Done),
+            BIND_OPCODE_SET_DYLIB_ORDINAL_IMM => Ok(BindOpcode::SetDylibOrdinalImm),
+            BIND_OPCODE_SET_DYLIB_ORDINAL_ULEB => Ok(BindOpcode::SetDylibOrdinalUleb),
+            BIND_OPCODE_SET_DYLIB_SPECIAL_IMM => Ok(BindOpcode::SetDylibSpecialImm),
+            BIND_OPCODE_SET_SYMBOL_TRAILING_FLAGS_IMM => Ok(BindOpcode::SetSymbolTrailingFlagsImm),
+            BIND_OPCODE_SET_TYPE_IMM => Ok(BindOpcode::SetTypeImm),
+            BIND_OPCODE_SET_ADDEND_SLEB => Ok(BindOpcode::SetAddendSleb),
+            BIND_OPCODE_SET_SEGMENT_AND_OFFSET_ULEB => Ok(BindOpcode::SetSegmentAndOffsetUleb),
+            BIND_OPCODE_ADD_ADDR_ULEB => Ok(BindOpcode::AddAddrUleb),
+            BIND_OPCODE_DO_BIND => Ok(BindOpcode::DoBind),
+            BIND_OPCODE_DO_BIND_ADD_ADDR_ULEB => Ok(BindOpcode::DoBindAddAddrUleb),
+            BIND_OPCODE_DO_BIND_ADD_ADDR_IMM_SCALED => Ok(BindOpcode::DoBindAddAddrImmScaled),
+            BIND_OPCODE_DO_BIND_ULEB_TIMES_SKIPPING_ULEB => {
+                Ok(BindOpcode::DoBindUlebTimesSkippingUleb)
+            }
+            _ => Err(Question::FixupData),
+        }
+    }
+}
+
 // What an opcode says, with its operands read.
 #[derive(Clone, Copy)]
 pub enum Instruction {
@@ -52,80 +100,20 @@ pub enum Instruction {
     Bind(u64, u64),
 }
 
-// An opcode without operands: what it says, and how many bytes it takes after it. Of the bytes `rest` none is read; `parts`: DONE
-// parts the entries of the stream.
-#[tactic(auto, unfolding(crate::specs::Opcodes::plain, reads::specs::Outcome::choose), using(std::proofs::lemmas::Bool::Decides::nat_tests))]
-fn plain(parts: bool, rest: &[u8], op: u8, imm: u8) -> Result<(Instruction, usize), Question>
-    ensures { decoded_outcome result ≡ plain parts (before rest) op imm }
-{
-    if op == BIND_OPCODE_DONE {
-        if parts {
-            return Ok((Instruction::Pass, 0));
-        }
-        return Ok((Instruction::Pass, rest.len()));
-    }
-    if op == BIND_OPCODE_SET_DYLIB_ORDINAL_IMM {
-        return Ok((Instruction::Pass, 0));
-    }
-    if op == BIND_OPCODE_SET_DYLIB_SPECIAL_IMM {
-        return Ok((Instruction::Pass, 0));
-    }
-    if op == BIND_OPCODE_SET_TYPE_IMM {
-        if imm == BIND_TYPE_POINTER {
-            return Ok((Instruction::Pass, 0));
-        }
-        return Err(Question::FixupData);
-    }
-    if op == BIND_OPCODE_DO_BIND {
-        return Ok((Instruction::Bind(1, SIZEOF_POINTER), 0));
-    }
-    if op == BIND_OPCODE_DO_BIND_ADD_ADDR_IMM_SCALED {
-        let stride = SIZEOF_POINTER + SIZEOF_POINTER * u64::from(imm);
-        return Ok((Instruction::Bind(1, stride), 0));
-    }
-    Err(Question::FixupData)
+// The bytes of a stream, or those after an opcode of it: where they stand in the file, and whether DONE parts the entries of the stream;
+// else none of the bytes after it is read.
+#[derive(Clone, Copy)]
+pub(crate) struct Stream<'a> {
+    pub(crate) parts: bool,
+    pub(crate) at: u64,
+    pub(crate) bytes: &'a [u8],
 }
 
-// Opcodes with one number.
-#[tactic(auto, unfolding(crate::specs::Opcodes::takes_number), using(std::proofs::lemmas::Bool::Decides::nat_tests))]
-fn takes_number(op: u8) -> bool
-    ensures { result ≡ takes_number op }
+// A number among the operands.
+fn number(rest: &[u8]) -> Result<Leb<u64>, Question>
+    ensures { answered result ≡ operand (uleb128 (before rest)) }
 {
-    if op == BIND_OPCODE_SET_DYLIB_ORDINAL_ULEB {
-        return true;
-    }
-    if op == BIND_OPCODE_SET_SEGMENT_AND_OFFSET_ULEB {
-        return true;
-    }
-    if op == BIND_OPCODE_ADD_ADDR_ULEB {
-        return true;
-    }
-    op == BIND_OPCODE_DO_BIND_ADD_ADDR_ULEB
-}
-
-// What they say with it.
-#[tactic(auto, unfolding(crate::specs::Opcodes::numbered, reads::specs::Outcome::choose), using(std::proofs::lemmas::Bool::Decides::nat_tests))]
-fn numbered(op: u8, imm: u8, n: u64) -> Instruction
-    ensures { result ≡ numbered op imm n }
-{
-    if op == BIND_OPCODE_SET_DYLIB_ORDINAL_ULEB {
-        return Instruction::Pass;
-    }
-    if op == BIND_OPCODE_SET_SEGMENT_AND_OFFSET_ULEB {
-        return Instruction::Segment(u64::from(imm), n);
-    }
-    if op == BIND_OPCODE_ADD_ADDR_ULEB {
-        return Instruction::Add(n);
-    }
-    Instruction::Bind(1, SIZEOF_POINTER.wrapping_add(n))
-}
-
-#[tactic(auto, unfolding(crate::specs::Opcodes::with_number), using(std::proofs::lemmas::Bool::Decides::nat_tests))]
-fn with_number(rest: &[u8], op: u8, imm: u8) -> Result<(Instruction, usize), Question>
-    ensures { decoded_outcome result ≡ with_number (before rest) op imm }
-{
-    let u = read_uleb128(rest).map_err(|_| Question::FixupData)?;
-    Ok((numbered(op, imm, u.value), u.consumed))
+    read_uleb128(rest).map_err(|_| Question::FixupData)
 }
 
 // The name from the first byte on, which stands at `place` in the file, to its zero.
@@ -136,6 +124,7 @@ fn symbol_at(place: u64, rest: &[u8]) -> Result<(Instruction, usize), Question>
     Ok((Instruction::Symbol(place, n as u64), n + 1))
 }
 
+// An addend, of which no bind record has anything.
 #[tactic(auto, unfolding(crate::specs::Opcodes::addend), using(std::proofs::lemmas::Bool::Decides::nat_tests))]
 fn addend(rest: &[u8]) -> Result<(Instruction, usize), Question>
     ensures { decoded_outcome result ≡ addend (before rest) }
@@ -150,7 +139,7 @@ fn skipping(rest: &[u8], count: u64, n: usize) -> Result<(Instruction, usize), Q
     requires { n ≤ length rest.now }
     ensures { decoded_outcome result ≡ skipping (before rest) count n }
 {
-    let u = read_uleb128(&rest[n..]).map_err(|_| Question::FixupData)?;
+    let u = number(&rest[n..])?;
     if 0xFFFF_FFFF_FFFF_FFF8 <= u.value {
         return Err(Question::FixupSlot);
     }
@@ -160,37 +149,65 @@ fn skipping(rest: &[u8], count: u64, n: usize) -> Result<(Instruction, usize), Q
     ))
 }
 
+// How many binds, then how many bytes are skipped after each.
 #[tactic(auto, unfolding(crate::specs::Opcodes::times_skipping, reads::specs::Outcome::choose), using(std::proofs::lemmas::Bool::Decides::nat_tests))]
 fn times_skipping(rest: &[u8]) -> Result<(Instruction, usize), Question>
     ensures { decoded_outcome result ≡ times_skipping (before rest) }
 {
-    let u = read_uleb128(rest).map_err(|_| Question::FixupData)?;
+    let u = number(rest)?;
     skipping(rest, u.value, u.consumed)
 }
 
-// The opcode in a byte before the bytes `rest`, which stand at `place` in the file.
-#[tactic(auto, unfolding(crate::specs::Opcodes::decode, crate::specs::Opcodes::by_opcode, reads::specs::Outcome::choose), using(std::proofs::lemmas::Bool::Decides::nat_tests))]
-pub(crate) fn decode(
-    parts: bool,
-    place: u64,
-    b: u8,
-    rest: &[u8],
-) -> Result<(Instruction, usize), Question>
-    ensures { decoded_outcome result ≡ decode parts place b (before rest) }
+// The type that a bind is of: a pointer.
+#[tactic(auto, unfolding(crate::specs::Opcodes::typed, reads::specs::Outcome::choose), using(std::proofs::lemmas::Bool::Decides::nat_tests))]
+fn typed(imm: u8) -> Result<(Instruction, usize), Question>
+    ensures { decoded_outcome result ≡ typed imm }
+{
+    if imm != BIND_TYPE_POINTER {
+        return Err(Question::FixupData);
+    }
+    Ok((Instruction::Pass, 0))
+}
+
+// What an opcode with an immediate says, and how many of the bytes after it, `rest`, it takes.
+#[tactic(auto, unfolding(crate::specs::Opcodes::by_opcode, crate::specs::Opcodes::with_number, reads::specs::Outcome::choose))]
+fn by_opcode(rest: Stream, op: BindOpcode, imm: u8) -> Result<(Instruction, usize), Question>
+    ensures { decoded_outcome result ≡ by_opcode rest.entry.parts rest.entry.at rest.entry.bytes.now op imm }
+{
+    let pointer = SIZEOF_POINTER;
+    let bytes = rest.bytes;
+    match op {
+        BindOpcode::Done => Ok((Instruction::Pass, if rest.parts { 0 } else { bytes.len() })),
+        BindOpcode::SetDylibOrdinalImm => Ok((Instruction::Pass, 0)),
+        BindOpcode::SetDylibOrdinalUleb => number(bytes).map(|u| (Instruction::Pass, u.consumed)),
+        BindOpcode::SetDylibSpecialImm => Ok((Instruction::Pass, 0)),
+        BindOpcode::SetSymbolTrailingFlagsImm => symbol_at(rest.at, bytes),
+        BindOpcode::SetTypeImm => typed(imm),
+        BindOpcode::SetAddendSleb => addend(bytes),
+        BindOpcode::SetSegmentAndOffsetUleb => {
+            number(bytes).map(|u| (Instruction::Segment(u64::from(imm), u.value), u.consumed))
+        }
+        BindOpcode::AddAddrUleb => number(bytes).map(|u| (Instruction::Add(u.value), u.consumed)),
+        BindOpcode::DoBind => Ok((Instruction::Bind(1, pointer), 0)),
+        BindOpcode::DoBindAddAddrUleb => {
+            number(bytes).map(|u| (
+                Instruction::Bind(1, pointer.wrapping_add(u.value)),
+                u.consumed,
+            ))
+        }
+        BindOpcode::DoBindAddAddrImmScaled => {
+            Ok((Instruction::Bind(1, pointer + pointer * u64::from(imm)), 0))
+        }
+        BindOpcode::DoBindUlebTimesSkippingUleb => times_skipping(bytes),
+    }
+}
+
+// The opcode in a byte before the bytes `rest`.
+#[tactic(auto, unfolding(crate::specs::Opcodes::decode), using(std::proofs::lemmas::Result::err_from_is_err_and))]
+pub(crate) fn decode(b: u8, rest: Stream) -> Result<(Instruction, usize), Question>
+    ensures { decoded_outcome result ≡ decode rest.entry.parts rest.entry.at b rest.entry.bytes.now }
 {
     let imm = b % 16;
-    let op = b - imm;
-    if op == BIND_OPCODE_SET_SYMBOL_TRAILING_FLAGS_IMM {
-        return symbol_at(place, rest);
-    }
-    if op == BIND_OPCODE_SET_ADDEND_SLEB {
-        return addend(rest);
-    }
-    if op == BIND_OPCODE_DO_BIND_ULEB_TIMES_SKIPPING_ULEB {
-        return times_skipping(rest);
-    }
-    if takes_number(op) {
-        return with_number(rest, op, imm);
-    }
-    plain(parts, rest, op, imm)
+    let op = BindOpcode::try_from(b - imm)?;
+    by_opcode(rest, op, imm)
 }

@@ -9,13 +9,13 @@ use native.Mathlib.Nat.{eq-or-lt_of_le, le_of_suc-le-suc}
 use lib.Dec.{eqb}
 use lib.ListN.{get_or}
 use borrow.Author.Tests.{eq-eqb, ne_eqb, eqb-true}
-use Rattle.reads.specs.Outcome.{Outcome, value, absent, refused, choose}
+use Rattle.reads.specs.Outcome.{Outcome, value, absent, refused, and_then, choose}
 use Rattle.reads.specs.declared.answer.Reason.TheVariants.{NoRecord}
 use Rattle.reads.specs.Table.{records}
 use Rattle.reads.proofs.Tests.{by_choose, choose_true, choose_false}
 use Rattle.pointers.specs.Tables.{slot_of, rebase_words, bind_words, chains}
 use Rattle.pointers.specs.Index.{chain_of, latest, indexed, Words, bind_nexts}
-use Rattle.pointers.specs.Chain.{follow_from, follow, last_among, last_record, Last}
+use Rattle.pointers.specs.Chain.{follow_from, follow, row_of, last_among, last_record, Last}
 use Rattle.pointers.proofs.IndexWords.{latest_in, latest_not_in, latest_bound, indexed_rebases, indexed_binds}
 use Rattle.std.specs.Prelude.{Result, Ok}
 use Rattle.reads.specs.Answer.{outcome}
@@ -88,11 +88,24 @@ unfolding follow
 follow_value width table heads nexts slot index n e =
     from_value width table nexts slot index (records width table) (get_or index (heads + chain_of slot) 0) n e
 
+-- What is made of a record's row.
+pub then_row : {A : Type 0} (number : Outcome ℕ) (f : ℕ → Outcome A) → and_then (row_of number) f ≡ and_then number (λ n. f (n - 1))
+then_row (value n) f = refl
+then_row (absent r) f = refl
+then_row (refused k) f = refl
+
+-- A row that was found is below a bound of the numbers.
+pub row_within : (most i : ℕ) (number : Outcome ℕ) → ((n : ℕ) → number ≡ value n → (1 ≤ n) × (n ≤ most)) → row_of number ≡ value i → i < most
+row_within most i (value n) f e = let same : n - 1 ≡ i = cc in let b = f n refl in omega (arith, b.0, b.1)
+row_within most i (absent r) f e = let z : ◌≡◌ {A = ℕ} 0 1 = cc in absurd (omega arith)
+row_within most i (refused k) f e = let z : ◌≡◌ {A = ℕ} 0 1 = cc in absurd (omega arith)
+
 -- The same, of the code's answer.
-pub found_record : (width : ℕ) (table : List ℕ) (heads nexts slot : ℕ) (index : List ℕ) {w : (Result ℕ Missing)} {n : ℕ}
-    → outcome w ≡ follow width table heads nexts slot index → w ≡ Ok n → (1 ≤ n) × (n ≤ records width table)
-found_record width table heads nexts slot index {n = n} e g =
-    follow_value width table heads nexts slot index n (sym e ∙ ap outcome g)
+pub found_row : (width : ℕ) (table : List ℕ) (heads nexts slot : ℕ) (index : List ℕ) {w : (Result ℕ Missing)} {i : ℕ}
+    → outcome w ≡ row_of (follow width table heads nexts slot index) → w ≡ Ok i → i < records width table
+found_row width table heads nexts slot index {i = i} e g =
+    row_within (records width table) i (follow width table heads nexts slot index) (λ n h. follow_value width table heads nexts slot index n h)
+    (sym e ∙ ap outcome g)
 
 -- Over the words of an index, a lookup finds the slot's last record, so never 9.
 module _ (width : ℕ) (table : List ℕ) (heads nexts : ℕ) (index : List ℕ) (words : Words width table heads nexts index) (slot : ℕ) where

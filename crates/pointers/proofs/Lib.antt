@@ -15,7 +15,6 @@ pub mod OpenedTables
 pub mod LookupNumbers
 pub mod Resolves
 pub mod IndexCases
-pub mod Names
 pub mod Flags
 pub mod Infos
 pub mod SectionRows

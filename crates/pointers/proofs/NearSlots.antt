@@ -7,7 +7,7 @@ use native.Mathlib.Omega.{arith}
 use lib.Dec.{ltb}
 use lib.ListN.{get_or}
 use borrow.Author.Tests.{ltb-true, eqb-true}
-use Rattle.reads.specs.Outcome.{Outcome, absent, because}
+use Rattle.reads.specs.Outcome.{Outcome, value, absent, because}
 use Rattle.reads.specs.declared.answer.Reason.TheVariants.{Unresolved, NoRecord}
 use Rattle.reads.specs.Table.{records}
 use Rattle.reads.specs.Place.{Image}
@@ -16,23 +16,25 @@ use Rattle.reads.specs.declared.spot.Spot.{Spot}
 use Rattle.reads.proofs.Spots.{near_word_in}
 use Rattle.reads.proofs.Tests.{by_choose, both_true}
 use Rattle.pointers.specs.Tables.{rebase_words, chains}
-use Rattle.pointers.specs.Chain.{no_rebase, follow}
+use Rattle.pointers.specs.Chain.{no_rebase, follow, row_of}
+use Rattle.pointers.specs.Sorted.{sorted_record}
 use Rattle.pointers.specs.Index.{chain_of}
 use Rattle.pointers.specs.Slot.{rebase_number, rebase_at, stored, resolve, unrebased, is_near, word_there, resolve_near}
 use Rattle.pointers.specs.declared.setting.Lookup.{Lookup}
 use Rattle.pointers.specs.declared.setting.Lookup.TheVariants.{Chained, Sorted}
 use Rattle.pointers.specs.declared.setting.Setting.{Setting}
-use Rattle.pointers.proofs.Chains.{follow_end, found_record}
+use Rattle.pointers.proofs.Chains.{follow_end, found_row, row_within}
 use Rattle.pointers.proofs.SortedLookups.{sorted_value}
 use Rattle.std.specs.Prelude.{Result, Ok}
 use Rattle.reads.specs.Answer.{outcome}
 use Rattle.reads.specs.declared.answer.Missing.{Missing}
 
--- A rebase record that is found is one of the table.
-pub number_record : (rebases index : List ℕ) (slot : ℕ) (l : Lookup) {w : (Result ℕ Missing)} {n : ℕ}
-    → outcome w ≡ rebase_number l rebases index slot → w ≡ Ok n → (1 ≤ n) × (n ≤ records rebase_words rebases)
-number_record rebases index slot Chained e g = found_record rebase_words rebases 0 (2 * chains) slot index e g
-number_record rebases index slot Sorted {n = n} e g = sorted_value rebases slot _ n (sym e ∙ ap outcome g)
+-- A rebase that is found is one of the table.
+pub rebase_found : (rebases index : List ℕ) (slot : ℕ) (l : Lookup) {w : (Result ℕ Missing)} {i : ℕ}
+    → outcome w ≡ row_of (rebase_number l rebases index slot) → w ≡ Ok i → i < records rebase_words rebases
+rebase_found rebases index slot Chained e g = found_row rebase_words rebases 0 (2 * chains) slot index e g
+rebase_found rebases index slot Sorted {i = i} e g =
+    row_within (records rebase_words rebases) i (sorted_record rebases slot) (λ n h. sorted_value rebases slot _ n h) (sym e ∙ ap outcome g)
 
 -- Without a rebase in its chain a slot holds the word there.
 no_record : (rebases index : List ℕ) (slot : ℕ) (l : Lookup) → unrebased l index slot ≡ true → rebase_number l rebases index slot ≡ absent NoRecord
@@ -48,11 +50,11 @@ unrebased_stored : (m : Image) (rebases index : List ℕ) (setting : Setting) (s
 unfolding resolve rebase_at
 unrebased_stored m rebases index setting slot e = rw (no_record rebases index slot setting.lookup e)
 
-pub near_resolved : (m : Image) (rebases index : List ℕ) (setting : Setting) (va size : ℕ) → va < 2 ^ 64 → (s : Spot) → s ≡ readable_spot m va size → (s.room ≡ 0 → ⊥)
+pub near_resolved : (m : Image) (rebases index : List ℕ) (setting : Setting) (va size : ℕ) → va < 2 ^ 64 → (s : Spot) → readable_spot m va size ≡ value s
     → (i : ℕ) → i + 8 ≤ size → resolve_near m rebases index setting s i (va + i) ≡ resolve m rebases index setting (va + i)
 unfolding resolve_near is_near word_there stored
-near_resolved m rebases index setting va size w s is n i h =
+near_resolved m rebases index setting va size w s is i h =
     by_choose (λ (o : Outcome ℕ). o ≡ resolve m rebases index setting (va + i))
     (λ e. let u = both_true (ltb i s.room) (unrebased setting.lookup index (va + i)) e in
-    sym (unrebased_stored m rebases index setting (va + i) u.1 ∙ rw (← near_word_in m va size w s is n i h (ltb-true i s.room u.0))))
+    sym (unrebased_stored m rebases index setting (va + i) u.1 ∙ rw (← near_word_in m va size w s is i h (ltb-true i s.room u.0))))
     (λ e. refl)

@@ -1,19 +1,19 @@
 -- A prefix and a list, a byte at a time, and the first of the prefixes that fits.
 use Prim.Native.Nat.{ℕ, zero, suc, ◌+◌, ◌-◌, ◌<◌, ◌≤◌}
-use mathlib.Core.Path.{◌≡◌, refl, ap}
+use mathlib.Core.Path.{◌≡◌, refl, sym, ap, ◌∙◌}
 use mathlib.Core.Bool.{Bool, true, false, ◌&&◌}
 use mathlib.Core.List.{List, [], ◌∷◌}
-use native.Mathlib.Numerals.{add-one}
 use native.Mathlib.Omega.{arith}
 use lib.Dec.{eqb}
-use lib.ListN.{length, get_or, drop, drop_of_length-le, length-map, length-take}
-use Rattle.std.specs.List.{starts_with}
+use lib.ListN.{length, drop, length-take}
+use Rattle.std.specs.List.{starts_with, find}
+use Rattle.std.specs.Option.{MatchOption, option_map}
 use Rattle.std.specs.Borrow.{Bor}
-use Rattle.std.specs.Prelude.{map}
-use Rattle.reads.specs.Outcome.{text_of}
+use Rattle.std.specs.Prelude.{map, Option, Some, None, cond}
+use Rattle.reads.specs.Outcome.{text_of, choose}
 use Rattle.reads.specs.Place.{part}
 use Rattle.reads.specs.declared.text.Text.{Text}
-use Rattle.reads.proofs.Tests.{by_choose, choose_true, choose_false}
+use Rattle.reads.proofs.Tests.{by_choose}
 use Rattle.pointers.specs.Symbol.{starts, fitting, prefixes, stripped_in}
 
 -- The slice's own test.
@@ -34,31 +34,30 @@ starts_length (a ∷ p) (b ∷ s) e = go (eqb a b) (λ t. starts_length p s t) e
     go true f e' = omega (arith, f e')
     go false f e' = let z : ◌≡◌ {A = ℕ} 0 1 = cc in omega arith
 
--- From prefix k of the code's table on.
+-- The texts of the code's table.
 abbrev texts : List (Bor (List ℕ)) → List (List ℕ)
 texts rows = map (λ x. x.now) rows
 
-pub fitting_here : (rows : List (Bor (List ℕ))) (s : List ℕ) (k : ℕ) (d : Bor (List ℕ)) → k < length rows → starts (get_or rows k d).now s ≡ true
-    → fitting (drop k (texts rows)) s ≡ length (get_or rows k d).now
-unfolding fitting
-fitting_here [] s k d h e = absurd (omega arith)
-fitting_here (x ∷ rows) s zero d h e = choose_true _ _ e
-fitting_here (x ∷ rows) s (suc k) d h e = fitting_here rows s k d (omega arith) e
+-- The length of a prefix that is found, 0 where none is.
+length_or : Option (Bor (List ℕ)) → ℕ
+length_or None = 0
+length_or (Some p) = length p.now
 
-pub fitting_next : (rows : List (Bor (List ℕ))) (s : List ℕ) (k : ℕ) (d : Bor (List ℕ)) → k < length rows → starts (get_or rows k d).now s ≡ false
-    → fitting (drop k (texts rows)) s ≡ fitting (drop (k + 1) (texts rows)) s
-unfolding fitting
-fitting_next [] s k d h e = absurd (omega arith)
-fitting_next (x ∷ rows) s zero d h e = choose_false _ _ e
-fitting_next (x ∷ rows) s (suc k) d h e =
-    let on = fitting_next rows s k d (omega arith) e in
-    rw add-one (rw add-one at on)
+fitting_found : (rows : List (Bor (List ℕ))) (s : List ℕ) → fitting (texts rows) s ≡ length_or (find (λ p. starts p.now s) rows)
+unfolding fitting length_or choose
+fitting_found [] s = refl
+fitting_found (p ∷ rows) s = go (starts p.now s) (fitting_found rows s)
+  where
+    go : (t : Bool) → fitting (texts rows) s ≡ length_or (find (λ x. starts x.now s) rows)
+        → choose t (length p.now) (fitting (texts rows) s) ≡ length_or (cond t (Some p) (find (λ x. starts x.now s) rows))
+    go true e = refl
+    go false e = e
 
-pub fitting_end : (rows : List (Bor (List ℕ))) (s : List ℕ) (k : ℕ) → length rows ≤ k → fitting (drop k (texts rows)) s ≡ 0
-unfolding fitting
-fitting_end rows s k h =
-    let past : length (texts rows) ≤ k = simp length-map h in
-    rw (drop_of_length-le (texts rows) past)
+pub fitting_by : (rows : List (Bor (List ℕ))) (s : List ℕ) (o : Option (Bor (Bor (List ℕ)))) (n : ℕ) → option_map (λ p. p.now) o ≡ find (λ p. starts p.now s) rows
+    → (Gives : Bor (Bor (List ℕ)) → Type 0) → MatchOption o (n ≡ 0) Gives → ((p : Bor (Bor (List ℕ))) → Gives p → n ≡ length p.now.now) → n ≡ fitting (texts rows) s
+unfolding length_or
+fitting_by rows s None n e Gives h says = h ∙ ap length_or e ∙ sym (fitting_found rows s)
+fitting_by rows s (Some p) n e Gives h says = says p h ∙ ap length_or e ∙ sym (fitting_found rows s)
 
 -- What fits is no longer than the bytes.
 pub fitting_length : (ps : List (List ℕ)) (s : List ℕ) → fitting ps s ≤ length s

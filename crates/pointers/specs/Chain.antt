@@ -1,6 +1,6 @@
 -- The lookup of a slot by its chain, for any contents of the index (document 01, question ChainOrder).
 use Rattle.std.specs.Prelude.{ℕ, zero, suc, ◌+◌, ◌-◌, ◌≤◌, ◌<◌, ◌≡◌, Bool, true, ◌&&◌, List, [], ◌∷◌, eqb, leb, get_or}
-use Rattle.reads.specs.Outcome.{Outcome, value, absent, refused, choose}
+use Rattle.reads.specs.Outcome.{Outcome, value, absent, refused, and_then, choose}
 use Rattle.reads.specs.Table.{records}
 use Rattle.reads.specs.declared.answer.Reason.TheVariants.{NoRecord}
 use Rattle.pointers.specs.Tables.{slot_of}
@@ -46,6 +46,10 @@ follow_from width table nexts slot index (suc limit) n =
 unfoldable pub follow : ℕ → List ℕ → ℕ → ℕ → ℕ → List ℕ → Outcome ℕ
 follow width table heads nexts slot index =
     follow_from width table nexts slot index (records width table) (get_or index (heads + chain_of slot) 0)
+
+-- A record's number counts from 1, its row from 0.
+abbrev pub row_of : Outcome ℕ → Outcome ℕ
+row_of number = and_then number (λ n. value (n - 1))
 
 -- No rebase stands in the chain of a slot: its head is 0.
 unfoldable pub no_rebase : List ℕ → ℕ → Bool

@@ -2,7 +2,6 @@
 use Rattle.std.specs.Prelude.{ℕ, ◌-◌, ◌*◌, Bool, false, ◌&&◌, List, ltb}
 use Rattle.reads.specs.Outcome.{Outcome, value, refused, Unrefused, and_then, because, or_else, or_zero, choose, sum64}
 use Rattle.reads.specs.Place.{Image, word, word_in}
-use Rattle.reads.specs.Segment.{place_at}
 use Rattle.reads.specs.declared.spot.Spot.{Spot}
 use Rattle.reads.specs.Address.{stripped}
 use Rattle.reads.specs.declared.answer.Reason.TheVariants.{Unresolved}
@@ -77,7 +76,7 @@ unfoldable pub is_near : List ℕ → Setting → Spot → ℕ → ℕ → Bool
 is_near index setting s i slot = ltb i s.room && unrebased setting.lookup index slot
 
 unfoldable pub word_there : Image → Spot → ℕ → ℕ
-word_there m s i = stripped (word_in m.files 8 (place_at s.file s.offset) i)
+word_there m s i = stripped (word_in m.files 8 s.place i)
 
 unfoldable pub resolve_near : Image → List ℕ → List ℕ → Setting → Spot → ℕ → ℕ → Outcome ℕ
 resolve_near m rebases index setting s i slot =

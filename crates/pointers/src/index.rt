@@ -5,10 +5,11 @@ ghost use Rattle.reads.specs.Table.{records};
 ghost use Rattle.pointers.specs.Tables.{rebase_words, bind_words, chains};
 ghost use Rattle.pointers.specs.Index.{chain_of, indexed, index_length};
 ghost use Rattle.pointers.specs.IndexFold.{cleared, linked, chained};
-ghost use Rattle.pointers.specs.Chain.{no_rebase, follow};
+ghost use Rattle.pointers.specs.Chain.{no_rebase, follow, row_of};
 ghost use Rattle.reads.specs.Answer.{outcome};
 
 use crate::table::{Bind, Rebase};
+use crate::tables::Tables;
 use reads::address::Address;
 use reads::answer::{Missing, Question, Reason};
 
@@ -56,15 +57,16 @@ fn link_all(table: &[u64], width: usize, index: &mut [u32], heads: usize, nexts:
 
 // Writes the index over two tables that no question refuses.
 #[tactic(auto, unfolding(crate::specs::IndexFold::folded), using(crate::proofs::IndexFolds::folded_is_indexed))]
-pub(crate) fn fill_index(rebases: &[u64], binds: &[u64], index: &mut [u32])
-    requires { (records rebase_words rebases.now ≤ 16777215) × (records bind_words binds.now ≤ 16777215)
-        × (index_length rebases.now binds.now ≤ length index.old) }
-    ensures { index.new ≡ indexed (before rebases) (before binds) index.old }
+pub(crate) fn fill_index(tables: &Tables, index: &mut [u32])
+    requires { (records rebase_words tables.now.rebases ≤ 16777215) × (records bind_words tables.now.binds ≤ 16777215)
+        × (index_length tables.now.rebases tables.now.binds ≤ length index.old) }
+    ensures { index.new ≡ indexed tables.now.rebases tables.now.binds index.old }
 {
+    let rebases = tables.rebases();
     clear_heads(index);
     link_all(rebases, Rebase::WORDS, index, 0, HEADS);
     let nexts = HEADS + rebases.len() / Rebase::WORDS;
-    link_all(binds, Bind::WORDS, index, Address::CHAINS, nexts);
+    link_all(tables.binds(), Bind::WORDS, index, Address::CHAINS, nexts);
 }
 
 // Word i of the index, 0 past its end.
@@ -85,7 +87,7 @@ pub(crate) fn no_rebase(index: &[u32], slot: u64) -> bool
     index_word(index, chain(slot)) == 0
 }
 
-// Follows the chain of a slot to its record, whose number counts from 1: 9 where a number is not below the one before it.
+// Follows the chain of a slot to its record's row: 9 where a number, which counts from 1, is not below the one before it.
 #[tactic(auto, unfolding(crate::specs::Chain::follow), using(crate::proofs::Chains::follow_end, crate::proofs::Chains::follow_above, crate::proofs::Chains::follow_found, crate::proofs::Chains::follow_on, crate::proofs::RecordWords::slot_within))]
 pub(crate) fn find(
     table: &[u64],
@@ -94,9 +96,9 @@ pub(crate) fn find(
     heads: usize,
     nexts: usize,
     slot: u64,
-) -> Result<u64, Missing>
+) -> Result<usize, Missing>
     requires { (0 < width) × (heads ≤ chains) × (nexts + records width table.now < 2 ^ 64) }
-    ensures { outcome result ≡ follow width (before table) heads nexts slot (before index) }
+    ensures { outcome result ≡ row_of (follow width (before table) heads nexts slot (before index)) }
 {
     // Not a `for`: it follows a chain of numbers.
     let mut limit = table.len() / width;
@@ -107,7 +109,7 @@ pub(crate) fn find(
         }
         limit = number - 1;
         if table[limit * width] == slot {
-            return Ok(number as u64);
+            return Ok(limit);
         }
         number = index_word(index, nexts + limit);
     }

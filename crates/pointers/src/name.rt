@@ -1,28 +1,16 @@
 // The bytes of a name, a part of a file of the image.
 ghost use Rattle.std.specs.Prelude.{◌≡◌, ◌+◌, ◌^◌, ◌<◌, length};
-ghost use Rattle.reads.specs.Reference.{before};
 ghost use Rattle.reads.specs.Files.{files_of, file_of};
 ghost use Rattle.reads.specs.Place.{part};
 
 use reads::files::bytes_of;
+use reads::place::part;
 use reads::text::Text;
-
-// The bytes of a part that are there.
-#[tactic(auto, using(crate::proofs::Names::part_by))]
-fn part_of(bytes: &[u8], offset: u64, len: u64) -> &[u8]
-    ensures bytes { result.now ≡ part (before bytes) offset len }
-    ensures fits { offset + length result.now < 2 ^ 64 }
-{
-    let n = bytes.len() as u64;
-    let from = offset.min(n);
-    let to = from + len.min(n - from);
-    &bytes[from as usize..to as usize]
-}
 
 // The bytes of a name that are there; a file that is not lent has none.
 pub(crate) fn name_bytes<'a>(files: &[&'a [u8]], name: Text) -> &'a [u8]
     ensures bytes { result.now ≡ part (file_of (files_of files) name.file) name.offset name.len }
     ensures fits { name.offset + length result.now < 2 ^ 64 }
 {
-    part_of(bytes_of(files, name.file), name.offset, name.len)
+    part(bytes_of(files, name.file), name.offset, name.len)
 }

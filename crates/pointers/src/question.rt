@@ -95,7 +95,7 @@ pub fn segment_files(files: &[&[u8]], segments: &[u64]) -> bool
     })
 }
 
-// 7, of a record: is the name inside its file?
+// 7, of a record: is the name inside its file? Of the files and a name alone, as what else takes these two: a name is not the tables'.
 #[tactic(auto, unfolding(crate::specs::Question::name_inside))]
 pub fn name_inside(files: &[&[u8]], name: Text) -> bool
     ensures { result ≡ name_inside (files_of files) name }
@@ -112,6 +112,7 @@ pub fn name_utf8(files: &[&[u8]], name: Text) -> bool
     utf8(name_bytes(files, name))
 }
 
+// This and the next two ask the files and the binds alone, and their contracts name these two: over all tables both would be taken from them first.
 // 18: has the file number of every bind record's name a lent slice?
 #[tactic(auto, unfolding(crate::specs::Question::bind_files))]
 pub fn bind_files(files: &[&[u8]], binds: &[u64]) -> bool

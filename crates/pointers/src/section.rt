@@ -3,8 +3,8 @@ ghost use Rattle.std.specs.Prelude.{◌≡◌};
 ghost use Rattle.reads.specs.Reference.{before};
 ghost use Rattle.pointers.specs.Section.{section_at};
 
-// A section of pointer slots: where it starts, and how many full slots it has; an absent one has none.
-#[derive(Clone, Copy)]
+// A section of pointer slots: where it starts, and how many full slots it has; an absent one, the default, has none.
+#[derive(Clone, Copy, Default)]
 pub struct ObjcSection {
     pub vmaddr: u64,
     pub slots: u64,
@@ -41,9 +41,6 @@ impl ObjcSection {
                 };
             }
         }
-        ObjcSection {
-            vmaddr: 0,
-            slots: 0,
-        }
+        ObjcSection::default()
     }
 }

@@ -7,6 +7,7 @@ ghost use Rattle.reads.specs.Table.{records};
 ghost use Rattle.reads.specs.Files.{files_of};
 ghost use Rattle.reads.specs.Place.{image_of};
 ghost use Rattle.pointers.specs.Tables.{bind_words, image_in};
+ghost use Rattle.pointers.specs.Chain.{row_of};
 ghost use Rattle.pointers.specs.Slot.{rebase_number, rebase_at, bind_name, bind_at, stored, rebased_or, resolve, symbol_of, pointer_at, pointer_or0_at, unrebased, is_near, word_there, resolve_near};
 ghost use Rattle.reads.specs.Answer.{outcome};
 
@@ -18,18 +19,18 @@ use crate::symbol::strip_objc_symbol_prefix;
 use crate::table::{Bind, Rebase};
 use crate::tables::Tables;
 use reads::address::Address;
-use reads::answer::{Missing, Question, Reason, because, checked_add, is_absent, or_zero};
+use reads::answer::{Missing, Question, Reason, because, checked_add, or_zero};
 use reads::files::is_lent;
-use reads::place::{Image, Place, read_u64, u64_in};
+use reads::place::{Image, read_u64, u64_in};
 use reads::spot::Spot;
 use reads::text::Text;
 
-// The number of a slot's rebase record, counted from 1.
-fn rebase_number(tables: &Tables, setting: Setting, slot: u64) -> Result<u64, Missing>
-    ensures { outcome result ≡ rebase_number setting.lookup tables.now.rebases tables.now.index slot }
+// The row of a slot's rebase.
+fn rebase_row(tables: &Tables, slot: u64) -> Result<usize, Missing>
+    ensures { outcome result ≡ row_of (rebase_number tables.now.setting.lookup tables.now.rebases tables.now.index slot) }
 {
     let rebases = tables.rebases();
-    let lookup = setting.lookup;
+    let lookup = tables.setting().lookup;
     match lookup {
         Lookup::Chained => find(rebases, Rebase::WORDS, tables.index(), 0, HEADS, slot),
         Lookup::Sorted => find_sorted(rebases, slot),
@@ -38,21 +39,22 @@ fn rebase_number(tables: &Tables, setting: Setting, slot: u64) -> Result<u64, Mi
 
 // The target of a slot's rebase.
 #[tactic(auto, unfolding(crate::specs::Slot::rebase_at))]
-pub fn rebase_at(tables: &Tables, setting: Setting, slot: u64) -> Result<u64, Missing>
-    ensures { outcome result ≡ rebase_at tables.now.rebases tables.now.index setting slot }
+pub fn rebase_at(tables: &Tables, slot: u64) -> Result<u64, Missing>
+    ensures { outcome result ≡ rebase_at tables.now.rebases tables.now.index tables.now.setting slot }
 {
-    let number = rebase_number(tables, setting, slot)?;
-    let rebase = Rebase::at(tables.rebases(), number as usize - 1);
+    let i = rebase_row(tables, slot)?;
+    let rebase = Rebase::at(tables.rebases(), i);
     Ok(rebase.target)
 }
 
 // The name of bind record i, counted from 0; the questions 18, 7 and 14 are asked of it.
 #[tactic(auto, unfolding(crate::specs::Slot::bind_name), using(crate::proofs::Questions::in_order))]
-fn bind_name(files: &[&[u8]], binds: &[u64], i: usize) -> Result<Text, Missing>
-    requires { i < records bind_words binds.now }
-    ensures { outcome result ≡ bind_name (files_of files) (before binds) i }
+fn bind_name(tables: &Tables, i: usize) -> Result<Text, Missing>
+    requires { i < records bind_words tables.now.binds }
+    ensures { outcome result ≡ bind_name tables.now.files tables.now.binds i }
 {
-    let bind = Bind::at(binds, i);
+    let files = tables.files();
+    let bind = Bind::at(tables.binds(), i);
     let name = bind.name;
     if !is_lent(files, name.file) {
         return Err(Missing::Refused(Question::FileLent));
@@ -72,10 +74,15 @@ pub fn bind_at(tables: &Tables, slot: u64) -> Result<Text, Missing>
     ensures { outcome result ≡ bind_at tables.now.files tables.now.rebases tables.now.binds tables.now.index slot }
 {
     let nexts = HEADS + tables.rebases().len() / Rebase::WORDS;
-    let binds = tables.binds();
-    let index = tables.index();
-    let number = find(binds, Bind::WORDS, index, Address::CHAINS, nexts, slot)?;
-    bind_name(tables.files(), binds, number as usize - 1)
+    let i = find(
+        tables.binds(),
+        Bind::WORDS,
+        tables.index(),
+        Address::CHAINS,
+        nexts,
+        slot,
+    )?;
+    bind_name(tables, i)
 }
 
 // The word in a slot, its low 48 bits.
@@ -88,47 +95,46 @@ fn stored(image: &Image, slot: u64) -> Result<u64, Missing>
 }
 
 // The target of a slot's rebase, else the word there.
-fn rebased_or_stored(tables: &Tables, setting: Setting, slot: u64) -> Result<u64, Missing>
-    ensures { outcome result ≡ rebased_or (image_in tables.now) tables.now.rebases tables.now.index setting slot }
+fn rebased_or_stored(tables: &Tables, slot: u64) -> Result<u64, Missing>
+    ensures { outcome result ≡ rebased_or (image_in tables.now) tables.now.rebases tables.now.index tables.now.setting slot }
 {
-    let target = rebase_at(tables, setting, slot);
-    if is_absent(target) {
-        return stored(tables.image(), slot);
+    match rebase_at(tables, slot) {
+        Err(Missing::Absent(_)) => stored(tables.image(), slot),
+        target => target,
     }
-    target
 }
 
 // The address in a pointer slot: a rebase target wins unmasked, mapped or not; else the word there; else it does not resolve.
 #[tactic(auto, unfolding(crate::specs::Slot::resolve))]
-pub fn resolve_pointer(tables: &Tables, setting: Setting, slot: u64) -> Result<u64, Missing>
-    ensures { outcome result ≡ resolve (image_in tables.now) tables.now.rebases tables.now.index setting slot }
+pub fn resolve_pointer(tables: &Tables, slot: u64) -> Result<u64, Missing>
+    ensures { outcome result ≡ resolve (image_in tables.now) tables.now.rebases tables.now.index tables.now.setting slot }
 {
-    because(rebased_or_stored(tables, setting, slot), Reason::Unresolved)
+    because(rebased_or_stored(tables, slot), Reason::Unresolved)
 }
 
 // The same, an absent slot counting as 0.
-pub fn slot_or_0(tables: &Tables, setting: Setting, slot: u64) -> Result<u64, Missing>
-    ensures { outcome result ≡ or_zero (resolve (image_in tables.now) tables.now.rebases tables.now.index setting slot) }
+pub fn slot_or_0(tables: &Tables, slot: u64) -> Result<u64, Missing>
+    ensures { outcome result ≡ or_zero (resolve (image_in tables.now) tables.now.rebases tables.now.index tables.now.setting slot) }
 {
-    or_zero(resolve_pointer(tables, setting, slot))
+    or_zero(resolve_pointer(tables, slot))
 }
 
 // The pointer in the field at va + k.
 #[tactic(auto, unfolding(crate::specs::Slot::pointer_at))]
-pub fn pointer(tables: &Tables, setting: Setting, va: u64, k: u64) -> Result<u64, Missing>
-    ensures { outcome result ≡ pointer_at (image_in tables.now) tables.now.rebases tables.now.index setting va k }
+pub fn pointer(tables: &Tables, va: u64, k: u64) -> Result<u64, Missing>
+    ensures { outcome result ≡ pointer_at (image_in tables.now) tables.now.rebases tables.now.index tables.now.setting va k }
 {
     let slot = checked_add(va, k)?;
-    resolve_pointer(tables, setting, slot)
+    resolve_pointer(tables, slot)
 }
 
 // The same, an absent slot counting as 0.
 #[tactic(auto, unfolding(crate::specs::Slot::pointer_or0_at))]
-pub fn pointer_or_0(tables: &Tables, setting: Setting, va: u64, k: u64) -> Result<u64, Missing>
-    ensures { outcome result ≡ pointer_or0_at (image_in tables.now) tables.now.rebases tables.now.index setting va k }
+pub fn pointer_or_0(tables: &Tables, va: u64, k: u64) -> Result<u64, Missing>
+    ensures { outcome result ≡ pointer_or0_at (image_in tables.now) tables.now.rebases tables.now.index tables.now.setting va k }
 {
     let slot = checked_add(va, k)?;
-    slot_or_0(tables, setting, slot)
+    slot_or_0(tables, slot)
 }
 
 // No rebase stands in the slot's chain; looked up by halves, nothing is known before the lookup.
@@ -155,28 +161,18 @@ fn is_near(index: &[u32], setting: Setting, s: Spot, i: u64, slot: u64) -> bool
 fn word_there(files: &[&[u8]], s: Spot, i: u64) -> u64
     ensures { (words : List ℕ) → result ≡ word_there (image_of (files_of files) words) s i }
 {
-    let p = Place {
-        file: s.file,
-        offset: s.offset,
-    };
-    Address::strip(u64_in(files, p, i))
+    Address::strip(u64_in(files, s.place, i))
 }
 
 // The address in a pointer slot that lies i bytes past a spot's address: mostly without a lookup.
 #[tactic(auto, unfolding(crate::specs::Slot::resolve_near, reads::specs::Outcome::choose))]
-pub fn resolve_near(
-    tables: &Tables,
-    setting: Setting,
-    s: Spot,
-    i: u64,
-    slot: u64,
-) -> Result<u64, Missing>
-    ensures { outcome result ≡ resolve_near (image_in tables.now) tables.now.rebases tables.now.index setting s i slot }
+pub fn resolve_near(tables: &Tables, s: Spot, i: u64, slot: u64) -> Result<u64, Missing>
+    ensures { outcome result ≡ resolve_near (image_in tables.now) tables.now.rebases tables.now.index tables.now.setting s i slot }
 {
-    if is_near(tables.index(), setting, s, i, slot) {
+    if is_near(tables.index(), tables.setting(), s, i, slot) {
         return Ok(word_there(tables.files(), s, i));
     }
-    resolve_pointer(tables, setting, slot)
+    resolve_pointer(tables, slot)
 }
 
 // The name of a slot's bind less its prefix.

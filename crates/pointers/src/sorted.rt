@@ -2,6 +2,7 @@
 // chain is broken.
 ghost use Rattle.std.specs.Prelude.{◌≡◌};
 ghost use Rattle.reads.specs.Reference.{before};
+ghost use Rattle.pointers.specs.Chain.{row_of};
 ghost use Rattle.pointers.specs.Sorted.{ascending, at_most, climb, halvings, sorted_at, sorted_record};
 ghost use Rattle.reads.specs.Answer.{outcome};
 
@@ -46,20 +47,20 @@ fn climb(rebases: &[u64], slot: u64) -> usize
     b
 }
 
-// The number of the slot's record, where record b has the slot.
+// The row of the slot's record, where record b has the slot.
 #[tactic(auto, unfolding(crate::specs::Sorted::sorted_at, reads::specs::Outcome::choose))]
-fn sorted_at(rebases: &[u64], slot: u64, b: usize) -> Result<u64, Missing>
-    ensures { outcome result ≡ sorted_at (before rebases) slot b }
+fn sorted_at(rebases: &[u64], slot: u64, b: usize) -> Result<usize, Missing>
+    ensures { outcome result ≡ row_of (sorted_at (before rebases) slot b) }
 {
     if b < rebases.len() / Rebase::WORDS && rebases[b * Rebase::WORDS] == slot {
-        return Ok(b as u64 + 1);
+        return Ok(b);
     }
     Err(Missing::Absent(Reason::NoRecord))
 }
 
-// The number of the slot's record, counted from 1.
-pub(crate) fn find_sorted(rebases: &[u64], slot: u64) -> Result<u64, Missing>
-    ensures { outcome result ≡ sorted_record (before rebases) slot }
+// The row of the slot's record.
+pub(crate) fn find_sorted(rebases: &[u64], slot: u64) -> Result<usize, Missing>
+    ensures { outcome result ≡ row_of (sorted_record (before rebases) slot) }
 {
     sorted_at(rebases, slot, climb(rebases, slot))
 }

@@ -25,16 +25,13 @@ pub fn starts_with(s: &[u8], p: &[u8]) -> bool
 }
 
 // The length of the first of the prefixes that s starts with, 0 where it starts with none.
-#[tactic(auto, using(crate::proofs::Prefixes::fitting_here, crate::proofs::Prefixes::fitting_next, crate::proofs::Prefixes::fitting_end))]
 fn prefix_length(s: &[u8], prefixes: &[&[u8]]) -> usize
     ensures { result ≡ fitting (map (λ p. p.now) (before prefixes)) (before s) }
 {
-    for prefix in prefixes {
-        if starts_with(s, prefix) {
-            return prefix.len();
-        }
-    }
-    0
+    prefixes
+        .iter()
+        .find(|prefix| starts_with(s, prefix))
+        .map_or(0, |prefix| prefix.len())
 }
 
 // A name of the image less the first of the prefixes that it starts with; what lies past its file's end matches none, and a file that is

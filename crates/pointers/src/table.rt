@@ -12,6 +12,7 @@ pub(crate) fn every<F: Fn(usize) -> bool>(n: usize, passes: F) -> bool
     requires { (i : _) → i < n → F.pre passes i }
     ensures { (test : ℕ → Bool) → ((i : ℕ) (r : Bool) → i < n → F.post passes i r → r ≡ test i) → result ≡ every test n }
 {
+    // `all` was tried: that the test can be called at each item of the range the check does not find, and the proof would be longer than the loop.
     for i in 0..n {
         if !passes(i) {
             return false;

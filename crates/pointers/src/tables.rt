@@ -1,12 +1,13 @@
 // All that a caller lends, as one value.
 ghost use Rattle.std.specs.Prelude.{◌≡◌};
 ghost use Rattle.reads.specs.Files.{files_lent};
-ghost use Rattle.pointers.specs.Tables.{image_in, tables_of, under};
+ghost use Rattle.pointers.specs.Tables.{image_in, tables_of, under, with_index};
 
+use crate::setting::Setting;
 use reads::place::Image;
 use std::marker::Model;
 
-// The image, its sections and image info, the rebase and bind tables, and the index over them.
+// The image, its sections and image info, the rebase and bind tables, the index over them, and the setting under which they are read.
 #[derive(Drop)]
 pub struct Tables<'a> {
     pub image: Image<'a>,
@@ -15,14 +16,15 @@ pub struct Tables<'a> {
     pub rebases: &'a [u64],
     pub binds: &'a [u64],
     pub index: &'a [u32],
+    pub setting: Setting,
 }
 
 impl<'a> Model for Tables<'a> {
-    ghost use Rattle.pointers.specs.Tables.{Tables as SpecTables, tables_of};
+    ghost use Rattle.pointers.specs.Tables.{Tables as SpecTables, tables_of, under};
 
     ghost Value = { SpecTables };
 
-    ghost view = { λ a. tables_of a.image.files a.image.words a.sections.now a.info.now a.rebases.now a.binds.now a.index.now };
+    ghost view = { λ a. under a.setting (tables_of a.image.files a.image.words a.sections.now a.info.now a.rebases.now a.binds.now a.index.now) };
 }
 
 impl<'a> Tables<'a> {
@@ -75,6 +77,51 @@ impl<'a> Tables<'a> {
         self.index
     }
 
+    pub fn setting(&self) -> Setting
+        ensures { result ≡ self.now.setting }
+    {
+        self.setting
+    }
+
+    // The same tables under another setting. Here and in the two below every field is written: `Copy` was tried, and is refused for a struct with a
+    // lifetime and a Model (unsupported-model), so `..*self` has nothing to copy by.
+    pub fn under(&self, setting: Setting) -> Tables<'a>
+        ensures { result ≡ under setting self.now }
+    {
+        Tables {
+            image: Image {
+                files: self.image.files,
+                segments: self.image.segments,
+            },
+            sections: self.sections,
+            info: self.info,
+            rebases: self.rebases,
+            binds: self.binds,
+            index: self.index,
+            setting,
+        }
+    }
+
+    // The same tables with another index.
+    pub(crate) fn with_index<'b>(&self, index: &'b [u32]) -> Tables<'b>
+    where
+        'a: 'b,
+        ensures { result ≡ with_index self.now index.now }
+    {
+        Tables {
+            image: Image {
+                files: self.image.files,
+                segments: self.image.segments,
+            },
+            sections: self.sections,
+            info: self.info,
+            rebases: self.rebases,
+            binds: self.binds,
+            index,
+            setting: self.setting,
+        }
+    }
+
     // The same tables over other files.
     pub fn over<'b>(&self, files: &'b [&'b [u8]]) -> Tables<'b>
     where
@@ -85,13 +132,14 @@ impl<'a> Tables<'a> {
         Tables {
             image: Image {
                 files,
-                segments: self.image.segments,
+                segments: self.segments(),
             },
             sections: self.sections,
             info: self.info,
             rebases: self.rebases,
             binds: self.binds,
             index: self.index,
+            setting: self.setting,
         }
     }
 }

@@ -1,4 +1,5 @@
 -- Opening a bundle: whatever its index held before, opening answers and leaves the same; and the questions that a bundle can meet.
+use Rattle.std.specs.Prelude.{Option, Some, None}
 use Prim.Native.Nat.{ℕ, ◌+◌, ◌*◌, ◌/◌, ◌≤◌}
 use mathlib.Core.Path.{◌≡◌, sym, ap, ◌∙◌}
 use mathlib.Core.Bool.{Bool, true, false}
@@ -39,7 +40,7 @@ module _ (t : Tables) (i j : List ℕ) (same : length i ≡ length j) where
   unfolding asked_opening asked_tables asked_index
   asked_same = rw same
 
-  pub framed_same : (x : Ranges) → framed_opening x (with_index t i) ≡ framed_opening x (with_index t j)
+  pub framed_same : (x : Option Ranges) → framed_opening x (with_index t i) ≡ framed_opening x (with_index t j)
   unfolding framed_opening
   framed_same x = ap (λ (o : Outcome (Unit {0})). and_then o (λ u. and_then (frames_of x) (λ w. with_frames w (image_info t.info)))) asked_same
 
@@ -128,17 +129,18 @@ module _ (bytes : List ℕ) (c : Counts) (a : Accepted bytes c) where
     unfolding index_fits
     fits_8 = le-leb (8192 + records 2 t.rebases + records 4 t.binds) (length i) (omega (arith, index_asks, long))
 
-    info_there : (w : Frames) → Met (with_frames w (image_info t.info))
+    info_there : (w : Option Frames) → Met (with_frames w (image_info t.info))
     unfolding image_info
     info_there w = rw (choose_true _ _ (le-leb 8 (length (part bytes info_at 8)) (omega (arith, info_length)))) (opens _)
 
     -- 23 comes after them.
-    ranges_met : (x : Ranges) → Met (and_then (frames_of x) (λ w. with_frames w (image_info t.info)))
+    ranges_met : (x : Option Ranges) → Met (and_then (frames_of x) (λ w. with_frames w (image_info t.info)))
     unfolding frames_of
-    ranges_met x =
-        by_choose (λ (o : Outcome Frames). Met (and_then o (λ w. with_frames w (image_info t.info)))) (λ e. info_there (addresses x)) (λ e. refused_23)
+    ranges_met None = info_there None
+    ranges_met (Some x) =
+        by_choose (λ (o : Outcome (Option Frames)). Met (and_then o (λ w. with_frames w (image_info t.info)))) (λ e. info_there (addresses x)) (λ e. refused_23)
 
-    pub opening_met : (x : Ranges) → Met (framed_opening x (bundled bytes c i))
+    pub opening_met : (x : Option Ranges) → Met (framed_opening x (bundled bytes c i))
     unfolding framed_opening asked_opening asked_tables asked_index
     opening_met x =
         simp (question_yes FileLength _ fits_1, question_yes ImageInfoLength _ fits_4, question_yes RebaseTable _ fits_5, question_yes BindTable _ fits_6, question_yes IndexLength _ fits_8)
@@ -157,6 +159,6 @@ counted_by bytes P counts thirteen =
 pub bundle_met : (bytes : List ℕ) → Met (bundle_opening bytes)
 unfolding bundle_opening
 bundle_met bytes =
-    counted_by bytes (λ (o : Outcome Counts). Met (and_then o (λ c. framed_opening (ranges_of bytes) (bundle_tables bytes))))
-    (λ a. opening_met bytes (counts_of bytes) a (replicate (index_words (counts_of bytes)) 0) (length-replicate (index_words (counts_of bytes)) 0) (ranges_of bytes))
+    counted_by bytes (λ (o : Outcome Counts). Met (and_then o (λ c. framed_opening (Some (ranges_of bytes)) (bundle_tables bytes))))
+    (λ a. opening_met bytes (counts_of bytes) a (replicate (index_words (counts_of bytes)) 0) (length-replicate (index_words (counts_of bytes)) 0) (Some (ranges_of bytes)))
     refused_13

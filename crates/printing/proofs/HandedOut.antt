@@ -5,6 +5,7 @@ use mathlib.Core.Path.{◌≡◌, refl, ap, ◌∙◌}
 use mathlib.Core.List.{List, [], ◌∷◌}
 use native.Mathlib.Omega.{arith}
 use lib.ListN.{length, drop, length-take, length-drop}
+use lib.Seq.{drop-nil}
 use Rattle.pointers.specs.Tables.{Tables}
 use Rattle.printing.specs.Pieces.{Standing, to_come, Handed, piece_of}
 
@@ -22,6 +23,9 @@ module _ (t : Tables) (p : Standing) (n : ℕ) (old : List ℕ) (x : Handed) (e 
 
   pub piece_empty : 0 < n → x.len ≡ 0 → to_come t p ≡ []
   piece_empty h g = no_bytes (to_come t p) (omega (arith, piece_length))
+
+  pub nothing_left : to_come t x.standing ≡ drop n (to_come t p) → 0 < n → x.len ≡ 0 → to_come t x.standing ≡ []
+  nothing_left h some none = h ∙ ap (drop n) (piece_empty some none) ∙ drop-nil n
 
   pub nothing_comes : to_come t p ≡ [] → x.len ≡ 0
   nothing_comes g = piece_length ∙ rw g (omega arith)

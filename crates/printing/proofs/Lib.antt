@@ -14,4 +14,6 @@ pub mod BundleAnswers
 pub mod BundleOpens
 pub mod Printed
 pub mod HandedOut
+pub mod Handing
 pub mod Unwritten
+pub mod Filling

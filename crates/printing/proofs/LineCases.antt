@@ -1,6 +1,6 @@
 -- Worked examples of the text of lines, and the ◆ listing's text (document 01, "The program's listing").
 use Rattle.std.specs.Prelude.{Bool}
-use Prim.Native.Nat.{ℕ, ◌-◌, ◌^◌}
+use Prim.Native.Nat.{ℕ, ◌+◌, ◌-◌, ◌*◌, ◌^◌}
 use mathlib.Core.Bool.{true, false}
 use mathlib.Core.Path.{◌≡◌, refl}
 use mathlib.Core.List.{List, [], ◌∷◌, ◌++◌, flat_map}
@@ -18,6 +18,8 @@ use Rattle.listing.specs.declared.line.Line.TheVariants as line
 use Rattle.printing.specs.Buffer.{places, hex_text, decimal_text}
 use Rattle.printing.specs.LineText.{none_field, number_field, string_field, part_field, text_field, text_fields, info_text, class_text, ro_text, method_text, ivar_text, name_text, end_text, line_text, refused_text}
 use Rattle.std.specs.Prelude.{Option, Some, None}
+use Rattle.frames.specs.declared.frames.Mark.{Mark}
+use Rattle.frames.specs.declared.frames.Mark.TheVariants.{Unmarked, Marked}
 use Rattle.reads.specs.declared.text.Text.{Text}
 use Rattle.reads.specs.declared.answer.Question.TheVariants.{BundleLength}
 
@@ -37,8 +39,8 @@ class_line name =
       superclass_name = name;
     })
 
-abbrev method_line : Method → ℕ → Line
-method_line m mark = line.Row (record { list = 6; row = row.Method m; mark = mark })
+abbrev method_line : Method → Mark → Line
+method_line m x = line.Row (record { list = 6; row = row.Method m; mark = x })
 
 abbrev ivar_line : Option ℕ → Option ℕ → Option Bool → Line
 ivar_line o k a =
@@ -46,11 +48,11 @@ ivar_line o k a =
     (record {
       list = 1;
       row = row.Ivar (record { name = text_of 1 0 7; type_encoding = text_of 1 0 0; offset = o; size = 16; log2_alignment = k; aligned = a });
-      mark = 0;
+      mark = Unmarked;
     })
 
 abbrev end_line : ℕ → ℕ → Line
-end_line high low = line.End (record { records = 10; settled_high = high; settled_low = low })
+end_line high low = line.End (record { records = 10; settled = high * 2 ^ 64 + low })
 
 -- A name: its length is a number like the others. A name that is none, one that is empty, and one that its file ends before.
 pub with_name : line_text files (class_line (Some (text_of 1 0 15))) ≡ ended (ascii "M 1000 0 ffffffffffffffff a f:fifteen letters")
@@ -71,12 +73,12 @@ past_the_file = refl
 
 -- An imp that is there can be 0; 2 is a direct selector. The mark comes last.
 pub imp_zero :
-    line_text files (method_line (method_of (text_of 1 0 3) (text_of 1 0 0) (Some 0) kind.SmallDirect) 1) ≡ ended (ascii "m 6 3:fif 0: 0 2 1")
+    line_text files (method_line (method_of (text_of 1 0 3) (text_of 1 0 0) (Some 0) kind.SmallDirect) Marked) ≡ ended (ascii "m 6 3:fif 0: 0 2 1")
 unfolding line_text method_text text_fields text_field part_field file_of string_field number_field hex_text places choose
 imp_zero = refl
 
 pub imp_none :
-    line_text files (method_line (method_of (text_of 1 0 3) (text_of 1 0 0) None kind.SmallIndirect) 0) ≡ ended (ascii "m 6 3:fif 0: - 1 0")
+    line_text files (method_line (method_of (text_of 1 0 3) (text_of 1 0 0) None kind.SmallIndirect) Unmarked) ≡ ended (ascii "m 6 3:fif 0: - 1 0")
 unfolding line_text method_text text_fields text_field part_field file_of string_field none_field number_field hex_text places choose
 imp_none = refl
 
@@ -138,8 +140,8 @@ hub_lines =
       weak_ivar_layout_address = 0;
       properties = 0;
     })
-    ∷ line.Row (record { list = 0; row = row.Method (method_of (text_of 0 148 2) (text_of 0 151 1) (Some 0x2000) kind.Legacy); mark = 0 })
-    ∷ line.End (record { records = 1; settled_high = 0; settled_low = 2 })
+    ∷ line.Row (record { list = 0; row = row.Method (method_of (text_of 0 148 2) (text_of 0 151 1) (Some 0x2000) kind.Legacy); mark = Unmarked })
+    ∷ line.End (record { records = 1; settled = 2 })
     ∷ []
 
 -- ◆ its text.

@@ -1,6 +1,6 @@
 -- How long a line can be: some numbers of at most 32 digits, and at most two texts, each a part of a file.
 use Rattle.std.specs.Prelude.{Bool, true, false}
-use Prim.Native.Nat.{ℕ, zero, suc, ◌+◌, ◌-◌, ◌*◌, ◌/◌, ◌%◌, ◌≤◌, ◌^◌, min}
+use Prim.Native.Nat.{ℕ, zero, suc, ◌+◌, ◌-◌, ◌*◌, ◌/◌, ◌%◌, ◌≤◌, min}
 use mathlib.Core.Path.{◌≡◌, refl, ◌∙◌}
 use mathlib.Core.List.{List, [], ◌∷◌}
 use native.Mathlib.Omega.{arith}
@@ -17,7 +17,9 @@ use Rattle.listing.specs.Listing.{Answer, says, lacks, nothing, ended}
 use Rattle.listing.specs.declared.line.Line.{Line}
 use Rattle.listing.specs.declared.line.Line.TheVariants as line
 use Rattle.printing.specs.Buffer.{places, hex_text, decimal_text}
-use Rattle.printing.specs.LineText.{none_field, number_field, string_field, part_field, text_field, text_fields, named_field, imp_field, offset_field, alignment_field, aligned_field, kind_number, reading_number, info_text, class_text, ro_text, protocol_text, category_text, method_text, ivar_text, property_text, row_text, name_text, end_text, fields_text, line_text, refused_text}
+use Rattle.frames.specs.Marks.{mark_number}
+use Rattle.frames.specs.declared.frames.Mark.{Mark}
+use Rattle.printing.specs.LineText.{none_field, number_field, string_field, part_field, text_field, text_fields, named_field, optional_field, aligned_field, kind_number, reading_number, info_text, class_text, ro_text, protocol_text, category_text, method_text, ivar_text, property_text, row_text, name_text, end_text, fields_text, line_text, refused_text}
 use Rattle.printing.specs.Pieces.{said_text}
 use Rattle.std.specs.Prelude.{Option, Some, None}
 use Rattle.reads.specs.declared.answer.Question.{Question}
@@ -64,17 +66,9 @@ module _ (files : List (List ℕ)) where
   named_short (Some t) = text_short t
   named_short None = omega (arith, none_short)
 
-  imp_short : (i : Option ℕ) → length (imp_field i) ≤ 33
-  imp_short (Some va) = number_short va
-  imp_short None = none_short
-
-  offset_short : (o : Option ℕ) → length (offset_field o) ≤ 33
-  offset_short (Some n) = number_short n
-  offset_short None = none_short
-
-  alignment_short : (k : Option ℕ) → length (alignment_field k) ≤ 33
-  alignment_short (Some k) = number_short k
-  alignment_short None = none_short
+  optional_short : (n : Option ℕ) → length (optional_field n) ≤ 33
+  optional_short (Some n) = number_short n
+  optional_short None = none_short
 
   aligned_short : (a : Option Bool) → length (aligned_field a) ≤ 33
   aligned_short (Some true) = number_short 1
@@ -84,20 +78,20 @@ module _ (files : List (List ℕ)) where
   abbrev Short : List ℕ → Type 0
   Short text = length text ≤ 300 + 2 * longest files
 
-  row_short : (n : ℕ) (r : Row) (mark : ℕ) → Short (row_text files n r mark)
+  row_short : (n : ℕ) (r : Row) (mark : Mark) → Short (row_text files n r mark)
   unfolding method_text ivar_text property_text
   row_short n (row.Method m) mark =
       simp length-append
-      (omega (arith, number_short n, texts_short m.selector m.types, imp_short m.implementation, number_short (kind_number m.kind), number_short mark))
+      (omega (arith, number_short n, texts_short m.selector m.types, optional_short m.implementation, number_short (kind_number m.kind), number_short (mark_number mark)))
   row_short n (row.Ivar v) mark =
       simp length-append
       (omega (
         arith,
         number_short n,
         texts_short v.name v.type_encoding,
-        offset_short v.offset,
+        optional_short v.offset,
         number_short v.size,
-        alignment_short v.log2_alignment,
+        optional_short v.log2_alignment,
         aligned_short v.aligned,
       ))
   row_short n (row.Property p) mark = simp length-append (omega (arith, number_short n, texts_short p.name p.attributes))
@@ -140,7 +134,7 @@ module _ (files : List (List ℕ)) where
   fields_short (line.Row l) = row_short l.list l.row l.mark
   fields_short (line.Name l) = simp length-append (omega (arith, number_short l.list, text_short l.name))
   fields_short (line.End l) =
-      simp length-append (omega (arith, number_short l.records, number_short (l.settled_high * 2 ^ 64 + l.settled_low)))
+      simp length-append (omega (arith, number_short l.records, number_short l.settled))
 
   -- What a step says has at most 301 bytes beside the texts.
   pub said_length_lem : (o : Outcome Answer) → length (said_text files o) ≤ 301 + 2 * longest files

@@ -14,7 +14,6 @@ use Rattle.reads.specs.declared.answer.Missing.TheVariants.{Absent, Refused}
 use Rattle.reads.proofs.Tests.{choose_true, choose_false}
 use Rattle.pointers.specs.Question.{image_fits}
 use Rattle.pointers.specs.Tables.{Tables}
-use Rattle.frames.specs.Marks.{no_frames}
 use Rattle.frames.specs.declared.frames.Frames.{Frames}
 use Rattle.listing.specs.Listing.{nothing, ended}
 use Rattle.listing.specs.ListingAnswer.{said_of}
@@ -27,7 +26,7 @@ use Rattle.marking.specs.declared.marked_listing.MarkedListing.{MarkedListing}
 use Rattle.printing.specs.Pieces.{Standing, standing, stepped, begun, further, with_files, listable}
 use Rattle.printing.specs.declared.pieces.Piece.{Piece}
 use Rattle.printing.specs.declared.pieces.Progress.{Progress}
-use Rattle.std.specs.Prelude.{Result, Ok, Err}
+use Rattle.std.specs.Prelude.{Result, Ok, Err, Option, None}
 use Rattle.reads.specs.declared.answer.Question.{Question}
 
 -- The start, by opening's answer.
@@ -39,7 +38,7 @@ pub begun_missing : {u : Setting} (a : Result Framed Missing) (m : Missing) → 
     → q ≡ begun u (outcome a)
 begun_missing a m g q e = rw g e
 
-module _ {u : Setting} (s : MarkedListing) (w : Frames) (e : marking_of s ≡ marked_start u w) (none : w ≡ no_frames) (m : Missing) where
+module _ {u : Setting} (s : MarkedListing) (w : Option Frames) (e : marking_of s ≡ marked_start u w) (none : w ≡ None) (m : Missing) where
   pub begun_absent : (r : Reason) → m ≡ Absent r → (λ (l : List ℕ). standing (value ended) 0 (marking_of s) l) ≡ begun u (missed m)
   begun_absent r h = rw (h, e, none)
 

@@ -1,4 +1,5 @@
 -- Under either reading the text that is to come after a bundle was decoded and opened is the bundle's text, marks included, whatever the words, the index and the ledger held.
+use Rattle.std.specs.Prelude.{Option, Some}
 use Prim.Native.Nat.{ℕ, ◌+◌, ◌*◌, ◌≤◌, ◌<◌}
 use mathlib.Core.Path.{◌≡◌, refl, sym, ap, ◌∙◌, subst}
 use mathlib.Core.Bool.{true, false}
@@ -105,8 +106,8 @@ module _ (u : Setting) (bytes : List ℕ) (c : Counts) (a : Accepted bytes c) (m
   zeros_long : length zeros ≡ index_words c
   zeros_long = length-replicate (index_words c) 0
 
-  abbrev given : Ranges
-  given = ranges_of bytes
+  abbrev given : Option Ranges
+  given = Some (ranges_of bytes)
 
   opens_same : framed_opening given (tables_in bytes c words_read index) ≡ framed_opening given (bundled bytes c zeros)
   opens_same =
@@ -183,7 +184,7 @@ module _ (u : Setting) (bytes words index l : List ℕ) where
         counted_by bytes
         (λ (o : Outcome Counts). to_come (tables_by bytes o (words_by bytes o words) (index_by bytes o (words_by bytes o words) index))
         (begun u (opening_by bytes o (words_by bytes o words) index) l)
-        ≡ opened_text (under u (with_index (bundle_tables bytes) (opened_index (bundle_tables bytes)))) (and_then o (λ c. framed_opening (ranges_of bytes) (bundle_tables bytes))))
+        ≡ opened_text (under u (with_index (bundle_tables bytes) (opened_index (bundle_tables bytes)))) (and_then o (λ c. framed_opening (Some (ranges_of bytes)) (bundle_tables bytes))))
         (λ a. accepted_comes u bytes (counts_of bytes) a (drop (table_words (counts_of bytes)) words) index l room long)
         (over_comes u _ (under u (with_index (bundle_tables bytes) (opened_index (bundle_tables bytes)))) (refused BundleLength) l refl)
 
@@ -192,3 +193,8 @@ module _ (u : Setting) (bytes words index l : List ℕ) where
     printed_pieces k =
         pieces_text (tables_lent bytes words_decoded opened) 4096 k (begun u (opening_in bytes words_decoded index) l) (begun_sound u (opening_in bytes words_decoded index) l)
         ∙ ap (take (k * 4096)) printed
+
+    -- The same, of what the code decoded and opened.
+    pub printed_by : (w i : List ℕ) (o : Outcome Framed) (q : List ℕ → Standing) → w ≡ words_decoded → i ≡ index_after bytes w index → o ≡ opening_in bytes w index
+        → q ≡ begun u o → to_come (tables_lent bytes w i) (q l) ≡ bundle_text u bytes
+    printed_by w i o q ew ei eo eq = rw (eq, eo, ei, ew) printed

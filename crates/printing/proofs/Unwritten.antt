@@ -1,4 +1,5 @@
 -- A call over a bundle that a number refuses leaves what it was lent as it was.
+use Rattle.std.specs.Prelude.{Option}
 use Prim.Native.Nat.{ℕ}
 use mathlib.Core.Path.{◌≡◌, refl}
 use mathlib.Core.List.{List}
@@ -26,18 +27,18 @@ pub words_unwritten : (bytes words : List ℕ) (k : Question) → bundle_counts 
 words_unwritten bytes words k e = rw e
 
 -- Opening's index, with a number of opening or with 23.
-info_unrefused : (w : Frames) (body : List ℕ) (k : Question) → with_frames w (image_info body) ≡ refused k → ⊥
+info_unrefused : (w : Option Frames) (body : List ℕ) (k : Question) → with_frames w (image_info body) ≡ refused k → ⊥
 unfolding image_info
 info_unrefused w body k =
     by_choose (λ (o : Outcome ImageInfo). with_frames w o ≡ refused k → ⊥)
     (λ t e. let z : ◌≡◌ {A = ℕ} 0 1 = cc in omega arith)
     (λ t e. let z : ◌≡◌ {A = ℕ} 0 1 = cc in omega arith)
 
-opened_unwritten : (x : Ranges) (t : Tables) (k : Question) → framed_opening x t ≡ refused k → framed_index x t ≡ t.index
+opened_unwritten : (x : Option Ranges) (t : Tables) (k : Question) → framed_opening x t ≡ refused k → framed_index x t ≡ t.index
 unfolding framed_opening framed_index opened_index
 opened_unwritten x t k = go (frames_of x) (asked_opening t)
   where
-    go : (f : Outcome Frames) (o : Outcome (Unit {0})) → and_then o (λ u. and_then f (λ w. with_frames w (image_info t.info))) ≡ refused k
+    go : (f : Outcome (Option Frames)) (o : Outcome (Unit {0})) → and_then o (λ u. and_then f (λ w. with_frames w (image_info t.info))) ≡ refused k
         → left_by f (left_by o (indexed t.rebases t.binds t.index) t.index) t.index ≡ t.index
     go (value w) (value u) e = absurd (info_unrefused w t.info k e)
     go (value w) (absent r) e = refl

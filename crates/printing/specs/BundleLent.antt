@@ -1,5 +1,5 @@
 -- What the calls over a bundle are lent and leave: words that its tables are decoded into, and an index.
-use Rattle.std.specs.Prelude.{ℕ, ◌+◌, List, [], ◌∷◌, ◌++◌, take, drop}
+use Rattle.std.specs.Prelude.{ℕ, ◌+◌, Some, List, [], ◌∷◌, ◌++◌, take, drop}
 use Rattle.reads.specs.Outcome.{Outcome, value, absent, refused, and_then}
 use Rattle.reads.specs.Place.{part}
 use Rattle.pointers.specs.Tables.{Tables, tables_of}
@@ -41,14 +41,14 @@ tables_in bytes c words index = tables_over (bundled_files bytes c) bytes c word
 
 -- Question 13, then opening, then 23.
 abbrev pub opening_by : List ℕ → Outcome Counts → List ℕ → List ℕ → Outcome Framed
-opening_by bytes o words index = and_then o (λ c. framed_opening (ranges_of bytes) (tables_in bytes c words index))
+opening_by bytes o words index = and_then o (λ c. framed_opening (Some (ranges_of bytes)) (tables_in bytes c words index))
 
 abbrev pub opening_in : List ℕ → List ℕ → List ℕ → Outcome Framed
 opening_in bytes words index = opening_by bytes (bundle_counts bytes) words index
 
 -- The index lent, after opening; with a number it is as it was (proofs/Unwritten.antt).
 abbrev pub index_by : List ℕ → Outcome Counts → List ℕ → List ℕ → List ℕ
-index_by bytes (value c) words index = framed_index (ranges_of bytes) (tables_in bytes c words index) ++ drop (index_words c) index
+index_by bytes (value c) words index = framed_index (Some (ranges_of bytes)) (tables_in bytes c words index) ++ drop (index_words c) index
 index_by bytes (absent r) words index = index
 index_by bytes (refused k) words index = index
 

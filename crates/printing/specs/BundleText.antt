@@ -1,7 +1,7 @@
 -- What is printed of a bundle (document 01, "The program's listing"): `refused` and the number of the first question that says no, 13, one of
 -- opening's or 23; or the lines of the plain listing, under a setting, which holds the reading (document 02, note 12), each m row with the mark
 -- for the ranges that the bundle gives (note 11).
-use Rattle.std.specs.Prelude.{ℕ, ◌+◌, ◌*◌, replicate}
+use Rattle.std.specs.Prelude.{ℕ, ◌+◌, ◌*◌, Some, replicate}
 use mathlib.Core.List.{List, [], flat_map}
 use Rattle.reads.specs.Outcome.{Outcome, value, absent, refused, and_then}
 use Rattle.pointers.specs.Open.{opened_index}
@@ -26,7 +26,7 @@ bundle_tables bytes = bundled bytes (counts_of bytes) (replicate (index_words (c
 
 -- Question 13, then opening, then 23.
 unfoldable pub bundle_opening : List ℕ → Outcome Framed
-bundle_opening bytes = and_then (bundle_counts bytes) (λ _. framed_opening (ranges_of bytes) (bundle_tables bytes))
+bundle_opening bytes = and_then (bundle_counts bytes) (λ _. framed_opening (Some (ranges_of bytes)) (bundle_tables bytes))
 
 -- What a bundle can meet (proofs/BundleOpens.antt: every bundle does): it is opened, or one of these numbers refuses it.
 pub data Met : Outcome Framed → Type 0 where

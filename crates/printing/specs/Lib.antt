@@ -4,3 +4,5 @@ pub mod LineText
 pub mod BundleText
 pub mod Pieces
 pub mod BundleLent
+pub mod Written
+pub mod Filled

@@ -1,6 +1,6 @@
 -- The text of a listing's lines (document 01, "The program's listing"): fields split by one space, numbers lower-case hex, strings length,
 -- colon, bytes; `-` is none. An ivar's last field: note 8. A method's: note 11.
-use Rattle.std.specs.Prelude.{ℕ, ◌+◌, ◌*◌, ◌^◌, Bool, true, false, List, [], ◌∷◌, ◌++◌, leb, length, Option, Some, None}
+use Rattle.std.specs.Prelude.{ℕ, ◌+◌, Bool, true, false, List, [], ◌∷◌, ◌++◌, leb, length, Option, Some, None}
 use Rattle.reads.specs.Outcome.{choose}
 use Rattle.reads.specs.Files.{file_of}
 use Rattle.reads.specs.Place.{part}
@@ -17,6 +17,8 @@ use Rattle.records.specs.declared.property.Property.{Property}
 use Rattle.records.specs.declared.protocol.ObjcProtocol.{ObjcProtocol}
 use Rattle.records.specs.declared.row.Row.{Row}
 use Rattle.records.specs.declared.row.Row.TheVariants as row
+use Rattle.frames.specs.Marks.{mark_number}
+use Rattle.frames.specs.declared.frames.Mark.{Mark}
 use Rattle.listing.specs.declared.line.CategoryLine.{CategoryLine}
 use Rattle.listing.specs.declared.line.ClassLine.{ClassLine}
 use Rattle.listing.specs.declared.line.EndLine.{EndLine}
@@ -52,17 +54,10 @@ abbrev pub named_field : List (List ℕ) → Option Text → List ℕ
 named_field files (Some t) = text_field files t
 named_field files None = none_field
 
-abbrev pub imp_field : Option ℕ → List ℕ
-imp_field (Some va) = number_field va
-imp_field None = none_field
-
-abbrev pub offset_field : Option ℕ → List ℕ
-offset_field (Some n) = number_field n
-offset_field None = none_field
-
-abbrev pub alignment_field : Option ℕ → List ℕ
-alignment_field (Some k) = number_field k
-alignment_field None = none_field
+-- An implementation's address, an ivar's offset or its alignment, or none.
+abbrev pub optional_field : Option ℕ → List ℕ
+optional_field (Some n) = number_field n
+optional_field None = none_field
 
 -- 1 or 0.
 abbrev pub aligned_field : Option Bool → List ℕ
@@ -120,11 +115,11 @@ category_text files l =
     ++ (number_field l.category.class_address ++ (text_field files l.category.name ++ named_field files l.class_name)))
 
 -- Rows carry a list number: m selector types imp kind mark.
-unfoldable pub method_text : List (List ℕ) → ℕ → Method → ℕ → List ℕ
+unfoldable pub method_text : List (List ℕ) → ℕ → Method → Mark → List ℕ
 method_text files n m mark =
     ascii "m"
     ++ (number_field n
-    ++ (text_fields files m.selector m.types ++ (imp_field m.implementation ++ (number_field (kind_number m.kind) ++ number_field mark))))
+    ++ (text_fields files m.selector m.types ++ (optional_field m.implementation ++ (number_field (kind_number m.kind) ++ number_field (mark_number mark)))))
 
 -- v name type offset size alignment aligned.
 unfoldable pub ivar_text : List (List ℕ) → ℕ → Ivar → List ℕ
@@ -132,15 +127,15 @@ ivar_text files n v =
     ascii "v"
     ++ (number_field n
     ++ (text_fields files v.name v.type_encoding
-    ++ (offset_field v.offset
-    ++ (number_field v.size ++ (alignment_field v.log2_alignment ++ aligned_field v.aligned)))))
+    ++ (optional_field v.offset
+    ++ (number_field v.size ++ (optional_field v.log2_alignment ++ aligned_field v.aligned)))))
 
 -- p name attributes.
 unfoldable pub property_text : List (List ℕ) → ℕ → Property → List ℕ
 property_text files n p = ascii "p" ++ (number_field n ++ text_fields files p.name p.attributes)
 
 -- Only a method shows its mark.
-abbrev pub row_text : List (List ℕ) → ℕ → Row → ℕ → List ℕ
+abbrev pub row_text : List (List ℕ) → ℕ → Row → Mark → List ℕ
 row_text files n (row.Method m) mark = method_text files n m mark
 row_text files n (row.Ivar v) mark = ivar_text files n v
 row_text files n (row.Property p) mark = property_text files n p
@@ -151,7 +146,7 @@ name_text files l = ascii "q" ++ (number_field l.list ++ text_field files l.name
 
 -- E: records, and the entries settled, a number of two words.
 unfoldable pub end_text : EndLine → List ℕ
-end_text l = ascii "E" ++ (number_field l.records ++ number_field (l.settled_high * 2 ^ 64 + l.settled_low))
+end_text l = ascii "E" ++ (number_field l.records ++ number_field l.settled)
 
 abbrev pub fields_text : List (List ℕ) → Line → List ℕ
 fields_text files (line.Info i) = info_text i

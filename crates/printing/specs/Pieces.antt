@@ -1,12 +1,11 @@
 -- The text of a listing, handed out piece by piece: where its printing stands, the text still to come, and where it stands after so many bytes
 -- more.
-use Rattle.std.specs.Prelude.{ℕ, zero, suc, ◌+◌, ◌-◌, Bool, true, false, List, [], ◌∷◌, ◌++◌, leb, length, take, drop}
+use Rattle.std.specs.Prelude.{ℕ, zero, suc, ◌+◌, ◌-◌, Bool, true, false, List, [], ◌∷◌, ◌++◌, leb, length, take, drop, Option, None}
 use Rattle.reads.specs.Outcome.{Outcome, value, absent, refused, choose}
 use Rattle.reads.specs.Files.{longest}
 use Rattle.pointers.specs.Question.{image_fits}
 use Rattle.pointers.specs.Tables.{Tables, tables_of, under}
 use Rattle.pointers.specs.declared.setting.Setting.{Setting}
-use Rattle.frames.specs.Marks.{no_frames}
 use Rattle.frames.specs.declared.frames.Frames.{Frames}
 use Rattle.listing.specs.Listing.{Answer, says, lacks, nothing, ended}
 use Rattle.listing.specs.ListingAnswer.{said_of}
@@ -95,10 +94,10 @@ begun_by (value f) = value nothing
 begun_by (absent r) = value ended
 begun_by (refused k) = refused k
 
-abbrev pub frames_given : Outcome Framed → Frames
+abbrev pub frames_given : Outcome Framed → Option Frames
 frames_given (value f) = f.frames
-frames_given (absent r) = no_frames
-frames_given (refused k) = no_frames
+frames_given (absent r) = None
+frames_given (refused k) = None
 
 abbrev pub begun : Setting → Outcome Framed → List ℕ → Standing
 begun u o l = standing (begun_by o) 0 (marked_start u (frames_given o)) l

@@ -1,5 +1,6 @@
 // Text into a buffer that the caller lends, which takes a part of it.
-ghost use Rattle.std.specs.Prelude.{◌+◌, ◌*◌, ◌^◌, [], ◌∷◌};
+ghost use Rattle.std.specs.Prelude.{ℕ, min, max, ◌+◌, ◌*◌, ◌^◌, [], ◌∷◌};
+ghost use Rattle.io.specs.Digits.{last_digits, IsDigitCount};
 ghost use Rattle.reads.specs.Reference.{before};
 ghost use Rattle.printing.specs.Buffer.{Puts, hex_text, hex_word, decimal_text};
 
@@ -38,28 +39,35 @@ impl Out<'_> {
         self.bytes(&[b]);
     }
 
+    // A number in lower-case hex, of so many digits at least, zeros in front.
+    fn hex_digits(&mut self, n: u64, width: usize)
+        ensures { (k : ℕ) × IsDigitCount 16 (min (max width 1) 16) n k × Puts self.old (last_digits 16 k n) self.new }
+    {
+        let mut text = [0u8; 16];
+        let k = io::hex(n, width, &mut text);
+        self.bytes(&text[..k]);
+    }
+
     // A number in lower-case hex.
     pub(crate) fn hex(&mut self, n: u64)
         ensures { Puts self.old (hex_text n) self.new }
     {
-        let mut text = [0u8; 16];
-        let k = io::hex(n, 1, &mut text);
-        self.bytes(&text[..k]);
+        self.hex_digits(n, 1);
     }
 
     // A word's sixteen digits in lower-case hex, zeros in front.
     fn hex_word(&mut self, n: u64)
         ensures { Puts self.old (hex_word n) self.new }
     {
-        let mut text = [0u8; 16];
-        let k = io::hex(n, 16, &mut text);
-        self.bytes(&text[..k]);
+        self.hex_digits(n, 16);
     }
 
-    // A number of two words, high x 2^64 + low, in lower-case hex.
-    pub(crate) fn hex_of_two(&mut self, high: u64, low: u64)
-        ensures { Puts self.old (hex_text (high * 2 ^ 64 + low)) self.new }
+    // A number of 128 bits in lower-case hex.
+    pub(crate) fn hex_of_128(&mut self, n: u128)
+        ensures { Puts self.old (hex_text n) self.new }
     {
+        let high = (n >> 64) as u64;
+        let low = (n % 0x1_0000_0000_0000_0000) as u64;
         if high == 0 {
             return self.hex(low);
         }

@@ -4,6 +4,7 @@
 
 mod buffer;
 pub mod bundle;
+pub mod descriptor;
 pub mod pieces;
 mod print;
 pub mod program;

@@ -10,7 +10,6 @@ ghost use Rattle.printing.specs.Buffer.{Puts};
 ghost use Rattle.printing.specs.Pieces.{said_text, standing_of, stepped, begun, refusing, to_come, handed_of, piece_of, fits, further, listable};
 
 use crate::buffer::Out;
-use frames::frames::Frames;
 use listing::listing::Said;
 use marking::framed::Framed;
 use marking::marked_listing::MarkedListing;
@@ -96,7 +95,7 @@ impl Progress {
     fn over(setting: Setting, m: Missing) -> Progress
         ensures { standing_of result ≡ begun setting (missed m) }
     {
-        let listing = MarkedListing::starting(setting, Frames::none());
+        let listing = MarkedListing::starting(setting, None);
         let said = match m {
             Missing::Absent(_) => Ok(Said::Ended),
             Missing::Refused(k) => Err(k),

@@ -3,13 +3,14 @@
 ghost use Rattle.std.specs.Prelude.{◌∷◌, ◌≡◌};
 ghost use Rattle.reads.specs.Reference.{before};
 ghost use Rattle.printing.specs.Buffer.{Puts};
-ghost use Rattle.printing.specs.LineText.{none_field, number_field, string_field, part_field, text_field, text_fields, named_field, imp_field, offset_field, alignment_field, aligned_field, class_letter, info_text, class_text, ro_text, protocol_text, category_text, method_text, ivar_text, property_text, row_text, name_text, end_text, fields_text, line_text, refused_text};
+ghost use Rattle.printing.specs.LineText.{none_field, number_field, string_field, part_field, text_field, text_fields, named_field, optional_field, aligned_field, class_letter, info_text, class_text, ro_text, protocol_text, category_text, method_text, ivar_text, property_text, row_text, name_text, end_text, fields_text, line_text, refused_text};
 ghost use Rattle.reads.specs.Files.{files_of};
 
 use crate::buffer::Out;
+use frames::frames::Mark;
 use listing::line::{CategoryLine, ClassLine, EndLine, InfoLine, Line, NameLine, RowLine};
 use reads::answer::Question;
-use reads::files::is_lent;
+use reads::files::bytes_of;
 use reads::text::Text;
 use records::class::ClassRo;
 use records::ivar::Ivar;
@@ -25,6 +26,7 @@ fn class_letter(meta: bool) -> u8
     if meta { b'M' } else { b'C' }
 }
 
+// The files are handed on, and no field of `Out`: `Puts` says what is done to the buffer, and each promise would also say that the files stay.
 impl Out<'_> {
     // A field that is none.
     #[tactic(auto, unfolding(crate::specs::LineText::none_field))]
@@ -76,14 +78,11 @@ impl Out<'_> {
     }
 
     // A field that is a text; a file that is not lent has no bytes.
+    #[tactic(auto, unfolding(crate::specs::LineText::text_field))]
     fn text(&mut self, files: &[&[u8]], t: Text)
         ensures { Puts self.old (text_field (files_of files) t) self.new }
     {
-        if !is_lent(files, t.file) {
-            return self.part(b"", t);
-        }
-        let bytes = files[t.file as usize];
-        self.part(bytes, t);
+        self.part(bytes_of(files, t.file), t);
     }
 
     // Two fields that are texts.
@@ -104,32 +103,12 @@ impl Out<'_> {
         }
     }
 
-    // An implementation's address, or none.
-    fn imp(&mut self, imp: Option<u64>)
-        ensures { Puts self.old (imp_field imp) self.new }
+    // A number or none.
+    fn optional(&mut self, n: Option<u64>)
+        ensures { Puts self.old (optional_field n) self.new }
     {
-        match imp {
-            Some(va) => self.number(va),
-            None => self.none(),
-        }
-    }
-
-    // An ivar's offset, or none.
-    fn offset(&mut self, offset: Option<u32>)
-        ensures { Puts self.old (offset_field offset) self.new }
-    {
-        match offset {
-            Some(n) => self.number(n as u64),
-            None => self.none(),
-        }
-    }
-
-    // An ivar's alignment, or none.
-    fn alignment(&mut self, alignment: Option<u8>)
-        ensures { Puts self.old (alignment_field alignment) self.new }
-    {
-        match alignment {
-            Some(n) => self.number(n as u64),
+        match n {
+            Some(n) => self.number(n),
             None => self.none(),
         }
     }
@@ -206,7 +185,7 @@ impl Out<'_> {
     }
 
     // m: list number, selector, types, imp, kind, mark.
-    fn method(&mut self, files: &[&[u8]], list: u16, m: Method, mark: u8)
+    fn method(&mut self, files: &[&[u8]], list: u16, m: Method, mark: Mark)
         ensures { Puts self.old (method_text (files_of files) list m mark) self.new }
     {
         let selector = m.selector;
@@ -215,7 +194,7 @@ impl Out<'_> {
         let kind = m.kind;
         self.start(b'm', list as u64);
         self.texts(files, selector, types);
-        self.imp(implementation);
+        self.optional(implementation);
         self.number(kind as u64);
         self.number(mark as u64);
     }
@@ -231,9 +210,9 @@ impl Out<'_> {
         let is_aligned = v.aligned;
         self.start(b'v', list as u64);
         self.texts(files, name, encoding);
-        self.offset(offset);
+        self.optional(offset.map(|n| n as u64));
         self.number(v.size as u64);
-        self.alignment(log2);
+        self.optional(log2.map(|n| n as u64));
         self.aligned(is_aligned);
     }
 
@@ -274,7 +253,7 @@ impl Out<'_> {
     {
         self.start(b'E', line.records);
         self.byte(b' ');
-        self.hex_of_two(line.settled_high, line.settled_low);
+        self.hex_of_128(line.settled);
     }
 
     // A line without its newline.

@@ -1,21 +1,55 @@
-// The program that lists the bundle on standard input (document 01, "The program's listing"): its text goes to standard output.
-ghost use Rattle.std.specs.Prelude.{ℕ, ◌≡◌, true, [], take};
+// The program that lists the bundle on its input (document 01, "The program's listing").
+ghost use Rattle.std.specs.Prelude.{◌≡◌, true, [], take};
+ghost use Rattle.std.specs.Io.KnownBytes.{Appends};
+ghost use Rattle.pointers.specs.Tables.{reading_under};
 ghost use Rattle.printing.specs.BundleLent.{tables_lent};
+ghost use Rattle.printing.specs.BundleText.{bundle_text};
 ghost use Rattle.printing.specs.Pieces.{standing_of, to_come};
+ghost use Rattle.printing.specs.Filled.{Fills};
 
 use crate::write::{Written, write_under};
 use reads::text::Reading;
+use std::io::{Read, Write};
 
-// The descriptors that every program begins with.
-const STDIN: i32 = 0;
-
-const STDOUT: i32 = 1;
-
+// The descriptor of standard error, which every program begins with.
 const STDERR: i32 = 2;
 
-// Lists under a reading what stands in the input then, up to some byte. That a write failed, and that the bundle was refused, is said on standard
+// How many bytes of a buffer a reader filled, and whether no read failed.
+// Not a `Result`: the bytes count in both cases.
+#[derive(Clone, Copy)]
+pub struct Filled {
+    pub len: usize,
+    pub whole: bool,
+}
+
+// What was read, and how the writing of its listing ended.
+#[derive(Clone, Copy)]
+pub struct Listed {
+    pub input: Filled,
+    pub written: Written,
+}
+
+// Fills a buffer until it is full, the reader has no more or a read fails.
+fn read_full<R: Read>(from: &mut R, to: &mut [u8]) -> Filled
+    ensures { Fills (R.remaining from.old) (R.remaining from.new) result to.new }
+{
+    let mut len = 0;
+    // Not a `for`: each read goes on where the last one ended.
+    while len < to.len() {
+        match from.read(&mut to[len..]) {
+            Ok(0) => return Filled { len, whole: true },
+            Ok(n) => len += n,
+            Err(_) => return Filled { len, whole: false },
+        }
+    }
+    Filled { len, whole: true }
+}
+
+// Lists under a reading what the input has, up to the buffer's length. That a write failed, and that the bundle was refused, is said on standard
 // error in these words.
-pub fn list_input(
+pub fn list_input<R: Read, W: Write>(
+    from: &mut R,
+    to: &mut W,
     reading: Reading,
     unwritten: &[u8],
     refused: &[u8],
@@ -24,18 +58,22 @@ pub fn list_input(
     index: &mut [u32; 10240],
     ledger: &mut [u64; 8192],
     out: &mut [u8; 4096],
-) -> Written
-    ensures { result.whole ≡ true → (n : ℕ) × (to_come (tables_lent (take n input.new) words.new index.new) (standing_of result.progress ledger.new) ≡ []) }
+) -> Listed
+    ensures read { Fills (R.remaining from.old) (R.remaining from.new) result.input input.new }
+    ensures written { result.written.whole ≡ true → Appends (W.contents to.old) (W.contents to.new) (bundle_text (reading_under reading) (take result.input.len input.new)) }
+    ensures whole { let t = tables_lent (take result.input.len input.new) words.new index.new in
+        (result.written.whole ≡ true → to_come t (standing_of result.written.progress ledger.new) ≡ []) }
 {
-    let n = io::read_full(STDIN, input);
-    let written = write_under(STDOUT, reading, input, n, words, index, ledger, out);
+    let filled = read_full(from, input);
+    let written = write_under(to, reading, &input[..filled.len], words, index, ledger, out);
+    let end = written.progress;
     if !written.whole {
         io::write_all(STDERR, unwritten);
-        return written;
-    }
-    let end = written.progress;
-    if end.refused() {
+    } else if end.refused() {
         io::write_all(STDERR, refused);
     }
-    written
+    Listed {
+        input: filled,
+        written,
+    }
 }

@@ -1,38 +1,47 @@
-// Writes the text of a listing piece by piece. What reaches the reader of the file descriptor is the operating system's.
-ghost use Rattle.std.specs.Prelude.{◌≡◌, true, [], take};
+// Writes the text of a listing piece by piece. What reaches the reader is the writer's.
+ghost use Rattle.std.specs.Prelude.{◌≡◌, true, []};
+ghost use Rattle.std.specs.Io.KnownBytes.{Appends};
 ghost use Rattle.reads.specs.Reference.{before};
+ghost use Rattle.pointers.specs.Tables.{reading_under};
 ghost use Rattle.printing.specs.BundleLent.{tables_lent};
+ghost use Rattle.printing.specs.BundleText.{bundle_text};
 ghost use Rattle.printing.specs.Pieces.{standing_of, to_come};
+ghost use Rattle.printing.specs.Written.{HandedOver};
 
 use crate::bundle::{decode, next_piece, open};
 use crate::pieces::Progress;
 use reads::text::Reading;
+use std::io::Write;
 
 // Whether every write went well, and where the printing stands.
+// Not a `Result`: where it stands counts in both cases.
 #[derive(Clone, Copy)]
 pub struct Written {
     pub whole: bool,
     pub progress: Progress,
 }
 
-// Writes all pieces that are still to come, each to the same file descriptor; after a write that failed nothing more is written.
-pub fn write_pieces(
-    fd: i32,
+// Writes all pieces that are still to come; after a write that failed nothing more is written.
+pub fn write_pieces<W: Write>(
+    to: &mut W,
     start: Progress,
-    input: &[u8; 32769],
-    n: usize,
+    input: &[u8],
     words: &[u64; 4096],
     index: &[u32; 10240],
     ledger: &mut [u64; 8192],
     out: &mut [u8; 4096],
 ) -> Written
-    ensures { let t = tables_lent (take n (before input)) (before words) (before index) in
+    ensures handed { let t = tables_lent (before input) (before words) (before index) in
+        HandedOver 4096 t (standing_of start ledger.old) out.old (standing_of result.progress ledger.new) out.new }
+    ensures written { let t = tables_lent (before input) (before words) (before index) in
+        (result.whole ≡ true → Appends (W.contents to.old) (W.contents to.new) (to_come t (standing_of start ledger.old))) }
+    ensures whole { let t = tables_lent (before input) (before words) (before index) in
         (result.whole ≡ true → to_come t (standing_of result.progress ledger.new) ≡ []) }
 {
     let mut progress = start;
     // Not a `for`: each piece begins where the last one left the listing, until one is empty or a write fails.
     loop {
-        let piece = next_piece(progress, input, n, words, index, ledger, out);
+        let piece = next_piece(progress, input, words, index, ledger, out);
         let len = piece.len;
         progress = piece.progress;
         if len == 0 {
@@ -41,8 +50,7 @@ pub fn write_pieces(
                 progress,
             };
         }
-        let text: &[u8] = out;
-        if !io::write_all(fd, &text[0..len]) {
+        if to.write_all(&out[0..len]).is_err() {
             return Written {
                 whole: false,
                 progress,
@@ -52,20 +60,20 @@ pub fn write_pieces(
 }
 
 // Decodes and opens a bundle, and writes its listing under a reading.
-pub fn write_under(
-    fd: i32,
+pub fn write_under<W: Write>(
+    to: &mut W,
     reading: Reading,
-    input: &[u8; 32769],
-    n: usize,
+    input: &[u8],
     words: &mut [u64; 4096],
     index: &mut [u32; 10240],
     ledger: &mut [u64; 8192],
     out: &mut [u8; 4096],
 ) -> Written
-    ensures { let t = tables_lent (take n (before input)) words.new index.new in
+    ensures written { (result.whole ≡ true → Appends (W.contents to.old) (W.contents to.new) (bundle_text (reading_under reading) (before input))) }
+    ensures whole { let t = tables_lent (before input) words.new index.new in
         (result.whole ≡ true → to_come t (standing_of result.progress ledger.new) ≡ []) }
 {
-    let _ = decode(input, n, words);
-    let start = Progress::under(reading, open(input, n, words, index));
-    write_pieces(fd, start, input, n, words, index, ledger, out)
+    let _ = decode(input, words);
+    let start = Progress::under(reading, open(input, words, index));
+    write_pieces(to, start, input, words, index, ledger, out)
 }

@@ -1,11 +1,10 @@
 // A sweep over the bytes of the files in order, window by window: each run of used bytes is counted, and put out where there is room.
 ghost use Rattle.std.specs.Prelude.{◌≡◌, ◌+◌, ◌-◌, ◌≤◌, ◌<◌, ◌^◌};
-ghost use Rattle.reads.specs.Reference.{before};
 ghost use Rattle.ranges.specs.Range.{range};
 ghost use Rattle.ranges.specs.Sheet.{window, shown, headed};
 ghost use Rattle.ranges.specs.Sweep.{output, progress, put_at, closed_at, passed, swept, leapt, first_byte, reached, over_window, over_end};
 
-use crate::sheet::{FILE, FROM, NEXT, WINDOW, WORDS, marked};
+use crate::sheet::{Sheet, WINDOW};
 
 // All bytes from `start` on are used, and belong to a run that is not yet put out; `count` runs are.
 #[derive(Clone, Copy)]
@@ -14,7 +13,8 @@ pub struct Open {
     pub count: u64,
 }
 
-// The sweep has come to byte `at` of a file.
+// The sweep has come to byte `at` of a file. The file's size is an argument of each step and no field: `new` and `over_end` come to files
+// that the caller alone knows the sizes of, so a field would hold no size, or the last file's, until the caller writes it.
 #[derive(Clone, Copy)]
 pub struct Sweep {
     pub file: u64,
@@ -78,13 +78,13 @@ impl Sweep {
 
     // The first n bytes of the window that comes next are passed.
     #[tactic(auto, using(crate::proofs::SweepLaws::swept_more, crate::proofs::SweepLaws::shown_at), unfolding(crate::specs::Sweep::swept))]
-    fn scan(self, sheet: &[u64; WORDS], n: u64, out: &mut [u64]) -> Open
+    fn scan(self, sheet: &Sheet, n: u64, out: &mut [u64]) -> Open
         requires { (n ≤ window) × (self.at + n < 2 ^ 64) }
-        ensures { progress result out.new ≡ swept self.file (shown self.at (before sheet)) n self.at (progress self.run out.old) }
+        ensures { progress result out.new ≡ swept self.file (shown self.at sheet.now) n self.at (progress self.run out.old) }
     {
         let mut run = self.run;
         for k in 0..n {
-            run = Sweep { run, ..self }.pass(self.at + k, marked(sheet, k), out);
+            run = Sweep { run, ..self }.pass(self.at + k, sheet.marked(k), out);
         }
         run
     }
@@ -107,22 +107,22 @@ impl Sweep {
 
     // Begins the sheet of the window that comes next, of a file of `size` bytes.
     #[tactic(auto, unfolding(crate::specs::Sheet::headed))]
-    pub fn begin(self, size: u64, sheet: &mut [u64; WORDS])
+    pub fn begin(self, size: u64, sheet: &mut Sheet)
         ensures { sheet.new ≡ headed self.file self.at (size - self.at) sheet.old }
     {
-        sheet[FILE] = self.file;
-        sheet[FROM] = self.at;
-        sheet[NEXT] = size.saturating_sub(self.at);
+        sheet.file = self.file;
+        sheet.from = self.at;
+        sheet.next = size.saturating_sub(self.at);
     }
 
     // Passes that window, and the bytes past it to the next that the sheet knows to be used.
     #[tactic(auto, unfolding(crate::specs::Sweep::over_window))]
-    pub fn over_window(self, size: u64, sheet: &[u64; WORDS], out: &mut [u64]) -> Sweep
-        ensures { reached result out.new ≡ over_window size (before sheet) (reached self out.old) }
+    pub fn over_window(self, size: u64, sheet: &Sheet, out: &mut [u64]) -> Sweep
+        ensures { reached result out.new ≡ over_window size sheet.now (reached self out.old) }
     {
         let left = size.saturating_sub(self.at);
         let n = WINDOW.min(left);
-        let next = sheet[NEXT].min(left);
+        let next = sheet.next.min(left);
         let run = self.scan(sheet, n, out);
         let run = Sweep { run, ..self }.leap(n, next, out);
         let at = self.at + n.max(next);

@@ -1,16 +1,18 @@
 -- Laws of LEB128 numbers.
-use Rattle.std.proofs.Common.{◌≡◌, ℕ, zero, suc, ◌+◌, ◌-◌, ◌*◌, ◌%◌, ◌^◌, ◌<◌, ◌≤◌, Bool, true, false, ltb, List, [], ◌∷◌, length, get_or, drop, ℤ, negsuc, sym, refl, ap, ◌∙◌, mod-lt, zero-add, add-one, arith, drop-cons, to_z-of_z, w64, SFits, to_z, of_z, ltb-false, le-ltb, lt-ltb}
+use Rattle.std.proofs.Common.{◌≡◌, ℕ, suc, ◌+◌, ◌-◌, ◌*◌, ◌%◌, ◌^◌, ◌<◌, ◌≤◌, Bool, true, false, ltb, List, [], ◌∷◌, length, ℤ, negsuc, sym, refl, ap, ◌∙◌, mod-lt, zero-add, arith, to_z-of_z, w64, SFits, to_z, of_z, ltb-false, le-ltb, lt-ltb}
 use native.Mathlib.Nat.{pow-succ'}
-use lib.Seq.{drop-length}
 use Rattle.reads.specs.Answer.{missed, outcome}
 use Rattle.reads.specs.Outcome.{Outcome, value, absent, refused, and_then, choose}
 use Rattle.reads.specs.Signed.{twos}
-use Rattle.reads.specs.Leb128.{digit_count, unsigned_digits, negative, signed_digits, within64, within_signed64, by_sign, magnitude, digit, signed_read, sleb_of}
+use Rattle.reads.specs.Leb128.{digit_count, unsigned_digits, negative, signed_digits, within64, within_signed64, by_sign, magnitude, digit, leb, sleb_of}
 use Rattle.reads.specs.declared.answer.Reason.TheVariants.{Unreadable, Malformed}
 use Rattle.reads.specs.declared.answer.Missing.{Missing}
 use Rattle.reads.specs.declared.answer.Missing.TheVariants.{Absent, Refused}
 use Rattle.reads.proofs.TwosLaws.{twos_negative, twos_positive}
-use Rattle.std.specs.Prelude.{Result, Ok, Err}
+use Rattle.std.specs.Prelude.{Result, Ok, Err, Option, Some, None, cond, nat_lt}
+use mathlib.Core.List.{◌++◌, append-nil, append_assoc}
+use Rattle.std.specs.List.{position, position_from, push}
+use Rattle.std.proofs.lemmas.Iterator.Adapters.{position_from-zero}
 
 low_below : (b : ℕ) → b % 128 < 128
 low_below b = mod-lt b (omega arith)
@@ -38,31 +40,41 @@ magnitude_nil true = refl
 magnitude_nil false = refl
 
 -- Later digits never say more than all.
-magnitude_drop : (sign : Bool) (ds : List ℕ) (i : ℕ) → magnitude sign (drop i ds) ≤ magnitude sign ds
-magnitude_drop sign ds zero = omega arith
-magnitude_drop sign [] (suc i) = omega arith
-magnitude_drop sign (b ∷ bs) (suc i) = omega (arith, magnitude_drop sign bs i, magnitude_cons sign b bs)
+magnitude_behind : (sign : Bool) (ds es : List ℕ) → magnitude sign es ≤ magnitude sign (ds ++ es)
+magnitude_behind sign [] es = omega arith
+magnitude_behind sign (b ∷ bs) es = omega (arith, magnitude_behind sign bs es, magnitude_cons sign b (bs ++ es))
 
-module _ (sign : Bool) (ds : List ℕ) (i : ℕ) (p : 0 < i) (h : i ≤ length ds) where
-  -- One digit before those from i on.
-  pub magnitude_before : magnitude sign (drop i ds) * 128 + digit sign (get_or ds (i - 1) 0) ≡ magnitude sign (drop (i - 1) ds)
-  magnitude_before =
-      let e : suc (i - 1) ≡ i = omega arith in
-      let l : i - 1 < length ds = omega arith in
-      rw (drop-cons ds (i - 1) 0 l, e) (omega (arith, magnitude_cons sign (get_or ds (i - 1) 0) (drop i ds)))
+-- n is what the digits say that were read, those behind the rest.
+pub record Behind (sign : Bool) (ds rest : List ℕ) (n : ℕ) : Type 0 where
+  pub seen : List ℕ
+  pub all : ds ≡ rest ++ seen
+  pub number : n ≡ magnitude sign seen
 
-  -- Where the digits from i on say 2^57 or more, all say 2^64 or more.
-  pub magnitude_over : 2 ^ 57 ≤ magnitude sign (drop i ds) → within64 (magnitude sign ds) ≡ absent Malformed
+module _ (sign : Bool) (ds : List ℕ) where
+  pub behind_start : (rest : List ℕ) → rest ≡ ds → Behind sign ds rest 0
+  behind_start rest e = record { seen = []; all = sym (append-nil rest ∙ e); number = sym (magnitude_nil sign) }
+
+  module _ (rest fewer : List ℕ) (b n : ℕ) (read : Behind sign ds rest n) (e : rest ≡ push fewer b) where
+    -- One digit more.
+    one_more : ds ≡ fewer ++ (b ∷ read.seen)
+    one_more = read.all ∙ ap (λ xs. xs ++ read.seen) e ∙ append_assoc fewer (b ∷ []) read.seen
+
+    pub behind_more : (d : ℕ) → d ≡ digit sign b → Behind sign ds fewer (n * 128 + d)
+    behind_more d f = record { seen = b ∷ read.seen; all = one_more; number = omega (arith, read.number, f, magnitude_cons sign b read.seen) }
+
+    -- Where the digits that were read say 2^57 or more, all say 2^64 or more.
+    pub behind_over : 2 ^ 57 ≤ n → absent Malformed ≡ within64 (magnitude sign ds)
+    unfolding within64 choose
+    behind_over g =
+        let all : magnitude sign ds ≡ magnitude sign (fewer ++ (b ∷ read.seen)) = ap (magnitude sign) one_more in
+        sym (simp (le-ltb (magnitude sign ds) (2 ^ 64) (omega (arith, all, read.number, magnitude_behind sign fewer (b ∷ read.seen), magnitude_cons sign b read.seen))))
+
+  pub behind_all : (rest : List ℕ) (n : ℕ) → Behind sign ds rest n → length rest ≡ 0 → n < 2 ^ 64 → value n ≡ within64 (magnitude sign ds)
   unfolding within64 choose
-  magnitude_over g =
-      simp (le-ltb (magnitude sign ds) (2 ^ 64) (omega (arith, magnitude_drop sign ds (i - 1), magnitude_before)))
-
-pub magnitude_all : (sign : Bool) (ds : List ℕ) (i n : ℕ) → n ≡ magnitude sign (drop i ds) → i ≡ 0 → n < 2 ^ 64
-    → within64 (magnitude sign ds) ≡ value n
-unfolding within64 choose
-magnitude_all sign ds i n e z h =
-    let m : magnitude sign ds ≡ n = sym (rw z at e) in
-    rw m (simp (lt-ltb n (2 ^ 64) h))
+  behind_all [] n read e h =
+      let m : magnitude sign ds ≡ n = ap (magnitude sign) read.all ∙ sym read.number in
+      sym (rw m (simp (lt-ltb n (2 ^ 64) h)))
+  behind_all (b ∷ bs) n read e h = absurd (omega arith)
 
 -- A signed number by its sign and magnitude.
 twos_by_sign : (sign : Bool) (ds : List ℕ) → twos sign (unsigned_digits ds) (128 ^ length ds) ≡ by_sign sign (magnitude sign ds)
@@ -112,7 +124,7 @@ module _ (ds : List ℕ) (w : Result ℕ Missing) (said : outcome w ≡ within64
   unfolding within64
   magnitude_is m g = value_fits (ltb (magnitude (negative ds) ds) (2 ^ 64)) _ m (cc (ap outcome g))
 
-  pub sleb_fits : (m : ℕ) → w ≡ Ok m → m < 2 ^ 63 → value (signed_read (by_sign (negative ds) m) (length ds)) ≡ sleb_of ds
+  pub sleb_fits : (m : ℕ) → w ≡ Ok m → m < 2 ^ 63 → value (leb (by_sign (negative ds) m) (length ds)) ≡ sleb_of ds
   unfolding sleb_of choose
   sleb_fits m g h = simp (signed_by_sign ds, magnitude_is m g, within_signed, lt-ltb m (2 ^ 63) h)
 
@@ -140,28 +152,34 @@ shifted_suc i (value k) = ap value (omega arith)
 shifted_suc i (absent r) = refl
 shifted_suc i (refused k) = refl
 
--- The count of the digits as the code comes to byte i.
-pub Counted : List ℕ → ℕ → Type 0
-Counted bs i = digit_count bs ≡ shifted i (digit_count (drop i bs))
+-- The count of the digits, by where the last of them stands.
+digits_by : Option ℕ → Outcome ℕ
+digits_by (Some k) = value (k + 1)
+digits_by None = absent Unreadable
 
-module _ (bs : List ℕ) where
-  pub counted_start : Counted bs 0
-  unfolding Counted
-  counted_start = shifted_zero (digit_count bs)
+counted_from : (i : ℕ) (bs : List ℕ) → shifted i (digit_count bs) ≡ digits_by (position_from (λ b. nat_lt b 128) i bs)
+unfolding digits_by digit_count choose
+counted_from i [] = refl
+counted_from i (b ∷ bs) =
+    let e : suc i ≡ i + 1 = omega arith in
+    go (nat_lt b 128) (shifted_suc i (digit_count bs) ∙ ap (λ n. shifted n (digit_count bs)) e ∙ counted_from (i + 1) bs)
+  where
+    go : (t : Bool) → shifted i (and_then (digit_count bs) (λ k. value (suc k))) ≡ digits_by (position_from (λ x. nat_lt x 128) (i + 1) bs)
+        → shifted i (choose t (value 1) (and_then (digit_count bs) (λ k. value (suc k)))) ≡ digits_by (cond t (Some i) (position_from (λ x. nat_lt x 128) (i + 1) bs))
+    go true later = refl
+    go false later = later
 
-  module _ (i : ℕ) (seen : Counted bs i) (h : i < length bs) where
-    pub counted_last : get_or bs i 0 < 128 → digit_count bs ≡ value (i + 1)
-    unfolding Counted digit_count choose
-    counted_last l = seen ∙ simp (drop-cons bs i 0 h, lt-ltb _ _ l)
+module _ (bs : List ℕ) (r : Option ℕ) (e : r ≡ position (λ b. nat_lt b 128) bs) where
+  counted : digit_count bs ≡ digits_by r
+  counted = shifted_zero (digit_count bs) ∙ counted_from 0 bs ∙ ap digits_by (sym (position_from-zero (λ b. nat_lt b 128) bs) ∙ sym e)
 
-    pub counted_more : 128 ≤ get_or bs i 0 → Counted bs (i + 1)
-    unfolding Counted digit_count choose
-    counted_more l =
-        seen ∙ simp (drop-cons bs i 0 h, le-ltb _ _ l, add-one) (shifted_suc i (digit_count (drop (suc i) bs)))
+  pub counted_last : (k : ℕ) → r ≡ Some k → value (k + 1) ≡ digit_count bs
+  unfolding digits_by
+  counted_last k g = sym (counted ∙ ap digits_by g)
 
-  pub counted_end : (i : ℕ) → Counted bs i → i ≡ length bs → digit_count bs ≡ absent Unreadable
-  unfolding Counted digit_count
-  counted_end i seen e = seen ∙ simp (e, drop-length)
+  pub counted_none : r ≡ None → absent Unreadable ≡ digit_count bs
+  unfolding digits_by
+  counted_none g = sym (counted ∙ ap digits_by g)
 
 count_bounds : (bs : List ℕ) (k : ℕ) → digit_count bs ≡ value k → (0 < k) × (k ≤ length bs)
 unfolding digit_count choose

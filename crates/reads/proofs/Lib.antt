@@ -1,5 +1,6 @@
 -- Laws that the proofs of reads share, and that the crates above cite.
 pub mod Options
+pub mod Parts
 pub mod Tests
 pub mod Outcomes
 pub mod Masks

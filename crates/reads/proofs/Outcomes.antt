@@ -1,6 +1,6 @@
 -- Laws of outcomes, in the form in which a proof of code uses them: w is an answer of the code whose outcome is x.
-use Rattle.std.proofs.Common.{◌≡◌, ℕ, ◌+◌, ◌^◌, ◌<◌, ◌≤◌, Bool, true, false, refl, ap, ◌∙◌, arith, le-ltb, lt-ltb, ne_eqb}
-use Rattle.reads.specs.Outcome.{Outcome, value, absent, refused, and_then, because, or_else, or_first, is_absent, or_zero, or_empty, choose, sum64, nonzero}
+use Rattle.std.proofs.Common.{◌≡◌, ℕ, ◌+◌, ◌^◌, ◌<◌, ◌≤◌, refl, ap, ◌∙◌, arith, le-ltb, lt-ltb, ne_eqb}
+use Rattle.reads.specs.Outcome.{Outcome, value, absent, refused, and_then, because, or_first, or_zero, or_empty, choose, sum64, nonzero}
 use Rattle.reads.specs.Answer.{missed, outcome}
 use Rattle.reads.specs.declared.answer.Reason.{Reason}
 use Rattle.reads.specs.declared.answer.Reason.TheVariants.{NullAddress, FieldOverflow}
@@ -96,26 +96,6 @@ module _ {W A : Type 0} (out : W → Outcome A) (y : Outcome A) where
 
   pub first_number : {w v : W} {x : Outcome A} {k : Question} → out w ≡ x → w ≡ v → out v ≡ refused k → refused k ≡ or_first x y
   first_number e g h = rw (← e, g, h)
-
--- The second lookup's reason stands, and the code has tested the first for absence.
-module _ {A : Type 0} (y : Outcome A) where
-  absent_else : (o : Outcome A) → true ≡ is_absent o → y ≡ or_else o y
-  absent_else (value a) e = let z : ◌≡◌ {A = ℕ} 0 1 = cc in absurd (omega arith)
-  absent_else (absent r) e = refl
-  absent_else (refused k) e = let z : ◌≡◌ {A = ℕ} 0 1 = cc in absurd (omega arith)
-
-  present_else : (o : Outcome A) → false ≡ is_absent o → o ≡ or_else o y
-  present_else (value a) e = refl
-  present_else (absent r) e = let z : ◌≡◌ {A = ℕ} 0 1 = cc in absurd (omega arith)
-  present_else (refused k) e = refl
-
--- b is what the test gave of the answer w.
-module _ {W A : Type 0} (out : W → Outcome A) (y : Outcome A) where
-  pub when_absent : (w : W) {x z : Outcome A} {b : Bool} → out w ≡ x → b ≡ is_absent (out w) → b ≡ true → z ≡ y → z ≡ or_else x y
-  when_absent w e t b h = rw (h, ← e) (absent_else y (out w) (rw (← b) t))
-
-  pub when_present : (w : W) {x : Outcome A} {b : Bool} → out w ≡ x → b ≡ is_absent (out w) → b ≡ false → out w ≡ or_else x y
-  when_present w e t b = rw (← e) (present_else y (out w) (rw (← b) t))
 
 -- "or 0", "or empty" and another reason, of an answer whose outcome is x.
 pub or_zero_of : (r w : Result ℕ Missing) (x : Outcome ℕ) → outcome r ≡ or_zero (outcome w) → outcome w ≡ x → outcome r ≡ or_zero x

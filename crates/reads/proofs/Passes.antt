@@ -1,5 +1,5 @@
 -- One pass over bytes: what its steps say of the text, one law for each of their cases.
-use Rattle.std.proofs.Common.{◌≡◌, ℕ, suc, ◌+◌, ◌<◌, ◌≤◌, min, Bool, true, false, eqb, ltb, leb, List, [], ◌∷◌, length, get_or, drop, sym, refl, ap, ◌∙◌, subst, true≢false, arith, drop_of_length-le, drop-cons, ltb-true, le-ltb, lt-ltb, eq-eqb, ne_eqb, leb-true}
+use Rattle.std.proofs.Common.{◌≡◌, ℕ, suc, ◌+◌, ◌<◌, ◌≤◌, min, Bool, true, false, eqb, ltb, leb, List, [], ◌∷◌, length, get_or, drop, sym, refl, ap, ◌∙◌, subst, arith, drop_of_length-le, drop-cons, ltb-true, le-ltb, lt-ltb, eq-eqb, ne_eqb, leb-true}
 use native.Mathlib.Decide.{dec_le}
 use lib.ListN.{get_or-eq_default}
 use Rattle.reads.specs.Outcome.{choose}
@@ -7,10 +7,9 @@ use Rattle.reads.specs.Utf8.{Range, ◌to◌, inside, tail, multi, begun, due_af
 use Rattle.reads.specs.Text.{text}
 use Rattle.reads.specs.Pass.{byte_after, due, follow, follow_all, follow_row, character}
 use Rattle.reads.specs.declared.text.ByteRead.{ByteRead}
-use Rattle.reads.specs.declared.text.Step.{Step}
 use Rattle.reads.proofs.Tests.{both_true}
 use Rattle.reads.proofs.Rows.{all, begun_all, inside_between, inside_over, multi_row, multi_under, multi_over}
-use Rattle.std.specs.Prelude.{Option, None, Some, Err}
+use Rattle.std.specs.Prelude.{Option, None, Some, Result, Ok, Err}
 
 module _ (b : ℕ) (s : List ℕ) where
   pub text_zero : b ≡ 0 → text (b ∷ s) ≡ []
@@ -119,50 +118,42 @@ counts : (z : Bool) (b : ℕ) → (b ≡ 0 → ⊥) → Counts z b
 counts true b n = n
 counts false b n = tt
 
--- The character that began at i, of which p is what was read and w are due: where its last byte fits the pass goes on behind it, else that
--- byte is the first bad one.
-pub record Stands (z : Bool) (s : List ℕ) (i : ℕ) (w : List Range) (p : Step) : Type 0 where
-  pub is : p.last ≡ byte_after s p.last.at
-  pub ahead : i ≤ p.last.at
-  pub within : p.last.at ≤ length s
-  pub on : p.fits ≡ true → Left z s w p.last.read
-  pub bad : p.fits ≡ false → FoundBad z s p.last.at
+-- The character that began at i, of which n is the count so far and w are due: the pass goes on behind it.
+pub record Stands (z : Bool) (s : List ℕ) (i : ℕ) (w : List Range) (n : ℕ) : Type 0 where
+  pub ahead : i < n
+  pub on : Left z s w n
 
-module _ {z : Bool} {s : List ℕ} {i : ℕ} where
-  stands_read : {w : List Range} {p : Step} → Stands z s i w p → p.last.read ≡ min (suc p.last.at) (length s)
-  stands_read {p = p} t = ap (λ (b : ByteRead). b.read) t.is ∙ read_of_all s p.last.at t.within
+-- b is its first bad byte.
+pub record Falls (z : Bool) (s : List ℕ) (b : ByteRead) : Type 0 where
+  pub is : b ≡ byte_after s b.at
+  pub bad : FoundBad z s b.at
 
-  stands_due : (r : Range) (w : List Range) (last : ByteRead) → above_zero r ≡ true → i ≤ last.read → Left z s (r ∷ w) last.read
-      → Stands z s i w (due s last r)
+abbrev pub Reads : Bool → List ℕ → ℕ → List Range → Result ℕ ByteRead → Type 0
+Reads z s i w (Ok n) = Stands z s i w n
+Reads z s i w (Err b) = Falls z s b
+
+module _ (z : Bool) (s : List ℕ) (i : ℕ) where
+  reads_due : (r : Range) (w : List Range) (n : ℕ) → above_zero r ≡ true → i ≤ n → Left z s (r ∷ w) n → Reads z s i w (due s n r)
   unfolding choose
-  stands_due r w last a f l =
-      record {
-        is = refl;
-        ahead = f;
-        within = l.within;
-        on = λ e.
-            let n = above_zero_inside r (get_or s last.read 0) a e in
-            left_on l (stands_inside s last.read n) (counts z (get_or s last.read 0) n) w (simp e);
-        bad = λ e. record { within = l.within; long = l.long; judged = sym (judge_misfit z s last.read r w e) ∙ l.judged };
-      }
-
-  stands_follow : (r : Range) (w : List Range) (p : Step) → above_zero r ≡ true → Stands z s i (r ∷ w) p → Stands z s i w (follow s p r)
-  unfolding choose
-  stands_follow r w p a t = go p.fits refl
+  reads_due r w n a f l = go (inside r (get_or s n 0)) refl
     where
-      go : (x : Bool) → p.fits ≡ x → Stands z s i w (choose x (due s p.last r) p)
-      go true e = stands_due r w p.last a (omega (arith, t.ahead, t.within, stands_read t)) (t.on e)
-      go false e = record { is = t.is; ahead = t.ahead; within = t.within; on = λ q. absurd (true≢false (sym q ∙ e)); bad = t.bad }
+      fits : inside r (get_or s n 0) ≡ true → Stands z s i w (byte_after s n).read
+      fits e =
+          let some = above_zero_inside r (get_or s n 0) a e in
+          let h = stands_inside s n some in
+          record { ahead = omega (arith, read_there s n h); on = left_on l h (counts z (get_or s n 0) some) w (simp e) }
 
-  stands_all : (w : List Range) (p : Step) → all above_zero w ≡ true → Stands z s i w p → Stands z s i [] (follow_all s p w)
-  stands_all [] p a t = t
-  stands_all (r ∷ w) p a t =
+      go : (x : Bool) → inside r (get_or s n 0) ≡ x
+          → Reads z s i w (choose {A = Result ℕ ByteRead} x (Ok (byte_after s n).read) (Err (byte_after s n)))
+      go true e = fits e
+      go false e = record { is = refl; bad = record { within = l.within; long = l.long; judged = sym (judge_misfit z s n r w e) ∙ l.judged } }
+
+  reads_all : (w : List Range) (p : Result ℕ ByteRead) → all above_zero w ≡ true → Reads z s i w p → Reads z s i [] (follow_all s p w)
+  reads_all [] p a t = t
+  reads_all (r ∷ w) (Ok n) a t =
       let above = both_true (above_zero r) (all above_zero w) a in
-      stands_all w (follow s p r) above.1 (stands_follow r w p above.0 t)
-
-  -- Behind a character the count is higher, and at most all bytes are read.
-  pub stands_ahead : {w : List Range} {p : Step} → i < length s → Stands z s i w p → (i < p.last.read) × (p.last.read ≤ length s)
-  stands_ahead h t = (omega (arith, t.ahead, t.within, stands_read t), omega (arith, stands_read t))
+      reads_all w (due s n r) above.1 (reads_due r w n above.0 (omega (arith, t.ahead)) t.on)
+  reads_all (r ∷ w) (Err b) a t = reads_all w (Err b) (both_true (above_zero r) (all above_zero w) a).1 t
 
 -- The character whose first byte stands at i and is not ASCII.
 module _ {z : Bool} {s : List ℕ} {i : ℕ} (l : Left z s [] i) (h : 0x80 ≤ get_or s i 0) where
@@ -179,28 +170,15 @@ module _ {z : Bool} {s : List ℕ} {i : ℕ} (l : Left z s [] i) (h : 0x80 ≤ g
   unfolding choose
   after_first = simp (inside_over 0x00 0x7F (get_or s i 0) (omega arith))
 
-  pub stands_character : Stands z s i [] (character s (byte_after s i))
+  pub reads_character : Reads z s i [] (character s (byte_after s i))
   unfolding character
-  stands_character = go (begun multi (get_or s i 0)) refl
+  reads_character = go (begun multi (get_or s i 0)) refl
     where
-      go : (o : Option (List Range)) → begun multi (get_or s i 0) ≡ o → Stands z s i [] (follow_row s (byte_after s i) o)
-      go None q =
-          record {
-            is = refl;
-            ahead = omega arith;
-            within = l.within;
-            on = λ e. absurd (true≢false (sym e));
-            bad = λ e. left_bad l first_inside first_there (after_first ∙ q);
-          }
+      go : (o : Option (List Range)) → begun multi (get_or s i 0) ≡ o → Reads z s i [] (follow_row s (byte_after s i) o)
+      go None q = record { is = refl; bad = left_bad l first_inside first_there (after_first ∙ q) }
       go (Some w) q =
-          stands_all w (record { fits = true; last = byte_after s i }) (begun_all above_zero multi (get_or s i 0) w refl q)
-          record {
-            is = refl;
-            ahead = omega arith;
-            within = l.within;
-            on = λ e. left_on l first_inside first_there w (after_first ∙ q);
-            bad = λ e. absurd (true≢false e);
-          }
+          reads_all z s i w (Ok (byte_after s i).read) (begun_all above_zero multi (get_or s i 0) w refl q)
+          record { ahead = omega (arith, read_there s i first_inside); on = left_on l first_inside first_there w (after_first ∙ q) }
 
 -- At offset i, where the byte b was read
 module _ {z : Bool} {s : List ℕ} {i : ℕ} (l : Left z s [] i) {b : ByteRead} (e : b ≡ byte_after s i) where
@@ -221,14 +199,14 @@ module _ {z : Bool} {s : List ℕ} {i : ℕ} (l : Left z s [] i) {b : ByteRead} 
       (left_on l h (subst (Counts z) byte_is n) []
       (simp (inside_between 0x00 0x7F (get_or s i 0) (omega arith) (omega (arith, byte_is)))))
 
-  pub left_character : {p : Step} → 0x80 ≤ b.byte → p ≡ character s b → Stands z s i [] p
-  left_character {p} h q = subst (Stands z s i []) (sym (q ∙ ap (character s) e)) (stands_character l (omega (arith, byte_is)))
+  left_character : {p : Result ℕ ByteRead} → 0x80 ≤ b.byte → p ≡ character s b → Reads z s i [] p
+  left_character {p} h q = subst (Reads z s i []) (sym (q ∙ ap (character s) e)) (reads_character l (omega (arith, byte_is)))
 
--- The code's steps are those of the definitions
-module _ (s : List ℕ) (p : Step) (r : Range) where
-  pub follow_on : p.fits ≡ true → due s p.last r ≡ follow s p r
-  unfolding choose
-  follow_on e = ap (λ (x : Bool). choose x (due s p.last r) p) (sym e)
+  pub good_character : {p : Result ℕ ByteRead} {n : ℕ} → 0x80 ≤ b.byte → p ≡ character s b → p ≡ Ok n → Stands z s i [] n
+  good_character h q o = subst (Reads z s i []) o (left_character h q)
+
+  pub bad_character : {p : Result ℕ ByteRead} {bad : ByteRead} → 0x80 ≤ b.byte → p ≡ character s b → p ≡ Err bad → Falls z s bad
+  bad_character h q o = subst (Reads z s i []) o (left_character h q)
 
 -- By the row that the first byte begins.
 module _ (s : List ℕ) (first : ByteRead) where
@@ -238,26 +216,24 @@ module _ (s : List ℕ) (first : ByteRead) where
 
   -- The k-th row of the grammar: what is due after the byte between lo and hi, of which q, t and u are the first, second and third.
   module _ (k lo hi : ℕ) (a : lo ≤ first.byte) (b : first.byte ≤ hi) where
-    of_row : (w : List Range) → get_or multi k [] ≡ (lo to hi) ∷ w → follow_all s (record { fits = true; last = first }) w ≡ character s first
+    of_row : (w : List Range) → get_or multi k [] ≡ (lo to hi) ∷ w → follow_all s (Ok first.read) w ≡ character s first
     of_row w e = by_row (Some w) (multi_row k lo hi first.byte e a b)
 
-    module _ {r : Range} {q : Step} (d : q ≡ due s first r) where
+    module _ {r : Range} {q : Result ℕ ByteRead} (d : q ≡ due s first.read r) where
       pub one_due : get_or multi k [] ≡ (lo to hi) ∷ r ∷ [] → q ≡ character s first
-      unfolding choose
       one_due e = d ∙ of_row (r ∷ []) e
 
-      module _ {t : Step} (f : t ≡ follow s q tail) where
+      module _ {t : Result ℕ ByteRead} (f : t ≡ follow s q tail) where
         pub two_due : get_or multi k [] ≡ (lo to hi) ∷ r ∷ tail ∷ [] → t ≡ character s first
-        unfolding choose
-        two_due e = f ∙ ap (λ (p : Step). follow s p tail) d ∙ of_row (r ∷ tail ∷ []) e
+        two_due e = f ∙ ap (λ (p : Result ℕ ByteRead). follow s p tail) d ∙ of_row (r ∷ tail ∷ []) e
 
-        pub three_due : {u : Step} → u ≡ follow s t tail → get_or multi k [] ≡ (lo to hi) ∷ r ∷ tail ∷ tail ∷ [] → u ≡ character s first
-        unfolding choose
+        pub three_due : {u : Result ℕ ByteRead} → u ≡ follow s t tail → get_or multi k [] ≡ (lo to hi) ∷ r ∷ tail ∷ tail ∷ [] → u ≡ character s first
         three_due g e =
-            g ∙ ap (λ (p : Step). follow s p tail) (f ∙ ap (λ (p : Step). follow s p tail) d) ∙ of_row (r ∷ tail ∷ tail ∷ []) e
+            let on = λ (p : Result ℕ ByteRead). follow s p tail in
+            g ∙ ap on (f ∙ ap on d) ∙ of_row (r ∷ tail ∷ tail ∷ []) e
 
-  pub character_under : first.byte < 0xC2 → record { fits = false; last = first } ≡ character s first
+  pub character_under : first.byte < 0xC2 → Err first ≡ character s first
   character_under b = by_row None (multi_under first.byte b)
 
-  pub character_over : 0xF4 < first.byte → record { fits = false; last = first } ≡ character s first
+  pub character_over : 0xF4 < first.byte → Err first ≡ character s first
   character_over b = by_row None (multi_over first.byte b)

@@ -1,14 +1,15 @@
 -- Spots, by the tests that the code makes; and what is read near one is what a lookup gives.
-use Rattle.std.proofs.Common.{◌≡◌, ℕ, ◌+◌, ◌-◌, ◌^◌, ◌<◌, ◌≤◌, min, max, Bool, true, false, ◌&&◌, ◌||◌, eqb, ltb, leb, List, [], ◌∷◌, length, sym, refl, ap, ◌∙◌, subst, true≢false, arith, ltb-false, lt-ltb, eq-eqb, ne_eqb, eqb-true, le-leb, leb-false, leb-true}
+use Rattle.std.proofs.Common.{◌≡◌, ℕ, ◌+◌, ◌-◌, ◌^◌, ◌<◌, ◌≤◌, min, max, Bool, true, false, ◌&&◌, ◌||◌, ltb, leb, List, [], ◌∷◌, length, sym, refl, ap, ◌∙◌, subst, true≢false, arith, ltb-false, lt-ltb, le-leb, leb-false, leb-true}
 use mathlib.Core.Bool.{and-true, or-true}
-use borrow.Author.Tests.{lt-leb, eqb-false}
+use borrow.Author.Tests.{lt-leb}
 use Rattle.reads.specs.Outcome.{Outcome, value, absent, and_then, because, choose}
 use Rattle.reads.specs.declared.answer.Reason.TheVariants.{Unmapped, Unreadable}
 use Rattle.reads.specs.Files.{file_of}
 use Rattle.reads.specs.Table.{records}
 use Rattle.reads.specs.Segment.{segment_words, segment_at, rows, ends, holds, mapped_size, place_at, placed, lookup}
 use Rattle.reads.specs.Place.{Image, readable_at, readable, word, word_in}
-use Rattle.reads.specs.Spot.{spot, nowhere, distance, spot_at, spot_from, spot_in, readable_spot, spot_place}
+use Rattle.reads.specs.Spot.{spot, distance, spot_at, spot_from, spot_in, if_readable, readable_spot}
+use Rattle.std.specs.Prelude.{Option, None, Some}
 use Rattle.reads.specs.declared.place.Place.{Place}
 use Rattle.reads.specs.declared.segment.Segment.{Segment}
 use Rattle.reads.specs.declared.spot.Spot.{Spot}
@@ -17,6 +18,7 @@ use Rattle.reads.proofs.Lookups.{ends_not, holds_none, holds_before, holds_is, p
 use Rattle.reads.proofs.Breakpoints.{holds_not_past}
 use Rattle.reads.proofs.Numbers.{readable_in, readable_out, le_inside}
 use Rattle.reads.proofs.SegmentRows.{rows_from, rows_read, rows_none}
+use Rattle.reads.proofs.Outcomes.{then_then}
 use Rattle.reads.proofs.Tests.{by_choose, choose_true, choose_false}
 
 module _ (s : Segment) (va : ℕ) where
@@ -94,9 +96,6 @@ one_off n x = omega arith
 pub sum_within : (a b : ℕ) → a < 2 ^ 64 → b ≤ 2 ^ 64 - 1 - a → a + b < 2 ^ 64
 sum_within a b h l = omega arith
 
-pub room_fits : (r x d y : ℕ) → x < 2 ^ 64 → r ≡ min (x - d - 1) y → r + 1 < 2 ^ 64
-room_fits r x d y h e = omega arith
-
 -- The spot in a segment that holds the address.
 module _ (s : Segment) (far va d : ℕ) (h : holds s va ≡ true) (e : d ≡ distance s va) where
   held_distance : d ≡ va - s.vmaddr
@@ -105,16 +104,16 @@ module _ (s : Segment) (far va d : ℕ) (h : holds s va ≡ true) (e : d ≡ dis
   pub held_inside : d < s.vmsize
   held_inside = let u = holds_is s va h in omega (arith, held_distance, u.1, u.2)
 
-  pub spot_past : s.filesize ≤ d → nowhere ≡ spot_at s far va
+  pub spot_past : s.filesize ≤ d → None ≡ spot_at s far va
   unfolding spot_at
   spot_past l = sym (choose_true _ _ (rw (← held_distance, le-leb s.filesize d l)))
 
-  pub spot_over : d < s.filesize → 2 ^ 64 ≤ s.fileoff + d → nowhere ≡ spot_at s far va
+  pub spot_over : d < s.filesize → 2 ^ 64 ≤ s.fileoff + d → None ≡ spot_at s far va
   unfolding spot_at
   spot_over l o = sym (choose_true _ _ (rw (← held_distance, le-leb (2 ^ 64) (s.fileoff + d) o) (or-true (leb s.filesize d))))
 
   pub spot_there : (last most : ℕ) → d < s.filesize → s.fileoff + d < 2 ^ 64 → far < 2 ^ 64 → last ≡ min s.filesize s.vmsize - d - 1
-      → most ≡ max far (s.fileoff + d) → spot s.file (s.fileoff + d) (min last (2 ^ 64 - 1 - most) + 1) ≡ spot_at s far va
+      → most ≡ max far (s.fileoff + d) → Some (spot s.file (s.fileoff + d) (min last (2 ^ 64 - 1 - most) + 1)) ≡ spot_at s far va
   unfolding spot_at mapped_size
   spot_there last most l o f q r =
       let left = min s.filesize s.vmsize - d in
@@ -123,13 +122,13 @@ module _ (s : Segment) (far va d : ℕ) (h : holds s va ≡ true) (e : d ≡ dis
       rw (q, r, one_off (2 ^ 64) farther, one_less left (2 ^ 64 - farther) some (left_of (2 ^ 64) far (s.fileoff + d) f o))
       (sym (rw (← held_distance) (choose_false _ _ (rw (lt-leb s.filesize d l, lt-leb (2 ^ 64) (s.fileoff + d) o)))))
 
-pub spot_out : (ws : List ℕ) (i far va : ℕ) → records segment_words ws ≤ i → spot_from far (rows_from ws i) va ≡ nowhere
+pub spot_out : (ws : List ℕ) (i far va : ℕ) → records segment_words ws ≤ i → spot_from far (rows_from ws i) va ≡ None
 unfolding spot_from
 spot_out ws i far va h = simp (rows_none ws i h)
 
 -- Row i, as the code has it.
 module _ (ws : List ℕ) (i : ℕ) (fits : i < records segment_words ws) (s : Segment) (at : s ≡ segment_at ws i) (far va : ℕ) where
-  pub spot_ends : ends s ≡ true → spot_from far (rows_from ws i) va ≡ nowhere
+  pub spot_ends : ends s ≡ true → spot_from far (rows_from ws i) va ≡ None
   unfolding spot_from choose
   spot_ends e = simp (rows_read ws i fits s at, e)
 
@@ -141,32 +140,16 @@ module _ (ws : List ℕ) (i : ℕ) (fits : i < records segment_words ws) (s : Se
   unfolding spot_from choose
   spot_on e h = simp (rows_read ws i fits s at, e, h)
 
--- The place of a spot, by the test that the code makes; one that has a place has room.
-module _ (s : Spot) where
-  pub place_none : s.room ≡ 0 → absent Unreadable ≡ spot_place s
-  unfolding spot_place
-  place_none z = sym (choose_true _ _ (eq-eqb s.room 0 z))
-
-  pub place_some : (s.room ≡ 0 → ⊥) → value (place_at s.file s.offset) ≡ spot_place s
-  unfolding spot_place
-  place_some n = sym (choose_false _ _ (ne_eqb s.room 0 n))
-
-  pub placed_has_room : {p : Place} → spot_place s ≡ value p → s.room ≡ 0 → ⊥
-  placed_has_room e z = let f = place_none z in let c : ◌≡◌ {A = ℕ} 0 1 = cc in omega arith
-
-  pub placed_is : {p : Place} → spot_place s ≡ value p → p ≡ place_at s.file s.offset
-  placed_is e = let f = place_some (placed_has_room e) in cc
-
 -- A spot is where a lookup leads, and for as many bytes as its room the place moves with the address.
-pub record Leads (ss : List Segment) (va : ℕ) (s : Spot) : Type 0 where
-  pub absent_where_none : s.room ≡ 0 → lookup ss va ≡ absent Unmapped
-  pub there : (s.room ≡ 0 → ⊥) → lookup ss va ≡ value (place_at s.file s.offset)
+pub record LeadsTo (ss : List Segment) (va : ℕ) (s : Spot) : Type 0 where
+  pub there : lookup ss va ≡ value s.place
   pub in_words : (k : ℕ) → k < s.room → va + k < 2 ^ 64
-  pub moves : (k : ℕ) → k < s.room → lookup ss (va + k) ≡ value (place_at s.file (s.offset + k))
+  pub moves : (k : ℕ) → k < s.room → lookup ss (va + k) ≡ value (place_at s.place.file (s.place.offset + k))
 
-no_room : (ss : List Segment) (va : ℕ) → lookup ss va ≡ absent Unmapped → Leads ss va nowhere
-no_room ss va e =
-    record { absent_where_none = λ z. e; there = λ n. absurd (n refl); in_words = λ k h. absurd (omega arith); moves = λ k h. absurd (omega arith) }
+-- No spot is where a lookup is absent.
+abbrev pub Leads : List Segment → ℕ → Option Spot → Type 0
+Leads ss va None = lookup ss va ≡ absent Unmapped
+Leads ss va (Some s) = LeadsTo ss va s
 
 -- The first of the segments decides, or is passed.
 module _ (s : Segment) (ss : List Segment) where
@@ -183,7 +166,7 @@ module _ (s : Segment) (ss : List Segment) where
   first_passed x e h = choose_false _ _ e ∙ choose_false _ _ h
 
   module _ (far va : ℕ) where
-    spot_first_ends : ends s ≡ true → spot_from far (s ∷ ss) va ≡ nowhere
+    spot_first_ends : ends s ≡ true → spot_from far (s ∷ ss) va ≡ None
     unfolding spot_from
     spot_first_ends e = choose_true _ _ e
 
@@ -201,17 +184,25 @@ distance_fits s va h =
     by_choose (λ (d : ℕ). d < 2 ^ 64) (λ e. omega arith) (λ e. let q = leb-false s.vmaddr va e in omega arith)
 
 -- A room does not reach a segment that was passed.
-spot_at_far : (s : Segment) (far va : ℕ) → (spot_at s far va).room ≤ 2 ^ 64 - far
-unfolding spot_at
-spot_at_far s far va = by_choose (λ (x : Spot). x.room ≤ 2 ^ 64 - far) (λ e. omega arith) (λ e. omega arith)
+abbrev Reaches : ℕ → Option Spot → Type 0
+Reaches far None = Unit {0}
+Reaches far (Some s) = s.room ≤ 2 ^ 64 - far
 
-room_far : (ss : List Segment) (far va : ℕ) → (spot_from far ss va).room ≤ 2 ^ 64 - far
+reaches_less : (far less : ℕ) (o : Option Spot) → less ≤ far → Reaches far o → Reaches less o
+reaches_less far less None h r = tt
+reaches_less far less (Some s) h r = omega arith
+
+spot_at_far : (s : Segment) (far va : ℕ) → Reaches far (spot_at s far va)
+unfolding spot_at
+spot_at_far s far va = by_choose (Reaches far) (λ e. tt) (λ e. omega arith)
+
+room_far : (ss : List Segment) (far va : ℕ) → Reaches far (spot_from far ss va)
 unfolding spot_from
-room_far [] far va = omega arith
+room_far [] far va = tt
 room_far (s ∷ ss) far va =
-    let later = room_far ss (max far (distance s va)) va in
-    by_choose (λ (x : Spot). x.room ≤ 2 ^ 64 - far) (λ e. omega arith)
-    (λ e. by_choose (λ (x : Spot). x.room ≤ 2 ^ 64 - far) (λ h. spot_at_far s far va) (λ h. omega arith))
+    let later = reaches_less (max far (distance s va)) far (spot_from (max far (distance s va)) ss va) (omega arith) (room_far ss (max far (distance s va)) va) in
+    by_choose (Reaches far) (λ e. tt)
+    (λ e. by_choose (Reaches far) (λ h. spot_at_far s far va) (λ h. later))
 
 -- In the segment that holds the address.
 module _ (s : Segment) (ss : List Segment) (far va : ℕ) (f : far < 2 ^ 64) (e : ends s ≡ false) (h : holds s va ≡ true) where
@@ -231,14 +222,13 @@ module _ (s : Segment) (ss : List Segment) (far va : ℕ) (f : far < 2 ^ 64) (e 
       let z : s.fileoff + (va + k - s.vmaddr) ≡ s.fileoff + d + k = omega arith in
       sym (placed_at s (va + k) (omega arith) (omega arith)) ∙ ap (λ (x : ℕ). value (place_at s.file x)) z
 
-  there_leads : d < s.filesize → s.fileoff + d < 2 ^ 64 → Leads (s ∷ ss) va (spot s.file (s.fileoff + d) (min (mapped_size s - d) (2 ^ 64 - max far (s.fileoff + d))))
+  there_leads : d < s.filesize → s.fileoff + d < 2 ^ 64 → LeadsTo (s ∷ ss) va (spot s.file (s.fileoff + d) (min (mapped_size s - d) (2 ^ 64 - max far (s.fileoff + d))))
   unfolding mapped_size
   there_leads l o =
       let u = holds_is s va h in
       let inside : d < s.vmsize = omega (arith, u.1, u.2) in
       record {
-        absent_where_none = λ z. absurd (omega arith);
-        there = λ n. first_holds s ss va e h ∙ sym (placed_at s va l o);
+        there = first_holds s ss va e h ∙ sym (placed_at s va l o);
         in_words = λ k g. let w = ends_not s e in omega (arith, u.1);
         moves = λ k g. first_holds s ss (va + k) e (holds_further k (omega arith)) ∙ placed_further k (omega arith) (omega arith);
       }
@@ -247,103 +237,91 @@ module _ (s : Segment) (ss : List Segment) (far va : ℕ) (f : far < 2 ^ 64) (e 
   unfolding spot_at
   held_leads = go (leb s.filesize d) refl (leb (2 ^ 64) (s.fileoff + d)) refl
     where
-      missed : placed s va ≡ absent Unmapped → Leads (s ∷ ss) va nowhere
-      missed p = no_room (s ∷ ss) va (first_holds s ss va e h ∙ p)
+      missed : placed s va ≡ absent Unmapped → lookup (s ∷ ss) va ≡ absent Unmapped
+      missed p = first_holds s ss va e h ∙ p
 
       go : (a : Bool) → leb s.filesize d ≡ a → (b : Bool) → leb (2 ^ 64) (s.fileoff + d) ≡ b
-          → Leads (s ∷ ss) va (choose (a || b) nowhere (spot s.file (s.fileoff + d) (min (mapped_size s - d) (2 ^ 64 - max far (s.fileoff + d)))))
+          → Leads (s ∷ ss) va (choose (a || b) None (Some (spot s.file (s.fileoff + d) (min (mapped_size s - d) (2 ^ 64 - max far (s.fileoff + d))))))
       go true p b q = unfold choose in missed (sym (placed_past s va (leb-true s.filesize d p)))
       go false p true q = unfold choose in missed (sym (placed_over s va (leb-false s.filesize d p) (leb-true (2 ^ 64) (s.fileoff + d) q)))
       go false p false q = unfold choose in there_leads (leb-false s.filesize d p) (leb-false (2 ^ 64) (s.fileoff + d) q)
 
+-- What leads behind a segment that was passed leads from it.
+passed_leads : (s : Segment) (ss : List Segment) (far va : ℕ) → va < 2 ^ 64 → ends s ≡ false → holds s va ≡ false → (o : Option Spot)
+    → Reaches (max far (distance s va)) o → Leads ss va o → Leads (s ∷ ss) va o
+passed_leads s ss far va w e h None near l = first_passed s ss va e h ∙ l
+passed_leads s ss far va w e h (Some x) near l =
+    record {
+      there = first_passed s ss va e h ∙ l.there;
+      in_words = l.in_words;
+      moves =
+          λ k g. first_passed s ss (va + k) e (still_not s va e k w (l.in_words k g) (omega arith) h) ∙ l.moves k g;
+    }
+
 spot_leads : (ss : List Segment) (far va : ℕ) → far < 2 ^ 64 → va < 2 ^ 64 → Leads ss va (spot_from far ss va)
 unfolding spot_from lookup
-spot_leads [] far va f w = no_room [] va refl
+spot_leads [] far va f w = refl
 spot_leads (s ∷ ss) far va f w = go (ends s) refl (holds s va) refl (spot_leads ss (max far (distance s va)) va (omega (arith, distance_fits s va w)) w)
   where
     go : (a : Bool) → ends s ≡ a → (b : Bool) → holds s va ≡ b → Leads ss va (spot_from (max far (distance s va)) ss va)
         → Leads (s ∷ ss) va (spot_from far (s ∷ ss) va)
-    go true e b h ih = rw (spot_first_ends s ss far va e) (no_room (s ∷ ss) va (first_ends s ss va e))
-    go false e true h ih = rw (spot_first_holds s ss far va e h) (held_leads s ss far va f e h)
+    go true e b h ih = subst (Leads (s ∷ ss) va) (sym (spot_first_ends s ss far va e)) (first_ends s ss va e)
+    go false e true h ih = subst (Leads (s ∷ ss) va) (sym (spot_first_holds s ss far va e h)) (held_leads s ss far va f e h)
     go false e false h ih =
-        let near = room_far ss (max far (distance s va)) va in
-        rw (spot_first_passed s ss far va e h)
-        (record {
-          absent_where_none = λ z. first_passed s ss va e h ∙ ih.absent_where_none z;
-          there = λ n. first_passed s ss va e h ∙ ih.there n;
-          in_words = ih.in_words;
-          moves =
-              λ k g. first_passed s ss (va + k) e (still_not s va e k w (ih.in_words k g) (omega arith) h) ∙ ih.moves k g;
-        })
+        subst (Leads (s ∷ ss) va) (sym (spot_first_passed s ss far va e h))
+        (passed_leads s ss far va w e h (spot_from (max far (distance s va)) ss va) (room_far ss (max far (distance s va)) va) ih)
+
+readable_same : (n : ℕ) (p : Place) (k : ℕ) → and_then (readable_at n p k) (λ q. value p) ≡ readable_at n p k
+unfolding readable_at
+readable_same n p k = by_choose (λ (o : Outcome Place). and_then o (λ q. value p) ≡ o) (λ e. refl) (λ e. refl)
 
 -- The spot of bytes that can be read: none where they cannot be, else their place.
 module _ (m : Image) (va size : ℕ) (w : va < 2 ^ 64) where
-  abbrev whole : Spot
-  whole = spot_in m.words va
-
-  leads : Leads (rows m.words) va whole
+  leads : Leads (rows m.words) va (spot_in m.words va)
   leads = spot_leads (rows m.words) 0 va (omega arith) w
 
-  by_lookup : {o : Outcome Place} → lookup (rows m.words) va ≡ o
-      → readable m va size ≡ and_then (because Unreadable o) (λ p. readable_at (length (file_of m.files p.file)) p size)
-  unfolding readable
-  by_lookup e =
-      ap (λ (x : Outcome Place). and_then (because Unreadable x) (λ p. readable_at (length (file_of m.files p.file)) p size)) e
-
-  -- The spot is there, or it has no room.
-  pub data Seen (s : Spot) : Type 0 where
-    seen : (s.room ≡ 0 → ⊥) → s ≡ whole → s.offset + size ≤ length (file_of m.files s.file) → readable m va size ≡ value (place_at s.file s.offset) → Seen s
-    unseen : s.room ≡ 0 → readable m va size ≡ absent Unreadable → Seen s
-
-  is_seen : Seen (readable_spot m va size)
-  unfolding readable_spot choose
-  is_seen = go (eqb whole.room 0) refl (leb (whole.offset + size) (length (file_of m.files whole.file))) refl
+  -- What can be read at an address is what can be read at its spot.
+  pub spot_place_readable : and_then (readable_spot m va size) (λ s. value s.place) ≡ readable m va size
+  unfolding readable_spot readable
+  spot_place_readable = go (spot_in m.words va) leads
     where
-      go : (z : Bool) → eqb whole.room 0 ≡ z → (b : Bool) → leb (whole.offset + size) (length (file_of m.files whole.file)) ≡ b → Seen (choose b whole nowhere)
-      go true z true q = let n = eqb-true whole.room 0 z in unseen n (by_lookup (leads.absent_where_none n))
-      go true z false q = let n = eqb-true whole.room 0 z in unseen refl (by_lookup (leads.absent_where_none n))
-      go false z true q =
-          let n = eqb-false whole.room 0 z in
-          let h = leb-true (whole.offset + size) (length (file_of m.files whole.file)) q in
-          seen n refl h (by_lookup (leads.there n) ∙ sym (readable_in (length (file_of m.files whole.file)) (place_at whole.file whole.offset) size h))
-      go false z false q =
-          let n = eqb-false whole.room 0 z in
-          let h = leb-false (whole.offset + size) (length (file_of m.files whole.file)) q in
-          unseen refl (by_lookup (leads.there n) ∙ sym (readable_out (length (file_of m.files whole.file)) (place_at whole.file whole.offset) size h))
+      go : (o : Option Spot) → Leads (rows m.words) va o
+          → and_then (if_readable m size o) (λ s. value s.place)
+          ≡ and_then (because Unreadable (lookup (rows m.words) va)) (λ p. readable_at (length (file_of m.files p.file)) p size)
+      go None l = rw l
+      go (Some s) l = rw (l.there, then_then (readable_at (length (file_of m.files s.place.file)) s.place size) (λ p. value s) (λ s. value s.place))
+          (readable_same (length (file_of m.files s.place.file)) s.place size)
 
-  module _ (s : Spot) (is : s ≡ readable_spot m va size) where
-    pub spot_seen : Seen s
-    spot_seen = rw is is_seen
+  module _ (s : Spot) (is : readable_spot m va size ≡ value s) where
+    seen : (spot_in m.words va ≡ Some s) × (s.place.offset + size ≤ length (file_of m.files s.place.file))
+    unfolding readable_spot
+    seen = go (spot_in m.words va) is
+      where
+        go : (o : Option Spot) → if_readable m size o ≡ value s → (o ≡ Some s) × (s.place.offset + size ≤ length (file_of m.files s.place.file))
+        go None e = let z : ◌≡◌ {A = ℕ} 0 1 = cc in absurd (omega arith)
+        go (Some x) e = inside (leb (x.place.offset + size) (length (file_of m.files x.place.file))) refl e
+          where
+            inside : (b : Bool) → leb (x.place.offset + size) (length (file_of m.files x.place.file)) ≡ b
+                → and_then (readable_at (length (file_of m.files x.place.file)) x.place size) (λ p. value x) ≡ value s
+                → (Some x ≡ Some s) × (s.place.offset + size ≤ length (file_of m.files s.place.file))
+            inside true q f =
+                let h = leb-true (x.place.offset + size) (length (file_of m.files x.place.file)) q in
+                let r = readable_in (length (file_of m.files x.place.file)) x.place size h in
+                let same : x ≡ s = cc in
+                (ap Some same, subst (λ (y : Spot). y.place.offset + size ≤ length (file_of m.files y.place.file)) same h)
+            inside false q f =
+                let h = leb-false (x.place.offset + size) (length (file_of m.files x.place.file)) q in
+                let r = readable_out (length (file_of m.files x.place.file)) x.place size h in
+                let z : ◌≡◌ {A = ℕ} 0 1 = cc in absurd (omega arith)
 
-    pub spot_unreadable : s.room ≡ 0 → absent Unreadable ≡ readable m va size
-    spot_unreadable z = elim spot_seen [ seen n e h r ↦ absurd (n z) | unseen n r ↦ sym r ]
+    led : LeadsTo (rows m.words) va s
+    led = subst (Leads (rows m.words) va) seen.0 leads
 
-    -- So the spot's place is that of the bytes.
-    pub spot_place_readable : spot_place s ≡ readable m va size
-    unfolding spot_place
-    spot_place_readable =
-        by_choose (λ (o : Outcome Place). o ≡ readable m va size) (λ e. spot_unreadable (eqb-true s.room 0 e))
-        (λ e. elim spot_seen [ seen n q h r ↦ sym r | unseen z r ↦ absurd (eqb-false s.room 0 e z) ])
-
-    module _ (n : s.room ≡ 0 → ⊥) where
-      pub spot_readable : value (place_at s.file s.offset) ≡ readable m va size
-      spot_readable = elim spot_seen [ seen n e h r ↦ sym r | unseen z r ↦ absurd (n z) ]
-
-      spot_whole : (s ≡ whole) × (s.offset + size ≤ length (file_of m.files s.file))
-      spot_whole = elim spot_seen [ seen n e h r ↦ (e, h) | unseen z r ↦ absurd (n z) ]
-
-      -- The addresses in its room fit 64 bits.
-      pub near_fits : (i : ℕ) → i < s.room → va + i < 2 ^ 64
-      near_fits i l = leads.in_words i (subst (λ (x : Spot). i < x.room) spot_whole.0 l)
-
-      -- A word near it is the word that a lookup gives.
-      module _ (i : ℕ) (h : i + 8 ≤ size) where
-        pub near_word_in : i < s.room → value (word_in m.files 8 (place_at s.file s.offset) i) ≡ word m 8 (va + i)
-        unfolding word readable word_in
-        near_word_in l =
-            let u = spot_whole in
-            let bytes = file_of m.files s.file in
-            let moved : lookup (rows m.words) (va + i) ≡ value (place_at s.file (s.offset + i)) =
-            subst (λ (x : Spot). i < x.room → lookup (rows m.words) (va + i) ≡ value (place_at x.file (x.offset + i))) (sym u.0) (leads.moves i) l in
-            let inside : s.offset + i + 8 ≤ length bytes = omega (arith, u.1) in
-            rw (moved, ← readable_in (length bytes) (place_at s.file (s.offset + i)) 8 inside, ← le_inside bytes 8 (s.offset + i) inside)
+    -- A word near it is the word that a lookup gives.
+    module _ (i : ℕ) (h : i + 8 ≤ size) where
+      pub near_word_in : i < s.room → value (word_in m.files 8 s.place i) ≡ word m 8 (va + i)
+      unfolding word readable word_in
+      near_word_in l =
+          let bytes = file_of m.files s.place.file in
+          let inside : s.place.offset + i + 8 ≤ length bytes = omega (arith, seen.1) in
+          rw (led.moves i l, ← readable_in (length bytes) (place_at s.place.file (s.place.offset + i)) 8 inside, ← le_inside bytes 8 (s.place.offset + i) inside)

@@ -3,14 +3,11 @@ use Rattle.std.specs.Prelude.{ℕ, suc, ◌+◌, ◌-◌, ◌*◌, ◌/◌, ◌%
 use Rattle.reads.specs.Outcome.{Outcome, value, absent, and_then, choose}
 use Rattle.reads.specs.Signed.{twos}
 use Rattle.reads.specs.declared.answer.Reason.TheVariants.{Unreadable, Malformed}
-use Rattle.reads.specs.declared.leb128.Uleb.{Uleb}
-use Rattle.reads.specs.declared.leb128.Sleb.{Sleb}
+use Rattle.reads.specs.declared.leb128.Leb.{Leb}
 
-abbrev pub unsigned_read : ℕ → ℕ → Uleb
-unsigned_read n consumed = record { value = n; consumed = consumed }
-
-abbrev pub signed_read : ℤ → ℕ → Sleb
-signed_read z consumed = record { value = z; consumed = consumed }
+-- A number, and how many bytes it took.
+abbrev pub leb : {A : Type 0} → A → ℕ → Leb A
+leb n consumed = record { value = n; consumed = consumed }
 
 -- How many digits there are: the bytes up to and including the first below 0x80; where there is none the last cannot be read.
 unfoldable pub digit_count : List ℕ → Outcome ℕ
@@ -39,18 +36,18 @@ unfoldable pub within_signed64 : ℤ → Outcome ℤ
 within_signed64 (pos n) = choose (nat_lt n (2 ^ 63)) (value (pos n)) (absent Malformed)
 within_signed64 (negsuc n) = choose (nat_lt n (2 ^ 63)) (value (negsuc n)) (absent Malformed)
 
-unfoldable pub uleb_of : List ℕ → Outcome Uleb
-uleb_of ds = and_then (within64 (unsigned_digits ds)) (λ n. value (unsigned_read n (length ds)))
+unfoldable pub uleb_of : List ℕ → Outcome (Leb ℕ)
+uleb_of ds = and_then (within64 (unsigned_digits ds)) (λ n. value (leb n (length ds)))
 
-unfoldable pub sleb_of : List ℕ → Outcome Sleb
-sleb_of ds = and_then (within_signed64 (signed_digits ds)) (λ z. value (signed_read z (length ds)))
+unfoldable pub sleb_of : List ℕ → Outcome (Leb ℤ)
+sleb_of ds = and_then (within_signed64 (signed_digits ds)) (λ z. value (leb z (length ds)))
 
 -- Unsigned LEB128: the number that the digits say and how many there are, absent where it needs more than 64 bits.
-unfoldable pub uleb128 : List ℕ → Outcome Uleb
+unfoldable pub uleb128 : List ℕ → Outcome (Leb ℕ)
 uleb128 bytes = and_then (digit_count bytes) (λ k. uleb_of (take k bytes))
 
 -- Signed LEB128, likewise.
-unfoldable pub sleb128 : List ℕ → Outcome Sleb
+unfoldable pub sleb128 : List ℕ → Outcome (Leb ℤ)
 sleb128 bytes = and_then (digit_count bytes) (λ k. sleb_of (take k bytes))
 
 -- The code splits a signed number into its sign and m: it is -1 - m or m.

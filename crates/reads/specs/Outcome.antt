@@ -1,6 +1,6 @@
 -- What a call gives (document 01, "The questions, in order"): a value, absent for a reason (document 02, note 2), or the number of
 -- the question that refuses.
-use Rattle.std.specs.Prelude.{ℕ, ◌+◌, ◌^◌, Bool, true, false, ◌==◌, nat_lt}
+use Rattle.std.specs.Prelude.{ℕ, ◌+◌, ◌^◌, Bool, true, false, ◌==◌, nat_lt, Option, Some, None}
 use Rattle.reads.specs.declared.answer.Reason.{Reason}
 use Rattle.reads.specs.declared.answer.Reason.TheVariants.{NullAddress, FieldOverflow}
 use Rattle.reads.specs.declared.text.Text.{Text}
@@ -44,6 +44,12 @@ abbrev pub is_absent : {A : Type 0} → Outcome A → Bool
 is_absent (value a) = false
 is_absent (absent r) = true
 is_absent (refused k) = false
+
+-- What is there; what is absent gives nothing.
+abbrev pub optional : {A : Type 0} → Outcome A → Outcome (Option A)
+optional (value a) = value (Some a)
+optional (absent why) = value None
+optional (refused k) = refused k
 
 -- "or 0" (document 01, Records): absent counts as 0.
 abbrev pub or_zero : Outcome ℕ → Outcome ℕ

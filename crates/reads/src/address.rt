@@ -4,7 +4,7 @@ ghost use Rattle.reads.specs.Reference.{before};
 ghost use Rattle.reads.specs.Address.{stripped, mapped, picked_wide, picked_either, picked};
 ghost use Rattle.reads.specs.Answer.{outcome};
 
-use crate::answer::{Missing, Reason, because, is_absent, nonzero};
+use crate::answer::{Missing, Reason, because, nonzero};
 use crate::segment::vm_to_file_offset_in;
 
 // An address of the image, with the constants of addresses.
@@ -53,15 +53,14 @@ impl Address {
     }
 
     // The data address by the wide mask, else by the other.
-    #[tactic(auto, using(crate::proofs::Outcomes::outcomes, crate::proofs::Masks::fast_data_mask_64, crate::proofs::Outcomes::when_absent), unfolding(crate::specs::Address::picked_wide))]
+    #[tactic(auto, using(crate::proofs::Outcomes::outcomes, crate::proofs::Masks::fast_data_mask_64), unfolding(crate::specs::Address::picked_wide))]
     fn pick_either(segments: &[u64], word: u64) -> Result<u64, Missing>
         ensures { outcome result ≡ picked_either (before segments) word }
     {
-        let wide = Address::pick_wide(segments, word);
-        if is_absent(wide) {
-            return nonzero(word & Address::FAST_DATA_MASK_64);
+        match Address::pick_wide(segments, word) {
+            Err(Missing::Absent(_)) => nonzero(word & Address::FAST_DATA_MASK_64),
+            wide => wide,
         }
-        wide
     }
 
     // The data address in the bits word of a class: mask_class_ro_pointer.

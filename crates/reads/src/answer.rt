@@ -1,7 +1,7 @@
 // The answers of the reading functions, by cases: what was found, or what stands in its place and why.
 ghost use Rattle.std.specs.Prelude.{◌≡◌};
-ghost use Rattle.reads.specs.Outcome.{because, is_absent, or_zero, sum64, nonzero};
-ghost use Rattle.reads.specs.Answer.{missing_because, outcome};
+ghost use Rattle.reads.specs.Outcome.{value, because, is_absent, or_else, or_zero, optional, sum64, nonzero};
+ghost use Rattle.reads.specs.Answer.{missing_because, outcome, answered};
 ghost use Rattle.reads.specs.Question.{number_of};
 
 // Why a value is absent.
@@ -119,13 +119,31 @@ pub fn because<T>(w: Result<T, Missing>, why: Reason) -> Result<T, Missing>
     w.map_err(|m| m.because(why))
 }
 
+// What is absent counts as `other`.
+pub fn or_value<T: Drop>(w: Result<T, Missing>, other: T) -> Result<T, Missing>
+    ensures { outcome result ≡ or_else (outcome w) (value other) }
+{
+    match w {
+        Err(Missing::Absent(_)) => Ok(other),
+        w => w,
+    }
+}
+
 // "or 0": an absent number counts as 0.
 pub fn or_zero(w: Result<u64, Missing>) -> Result<u64, Missing>
     ensures { outcome result ≡ or_zero (outcome w) }
 {
+    or_value(w, 0)
+}
+
+// What is there, nothing where it is absent.
+pub fn optional<T>(w: Result<T, Missing>) -> Result<Option<T>, Question>
+    ensures { answered result ≡ optional (outcome w) }
+{
     match w {
-        Err(Missing::Absent(_)) => Ok(0),
-        w => w,
+        Ok(a) => Ok(Some(a)),
+        Err(Missing::Absent(_)) => Ok(None),
+        Err(Missing::Refused(k)) => Err(k),
     }
 }
 

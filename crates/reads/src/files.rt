@@ -16,7 +16,7 @@ pub fn is_lent(files: &[&[u8]], f: u64) -> bool
     f < files.len() as u64
 }
 
-// The bytes of a file: none where it is not lent.
+// The bytes of a file; a file that is not lent has none, as the definition says: so every read of it is past its end, and none needs an Option.
 pub fn bytes_of<'a>(files: &[&'a [u8]], f: u64) -> &'a [u8]
     ensures { result.now ≡ file_of (files_of files) f }
 {

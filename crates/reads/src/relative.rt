@@ -22,7 +22,7 @@ pub fn read_i32_le_at(bytes: &[u8], offset: u64) -> Result<i32, Missing>
     ensures { outcome result ≡ signed_at (before bytes) offset }
 {
     let p = readable_at(bytes.len() as u64, Place { file: 0, offset }, 4)?;
-    Ok(signed(le::<4>(bytes, p.offset as usize) as u32))
+    Ok(signed(le::<u32>(bytes, p.offset as usize) as u32))
 }
 
 // The signed number of four bytes at i bytes from a place; 0 where they do not lie in its file.

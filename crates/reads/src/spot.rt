@@ -2,32 +2,19 @@
 ghost use Rattle.std.specs.Prelude.{◌≡◌, ◌<◌, true, false};
 ghost use Rattle.reads.specs.Reference.{before};
 ghost use Rattle.reads.specs.Segment.{ends, holds};
-ghost use Rattle.reads.specs.Spot.{distance, nowhere, spot_at, spot_in, readable_spot, spot_place};
+ghost use Rattle.reads.specs.Spot.{distance, spot_at, spot_in, readable_spot};
 ghost use Rattle.reads.specs.Answer.{outcome};
 
 use crate::answer::{Missing, Reason};
 use crate::files::file_len;
-use crate::place::{Image, Place};
+use crate::place::{Image, Place, readable_at};
 use crate::segment::Segment;
 
-// Where an address looks up, and its room: for how many bytes from it on the place moves with the address. A room of 0: the address is in
-// no segment's bytes.
+// Where an address looks up, and its room: for how many bytes from it on the place moves with the address.
 #[derive(Clone, Copy)]
 pub struct Spot {
-    pub file: u64,
-    pub offset: u64,
+    pub place: Place,
     pub room: u64,
-}
-
-// No address.
-fn nowhere() -> Spot
-    ensures { result ≡ nowhere }
-{
-    Spot {
-        file: 0,
-        offset: 0,
-        room: 0,
-    }
 }
 
 // How far an address lies past the segment's first one, modulo 2^64.
@@ -53,36 +40,39 @@ fn holds_at(s: Segment, va: u64, d: u64) -> bool
 
 // The spot of an address that the segment holds, at this distance; the segments before it lie at most `far` behind the address.
 #[tactic(auto, using(crate::proofs::Spots::held_inside, crate::proofs::Spots::spot_past, crate::proofs::Spots::spot_over, crate::proofs::Spots::spot_there, crate::proofs::Spots::sum_within), unfolding(crate::specs::Segment::mapped_size))]
-fn spot_at(s: Segment, far: u64, va: u64, d: u64) -> Spot
+fn spot_at(s: Segment, far: u64, va: u64, d: u64) -> Option<Spot>
     requires va_value { holds s va ≡ true }
     requires d_value { d ≡ distance s va }
     ensures { result ≡ spot_at s far va }
 {
     if s.filesize <= d {
-        return nowhere();
+        return None;
     }
     if Segment::MAX - s.fileoff < d {
-        return nowhere();
+        return None;
     }
     let offset = s.fileoff + d;
     let last = s.mapped_size() - d - 1;
-    Spot {
+    let place = Place {
         file: s.file,
         offset,
+    };
+    Some(Spot {
+        place,
         room: last.min(Segment::MAX - far.max(offset)) + 1,
-    }
+    })
 }
 
 // The spot of an address. Segments count in order: one that exceeds 64 bits ends the lookup, the first that holds the address decides.
 #[tactic(auto, using(crate::proofs::SegmentRows::rows_all, crate::proofs::Spots::spot_ends, crate::proofs::Spots::spot_holds, crate::proofs::Spots::spot_on, crate::proofs::Spots::spot_out))]
-fn spot_in(segments: &[u64], va: u64) -> Spot
+fn spot_in(segments: &[u64], va: u64) -> Option<Spot>
     ensures { result ≡ spot_in (before segments) va }
 {
     let mut far = 0;
     for i in 0..segments.len() / Segment::WORDS {
         let s = Segment::at(segments, i);
         if s.ends() {
-            return nowhere();
+            return None;
         }
         let d = distance(s, va);
         if holds_at(s, va, d) {
@@ -90,34 +80,17 @@ fn spot_in(segments: &[u64], va: u64) -> Spot
         }
         far = far.max(d);
     }
-    nowhere()
+    None
 }
 
 // The spot of an address, if k bytes can be read there.
-#[tactic(auto, using(std::proofs::lemmas::Bool::Decides::nat_tests), unfolding(crate::specs::Spot::readable_spot, crate::specs::Outcome::choose))]
-pub fn readable_spot(image: &Image, va: u64, k: u64) -> Spot
-    ensures { result ≡ readable_spot image.now va k }
+#[tactic(auto, using(crate::proofs::Outcomes::outcomes), unfolding(crate::specs::Spot::readable_spot))]
+pub fn readable_spot(image: &Image, va: u64, k: u64) -> Result<Spot, Missing>
+    ensures { outcome result ≡ readable_spot image.now va k }
 {
-    let s = spot_in(image.segments, va);
-    let n = file_len(image.files, s.file);
-    if s.offset <= n {
-        if k <= n - s.offset {
-            return s;
-        }
-    }
-    nowhere()
-}
-
-// The place of a spot, if it has one.
-#[tactic(auto, using(std::proofs::lemmas::Bool::Decides::nat_tests), unfolding(crate::specs::Spot::spot_place, crate::specs::Outcome::choose))]
-pub fn spot_place(s: Spot) -> Result<Place, Missing>
-    ensures { outcome result ≡ spot_place s }
-{
-    if s.room == 0 {
+    let Some(s) = spot_in(image.segments, va) else {
         return Err(Missing::Absent(Reason::Unreadable));
-    }
-    Ok(Place {
-        file: s.file,
-        offset: s.offset,
-    })
+    };
+    readable_at(file_len(image.files, s.place.file), s.place, k)?;
+    Ok(s)
 }

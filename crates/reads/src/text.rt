@@ -11,7 +11,7 @@ ghost use Rattle.reads.specs.declared.text.Reading.TheVariants.{Old};
 ghost use Rattle.reads.specs.Text.{ended, scan_of, good_text, text_of_scan, text_from, read_from, text_at, read_at, text_in, read_in, fixed_length, length_plus_one};
 ghost use Rattle.reads.specs.Answer.{outcome};
 
-use crate::answer::{Missing, Reason, nonzero};
+use crate::answer::{Missing, Reason, nonzero, or_value};
 use crate::files::{bytes_of, is_lent};
 use crate::place::{Image, Place};
 use crate::segment::vm_to_file_offset_in;
@@ -46,33 +46,13 @@ pub struct CstrRead {
     pub read: u64,
 }
 
-// A byte, its offset, and the count of the bytes read with it. Where no byte is left 0 stands for it, and the count is not raised.
+// A byte, its offset, and the count of the bytes read with it. Where no byte is left 0 stands for it, and the count is not raised:
+// not an Option, as both end a text, and the pass tests them by one compare.
 #[derive(Clone, Copy)]
 struct ByteRead {
     at: usize,
     byte: u8,
     read: usize,
-}
-
-// A character so far: its last byte read, and whether that is one that continues it.
-#[derive(Clone, Copy)]
-struct Step {
-    fits: bool,
-    last: ByteRead,
-}
-
-// An absent text counts as the text in file 0 at offset 0 of length 0.
-pub fn or_empty(t: Result<Text, Missing>) -> Result<Text, Missing>
-    ensures { outcome result ≡ or_empty (outcome t) }
-{
-    match t {
-        Err(Missing::Absent(_)) => Ok(Text {
-            file: 0,
-            offset: 0,
-            len: 0,
-        }),
-        t => t,
-    }
 }
 
 // The byte after `read` bytes of s that were read, and the count raised by it: the one place where a byte of a text is read.
@@ -94,53 +74,41 @@ fn read_byte(s: &[u8], read: usize) -> ByteRead
     }
 }
 
-// The byte after `last`, which continues the character if it lies between lo and hi.
-fn due(s: &[u8], last: ByteRead, lo: u8, hi: u8) -> Step
-    ensures { result ≡ due (before s) last (lo to hi) }
-{
-    let b = read_byte(s, last.read);
-    if b.byte < lo {
-        return Step {
-            fits: false,
-            last: b,
-        };
-    }
-    Step {
-        fits: b.byte <= hi,
-        last: b,
-    }
-}
-
-// The same where the character went on so far, and that byte is of UTF8-tail.
+// The count behind the next byte, if that lies between lo and hi and so continues a character; else that byte, a bad one.
 #[tactic(auto, using(std::proofs::lemmas::Bool::Decides::nat_tests), unfolding(crate::specs::Outcome::choose))]
-fn tail(s: &[u8], step: Step) -> Step
-    ensures { result ≡ follow (before s) step tail }
+fn due(s: &[u8], read: usize, lo: u8, hi: u8) -> Result<usize, ByteRead>
+    ensures { result ≡ due (before s) read (lo to hi) }
 {
-    if !step.fits {
-        return step;
+    let b = read_byte(s, read);
+    if (lo..=hi).contains(&b.byte) {
+        return Ok(b.read);
     }
-    let last = step.last;
-    due(s, last, 0x80, 0xBF)
+    Err(b)
 }
 
-// The character of more than one byte that begins with `first`: a line for each row of the grammar.
-fn character(s: &[u8], first: ByteRead) -> Step
+// The same of UTF8-tail, where the character went on so far.
+fn tail(s: &[u8], so_far: Result<usize, ByteRead>) -> Result<usize, ByteRead>
+    ensures { result ≡ follow (before s) so_far tail }
+{
+    due(s, so_far?, 0x80, 0xBF)
+}
+
+// The count behind the character of more than one byte that begins with `first`, or its first bad byte: a line for each row of the grammar.
+fn character(s: &[u8], first: ByteRead) -> Result<usize, ByteRead>
     ensures { result ≡ character (before s) first }
 {
+    let read = first.read;
     let b = first.byte;
     match b {
-        0xC2..=0xDF => due(s, first, 0x80, 0xBF),
-        0xE0 => tail(s, due(s, first, 0xA0, 0xBF)),
-        0xE1..=0xEC => tail(s, due(s, first, 0x80, 0xBF)),
-        0xED => tail(s, due(s, first, 0x80, 0x9F)),
-        0xEE..=0xEF => tail(s, due(s, first, 0x80, 0xBF)),
-        0xF0 => tail(s, tail(s, due(s, first, 0x90, 0xBF))),
-        0xF1..=0xF3 => tail(s, tail(s, due(s, first, 0x80, 0xBF))),
-        0xF4 => tail(s, tail(s, due(s, first, 0x80, 0x8F))),
-        _ => Step {
-            fits: false,
-            last: first,
-        },
+        0xC2..=0xDF => due(s, read, 0x80, 0xBF),
+        0xE0 => tail(s, due(s, read, 0xA0, 0xBF)),
+        0xE1..=0xEC => tail(s, due(s, read, 0x80, 0xBF)),
+        0xED => tail(s, due(s, read, 0x80, 0x9F)),
+        0xEE..=0xEF => tail(s, due(s, read, 0x80, 0xBF)),
+        0xF0 => tail(s, tail(s, due(s, read, 0x90, 0xBF))),
+        0xF1..=0xF3 => tail(s, tail(s, due(s, read, 0x80, 0xBF))),
+        0xF4 => tail(s, tail(s, due(s, read, 0x80, 0x8F))),
+        _ => Err(first),
     }
 }
 
@@ -159,12 +127,10 @@ pub fn utf8_verdict(s: &[u8]) -> Result<(), u64>
         }
         // A copy: what is handed to a call lies in memory, and b is to stay in registers.
         let first = b;
-        let step = character(s, first);
-        let last = step.last;
-        if !step.fits {
-            return Err(last.at as u64);
+        match character(s, first) {
+            Ok(behind) => read = behind,
+            Err(bad) => return Err(bad.at as u64),
         }
-        read = last.read;
     }
     Ok(())
 }
@@ -218,12 +184,10 @@ pub fn scan_text(s: &[u8]) -> Scan
             };
         }
         let first = b;
-        let step = character(s, first);
-        let last = step.last;
-        if !step.fits {
-            return broken(s, last);
+        match character(s, first) {
+            Ok(behind) => read = behind,
+            Err(bad) => return broken(s, bad),
         }
-        read = last.read;
     }
 }
 
@@ -321,6 +285,18 @@ pub fn read_cstr(image: &Image, reading: Reading, va: u64) -> Result<Text, Missi
 {
     let r = read_cstr_counted(image, reading, va);
     r.text
+}
+
+// An absent text counts as the empty one, in file 0 at offset 0.
+pub fn or_empty(t: Result<Text, Missing>) -> Result<Text, Missing>
+    ensures { outcome result ≡ or_empty (outcome t) }
+{
+    let empty = Text {
+        file: 0,
+        offset: 0,
+        len: 0,
+    };
+    or_value(t, empty)
 }
 
 // The same, an absent text counting as the empty one.

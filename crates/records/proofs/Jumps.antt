@@ -13,8 +13,9 @@ use Rattle.records.specs.List.{least, entry_address, entry}
 use Rattle.records.specs.Search.{first_readable, search_budget}
 use Rattle.records.specs.Tries.{ahead, Leads}
 use Rattle.records.specs.declared.list.Layout.{Layout}
-use Rattle.records.specs.declared.list.Try.{Try}
-use Rattle.records.specs.declared.list.Try.TheVariants.{Stop, Go}
+use Rattle.std.specs.Prelude.{Option}
+use Rattle.std.specs.declared.ops.ControlFlow.{ControlFlow}
+use Rattle.std.specs.declared.ops.ControlFlow.TheVariants.{Break, Continue}
 use Rattle.records.proofs.Firsts.{first_skip, first_past, first_here, first_none}
 use Rattle.std.specs.Prelude.{Option, Some, None}
 
@@ -111,9 +112,9 @@ module _ (m : Image) (h : Layout) (i : ℕ) where
   ahead_few = omega (arith, above_few m (least h.kind) (entry_address h i))
 
 -- What trying an index leaves, by the case that came.
-module _ (m : Image) (h : Layout) (i : ℕ) (r : Try) (tried : Leads m h i r) where
-  pub stopped : (entry : Option ℕ) → r ≡ Stop entry → entry ≡ first_readable m h i
+module _ (m : Image) (h : Layout) (i : ℕ) (r : ControlFlow (Option ℕ) ℕ) (tried : Leads m h i r) where
+  pub stopped : (entry : Option ℕ) → r ≡ Break entry → entry ≡ first_readable m h i
   stopped entry e = rw e at tried
 
-  pub went : (j : ℕ) → r ≡ Go j → (first_readable m h j ≡ first_readable m h i) × (ahead m h j < ahead m h i)
+  pub went : (j : ℕ) → r ≡ Continue j → (first_readable m h j ≡ first_readable m h i) × (ahead m h j < ahead m h i)
   went j e = rw e at tried

@@ -2,7 +2,7 @@
 -- lookups. A name or selector at +0 of bytes that were just read resolves (pointers/proofs/Resolves.antt), so its slot is no case.
 use Prim.Native.Nat.{ℕ, ◌-◌, ◌^◌}
 use mathlib.Core.Path.{◌≡◌, refl}
-use mathlib.Core.Bool.{true, false}
+use mathlib.Core.Bool.{false}
 use mathlib.Core.List.{List, [], ◌∷◌, ◌++◌}
 use lib.ListN.{replicate}
 use Rattle.reads.specs.Address.{stripped, data_arm64e, data64, mapped, picked_wide, picked}
@@ -25,6 +25,7 @@ use Rattle.records.specs.Class.{class_at, class_ro_at, ro_of, class_name_at, cla
 use Rattle.records.specs.Category.{category_at, decode_category_properties, decode_category_lists, decode_category_of, decode_category}
 use Rattle.records.specs.List.{method_rows, list_at, decode_list}
 use Rattle.records.specs.Protocol.{protocol_at, decode_trailing, decode_class_properties, decode_protocol_lists, decode_protocol}
+use Rattle.records.specs.declared.method.Selectors.TheVariants.{Indirect, Direct}
 use Rattle.records.specs.Row.{legacy_method_at, small_method_at, ivar_at, property_at, decode_legacy_method, decode_selector, decode_types, decode_small_method, decode_offset, decode_ivar, decode_property}
 use Rattle.records.specs.declared.list.ListKind.TheVariants.{Methods, Ivars, Properties}
 
@@ -138,12 +139,12 @@ abbrev small_bytes : ℕ → ℕ → List ℕ
 small_bytes low high = low ∷ high ∷ replicate 10 0
 
 -- 12 bytes; +4 and +8; the slot of an indirect selector; the string of a direct one, not mapped, and not UTF-8.
-small_reasons : small_method_at (zeros 11 0x1000 11) 0x1000 true
-    ∷ small_method_at (zeros 12 (top 4) 3) (top 4) true
-    ∷ small_method_at (zeros 12 (top 8) 7) (top 8) true
-    ∷ small_method_at (mapped_at (small_bytes 0 1) 0x1000 12) 0x1000 false
-    ∷ small_method_at (mapped_at (small_bytes 0 1) 0x1000 12) 0x1000 true
-    ∷ small_method_at (mapped_at (small_bytes 12 0 ++ (0x61 ∷ 0xE2 ∷ 0x28 ∷ 0 ∷ [])) 0x1000 16) 0x1000 true
+small_reasons : small_method_at (zeros 11 0x1000 11) 0x1000 Direct
+    ∷ small_method_at (zeros 12 (top 4) 3) (top 4) Direct
+    ∷ small_method_at (zeros 12 (top 8) 7) (top 8) Direct
+    ∷ small_method_at (mapped_at (small_bytes 0 1) 0x1000 12) 0x1000 Indirect
+    ∷ small_method_at (mapped_at (small_bytes 0 1) 0x1000 12) 0x1000 Direct
+    ∷ small_method_at (mapped_at (small_bytes 12 0 ++ (0x61 ∷ 0xE2 ∷ 0x28 ∷ 0 ∷ [])) 0x1000 16) 0x1000 Direct
     ∷ []
     ≡ absent Unreadable ∷ absent FieldOverflow ∷ absent FieldOverflow ∷ absent Unresolved ∷ absent Unmapped ∷ absent (NotUtf8 2) ∷ []
 unfolding file_of decode_small_method decode_selector decode_types signed_in signed32 twos modulo64 relative readable readable_at lookup rows tabulate ends holds placed sum64 resolve rebase_at follow follow_from stored stripped word word_in le_in le text_in text_from text judge nonzero choose

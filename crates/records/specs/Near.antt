@@ -1,12 +1,12 @@
--- A record or row whose bytes can be read, and the spot of its address: its fields are then read near the spot.
-use Rattle.std.specs.Prelude.{ℕ, ◌≤◌, ◌≡◌}
-use Rattle.reads.specs.Place.{Image}
-use Rattle.reads.specs.Spot.{readable_spot}
-use Rattle.reads.specs.declared.spot.Spot.{Spot}
+-- A record or row whose bytes can be read, with the spot of its address: its fields are then read near the spot.
+use Rattle.std.specs.Prelude.{Result, Ok, Err}
+use Rattle.reads.specs.Answer.{missed}
+use Rattle.reads.specs.Outcome.{Outcome, value}
+use Rattle.reads.specs.declared.answer.Missing.{Missing}
+use Rattle.reads.specs.declared.place.Place.{Place}
+use Rattle.records.specs.declared.near.Near.{Near}
 
--- s is the spot of the bytes at va, which can be read as far as `reach`.
-pub record Near (m : Image) (va : ℕ) (s : Spot) (reach : ℕ) : Type 0 where
-  pub size : ℕ
-  pub is : s ≡ readable_spot m va size
-  pub some : s.room ≡ 0 → ⊥
-  pub within : reach ≤ size
+-- Where its bytes stand, or why they cannot be read.
+abbrev pub place_of : Result Near Missing → Outcome Place
+place_of (Ok n) = value n.spot.place
+place_of (Err m) = missed m

@@ -2,13 +2,13 @@
 -- property.rs; alignments: note 8).
 use Rattle.std.specs.Prelude.{ℕ, Bool, true, false, ◌||◌, eqb, leb, Option, Some, None}
 use Rattle.std.specs.Int.Count.{count_trailing_zeros}
-use Rattle.reads.specs.Outcome.{Outcome, value, choose}
+use Rattle.reads.specs.Outcome.{Outcome, choose}
 use Rattle.reads.specs.Address.{stripped}
 use Rattle.reads.specs.Relative.{signed32, relative}
 use Rattle.reads.specs.declared.place.Place.{Place}
 use Rattle.reads.specs.declared.text.Text.{Text}
 use Rattle.pointers.specs.Tables.{Tables}
-use Rattle.records.specs.Decode.{Decode, run, done, then, else, when, or0, or_empty, sum64, nonzero, readable, u32_in, i32_in, slot, pointer, pointer_or0, string}
+use Rattle.records.specs.Decode.{Decode, run, done, then, else, or0, or_empty, sum64, nonzero, readable, u32_in, i32_in, slot, pointer, pointer_or0, string}
 use Rattle.records.specs.Header.{method_size, method_types, method_imp, small_method_size, small_method_name, small_method_types, small_method_imp, ivar_size, ivar_name, ivar_type, ivar_alignment_raw, ivar_own_size, property_size, property_attributes}
 use Rattle.records.specs.declared.row.Row.{Row}
 use Rattle.records.specs.declared.row.Row.TheVariants as row
@@ -17,6 +17,8 @@ use Rattle.records.specs.declared.list.RowKind.TheVariants as rows
 use Rattle.records.specs.declared.method.Method.{Method}
 use Rattle.records.specs.declared.method.MethodKind.{MethodKind}
 use Rattle.records.specs.declared.method.MethodKind.TheVariants as kind
+use Rattle.records.specs.declared.method.Selectors.{Selectors}
+use Rattle.records.specs.declared.method.Selectors.TheVariants.{Indirect, Direct}
 use Rattle.records.specs.declared.ivar.Ivar.{Ivar}
 use Rattle.records.specs.declared.property.Property.{Property}
 
@@ -46,12 +48,15 @@ unfoldable pub small_imp : ℕ → ℕ → Option ℕ
 small_imp raw va = choose (eqb raw 0) None (Some (stripped (relative va (signed32 raw))))
 
 -- A small method's selector: its offset's target itself, or indirect, through one slot.
-unfoldable pub decode_selector : Bool → ℕ → Place → Decode ℕ
-decode_selector direct va p =
-    then (i32_in p small_method_name) (λ offset. when direct (done (relative va offset)) (slot (relative va offset)))
+abbrev pub selector_from : Selectors → ℕ → Decode ℕ
+selector_from Indirect target = slot target
+selector_from Direct target = done target
 
-abbrev pub selector_at : Tables → Bool → ℕ → Place → Outcome ℕ
-selector_at t direct va p = run t (decode_selector direct va p)
+unfoldable pub decode_selector : Selectors → ℕ → Place → Decode ℕ
+decode_selector selectors va p = then (i32_in p small_method_name) (λ offset. selector_from selectors (relative va offset))
+
+abbrev pub selector_at : Tables → Selectors → ℕ → Place → Outcome ℕ
+selector_at t selectors va p = run t (decode_selector selectors va p)
 
 -- Its types: the text at its offset's target.
 unfoldable pub decode_types : ℕ → Place → Decode Text
@@ -60,8 +65,9 @@ decode_types va p = then (i32_in p small_method_types) (λ offset. or_empty (str
 abbrev pub types_at : Tables → ℕ → Place → Outcome Text
 types_at t va p = run t (decode_types va p)
 
-unfoldable pub small_kind : Bool → MethodKind
-small_kind direct = choose direct kind.SmallDirect kind.SmallIndirect
+abbrev pub small_kind : Selectors → MethodKind
+small_kind Indirect = kind.SmallIndirect
+small_kind Direct = kind.SmallDirect
 
 unfoldable pub is_small : MethodKind → Bool
 is_small kind.Legacy = false
@@ -69,21 +75,21 @@ is_small kind.SmallIndirect = true
 is_small kind.SmallDirect = true
 
 -- method_t::small: three offsets, each counted from its own field. The Rust reads all three first.
-unfoldable pub decode_small_method : ℕ → Bool → Decode Method
-decode_small_method va direct =
+unfoldable pub decode_small_method : ℕ → Selectors → Decode Method
+decode_small_method va selectors =
     then (readable va small_method_size) (λ p.
     then (i32_in p small_method_name) (λ _.
     then (i32_in p small_method_types) (λ _.
     then (u32_in p small_method_imp) (λ raw.
     then (sum64 va small_method_types) (λ types_field.
     then (sum64 va small_method_imp) (λ imp_field.
-    then (decode_selector direct va p) (λ name.
+    then (decode_selector selectors va p) (λ name.
     then (string name) (λ selector.
     then (decode_types types_field p) (λ types.
-    done (method_of selector types (small_imp raw imp_field) (small_kind direct)))))))))))
+    done (method_of selector types (small_imp raw imp_field) (small_kind selectors)))))))))))
 
-abbrev pub small_method_at : Tables → ℕ → Bool → Outcome Method
-small_method_at t va direct = run t (decode_small_method va direct)
+abbrev pub small_method_at : Tables → ℕ → Selectors → Outcome Method
+small_method_at t va selectors = run t (decode_small_method va selectors)
 
 -- An ivar's alignment: 0xFFFFFFFF gives 3 (WORD_SHIFT), 0 to 63 stand, anything else is none.
 unfoldable pub alignment_of : ℕ → Option ℕ
@@ -146,19 +152,10 @@ abbrev pub property_at : Tables → ℕ → Outcome Property
 property_at t va = run t (decode_property va)
 
 -- A row by what the entries of its list are.
-abbrev pub method_row : Method → Outcome Row
-method_row m = value (row.Method m)
-
-abbrev pub ivar_row : Ivar → Outcome Row
-ivar_row i = value (row.Ivar i)
-
-abbrev pub property_row : Property → Outcome Row
-property_row p = value (row.Property p)
-
 unfoldable pub decode_row : RowKind → ℕ → Decode Row
 decode_row rows.Legacy va = then (decode_legacy_method va) (λ m. done (row.Method m))
-decode_row rows.SmallIndirect va = then (decode_small_method va false) (λ m. done (row.Method m))
-decode_row rows.SmallDirect va = then (decode_small_method va true) (λ m. done (row.Method m))
+decode_row rows.SmallIndirect va = then (decode_small_method va Indirect) (λ m. done (row.Method m))
+decode_row rows.SmallDirect va = then (decode_small_method va Direct) (λ m. done (row.Method m))
 decode_row rows.Ivar va = then (decode_ivar va) (λ i. done (row.Ivar i))
 decode_row rows.Property va = then (decode_property va) (λ p. done (row.Property p))
 

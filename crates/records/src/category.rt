@@ -2,20 +2,20 @@
 ghost use Rattle.std.specs.Prelude.{◌≡◌};
 ghost use Rattle.reads.specs.Outcome.{choose};
 ghost use Rattle.reads.specs.Place.{readable};
-ghost use Rattle.pointers.specs.Tables.{under};
 ghost use Rattle.records.specs.Header.{category_size, category_size_with_class_properties};
 ghost use Rattle.records.specs.Category.{category_lists_at, category_properties_at, category_of, category_at};
 ghost use Rattle.reads.specs.Answer.{outcome};
 
+use crate::text::string;
 use pointers::imageinfo::ImageInfo;
-use pointers::setting::Setting;
 use pointers::slot::{pointer_or_0, resolve_pointer};
 use pointers::tables::Tables;
 use reads::answer::Missing;
 use reads::place::{Image, Place, readable};
-use reads::text::{Text, read_cstr};
+use reads::text::Text;
 
-// A category: name, host class, and the addresses of its lists; class_properties is 0 where it has none.
+// A category: name, host class, and the addresses of its lists; class_properties is 0, the field's own word for no
+// list, where it has none.
 #[derive(Clone, Copy)]
 pub struct ObjcCategory {
     pub address: u64,
@@ -29,24 +29,23 @@ pub struct ObjcCategory {
 }
 
 impl ObjcCategory {
-    // The size of category_t without _classProperties.
+    // The size of category_t without _classProperties and with it, and its fields (its name is at 0).
     pub const SIZE: u64 = 48;
+
+    pub const SIZE_WITH_CLASS_PROPERTIES: u64 = 56;
+
+    pub const CLS: u64 = 8;
+
+    pub const INSTANCE_METHODS: u64 = 16;
+
+    pub const CLASS_METHODS: u64 = 24;
+
+    pub const PROTOCOLS: u64 = 32;
+
+    pub const INSTANCE_PROPERTIES: u64 = 40;
+
+    pub const CLASS_PROPERTIES: u64 = 48;
 }
-
-// The size of category_t with _classProperties, and its fields (its name is at 0).
-const SIZE_WITH_CLASS_PROPERTIES: u64 = 56;
-
-const CLS: u64 = 8;
-
-const INSTANCE_METHODS: u64 = 16;
-
-const CLASS_METHODS: u64 = 24;
-
-const PROTOCOLS: u64 = 32;
-
-const INSTANCE_PROPERTIES: u64 = 40;
-
-const CLASS_PROPERTIES: u64 = 48;
 
 // The lists of a category_t but its class properties; each or 0.
 #[derive(Clone, Copy)]
@@ -62,37 +61,32 @@ fn whole_category(image: &Image, va: u64, wide: bool) -> Result<Place, Missing>
     ensures { outcome result ≡ readable image.now va (choose wide category_size_with_class_properties category_size) }
 {
     if wide {
-        return readable(image, va, SIZE_WITH_CLASS_PROPERTIES);
+        return readable(image, va, ObjcCategory::SIZE_WITH_CLASS_PROPERTIES);
     }
     readable(image, va, ObjcCategory::SIZE)
 }
 
 // _classProperties where the image has the field; or 0.
-fn category_properties_at(
-    tables: &Tables,
-    setting: Setting,
-    va: u64,
-    wide: bool,
-) -> Result<u64, Missing>
-    ensures { let t = under setting tables.now in
+fn category_properties_at(tables: &Tables, va: u64, wide: bool) -> Result<u64, Missing>
+    ensures { let t = tables.now in
         outcome result ≡ category_properties_at t va wide }
 {
     if wide {
-        return pointer_or_0(tables, setting, va, CLASS_PROPERTIES);
+        return pointer_or_0(tables, va, ObjcCategory::CLASS_PROPERTIES);
     }
     Ok(0)
 }
 
 // The lists of a category_t but its class properties; each or 0.
 #[tactic(auto, using(reads::proofs::Outcomes::missed_then), unfolding(crate::specs::Category::decode_category_lists))]
-fn category_lists_at(tables: &Tables, setting: Setting, va: u64) -> Result<CategoryLists, Missing>
-    ensures { let t = under setting tables.now in
+fn category_lists_at(tables: &Tables, va: u64) -> Result<CategoryLists, Missing>
+    ensures { let t = tables.now in
         outcome result ≡ category_lists_at t va }
 {
-    let instance_methods = pointer_or_0(tables, setting, va, INSTANCE_METHODS)?;
-    let class_methods = pointer_or_0(tables, setting, va, CLASS_METHODS)?;
-    let protocols = pointer_or_0(tables, setting, va, PROTOCOLS)?;
-    let instance_properties = pointer_or_0(tables, setting, va, INSTANCE_PROPERTIES)?;
+    let instance_methods = pointer_or_0(tables, va, ObjcCategory::INSTANCE_METHODS)?;
+    let class_methods = pointer_or_0(tables, va, ObjcCategory::CLASS_METHODS)?;
+    let protocols = pointer_or_0(tables, va, ObjcCategory::PROTOCOLS)?;
+    let instance_properties = pointer_or_0(tables, va, ObjcCategory::INSTANCE_PROPERTIES)?;
     Ok(CategoryLists {
         instance_methods,
         class_methods,
@@ -103,22 +97,16 @@ fn category_lists_at(tables: &Tables, setting: Setting, va: u64) -> Result<Categ
 
 // category_t, its fields in the order of category.rs, the name's text last.
 #[tactic(auto, using(reads::proofs::Outcomes::missed_then), unfolding(crate::specs::Category::decode_category_of))]
-fn category_of(
-    tables: &Tables,
-    setting: Setting,
-    va: u64,
-    wide: bool,
-) -> Result<ObjcCategory, Missing>
-    ensures { let t = under setting tables.now in
+fn category_of(tables: &Tables, va: u64, wide: bool) -> Result<ObjcCategory, Missing>
+    ensures { let t = tables.now in
         outcome result ≡ category_of t va wide }
 {
     whole_category(tables.image(), va, wide)?;
-    let name_va = resolve_pointer(tables, setting, va)?;
-    let class_address = pointer_or_0(tables, setting, va, CLS)?;
-    let lists = category_lists_at(tables, setting, va)?;
-    let class_properties = category_properties_at(tables, setting, va, wide)?;
-    let reading = setting.reading;
-    let name = read_cstr(tables.image(), reading, name_va)?;
+    let name_va = resolve_pointer(tables, va)?;
+    let class_address = pointer_or_0(tables, va, ObjcCategory::CLS)?;
+    let lists = category_lists_at(tables, va)?;
+    let class_properties = category_properties_at(tables, va, wide)?;
+    let name = string(tables, name_va)?;
     Ok(ObjcCategory {
         address: va,
         name,
@@ -133,11 +121,11 @@ fn category_of(
 
 // The category at an address, by bit 6 of the image info's flags.
 #[tactic(auto, using(reads::proofs::Outcomes::missed_then), unfolding(crate::specs::Category::decode_category))]
-pub fn category_at(tables: &Tables, setting: Setting, va: u64) -> Result<ObjcCategory, Missing>
-    ensures { let t = under setting tables.now in
+pub fn category_at(tables: &Tables, va: u64) -> Result<ObjcCategory, Missing>
+    ensures { let t = tables.now in
         outcome result ≡ category_at t va }
 {
     let image_info = ImageInfo::parse(tables.info())?;
     let wide = image_info.has_category_class_properties();
-    category_of(tables, setting, va, wide)
+    category_of(tables, va, wide)
 }

@@ -1,22 +1,20 @@
 // Classes and their read-only records (objc-runtime-new.h, class_t and class_ro_t).
-ghost use Rattle.std.specs.Prelude.{◌≡◌};
+ghost use Rattle.std.specs.Prelude.{◌≡◌, ◌≤◌};
 ghost use Rattle.reads.specs.Outcome.{or_zero};
 ghost use Rattle.pointers.specs.ImageInfo.{bit};
-ghost use Rattle.pointers.specs.Tables.{under, image_in};
-ghost use Rattle.records.specs.Near.{Near};
+ghost use Rattle.pointers.specs.Tables.{image_in};
 ghost use Rattle.records.specs.Class.{bits_of, data_at, class_at, ro_lists_at, class_ro_at, ro_of, ro_data_at, class_name_at, bound_name, decoded_name, class_name_of, fast_flags, is_swift};
 ghost use Rattle.records.specs.Ask.{picked_in};
 ghost use Rattle.reads.specs.Answer.{outcome};
 
-use crate::near::{field, field_or_0, readable_near};
-use pointers::setting::Setting;
+use crate::near::Near;
+use crate::text::string;
 use pointers::slot::{pointer, rebase_at, slot_or_0, symbol_at};
 use pointers::tables::Tables;
 use reads::address::Address;
-use reads::answer::{Missing, because, checked_add, is_absent, nonzero, or_zero};
+use reads::answer::{Missing, because, checked_add, nonzero, or_zero};
 use reads::place::{Image, read_u64, readable, u32_in};
-use reads::spot::Spot;
-use reads::text::{Text, read_cstr};
+use reads::text::Text;
 
 // A class or metaclass.
 #[derive(Clone, Copy)]
@@ -54,27 +52,6 @@ struct RoLists {
     properties: u64,
 }
 
-// The fields of class_ro_t.
-const FLAGS: u64 = 0;
-
-const INSTANCE_START: u64 = 4;
-
-const INSTANCE_SIZE: u64 = 8;
-
-const IVAR_LAYOUT: u64 = 16;
-
-const NAME: u64 = 24;
-
-const BASE_METHODS: u64 = 32;
-
-const BASE_PROTOCOLS: u64 = 40;
-
-const IVARS: u64 = 48;
-
-const WEAK_IVAR_LAYOUT: u64 = 56;
-
-const BASE_PROPERTIES: u64 = 64;
-
 // The data address without its low three bits, and the three of the stored word.
 fn bits_of(target: u64, raw: u64) -> u64
     ensures { result ≡ bits_of target raw }
@@ -83,43 +60,30 @@ fn bits_of(target: u64, raw: u64) -> u64
 }
 
 // The data address: the rebase target of the bits word, else the pick of the stored word.
-fn data_at(tables: &Tables, setting: Setting, slot: u64, raw: u64) -> Result<u64, Missing>
-    ensures { let t = under setting tables.now in
+#[tactic(auto, unfolding(crate::specs::Class::decode_data))]
+fn data_at(tables: &Tables, slot: u64, raw: u64) -> Result<u64, Missing>
+    ensures { let t = tables.now in
         outcome result ≡ data_at t slot raw }
 {
-    let target = rebase_at(tables, setting, slot);
-    if is_absent(target) {
-        return Address::pick(tables.segments(), raw);
+    match rebase_at(tables, slot) {
+        Err(Missing::Absent(_)) => Address::pick(tables.segments(), raw),
+        target => target,
     }
-    target
-}
-
-// The same, or 0.
-fn data_or_0(tables: &Tables, setting: Setting, slot: u64, raw: u64) -> Result<u64, Missing>
-    ensures { let t = under setting tables.now in
-        outcome result ≡ or_zero (data_at t slot raw) }
-{
-    or_zero(data_at(tables, setting, slot, raw))
 }
 
 // class_t: both field addresses are tested before the first lookup.
 #[tactic(auto, using(reads::proofs::Outcomes::missed_then), unfolding(crate::specs::Class::decode_class))]
-pub fn class_at(
-    tables: &Tables,
-    setting: Setting,
-    va: u64,
-    is_meta: bool,
-) -> Result<ObjcClass, Missing>
-    ensures { let t = under setting tables.now in
+pub fn class_at(tables: &Tables, va: u64, is_meta: bool) -> Result<ObjcClass, Missing>
+    ensures { let t = tables.now in
         outcome result ≡ class_at t va is_meta }
 {
     readable(tables.image(), va, ObjcClass::SIZE)?;
     let super_slot = checked_add(va, ObjcClass::SUPERCLASS)?;
     let bits_slot = checked_add(va, ObjcClass::BITS)?;
-    let isa = slot_or_0(tables, setting, va)?;
-    let superclass = slot_or_0(tables, setting, super_slot)?;
+    let isa = slot_or_0(tables, va)?;
+    let superclass = slot_or_0(tables, super_slot)?;
     let raw = read_u64(tables.image(), bits_slot)?;
-    let target = data_or_0(tables, setting, bits_slot, raw)?;
+    let target = or_zero(data_at(tables, bits_slot, raw))?;
     Ok(ObjcClass {
         address: va,
         isa,
@@ -130,17 +94,16 @@ pub fn class_at(
 }
 
 // What stands behind the name of a class_ro_t: its lists, and the weak ivar layout among them; each or 0.
-#[tactic(auto, using(reads::proofs::Outcomes::missed_then, crate::proofs::NearFields::near_less), unfolding(crate::specs::Class::decode_ro_lists))]
-fn ro_lists_at(tables: &Tables, setting: Setting, s: Spot, va: u64) -> Result<RoLists, Missing>
-    requires { Near (image_in tables.now) va s 72 }
-    ensures { let t = under setting tables.now in
-        outcome result ≡ ro_lists_at t va }
+#[tactic(auto, using(reads::proofs::Outcomes::missed_then), unfolding(crate::specs::Class::decode_ro_lists))]
+fn ro_lists_at(ro: &Near) -> Result<RoLists, Missing>
+    requires { 72 ≤ ro.now.size }
+    ensures { outcome result ≡ ro_lists_at ro.now.tables.now ro.now.va }
 {
-    let methods = field_or_0(tables, setting, s, va, BASE_METHODS)?;
-    let protocols = field_or_0(tables, setting, s, va, BASE_PROTOCOLS)?;
-    let ivars = field_or_0(tables, setting, s, va, IVARS)?;
-    let weak_ivar_layout = field_or_0(tables, setting, s, va, WEAK_IVAR_LAYOUT)?;
-    let properties = field_or_0(tables, setting, s, va, BASE_PROPERTIES)?;
+    let methods = ro.field_or_0(ClassRo::BASE_METHODS)?;
+    let protocols = ro.field_or_0(ClassRo::BASE_PROTOCOLS)?;
+    let ivars = ro.field_or_0(ClassRo::IVARS)?;
+    let weak_ivar_layout = ro.field_or_0(ClassRo::WEAK_IVAR_LAYOUT)?;
+    let properties = ro.field_or_0(ClassRo::BASE_PROPERTIES)?;
     Ok(RoLists {
         methods,
         protocols,
@@ -151,23 +114,22 @@ fn ro_lists_at(tables: &Tables, setting: Setting, s: Spot, va: u64) -> Result<Ro
 }
 
 // class_ro_t: the pointers in the order of class.rs, the name's text last.
-#[tactic(auto, using(reads::proofs::Outcomes::missed_then, crate::proofs::NearFields::near_found), unfolding(crate::specs::Class::decode_class_ro))]
-pub fn class_ro_at(tables: &Tables, setting: Setting, va: u64) -> Result<ClassRo, Missing>
-    ensures { let t = under setting tables.now in
+#[tactic(auto, using(reads::proofs::Outcomes::missed_then), unfolding(crate::specs::Class::decode_class_ro))]
+pub fn class_ro_at(tables: &Tables, va: u64) -> Result<ClassRo, Missing>
+    ensures { let t = tables.now in
         outcome result ≡ class_ro_at t va }
 {
-    let (s, place) = readable_near(tables, va, ClassRo::SIZE);
-    let p = place?;
-    let ivar_layout = field_or_0(tables, setting, s, va, IVAR_LAYOUT)?;
-    let name_va = field(tables, setting, s, va, NAME)?;
-    let lists = ro_lists_at(tables, setting, s, va)?;
-    let reading = setting.reading;
-    let name = read_cstr(tables.image(), reading, name_va)?;
+    let ro = Near::at(tables, va, ClassRo::SIZE)?;
+    let ivar_layout = ro.field_or_0(ClassRo::IVAR_LAYOUT)?;
+    let name_va = ro.field(ClassRo::NAME)?;
+    let lists = ro_lists_at(&ro)?;
+    let name = string(tables, name_va)?;
+    let p = ro.place();
     Ok(ClassRo {
         address: va,
-        flags: u32_in(tables.files(), p, FLAGS),
-        instance_start: u32_in(tables.files(), p, INSTANCE_START),
-        instance_size: u32_in(tables.files(), p, INSTANCE_SIZE),
+        flags: u32_in(tables.files(), p, ClassRo::FLAGS),
+        instance_start: u32_in(tables.files(), p, ClassRo::INSTANCE_START),
+        instance_size: u32_in(tables.files(), p, ClassRo::INSTANCE_SIZE),
         name,
         ivar_layout_address: ivar_layout,
         methods: lists.methods,
@@ -180,24 +142,24 @@ pub fn class_ro_at(tables: &Tables, setting: Setting, va: u64) -> Result<ClassRo
 
 // The class_ro_t of a class: picked again from its bits.
 #[tactic(auto, using(reads::proofs::Outcomes::missed_then), unfolding(crate::specs::Class::decode_ro_of))]
-pub fn ro_of(tables: &Tables, setting: Setting, class: ObjcClass) -> Result<ClassRo, Missing>
-    ensures { let t = under setting tables.now in
+pub fn ro_of(tables: &Tables, class: ObjcClass) -> Result<ClassRo, Missing>
+    ensures { let t = tables.now in
         outcome result ≡ ro_of t class }
 {
     let va = Address::pick(tables.segments(), class.bits)?;
-    class_ro_at(tables, setting, va)
+    class_ro_at(tables, va)
 }
 
 // The class_ro_t of the bits word in a slot: a rebase target is not picked from.
-fn ro_data_at(tables: &Tables, setting: Setting, slot: u64) -> Result<u64, Missing>
-    ensures { let t = under setting tables.now in
+#[tactic(auto, unfolding(crate::specs::Class::decode_ro_data))]
+fn ro_data_at(tables: &Tables, slot: u64) -> Result<u64, Missing>
+    ensures { let t = tables.now in
         outcome result ≡ ro_data_at t slot }
 {
-    let target = rebase_at(tables, setting, slot);
-    if is_absent(target) {
-        return picked_at(tables.image(), slot);
+    match rebase_at(tables, slot) {
+        Err(Missing::Absent(_)) => picked_at(tables.image(), slot),
+        target => target,
     }
-    target
 }
 
 // The pick of the word in a slot.
@@ -211,22 +173,21 @@ fn picked_at(image: &Image, slot: u64) -> Result<u64, Missing>
 
 // The name of the class at an address, by its class_ro_t's name slot alone.
 #[tactic(auto, using(reads::proofs::Outcomes::missed_then), unfolding(crate::specs::Class::decode_class_name))]
-pub fn class_name_at(tables: &Tables, setting: Setting, va: u64) -> Result<Text, Missing>
-    ensures { let t = under setting tables.now in
+pub fn class_name_at(tables: &Tables, va: u64) -> Result<Text, Missing>
+    ensures { let t = tables.now in
         outcome result ≡ class_name_at t va }
 {
     readable(tables.image(), va, ObjcClass::SIZE)?;
     let bits_slot = checked_add(va, ObjcClass::BITS)?;
-    let ro_va = ro_data_at(tables, setting, bits_slot)?;
-    let name_va = pointer(tables, setting, ro_va, NAME)?;
-    let reading = setting.reading;
-    read_cstr(tables.image(), reading, name_va)
+    let ro_va = ro_data_at(tables, bits_slot)?;
+    let name_va = pointer(tables, ro_va, ClassRo::NAME)?;
+    string(tables, name_va)
 }
 
 // The bind of the slot at +8, where both class_t.superclass and category_t.cls stand, less its prefix.
 #[tactic(auto, using(reads::proofs::Outcomes::missed_then), unfolding(crate::specs::Class::decode_bound_name))]
-fn bound_name(tables: &Tables, setting: Setting, address: u64) -> Result<Text, Missing>
-    ensures { let t = under setting tables.now in
+fn bound_name(tables: &Tables, address: u64) -> Result<Text, Missing>
+    ensures { let t = tables.now in
         outcome result ≡ bound_name t address }
 {
     let slot = checked_add(address, ObjcClass::SUPERCLASS)?;
@@ -235,31 +196,24 @@ fn bound_name(tables: &Tables, setting: Setting, address: u64) -> Result<Text, M
 
 // The decoded name of a class that is not 0.
 #[tactic(auto, using(reads::proofs::Outcomes::missed_then), unfolding(crate::specs::Class::decode_nonzero_class_name))]
-fn decoded_name(tables: &Tables, setting: Setting, class_va: u64) -> Result<Text, Missing>
-    ensures { let t = under setting tables.now in
+fn decoded_name(tables: &Tables, class_va: u64) -> Result<Text, Missing>
+    ensures { let t = tables.now in
         outcome result ≡ decoded_name t class_va }
 {
     let va = nonzero(class_va)?;
-    class_name_at(tables, setting, va)
+    class_name_at(tables, va)
 }
 
 // The name of the class in the slot at +8 of a record: a class that decodes goes before the bind, and where both are absent its
 // reason stands.
-pub fn class_name_of(
-    tables: &Tables,
-    setting: Setting,
-    address: u64,
-    class_va: u64,
-) -> Result<Text, Missing>
-    ensures { let t = under setting tables.now in
+#[tactic(auto, unfolding(crate::specs::Class::decode_class_name_of))]
+pub fn class_name_of(tables: &Tables, address: u64, class_va: u64) -> Result<Text, Missing>
+    ensures { let t = tables.now in
         outcome result ≡ class_name_of t address class_va }
 {
-    match decoded_name(tables, setting, class_va) {
-        Ok(name) => Ok(name),
-        Err(m) => match m {
-            Missing::Absent(why) => because(bound_name(tables, setting, address), why),
-            Missing::Refused(k) => Err(Missing::Refused(k)),
-        },
+    match decoded_name(tables, class_va) {
+        Err(Missing::Absent(why)) => because(bound_name(tables, address), why),
+        name => name,
     }
 }
 
@@ -337,6 +291,26 @@ impl RoFlags {
 impl ClassRo {
     // The size of class_ro_t.
     pub const SIZE: u64 = 72;
+
+    pub const FLAGS: u64 = 0;
+
+    pub const INSTANCE_START: u64 = 4;
+
+    pub const INSTANCE_SIZE: u64 = 8;
+
+    pub const IVAR_LAYOUT: u64 = 16;
+
+    pub const NAME: u64 = 24;
+
+    pub const BASE_METHODS: u64 = 32;
+
+    pub const BASE_PROTOCOLS: u64 = 40;
+
+    pub const IVARS: u64 = 48;
+
+    pub const WEAK_IVAR_LAYOUT: u64 = 56;
+
+    pub const BASE_PROPERTIES: u64 = 64;
 
     pub fn is_meta(self) -> bool
         ensures { result ≡ bit 0 self.flags }

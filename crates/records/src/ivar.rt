@@ -1,16 +1,15 @@
 // Rows of ivar lists (objc-runtime-new.h, ivar_t).
 ghost use Rattle.std.specs.Prelude.{◌≡◌};
 ghost use Rattle.reads.specs.Answer.{outcome};
-ghost use Rattle.pointers.specs.Tables.{under};
 ghost use Rattle.records.specs.Row.{alignment_of, aligned_of, decode_offset_there, offset_at, ivar_at};
 ghost use Rattle.records.specs.Decode.{run};
 
-use crate::near::{field, field_or_0, first_slot_or_0, readable_near};
-use pointers::setting::Setting;
+use crate::near::Near;
+use crate::text::{string, string_or_empty};
 use pointers::tables::Tables;
-use reads::answer::{Missing, nonzero};
+use reads::answer::{Missing, nonzero, or_value, or_zero};
 use reads::place::{readable, u32_in};
-use reads::text::{Text, read_cstr, read_cstr_or_empty};
+use reads::text::Text;
 
 // A row of an ivar list.
 #[derive(Clone, Copy)]
@@ -62,8 +61,8 @@ fn aligned_of(offset: Option<u32>, alignment: Option<u8>) -> Option<bool>
 
 // The four bytes at the pointed place.
 #[tactic(auto, using(reads::proofs::Outcomes::missed_then))]
-fn offset_there(tables: &Tables, setting: Setting, place: u64) -> Result<Option<u32>, Missing>
-    ensures { let t = under setting tables.now in
+fn offset_there(tables: &Tables, place: u64) -> Result<Option<u32>, Missing>
+    ensures { let t = tables.now in
         outcome result ≡ run t (decode_offset_there place) }
 {
     let va = nonzero(place)?;
@@ -73,31 +72,27 @@ fn offset_there(tables: &Tables, setting: Setting, place: u64) -> Result<Option<
 
 // The offset in the four bytes at the pointed place, none if the pointer is 0 or they cannot be read.
 #[tactic(auto, unfolding(crate::specs::Row::decode_offset))]
-fn offset_at(tables: &Tables, setting: Setting, place: u64) -> Result<Option<u32>, Missing>
-    ensures { let t = under setting tables.now in
+fn offset_at(tables: &Tables, place: u64) -> Result<Option<u32>, Missing>
+    ensures { let t = tables.now in
         outcome result ≡ offset_at t place }
 {
-    match offset_there(tables, setting, place) {
-        Err(Missing::Absent(_)) => Ok(None),
-        offset => offset,
-    }
+    or_value(offset_there(tables, place), None)
 }
 
 // ivar_t; the offset's place is read last.
-#[tactic(auto, using(reads::proofs::Outcomes::missed_then, crate::proofs::NearFields::near_found), unfolding(crate::specs::Row::decode_ivar))]
-pub(crate) fn ivar_at(tables: &Tables, setting: Setting, va: u64) -> Result<Ivar, Missing>
-    ensures { let t = under setting tables.now in
+#[tactic(auto, using(reads::proofs::Outcomes::missed_then), unfolding(crate::specs::Row::decode_ivar))]
+pub(crate) fn ivar_at(tables: &Tables, va: u64) -> Result<Ivar, Missing>
+    ensures { let t = tables.now in
         outcome result ≡ ivar_at t va }
 {
-    let (s, place) = readable_near(tables, va, Ivar::SIZE);
-    let p = place?;
-    let offset_va = first_slot_or_0(tables, setting, s, va)?;
-    let name_va = field(tables, setting, s, va, Ivar::NAME)?;
-    let type_va = field_or_0(tables, setting, s, va, Ivar::TYPE)?;
-    let reading = setting.reading;
-    let name = read_cstr(tables.image(), reading, name_va)?;
-    let type_encoding = read_cstr_or_empty(tables.image(), reading, type_va)?;
-    let offset = offset_at(tables, setting, offset_va)?;
+    let row = Near::at(tables, va, Ivar::SIZE)?;
+    let offset_va = or_zero(row.first_slot())?;
+    let name_va = row.field(Ivar::NAME)?;
+    let type_va = row.field_or_0(Ivar::TYPE)?;
+    let name = string(tables, name_va)?;
+    let type_encoding = string_or_empty(tables, type_va)?;
+    let offset = offset_at(tables, offset_va)?;
+    let p = row.place();
     let log2_alignment = alignment_of(u32_in(tables.files(), p, Ivar::ALIGNMENT_RAW));
     Ok(Ivar {
         name,

@@ -11,3 +11,4 @@ mod near;
 pub mod property;
 pub mod protocol;
 pub mod row;
+mod text;

@@ -3,7 +3,6 @@ ghost use Rattle.std.specs.Prelude.{◌≡◌, ◌<◌};
 ghost use Rattle.reads.specs.Reference.{before};
 ghost use Rattle.reads.specs.Breaks.{can_read};
 ghost use Rattle.reads.specs.Outcome.{value, choose};
-ghost use Rattle.pointers.specs.Tables.{under};
 ghost use Rattle.records.specs.Ask.{even_list, entry_size};
 ghost use Rattle.records.specs.List.{least, method_rows, rows_of, size_of, must_be_even, list_at};
 ghost use Rattle.records.specs.Search.{first_readable, search_budget};
@@ -13,12 +12,12 @@ ghost use Rattle.reads.specs.Answer.{outcome};
 use crate::ivar::Ivar;
 use crate::method::Method;
 use crate::property::Property;
-use pointers::setting::Setting;
 use pointers::tables::Tables;
 use reads::answer::{Missing, Reason, checked_add, nonzero};
 use reads::breaks::next_break;
 use reads::place::{Image, readable, u32_in};
 use reads::segment::Segment;
+use std::ops::ControlFlow;
 
 // Bits of a method list's first word that are not its entry size (objc-runtime-new.h, entsize_list_tt<method_t, ..>).
 const METHOD_LIST_FLAG_MASK: u32 = 0xFFFF_0003;
@@ -35,7 +34,8 @@ pub enum ListKind {
     Properties,
 }
 
-// What the entries of a list are.
+// What the entries of a list are. MethodKind and Selectors have fewer cases: with this enum for them, each match on a method's kind or on where its
+// offset leads would have arms that cannot come.
 #[derive(Clone, Copy)]
 pub enum RowKind {
     Legacy,
@@ -61,13 +61,6 @@ impl Layout {
     pub const ENTSIZE_AND_FLAGS: u64 = 0;
 
     pub const COUNT: u64 = 4;
-}
-
-// What trying one index gives: the answer of the search, or the index to try next.
-#[derive(Clone, Copy)]
-pub(crate) enum Try {
-    Stop(Option<u64>),
-    Go(u64),
 }
 
 // The rows of a method list, by its first word.
@@ -139,7 +132,7 @@ pub fn even_list(va: u64) -> Result<u64, Missing>
 }
 
 // The address of a list, even as its kind asks.
-fn list_address(kind: ListKind, va: u64) -> Result<u64, Missing>
+pub fn list_address(kind: ListKind, va: u64) -> Result<u64, Missing>
     ensures { outcome result ≡ choose (must_be_even kind) (even_list va) (value va) }
 {
     match kind {
@@ -151,13 +144,8 @@ fn list_address(kind: ListKind, va: u64) -> Result<u64, Missing>
 
 // The list at an address: an 8-byte header of entry size and count, then the entries.
 #[tactic(auto, using(reads::proofs::Outcomes::missed_then), unfolding(crate::specs::List::decode_list))]
-pub fn list_at(
-    tables: &Tables,
-    setting: Setting,
-    kind: ListKind,
-    va: u64,
-) -> Result<Layout, Missing>
-    ensures { let t = under setting tables.now in
+pub fn list_at(tables: &Tables, kind: ListKind, va: u64) -> Result<Layout, Missing>
+    ensures { let t = tables.now in
         outcome result ≡ list_at t kind va }
 {
     nonzero(va)?;
@@ -185,59 +173,55 @@ fn can_read(image: &Image, k: u64, va: u64) -> bool
 
 // Tries index i: the entry there is the answer, or none from there on is, or the search goes on at the first entry whose
 // address reaches the next breakpoint.
-fn try_at(image: &Image, h: Layout, i: u64) -> Try
+fn try_at(image: &Image, h: Layout, i: u64) -> ControlFlow<Option<u64>, u64>
     ensures { Leads image.now h i result }
 {
     let count = h.count as u64;
     if count <= i {
-        return Try::Stop(None);
+        return ControlFlow::Break(None);
     }
     let size = h.size as u64;
     // Entries from the first whose address passes 64 bits are not readable.
     let way = i * size;
     if 0xFFFF_FFFF_FFFF_FFFF - h.base < way {
-        return Try::Stop(None);
+        return ControlFlow::Break(None);
     }
     let va = h.base + way;
     let rows = h.kind;
     let k = least(rows);
     if can_read(image, k, va) {
-        return Try::Stop(Some(i));
+        return ControlFlow::Break(Some(i));
     }
     let Some(b) = next_break(image, k, va) else {
-        return Try::Stop(None);
+        return ControlFlow::Break(None);
     };
     // Entries of size 0 all have one address.
     if size == 0 {
-        return Try::Stop(None);
+        return ControlFlow::Break(None);
     }
     // As many entries after i start below the breakpoint.
     let gap = (b - va - 1) / size;
     if count - i - 1 <= gap {
-        return Try::Stop(None);
+        return ControlFlow::Break(None);
     }
-    Try::Go(i + gap + 1)
+    ControlFlow::Continue(i + gap + 1)
 }
 
-// Spends one of the budget at each index tried. Each try leaves fewer breakpoints ahead, so the budget does not run out.
+// Tries at most `budget` indices. Each try leaves fewer breakpoints ahead, so one of them has the answer.
+#[tactic(auto, using(crate::proofs::Jumps::stopped, crate::proofs::Jumps::went))]
 fn search(image: &Image, h: Layout, from: u64, budget: u64) -> Option<u64>
     requires { ahead image.now h from < budget }
     ensures { result ≡ first_readable image.now h from }
 {
+    // Not `try_fold` over the range: its end would be a last index still to go on from, so the arm that cannot come would stay.
     let mut i = from;
-    let mut left = budget;
-    // Not a `for`: a try says where the next one begins, past the entries below a breakpoint.
-    loop {
-        left -= 1;
+    for _ in 0..budget {
         match try_at(image, h, i) {
-            Try::Stop(entry) => {
-                return entry;
-            }
-            Try::Go(j) => {
-                i = j;
-            }
+            ControlFlow::Break(entry) => return entry,
+            ControlFlow::Continue(j) => i = j,
         }
     }
+    unreachable!()
 }
 
 // How many indices a step may try: three for each segment, and one.

@@ -2,19 +2,18 @@
 ghost use Rattle.std.specs.Prelude.{◌≡◌};
 ghost use Rattle.reads.specs.Relative.{relative, signed_in};
 ghost use Rattle.reads.specs.Files.{files_of};
-ghost use Rattle.pointers.specs.Tables.{under};
 ghost use Rattle.records.specs.Row.{legacy_imp, legacy_method_at, small_imp, selector_at, types_at, small_kind, small_method_at, is_small};
 ghost use Rattle.reads.specs.Answer.{outcome};
 
-use crate::near::{field, field_or_0, first_slot, readable_near};
-use pointers::setting::Setting;
+use crate::near::Near;
+use crate::text::{string, string_or_empty};
 use pointers::slot::resolve_pointer;
 use pointers::tables::Tables;
 use reads::address::Address;
 use reads::answer::{Missing, checked_add};
 use reads::place::{Place, readable, u32_in};
 use reads::relative::{i32_in, relative_pointer, signed};
-use reads::text::{Text, read_cstr, read_cstr_or_empty};
+use reads::text::Text;
 
 // Which form of method_t a row came from.
 #[derive(Clone, Copy)]
@@ -22,6 +21,13 @@ pub enum MethodKind {
     Legacy,
     SmallIndirect,
     SmallDirect,
+}
+
+// Where the first offset of a small method leads: to a slot that points to the selector, or to the selector itself.
+#[derive(Clone, Copy)]
+pub enum Selectors {
+    Indirect,
+    Direct,
 }
 
 // A row of a method list.
@@ -74,23 +80,17 @@ fn legacy_imp(va: u64) -> Option<u64>
 }
 
 // method_t::big.
-#[tactic(auto, using(reads::proofs::Outcomes::missed_then, crate::proofs::NearFields::near_found), unfolding(crate::specs::Row::decode_legacy_method))]
-pub(crate) fn legacy_method_at(
-    tables: &Tables,
-    setting: Setting,
-    va: u64,
-) -> Result<Method, Missing>
-    ensures { let t = under setting tables.now in
+#[tactic(auto, using(reads::proofs::Outcomes::missed_then), unfolding(crate::specs::Row::decode_legacy_method))]
+pub(crate) fn legacy_method_at(tables: &Tables, va: u64) -> Result<Method, Missing>
+    ensures { let t = tables.now in
         outcome result ≡ legacy_method_at t va }
 {
-    let (s, place) = readable_near(tables, va, Method::SIZE);
-    place?;
-    let name_va = first_slot(tables, setting, s, va)?;
-    let types_va = field(tables, setting, s, va, Method::TYPES)?;
-    let imp_va = field_or_0(tables, setting, s, va, Method::IMP)?;
-    let reading = setting.reading;
-    let selector = read_cstr(tables.image(), reading, name_va)?;
-    let types = read_cstr_or_empty(tables.image(), reading, types_va)?;
+    let row = Near::at(tables, va, Method::SIZE)?;
+    let name_va = row.first_slot()?;
+    let types_va = row.field(Method::TYPES)?;
+    let imp_va = row.field_or_0(Method::IMP)?;
+    let selector = string(tables, name_va)?;
+    let types = string_or_empty(tables, types_va)?;
     Ok(Method {
         selector,
         types,
@@ -109,13 +109,14 @@ fn small_imp(raw: u32, field: u64) -> Option<u64>
     Some(Address::strip(relative_pointer(field, signed(raw))))
 }
 
-fn small_kind(direct: bool) -> MethodKind
-    ensures { result ≡ small_kind direct }
+// Not `From`: it would be the same match, and public.
+fn small_kind(selectors: Selectors) -> MethodKind
+    ensures { result ≡ small_kind selectors }
 {
-    if direct {
-        return MethodKind::SmallDirect;
+    match selectors {
+        Selectors::Indirect => MethodKind::SmallIndirect,
+        Selectors::Direct => MethodKind::SmallDirect,
     }
-    MethodKind::SmallIndirect
 }
 
 // The target of the offset at i bytes from a place, counted from the offset's own field.
@@ -126,34 +127,26 @@ fn target_of(files: &[&[u8]], p: Place, i: u64, field: u64) -> u64
 }
 
 // A small method's selector: its offset's target itself, or indirect, through one slot.
-#[tactic(auto, unfolding(crate::specs::Row::decode_selector, reads::specs::Outcome::choose))]
-fn selector_at(
-    tables: &Tables,
-    setting: Setting,
-    direct: bool,
-    field: u64,
-    p: Place,
-) -> Result<u64, Missing>
-    ensures { let t = under setting tables.now in
-        outcome result ≡ selector_at t direct field p }
+#[tactic(auto, unfolding(crate::specs::Row::decode_selector))]
+fn selector_at(tables: &Tables, selectors: Selectors, field: u64, p: Place) -> Result<u64, Missing>
+    ensures { let t = tables.now in
+        outcome result ≡ selector_at t selectors field p }
 {
     let target = target_of(tables.files(), p, Method::SMALL_NAME, field);
-    if direct {
-        return Ok(target);
+    match selectors {
+        Selectors::Indirect => resolve_pointer(tables, target),
+        Selectors::Direct => Ok(target),
     }
-    resolve_pointer(tables, setting, target)
 }
 
 // A small method's types: the text at its offset's target.
 #[tactic(auto, unfolding(crate::specs::Row::decode_types))]
-fn types_at(tables: &Tables, setting: Setting, field: u64, p: Place) -> Result<Text, Missing>
-    ensures { let t = under setting tables.now in
+fn types_at(tables: &Tables, field: u64, p: Place) -> Result<Text, Missing>
+    ensures { let t = tables.now in
         outcome result ≡ types_at t field p }
 {
-    let reading = setting.reading;
-    read_cstr_or_empty(
-        tables.image(),
-        reading,
+    string_or_empty(
+        tables,
         target_of(tables.files(), p, Method::SMALL_TYPES, field),
     )
 }
@@ -162,24 +155,22 @@ fn types_at(tables: &Tables, setting: Setting, field: u64, p: Place) -> Result<T
 #[tactic(auto, using(reads::proofs::Outcomes::missed_then), unfolding(crate::specs::Row::decode_small_method))]
 pub(crate) fn small_method_at(
     tables: &Tables,
-    setting: Setting,
     va: u64,
-    direct: bool,
+    selectors: Selectors,
 ) -> Result<Method, Missing>
-    ensures { let t = under setting tables.now in
-        outcome result ≡ small_method_at t va direct }
+    ensures { let t = tables.now in
+        outcome result ≡ small_method_at t va selectors }
 {
     let p = readable(tables.image(), va, Method::SMALL_SIZE)?;
     let types_field = checked_add(va, Method::SMALL_TYPES)?;
     let imp_field = checked_add(va, Method::SMALL_IMP)?;
-    let name_va = selector_at(tables, setting, direct, va, p)?;
-    let reading = setting.reading;
-    let selector = read_cstr(tables.image(), reading, name_va)?;
-    let types = types_at(tables, setting, types_field, p)?;
+    let name_va = selector_at(tables, selectors, va, p)?;
+    let selector = string(tables, name_va)?;
+    let types = types_at(tables, types_field, p)?;
     Ok(Method {
         selector,
         types,
         implementation: small_imp(u32_in(tables.files(), p, Method::SMALL_IMP), imp_field),
-        kind: small_kind(direct),
+        kind: small_kind(selectors),
     })
 }

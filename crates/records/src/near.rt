@@ -1,84 +1,90 @@
-// Pointer fields of a record or row whose bytes can be read, from the spot of its address.
-ghost use Rattle.pointers.specs.Tables.{image_in};
-ghost use Rattle.std.specs.Prelude.{◌≡◌, ◌+◌};
-ghost use Rattle.reads.specs.Outcome.{or_zero};
-ghost use Rattle.reads.specs.Place.{readable};
+// A record or row whose bytes can be read: its pointer fields are read from the spot of its address.
+ghost use Rattle.std.specs.Prelude.{◌≡◌, ◌≤◌, ◌+◌};
+ghost use Rattle.reads.specs.Outcome.{value};
 ghost use Rattle.reads.specs.Spot.{readable_spot};
-ghost use Rattle.pointers.specs.Slot.{resolve, pointer_at, pointer_or0_at};
-ghost use Rattle.records.specs.Near.{Near};
-ghost use Rattle.reads.specs.Answer.{outcome};
+ghost use Rattle.pointers.specs.Tables.{image_in};
 
-use pointers::setting::Setting;
 use pointers::slot::resolve_near;
 use pointers::tables::Tables;
 use reads::answer::{Missing, checked_add, or_zero};
 use reads::place::Place;
-use reads::spot::{Spot, readable_spot, spot_place};
+use reads::spot::{Spot, readable_spot};
 
-// The spot of a record or row, and its place if its bytes can be read.
-#[tactic(auto, using(reads::proofs::Spots::spot_place_readable))]
-pub(crate) fn readable_near(tables: &Tables, va: u64, size: u64) -> (Spot, Result<Place, Missing>)
-    ensures spot { result.0 ≡ readable_spot (image_in tables.now) va size }
-    ensures place { outcome result.1 ≡ readable (image_in tables.now) va size }
-{
-    let s = readable_spot(tables.image(), va, size);
-    (s, spot_place(s))
+// The tables, the address and size of the record or row, and the spot of its bytes.
+#[derive(Clone, Copy)]
+pub(crate) struct Near<'a> {
+    tables: &'a Tables<'a>,
+    va: u64,
+    size: u64,
+    spot: Spot,
+    ghost found: { readable_spot (image_in tables.now) va size ≡ value spot },
 }
 
-// The pointer in the first field.
-pub(crate) fn first_slot(
-    tables: &Tables,
-    setting: Setting,
-    s: Spot,
-    va: u64,
-) -> Result<u64, Missing>
-    requires { Near (image_in tables.now) va s 8 }
-    ensures { outcome result ≡ resolve (image_in tables.now) tables.now.rebases tables.now.index setting va }
-{
-    resolve_near(tables, setting, s, 0, va)
-}
+impl<'a> Near<'a> {
+    ghost use Rattle.std.specs.Prelude.{IfOk};
+    ghost use Rattle.reads.specs.Outcome.{or_zero};
+    ghost use Rattle.reads.specs.Place.{readable};
+    ghost use Rattle.reads.specs.Answer.{outcome};
+    ghost use Rattle.pointers.specs.Slot.{slot, pointer, pointer_or0};
+    ghost use Rattle.records.specs.Near.{place_of};
 
-// The same, an absent slot counting as 0.
-pub(crate) fn first_slot_or_0(
-    tables: &Tables,
-    setting: Setting,
-    s: Spot,
-    va: u64,
-) -> Result<u64, Missing>
-    requires { Near (image_in tables.now) va s 8 }
-    ensures { outcome result ≡ or_zero (resolve (image_in tables.now) tables.now.rebases tables.now.index setting va) }
-{
-    or_zero(first_slot(tables, setting, s, va))
-}
+    // The record or row at an address, if so many bytes can be read there.
+    #[tactic(auto, using(crate::proofs::NearFields::place_found, crate::proofs::NearFields::place_unreadable))]
+    pub(crate) fn at(tables: &'a Tables<'a>, va: u64, size: u64) -> Result<Near<'a>, Missing>
+        ensures place { place_of result ≡ readable (image_in tables.now) va size }
+        ensures record { IfOk result (λ n. (n.tables.now ≡ tables.now) × (n.va ≡ va) × (n.size ≡ size)) }
+    {
+        let spot = readable_spot(tables.image(), va, size)?;
+        Ok(Near {
+            tables,
+            va,
+            size,
+            spot,
+        })
+    }
 
-// The pointer in the field at va + k.
-#[tactic(auto, using(reads::proofs::Outcomes::missed_then), unfolding(pointers::specs::Slot::pointer_at))]
-pub(crate) fn field(
-    tables: &Tables,
-    setting: Setting,
-    s: Spot,
-    va: u64,
-    k: u64,
-) -> Result<u64, Missing>
-    requires { Near (image_in tables.now) va s (k + 8) }
-    ensures { outcome result ≡ pointer_at (image_in tables.now) tables.now.rebases tables.now.index setting va k }
-{
-    let slot = checked_add(va, k)?;
-    resolve_near(tables, setting, s, k, slot)
-}
+    // Where its bytes stand.
+    pub(crate) fn place(&self) -> Place
+        ensures { result ≡ self.now.spot.place }
+    {
+        self.spot.place
+    }
 
-// The same, an absent slot counting as 0.
-#[tactic(auto, using(reads::proofs::Outcomes::missed_then), unfolding(pointers::specs::Slot::pointer_or0_at))]
-pub(crate) fn field_or_0(
-    tables: &Tables,
-    setting: Setting,
-    s: Spot,
-    va: u64,
-    k: u64,
-) -> Result<u64, Missing>
-    requires { Near (image_in tables.now) va s (k + 8) }
-    ensures { outcome result ≡ pointer_or0_at (image_in tables.now) tables.now.rebases tables.now.index setting va k }
-{
-    let slot = checked_add(va, k)?;
-    or_zero(resolve_near(tables, setting, s, k, slot))
+    // The pointer in the slot k bytes behind its address.
+    #[tactic(auto, using(crate::proofs::NearFields::near_slot))]
+    fn slot(&self, k: u64, va: u64) -> Result<u64, Missing>
+        requires at { va ≡ self.now.va + k }
+        requires inside { k + 8 ≤ self.now.size }
+        ensures { outcome result ≡ slot self.now.tables.now va }
+    {
+        resolve_near(self.tables, self.spot, k, va)
+    }
+
+    // The pointer in the first field.
+    pub(crate) fn first_slot(&self) -> Result<u64, Missing>
+        requires { 8 ≤ self.now.size }
+        ensures { outcome result ≡ slot self.now.tables.now self.now.va }
+    {
+        self.slot(0, self.va)
+    }
+
+    // The pointer in the field at va + k.
+    #[tactic(auto, using(reads::proofs::Outcomes::missed_then, crate::proofs::NearFields::sum_is), unfolding(pointers::specs::Slot::pointer_at))]
+    pub(crate) fn field(&self, k: u64) -> Result<u64, Missing>
+        requires { k + 8 ≤ self.now.size }
+        ensures { outcome result ≡ pointer self.now.tables.now self.now.va k }
+    {
+        let slot = checked_add(self.va, k)?;
+        self.slot(k, slot)
+    }
+
+    // The same, an absent slot counting as 0.
+    #[tactic(auto, using(reads::proofs::Outcomes::missed_then, crate::proofs::NearFields::sum_is, reads::proofs::Outcomes::or_zero_of), unfolding(pointers::specs::Slot::pointer_or0_at))]
+    pub(crate) fn field_or_0(&self, k: u64) -> Result<u64, Missing>
+        requires { k + 8 ≤ self.now.size }
+        ensures { outcome result ≡ pointer_or0 self.now.tables.now self.now.va k }
+    {
+        let slot = checked_add(self.va, k)?;
+        or_zero(self.slot(k, slot))
+    }
 }

@@ -1,17 +1,16 @@
 // Protocols (objc-runtime-new.h, protocol_t).
 ghost use Rattle.std.specs.Prelude.{◌≡◌};
-ghost use Rattle.pointers.specs.Tables.{under};
 ghost use Rattle.records.specs.Protocol.{protocol_lists_at, class_properties_at, trailing_at, protocol_at};
 ghost use Rattle.reads.specs.Answer.{outcome};
 
-use pointers::setting::Setting;
+use crate::text::string;
 use pointers::slot::{pointer, pointer_or_0, slot_or_0};
 use pointers::tables::Tables;
 use reads::answer::{Missing, checked_add};
 use reads::place::{Place, readable, u32_in};
-use reads::text::{Text, read_cstr};
+use reads::text::Text;
 
-// A protocol: name, and the addresses of its lists; class_properties is 0 where it has none.
+// A protocol: name, and the addresses of its lists; class_properties is 0, the field's own word for no list, where it has none.
 #[derive(Clone, Copy)]
 pub struct ObjcProtocol {
     pub address: u64,
@@ -30,30 +29,29 @@ pub struct ObjcProtocol {
 impl ObjcProtocol {
     // The size of protocol_t up to its flags.
     pub const SIZE: u64 = 72;
+
+    pub const MANGLED_NAME: u64 = 8;
+
+    pub const PROTOCOLS: u64 = 16;
+
+    pub const INSTANCE_METHODS: u64 = 24;
+
+    pub const CLASS_METHODS: u64 = 32;
+
+    pub const OPTIONAL_INSTANCE_METHODS: u64 = 40;
+
+    pub const OPTIONAL_CLASS_METHODS: u64 = 48;
+
+    pub const INSTANCE_PROPERTIES: u64 = 56;
+
+    pub const OWN_SIZE: u64 = 64;
+
+    pub const FLAGS: u64 = 68;
+
+    pub const CLASS_PROPERTIES: u64 = 88;
+
+    pub const SIZE_WITH_CLASS_PROPERTIES: u32 = 96;
 }
-
-// The fields of protocol_t, and its own size from which it has _classProperties.
-const MANGLED_NAME: u64 = 8;
-
-const PROTOCOLS: u64 = 16;
-
-const INSTANCE_METHODS: u64 = 24;
-
-const CLASS_METHODS: u64 = 32;
-
-const OPTIONAL_INSTANCE_METHODS: u64 = 40;
-
-const OPTIONAL_CLASS_METHODS: u64 = 48;
-
-const INSTANCE_PROPERTIES: u64 = 56;
-
-const OWN_SIZE: u64 = 64;
-
-const FLAGS: u64 = 68;
-
-const CLASS_PROPERTIES: u64 = 88;
-
-const SIZE_WITH_CLASS_PROPERTIES: u32 = 96;
 
 // The lists of a protocol_t but its class properties; each or 0.
 #[derive(Clone, Copy)]
@@ -68,39 +66,45 @@ struct ProtocolLists {
 
 // _classProperties: its 8 bytes must be readable, even where a rebase fills the slot; or 0.
 #[tactic(auto, using(reads::proofs::Outcomes::missed_then), unfolding(crate::specs::Protocol::decode_trailing))]
-fn trailing_at(tables: &Tables, setting: Setting, va: u64) -> Result<u64, Missing>
-    ensures { let t = under setting tables.now in
+fn trailing_at(tables: &Tables, va: u64) -> Result<u64, Missing>
+    ensures { let t = tables.now in
         outcome result ≡ trailing_at t va }
 {
-    let slot = checked_add(va, CLASS_PROPERTIES)?;
+    let slot = checked_add(va, ObjcProtocol::CLASS_PROPERTIES)?;
     readable(tables.image(), slot, 8)?;
-    slot_or_0(tables, setting, slot)
+    slot_or_0(tables, slot)
 }
 
 // The class properties, 0 where the protocol is too short to have them.
 #[tactic(auto, using(std::proofs::lemmas::Bool::Decides::nat_tests), unfolding(crate::specs::Protocol::decode_class_properties, reads::specs::Outcome::choose))]
-fn class_properties_at(tables: &Tables, setting: Setting, va: u64, p: Place) -> Result<u64, Missing>
-    ensures { let t = under setting tables.now in
+fn class_properties_at(tables: &Tables, va: u64, p: Place) -> Result<u64, Missing>
+    ensures { let t = tables.now in
         outcome result ≡ class_properties_at t va p }
 {
-    if SIZE_WITH_CLASS_PROPERTIES <= u32_in(tables.files(), p, OWN_SIZE) {
-        return trailing_at(tables, setting, va);
+    if ObjcProtocol::SIZE_WITH_CLASS_PROPERTIES
+        <= u32_in(tables.files(), p, ObjcProtocol::OWN_SIZE)
+    {
+        return trailing_at(tables, va);
     }
     Ok(0)
 }
 
 // The lists of a protocol_t but its class properties; each or 0.
 #[tactic(auto, using(reads::proofs::Outcomes::missed_then), unfolding(crate::specs::Protocol::decode_protocol_lists))]
-fn protocol_lists_at(tables: &Tables, setting: Setting, va: u64) -> Result<ProtocolLists, Missing>
-    ensures { let t = under setting tables.now in
+fn protocol_lists_at(tables: &Tables, va: u64) -> Result<ProtocolLists, Missing>
+    ensures { let t = tables.now in
         outcome result ≡ protocol_lists_at t va }
 {
-    let protocols = pointer_or_0(tables, setting, va, PROTOCOLS)?;
-    let instance_methods = pointer_or_0(tables, setting, va, INSTANCE_METHODS)?;
-    let class_methods = pointer_or_0(tables, setting, va, CLASS_METHODS)?;
-    let optional_instance_methods = pointer_or_0(tables, setting, va, OPTIONAL_INSTANCE_METHODS)?;
-    let optional_class_methods = pointer_or_0(tables, setting, va, OPTIONAL_CLASS_METHODS)?;
-    let instance_properties = pointer_or_0(tables, setting, va, INSTANCE_PROPERTIES)?;
+    let protocols = pointer_or_0(tables, va, ObjcProtocol::PROTOCOLS)?;
+    let instance_methods = pointer_or_0(tables, va, ObjcProtocol::INSTANCE_METHODS)?;
+    let class_methods = pointer_or_0(tables, va, ObjcProtocol::CLASS_METHODS)?;
+    let optional_instance_methods = pointer_or_0(
+        tables,
+        va,
+        ObjcProtocol::OPTIONAL_INSTANCE_METHODS,
+    )?;
+    let optional_class_methods = pointer_or_0(tables, va, ObjcProtocol::OPTIONAL_CLASS_METHODS)?;
+    let instance_properties = pointer_or_0(tables, va, ObjcProtocol::INSTANCE_PROPERTIES)?;
     Ok(ProtocolLists {
         protocols,
         instance_methods,
@@ -113,16 +117,15 @@ fn protocol_lists_at(tables: &Tables, setting: Setting, va: u64) -> Result<Proto
 
 // protocol_t: the name's text is read before _classProperties.
 #[tactic(auto, using(reads::proofs::Outcomes::missed_then), unfolding(crate::specs::Protocol::decode_protocol))]
-pub fn protocol_at(tables: &Tables, setting: Setting, va: u64) -> Result<ObjcProtocol, Missing>
-    ensures { let t = under setting tables.now in
+pub fn protocol_at(tables: &Tables, va: u64) -> Result<ObjcProtocol, Missing>
+    ensures { let t = tables.now in
         outcome result ≡ protocol_at t va }
 {
     let p = readable(tables.image(), va, ObjcProtocol::SIZE)?;
-    let name_va = pointer(tables, setting, va, MANGLED_NAME)?;
-    let lists = protocol_lists_at(tables, setting, va)?;
-    let reading = setting.reading;
-    let name = read_cstr(tables.image(), reading, name_va)?;
-    let class_properties = class_properties_at(tables, setting, va, p)?;
+    let name_va = pointer(tables, va, ObjcProtocol::MANGLED_NAME)?;
+    let lists = protocol_lists_at(tables, va)?;
+    let name = string(tables, name_va)?;
+    let class_properties = class_properties_at(tables, va, p)?;
     Ok(ObjcProtocol {
         address: va,
         name,
@@ -133,7 +136,7 @@ pub fn protocol_at(tables: &Tables, setting: Setting, va: u64) -> Result<ObjcPro
         optional_class_methods: lists.optional_class_methods,
         instance_properties: lists.instance_properties,
         class_properties,
-        size: u32_in(tables.files(), p, OWN_SIZE),
-        flags: u32_in(tables.files(), p, FLAGS),
+        size: u32_in(tables.files(), p, ObjcProtocol::OWN_SIZE),
+        flags: u32_in(tables.files(), p, ObjcProtocol::FLAGS),
     })
 }

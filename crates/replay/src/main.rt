@@ -6,10 +6,11 @@
 ghost use Rattle.std.specs.Prelude.{◌≤◌, length};
 ghost use Rattle.std.specs.Result.{IfOk};
 
+use printing::descriptor::Descriptor;
 use printing::write::write_under;
 use reads::text::Reading;
 use std::fs::File;
-use std::io::Read;
+use std::io::{Read, Write};
 
 // The descriptors that every program begins with.
 const STDOUT: i32 = 1;
@@ -26,10 +27,8 @@ enum Failure {
 // The next word of the file.
 fn read_word(file: &mut File) -> Result<u64, Failure> {
     let mut word = [0u8; 8];
-    match file.read_exact(&mut word) {
-        Ok(()) => Ok(u64::from_le_bytes(word)),
-        Err(_) => Err(Failure::Cut),
-    }
+    file.read_exact(&mut word).map_err(|_| Failure::Cut)?;
+    Ok(u64::from_le_bytes(word))
 }
 
 // The next title or bundle of the file, to the front of a buffer: how many bytes.
@@ -41,39 +40,31 @@ fn read_part(file: &mut File, to: &mut [u8]) -> Result<usize, Failure>
         return Err(Failure::Cut);
     }
     let k = n as usize;
-    match file.read_exact(&mut to[0..k]) {
-        Ok(()) => Ok(k),
-        Err(_) => Err(Failure::Cut),
-    }
-}
-
-// An answer of whether a write went well.
-fn written(whole: bool) -> Result<(), Failure> {
-    if !whole {
-        return Err(Failure::Unwritten);
-    }
-    Ok(())
+    file.read_exact(&mut to[0..k]).map_err(|_| Failure::Cut)?;
+    Ok(k)
 }
 
 // A case's first line.
-fn write_title(title: &[u8]) -> Result<(), Failure> {
-    written(io::write_all(STDOUT, b"# "))?;
-    written(io::write_all(STDOUT, title))?;
-    written(io::write_all(STDOUT, b"\n"))
+fn write_title(to: &mut Descriptor, title: &[u8]) -> Result<(), Failure> {
+    to.write_all(b"# ").map_err(|_| Failure::Unwritten)?;
+    to.write_all(title).map_err(|_| Failure::Unwritten)?;
+    to.write_all(b"\n").map_err(|_| Failure::Unwritten)
 }
 
 // Both listings of a bundle, first under the old reading.
 fn write_listings(
-    input: &[u8; 32769],
-    n: usize,
+    to: &mut Descriptor,
+    input: &[u8],
     words: &mut [u64; 4096],
     index: &mut [u32; 10240],
     ledger: &mut [u64; 8192],
     out: &mut [u8; 4096],
 ) -> Result<(), Failure> {
     for reading in [Reading::Old, Reading::New] {
-        let listed = write_under(STDOUT, reading, input, n, words, index, ledger, out);
-        written(listed.whole)?;
+        let listed = write_under(to, reading, input, words, index, ledger, out);
+        if !listed.whole {
+            return Err(Failure::Unwritten);
+        }
     }
     Ok(())
 }
@@ -81,6 +72,7 @@ fn write_listings(
 // A case after its title.
 fn replay_bundle(
     file: &mut File,
+    to: &mut Descriptor,
     input: &mut [u8; 32769],
     words: &mut [u64; 4096],
     index: &mut [u32; 10240],
@@ -88,18 +80,19 @@ fn replay_bundle(
     out: &mut [u8; 4096],
 ) -> Result<(), Failure> {
     let n = read_part(file, input)?;
-    write_listings(input, n, words, index, ledger, out)
+    write_listings(to, &input[..n], words, index, ledger, out)
 }
 
 // The next title, and its line.
-fn replay_title(file: &mut File, title: &mut [u8]) -> Result<(), Failure> {
+fn replay_title(file: &mut File, to: &mut Descriptor, title: &mut [u8]) -> Result<(), Failure> {
     let n = read_part(file, title)?;
-    write_title(&title[0..n])
+    write_title(to, &title[0..n])
 }
 
-// So many cases. The lent buffers go from case to case as they are.
+// So many cases. The lent buffers go from case to case as they are, one by one as `write_under` takes them (the head of bundle.rt in printing).
 fn replay_all(
     file: &mut File,
+    to: &mut Descriptor,
     count: u64,
     input: &mut [u8; 32769],
     words: &mut [u64; 4096],
@@ -108,14 +101,14 @@ fn replay_all(
     out: &mut [u8; 4096],
 ) -> Result<(), Failure> {
     for _ in 0..count {
-        replay_title(file, input)?;
-        replay_bundle(file, input, words, index, ledger, out)?;
+        replay_title(file, to, input)?;
+        replay_bundle(file, to, input, words, index, ledger, out)?;
     }
     Ok(())
 }
 
 // The whole file.
-fn replay_file(file: &mut File) -> Result<(), Failure> {
+fn replay_file(file: &mut File, to: &mut Descriptor) -> Result<(), Failure> {
     let count = read_word(file)?;
     let mut input = [0u8; 32769];
     let mut words = [0u64; 4096];
@@ -124,6 +117,7 @@ fn replay_file(file: &mut File) -> Result<(), Failure> {
     let mut out = [0u8; 4096];
     replay_all(
         file,
+        to,
         count,
         &mut input,
         &mut words,
@@ -135,10 +129,14 @@ fn replay_file(file: &mut File) -> Result<(), Failure> {
 
 // The cases that stand where the program runs; where they cannot be opened none is there.
 fn replay(rt: &HostRuntime) -> Result<(), Failure> {
-    match File::open(rt, "cases") {
-        Ok(mut file) => replay_file(&mut file),
-        Err(_) => Err(Failure::Cut),
-    }
+    let mut file = File::open(rt, "cases").map_err(|_| Failure::Cut)?;
+    replay_file(
+        &mut file,
+        &mut Descriptor {
+            fd: STDOUT,
+            ended: false,
+        },
+    )
 }
 
 fn main(rt: HostRuntime) {

@@ -6,11 +6,10 @@ use lib.ListN.{take, replicate}
 use Rattle.reads.specs.Outcome.{choose}
 use Rattle.reads.specs.Place.{le, le_in}
 use Rattle.universal.specs.Number.{be_in}
-use Rattle.universal.specs.Fat.{kind_of, part_of, fat_arch, fat_arch64, arch_at, table_fits}
+use Rattle.universal.specs.Fat.{kind_of, part_of, arch_in, arch_at, table_fits}
 use Rattle.universal.specs.Architecture.{arch_of, arm64, is_arch, is_abi64, first_arch, chosen}
 use Rattle.universal.specs.Parts.{thin_wanted, in_file, fat_wanted, part_wanted, fat_at, part_at}
 use Rattle.universal.specs.declared.arch.Arch.{Arch}
-use Rattle.universal.specs.declared.arch.Wanted.TheVariants as wanted
 use Rattle.std.specs.Prelude.{Option, None, Some, Result, Ok, Err}
 use Rattle.reads.specs.declared.answer.Question.{Question}
 use Rattle.universal.specs.declared.fat.Part.{Part}
@@ -30,10 +29,10 @@ abbrev arm64e : Arch
 arm64e = arch_of cpu_arm64 2
 
 abbrev default : List ℕ → Result (Option Part) Question
-default file = part_wanted file wanted.Default
+default file = part_wanted file None
 
 abbrev named : Arch → List ℕ → Result (Option Part) Question
-named a file = part_wanted file (wanted.Arch a)
+named a file = part_wanted file (Some a)
 
 -- A number in big-endian order.
 abbrev u32 : ℕ → List ℕ
@@ -111,7 +110,7 @@ unfolding part_wanted part_at kind_of be_in le_in le choose thin_wanted is_arch
 thin_cases = record { whole = refl; same = refl; other = refl; no_header = refl; none = refl; told = refl; told_once = refl }
 
 two_cases : Two
-unfolding part_wanted part_at kind_of be_in le_in le choose fat_wanted fat_at table_fits chosen first_arch is_abi64 is_arch arch_at fat_arch in_file
+unfolding part_wanted part_at kind_of be_in le_in le choose fat_wanted fat_at table_fits chosen first_arch is_abi64 is_arch arch_at arch_in in_file
 two_cases =
     record {
       arm64_second = refl;
@@ -130,7 +129,7 @@ two_cases =
     }
 
 other_cases : Others
-unfolding part_wanted part_at kind_of be_in le_in le choose fat_wanted fat_at table_fits chosen first_arch is_abi64 is_arch arch_at fat_arch fat_arch64 in_file
+unfolding part_wanted part_at kind_of be_in le_in le choose fat_wanted fat_at table_fits chosen first_arch is_abi64 is_arch arch_at arch_in in_file
 other_cases =
     record {
       no_arm64 = refl;

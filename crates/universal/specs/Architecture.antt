@@ -3,9 +3,8 @@ use Rattle.std.specs.Prelude.{ℕ, zero, suc, ◌+◌, ◌/◌, ◌%◌, ◌^◌
 use Rattle.reads.specs.Outcome.{choose}
 use Rattle.universal.specs.Fat.{arch_at}
 use Rattle.universal.specs.declared.fat.Part.{Part}
+use Rattle.universal.specs.declared.fat.Kind.{Kind}
 use Rattle.universal.specs.declared.arch.Arch.{Arch}
-use Rattle.universal.specs.declared.arch.Wanted.{Wanted}
-use Rattle.universal.specs.declared.arch.Wanted.TheVariants as wanted
 
 abbrev pub arch_of : ℕ → ℕ → Arch
 arch_of cputype cpusubtype = record { cputype = cputype; cpusubtype = cpusubtype }
@@ -25,9 +24,9 @@ unfoldable pub is_abi64 : Part → Bool
 is_abi64 p = eqb (p.cputype / 2 ^ 24 % 2) 1
 
 -- The first of the k entries from number i on that passes a test, if one does.
-unfoldable pub first_arch : List ℕ → Bool → (Part → Bool) → ℕ → ℕ → Option ℕ
-first_arch file wide test zero i = None
-first_arch file wide test (suc k) i = choose (test (arch_at file wide i)) (Some i) (first_arch file wide test k (i + 1))
+unfoldable pub first_arch : List ℕ → Kind → (Part → Bool) → ℕ → ℕ → Option ℕ
+first_arch file kind test zero i = None
+first_arch file kind test (suc k) i = choose (test (arch_at file kind i)) (Some i) (first_arch file kind test k (i + 1))
 
 -- An entry, without it another.
 abbrev pub without : Option ℕ → Option ℕ → Option ℕ
@@ -35,7 +34,7 @@ without None other = other
 without (Some i) other = Some i
 
 -- The entry that is wanted, of `count` entries: the first of an architecture; or the first of arm64, without it the first 64-bit one.
-unfoldable pub chosen : List ℕ → Bool → ℕ → Wanted → Option ℕ
-chosen file wide count (wanted.Arch a) = first_arch file wide (is_arch a) count 0
-chosen file wide count wanted.Default =
-    without (first_arch file wide (is_arch arm64) count 0) (first_arch file wide is_abi64 count 0)
+unfoldable pub chosen : List ℕ → Kind → ℕ → Option Arch → Option ℕ
+chosen file kind count (Some a) = first_arch file kind (is_arch a) count 0
+chosen file kind count None =
+    without (first_arch file kind (is_arch arm64) count 0) (first_arch file kind is_abi64 count 0)

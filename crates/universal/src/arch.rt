@@ -11,7 +11,7 @@ const CPU_ARCH_ABI64: u64 = 0x0100_0000;
 
 const CPU_SUBTYPE_CAPABILITY: u64 = 0x0100_0000;
 
-// As a wanted cpusubtype: any.
+// machine.h: as a wanted cpusubtype, any.
 pub const CPU_SUBTYPE_ANY: u64 = 0xFFFF_FFFF;
 
 // arm64
@@ -23,13 +23,6 @@ pub const CPU_SUBTYPE_ARM64_ALL: u64 = 0;
 pub struct Arch {
     pub cputype: u64,
     pub cpusubtype: u64,
-}
-
-// What part is wanted: of an architecture; or arm64, without it the first 64-bit one.
-#[derive(Clone, Copy)]
-pub enum Wanted {
-    Default,
-    Arch(Arch),
 }
 
 // Whether a part is of an architecture: of its cputype, and of its cpusubtype, if it is not any, without the capability bits.
@@ -56,10 +49,11 @@ fn is_abi64(p: Part) -> bool
 
 // The first entry that passes a test, of a table that lies in the file.
 fn first_arch<F: Fn(Part) -> bool>(table: Table, count: u64, passes: F) -> Option<u64>
-    requires inside { arch_offset table.wide count ≤ length table.file.now }
+    requires inside { arch_offset table.kind count ≤ length table.file.now }
     requires callable { F.IsAlwaysCallable passes }
-    ensures { (test : Part → Bool) → ((p : Part) (r : Bool) → F.post passes p r → r ≡ test p) → result ≡ first_arch table.entry.file.now table.entry.wide test count 0 }
+    ensures { (test : Part → Bool) → ((p : Part) (r : Bool) → F.post passes p r → r ≡ test p) → result ≡ first_arch table.entry.file.now table.entry.kind test count 0 }
 {
+    // Not `find`: its closure would need clauses written out, that the entry lies in the file and that the test can be called.
     for i in 0..count {
         if passes(arch_at(table, i)) {
             return Some(i);
@@ -68,23 +62,24 @@ fn first_arch<F: Fn(Part) -> bool>(table: Table, count: u64, passes: F) -> Optio
     None
 }
 
-// The entry that is wanted.
-pub(crate) fn chosen(table: Table, count: u64, wanted: Wanted) -> Option<u64>
-    requires { arch_offset table.wide count ≤ length table.file.now }
-    ensures { result ≡ chosen table.entry.file.now table.entry.wide count wanted }
+// The entry that is wanted: of an architecture; or arm64, without it the first 64-bit one.
+pub(crate) fn chosen(table: Table, count: u64, wanted: Option<Arch>) -> Option<u64>
+    requires { arch_offset table.kind count ≤ length table.file.now }
+    ensures { result ≡ chosen table.entry.file.now table.entry.kind count wanted }
 {
     match wanted {
-        Wanted::Arch(a) => first_arch(table, count, |p| is_arch(a, p)),
-        Wanted::Default => {
+        Some(a) => first_arch(table, count, |p| is_arch(a, p)),
+        None => {
             let arm64 = Arch {
                 cputype: CPU_TYPE_ARM64,
                 cpusubtype: CPU_SUBTYPE_ARM64_ALL,
             };
             let first = first_arch(table, count, |p| is_arch(arm64, p));
-            if first.is_some() {
-                return first;
+            // Not `or_else`: its closure would need the search's two clauses written out.
+            match first {
+                None => first_arch(table, count, is_abi64),
+                Some(_) => first,
             }
-            first_arch(table, count, is_abi64)
         }
     }
 }

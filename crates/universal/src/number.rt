@@ -3,20 +3,12 @@ ghost use Rattle.std.specs.Prelude.{◌≡◌};
 ghost use Rattle.reads.specs.Reference.{before};
 ghost use Rattle.universal.specs.Number.{be_in};
 
-use reads::place::{read_u32_be_at, read_u64_be_at};
+use reads::place::{Width, read_be_at};
 
-// The number of four bytes.
+// The number of the type's bytes.
 #[tactic(auto, using(crate::proofs::Numbers::be_or_zero))]
-pub(crate) fn be32(bytes: &[u8], at: u64) -> u64
-    ensures { result ≡ be_in (before bytes) 4 at }
+pub(crate) fn be_in<W: Width>(bytes: &[u8], at: u64) -> u64
+    ensures { result ≡ be_in (before bytes) W.BYTES at }
 {
-    read_u32_be_at(bytes, at).unwrap_or(0)
-}
-
-// The number of eight.
-#[tactic(auto, using(crate::proofs::Numbers::be_or_zero))]
-pub(crate) fn be64(bytes: &[u8], at: u64) -> u64
-    ensures { result ≡ be_in (before bytes) 8 at }
-{
-    read_u64_be_at(bytes, at).unwrap_or(0)
+    read_be_at::<W>(bytes, at).unwrap_or(0)
 }

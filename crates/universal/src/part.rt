@@ -4,13 +4,13 @@ ghost use Rattle.std.specs.Prelude.{◌≡◌};
 ghost use Rattle.reads.specs.Reference.{before};
 ghost use Rattle.universal.specs.Parts.{thin_part, thin_wanted, in_file, entries, fat_wanted, part_wanted, fat_at, part_at};
 
-use crate::arch::{Wanted, chosen, is_arch};
-use crate::fat::{Kind, NFAT_ARCH, Part, Table, arch_at, kind_of, table_fits};
-use crate::number::be32;
+use crate::arch::{Arch, chosen, is_arch};
+use crate::fat::{NFAT_ARCH, Part, Table, arch_at, kind_of, table_fits};
+use crate::number::be_in;
 use reads::answer::Question;
 use reads::place::u32_from;
 
-// mach_header_64 (loader.h)
+// mach_header_64 (loader.h). macho has its magic too: that crate is not below this one.
 const MH_MAGIC_64: u32 = 0xFEED_FACF;
 
 const HEADER_CPUTYPE: u64 = 4;
@@ -31,13 +31,13 @@ fn thin_part(file: &[u8]) -> Part
 
 // A thin file, but for one with a header of another architecture than the wanted.
 #[tactic(auto, using(std::proofs::lemmas::Bool::Decides::nat_tests), unfolding(crate::specs::Parts::thin_wanted, reads::specs::Outcome::choose))]
-fn thin_wanted(file: &[u8], wanted: Wanted) -> Option<Part>
+fn thin_wanted(file: &[u8], wanted: Option<Arch>) -> Option<Part>
     ensures { result ≡ thin_wanted (before file) wanted }
 {
     let p = thin_part(file);
     match wanted {
-        Wanted::Default => Some(p),
-        Wanted::Arch(a) => {
+        None => Some(p),
+        Some(a) => {
             if u32_from(file, 0, 0) != MH_MAGIC_64 {
                 return Some(p);
             }
@@ -51,7 +51,7 @@ fn thin_wanted(file: &[u8], wanted: Wanted) -> Option<Part>
 
 // 16, of a part: does it lie in a file of n bytes?
 #[tactic(auto, using(std::proofs::lemmas::Bool::Decides::nat_tests), unfolding(crate::specs::Parts::in_file, reads::specs::Outcome::choose))]
-fn in_file(n: u64, p: Part) -> Result<Option<Part>, Question>
+fn in_file(n: u64, p: Part) -> Result<Part, Question>
     ensures { result ≡ in_file n p }
 {
     if n < p.offset {
@@ -60,48 +60,48 @@ fn in_file(n: u64, p: Part) -> Result<Option<Part>, Question>
     if n - p.offset < p.size {
         return Err(Question::LoadCommands);
     }
-    Ok(Some(p))
+    Ok(p)
 }
 
 // How many entries a table has; 16 where it does not lie in the file.
 #[tactic(auto, unfolding(crate::specs::Parts::entries, reads::specs::Outcome::choose))]
 fn entries(table: Table) -> Result<u64, Question>
-    ensures { result ≡ entries table.entry.file.now table.entry.wide }
+    ensures { result ≡ entries table.entry.file.now table.entry.kind }
 {
     if !table_fits(table) {
         return Err(Question::LoadCommands);
     }
-    Ok(be32(table.file, NFAT_ARCH))
+    Ok(be_in::<u32>(table.file, NFAT_ARCH))
 }
 
 // The wanted part of a universal file: 16 of the table, then of that part.
 #[tactic(auto, using(std::proofs::lemmas::Bool::Decides::nat_tests, crate::proofs::Tables::table_room, crate::proofs::Searches::chosen_below, crate::proofs::Tables::entry_inside, crate::proofs::Tables::entries_fit, crate::proofs::Tables::entries_cut, std::proofs::lemmas::Result::err_from_is_err_and), unfolding(crate::specs::Parts::fat_wanted, reads::specs::Outcome::choose))]
-fn fat_wanted(table: Table, wanted: Wanted) -> Result<Option<Part>, Question>
-    ensures { result ≡ fat_wanted table.entry.file.now table.entry.wide wanted }
+fn fat_wanted(table: Table, wanted: Option<Arch>) -> Result<Option<Part>, Question>
+    ensures { result ≡ fat_wanted table.entry.file.now table.entry.kind wanted }
 {
     let count = entries(table)?;
-    match chosen(table, count, wanted) {
-        Some(i) => in_file(table.file.len() as u64, arch_at(table, i)),
-        None => Ok(None),
-    }
+    let Some(i) = chosen(table, count, wanted) else {
+        return Ok(None);
+    };
+    let p = in_file(table.file.len() as u64, arch_at(table, i))?;
+    Ok(Some(p))
 }
 
-// The part of a file that is the image.
+// The part of a file that is the image: of the architecture that is wanted; or arm64, without it the first 64-bit one.
 #[tactic(auto, unfolding(crate::specs::Parts::part_wanted))]
-pub fn find_part(file: &[u8], wanted: Wanted) -> Result<Option<Part>, Question>
+pub fn find_part(file: &[u8], wanted: Option<Arch>) -> Result<Option<Part>, Question>
     ensures { result ≡ part_wanted (before file) wanted }
 {
     match kind_of(file) {
-        Kind::Thin => Ok(thin_wanted(file, wanted)),
-        Kind::Fat => fat_wanted(Table { file, wide: false }, wanted),
-        Kind::Fat64 => fat_wanted(Table { file, wide: true }, wanted),
+        Some(kind) => fat_wanted(Table { file, kind }, wanted),
+        None => Ok(thin_wanted(file, wanted)),
     }
 }
 
 // Part i of a universal file, wherever its range lies.
 #[tactic(auto, using(std::proofs::lemmas::Bool::Decides::nat_tests, crate::proofs::Tables::entry_inside, crate::proofs::Tables::entries_fit, crate::proofs::Tables::entries_cut, std::proofs::lemmas::Result::err_from_is_err_and), unfolding(crate::specs::Parts::fat_at, reads::specs::Outcome::choose))]
 fn fat_at(table: Table, i: u64) -> Result<Option<Part>, Question>
-    ensures { result ≡ fat_at table.entry.file.now table.entry.wide i }
+    ensures { result ≡ fat_at table.entry.file.now table.entry.kind i }
 {
     if entries(table)? <= i {
         return Ok(None);
@@ -115,13 +115,12 @@ pub fn part_at(file: &[u8], i: u64) -> Result<Option<Part>, Question>
     ensures { result ≡ part_at (before file) i }
 {
     match kind_of(file) {
-        Kind::Thin => {
+        Some(kind) => fat_at(Table { file, kind }, i),
+        None => {
             if i == 0 {
                 return Ok(Some(thin_part(file)));
             }
             Ok(None)
         }
-        Kind::Fat => fat_at(Table { file, wide: false }, i),
-        Kind::Fat64 => fat_at(Table { file, wide: true }, i),
     }
 }

@@ -1,7 +1,6 @@
 -- Laws that the proofs of usage share, and what the pass over a listing uses.
 pub mod Leaves
-pub mod Notes
-pub mod Noting
+pub mod NotedBy
 pub mod PassUses
 pub mod RowsNoted
 pub mod NamesNoted

@@ -2,15 +2,11 @@
 use Prim.Native.Nat.{ℕ, zero, suc, ◌+◌, ◌-◌, ◌≤◌, ◌<◌, ◌^◌}
 use mathlib.Core.Path.{◌≡◌, refl, sym, ap, ◌∙◌}
 use mathlib.Core.Bool.{Bool, true, false}
-use mathlib.Core.List.{List, [], ◌∷◌, ◌++◌, append-nil}
+use mathlib.Core.List.{List, [], ◌∷◌, ◌++◌}
 use native.Mathlib.Omega.{arith}
 use lib.Dec.{ltb}
 use borrow.Author.Tests.{ltb-true}
 use Rattle.reads.proofs.Tests.{both_true, choose_true, choose_false}
-use Rattle.reads.specs.Answer.{missed}
-use Rattle.reads.specs.Outcome.{value}
-use Rattle.reads.specs.declared.answer.Missing.{Missing}
-use Rattle.reads.specs.declared.answer.Missing.TheVariants.{Absent, Refused}
 use Rattle.pointers.specs.Tables.{Tables}
 use Rattle.records.specs.Asks.{if_value}
 use Rattle.walks.specs.ProtocolNames.{has_slot, slot_in, decode_protocol_list, protocol_list_at, decode_name_in}
@@ -19,6 +15,10 @@ use Rattle.listing.specs.PlainListing.{Field}
 use Rattle.ranges.specs.Sheet.{noted_all}
 use Rattle.ranges.proofs.SheetLaws.{noted_append}
 use Rattle.used.specs.Used.{used}
+use Rattle.ranges.specs.Range.{Range}
+use Rattle.usage.proofs.NotedBy.{on_value, noted_by, used_noted, in_value}
+use Rattle.usage.specs.Noting.{noted_on, noting}
+use Rattle.usage.specs.declared.noting.Noting.{Noting}
 use Rattle.usage.specs.NamesUse.{slots_use, names_use, field_uses, fields_use}
 
 module _ (l : ProtocolList) (i : ℕ) (b : Bool) (said : b ≡ has_slot l i) where
@@ -32,53 +32,50 @@ module _ (l : ProtocolList) (i : ℕ) (b : Bool) (said : b ≡ has_slot l i) whe
   pub slot_in_64 : b ≡ true → slot_in l i < 2 ^ 64
   slot_in_64 e = ltb-true (slot_in l i) (2 ^ 64) (both e).1
 
-  pub slot_next : (t : Tables) (s s' : List ℕ) → b ≡ true → s' ≡ noted_all (used t (decode_name_in (slot_in l i))) s
-      → noted_all (slots_use t l (i + 1) (l.count - (i + 1))) s' ≡ noted_all (slots_use t l i (l.count - i)) s
-  slot_next t s s' e g =
+  slots_first : (t : Tables) → b ≡ true → slots_use t l i (l.count - i) ≡ used t (decode_name_in (slot_in l i)) ++ slots_use t l (i + 1) (l.count - (i + 1))
+  slots_first t e =
       let h = slot_below e in
       let left : l.count - i ≡ suc (l.count - (i + 1)) = omega arith in
-      sym
-      (ap (λ k. noted_all (slots_use t l i k) s) left
-      ∙ unfold slots_use in ap (λ x. noted_all x s) (choose_true (used t (decode_name_in (slot_in l i)) ++ slots_use t l (i + 1) (l.count - (i + 1))) [] (sym said ∙ e))
-      ∙ noted_append (used t (decode_name_in (slot_in l i))) (slots_use t l (i + 1) (l.count - (i + 1))) s
-      ∙ ap (noted_all (slots_use t l (i + 1) (l.count - (i + 1)))) (sym g))
+      ap (slots_use t l i) left ∙ unfold slots_use in choose_true (used t (decode_name_in (slot_in l i)) ++ slots_use t l (i + 1) (l.count - (i + 1))) [] (sym said ∙ e)
 
-  pub slots_end : (t : Tables) (s w : List ℕ) → b ≡ false → noted_all (slots_use t l i (l.count - i)) s ≡ w → s ≡ w
-  unfolding noted_all
-  slots_end t s w e g = sym (ap (λ x. noted_all x s) (none (l.count - i))) ∙ g
+  pub slot_next : (n : Noting) → b ≡ true
+      → noted_on (slots_use n.tables.now l (i + 1) (l.count - (i + 1))) (noting (decode_name_in (slot_in l i)) n) ≡ noted_on (slots_use n.tables.now l i (l.count - i)) n
+  unfolding noting
+  slot_next n e =
+      ap (λ (x : List ℕ). record n { sheet = record (n.sheet) { now = x } })
+      (sym (ap (λ x. noted_all x n.sheet.now) (slots_first n.tables.now e) ∙ noted_append (used n.tables.now (decode_name_in (slot_in l i))) (slots_use n.tables.now l (i + 1) (l.count - (i + 1))) n.sheet.now))
+
+  pub slots_end : (t : Tables) → b ≡ false → slots_use t l i (l.count - i) ≡ []
+  slots_end t e = none (l.count - i)
     where
       none : (k : ℕ) → slots_use t l i k ≡ []
       none zero = unfold slots_use in refl
       none (suc k) = unfold slots_use in choose_false (used t (decode_name_in (slot_in l i)) ++ slots_use t l (i + 1) k) [] (sym said ∙ e)
 
 -- The count is reached.
-pub slots_done : (t : Tables) (l : ProtocolList) (i : ℕ) (s w : List ℕ) → l.count ≤ i → noted_all (slots_use t l i (l.count - i)) s ≡ w → s ≡ w
-unfolding slots_use noted_all
-slots_done t l i s w h g = let none : l.count - i ≡ 0 = omega arith in sym (ap (λ k. noted_all (slots_use t l i k) s) none) ∙ g
+pub slots_done : (t : Tables) (l : ProtocolList) (i : ℕ) → l.count ≤ i → slots_use t l i (l.count - i) ≡ []
+unfolding slots_use
+slots_done t l i h = let none : l.count - i ≡ 0 = omega arith in ap (slots_use t l i) none
 
-pub slots_all : (t : Tables) (l : ProtocolList) (s : List ℕ) → noted_all (slots_use t l 0 (l.count - 0)) s ≡ noted_all (slots_use t l 0 l.count) s
-slots_all t l s = let all : l.count - 0 ≡ l.count = omega arith in rw all refl
+pub none_left : (n : Noting) (rs : List Range) → rs ≡ [] → n ≡ noted_on rs n
+unfolding noted_all
+none_left n rs e = ap (λ (x : List Range). noted_on x n) (sym e)
 
-module _ (t : Tables) (va : ℕ) (s s' : List ℕ) (header : s' ≡ noted_all (used t (decode_protocol_list va)) s) where
-  pub names_there : (l : ProtocolList) (s'' : List ℕ) → protocol_list_at t va ≡ value l → s'' ≡ noted_all (slots_use t l 0 l.count) s' → s'' ≡ noted_all (names_use t va) s
-  unfolding names_use
-  names_there l s'' e g =
-      g ∙ ap (noted_all (slots_use t l 0 l.count)) header ∙ sym (noted_append (used t (decode_protocol_list va)) (slots_use t l 0 l.count) s)
-      ∙ sym (ap (λ o. noted_all (used t (decode_protocol_list va) ++ if_value o (λ x. slots_use t x 0 x.count)) s) e)
-
-  pub names_missing : (j : Missing) → protocol_list_at t va ≡ missed j → s' ≡ noted_all (names_use t va) s
-  unfolding names_use
-  names_missing (Absent r) e =
-      header ∙ sym (ap (λ o. noted_all (used t (decode_protocol_list va) ++ if_value o (λ x. slots_use t x 0 x.count)) s) e ∙ ap (λ x. noted_all x s) (append-nil (used t (decode_protocol_list va))))
-  names_missing (Refused n) e =
-      header ∙ sym (ap (λ o. noted_all (used t (decode_protocol_list va) ++ if_value o (λ x. slots_use t x 0 x.count)) s) e ∙ ap (λ x. noted_all x s) (append-nil (used t (decode_protocol_list va))))
+pub names_noted : (t : Tables) (va : ℕ) (s : List ℕ)
+    → noted_all (names_use t va) s ≡ on_value (protocol_list_at t va) (λ l. noted_all (slots_use t l 0 l.count)) (noted_by t (decode_protocol_list va) s)
+unfolding names_use
+names_noted t va s =
+    noted_append (used t (decode_protocol_list va)) (if_value (protocol_list_at t va) (λ l. slots_use t l 0 l.count)) s
+    ∙ in_value (protocol_list_at t va) (λ l. slots_use t l 0 l.count) (noted_all (used t (decode_protocol_list va)) s)
+    ∙ ap (on_value (protocol_list_at t va) (λ l. noted_all (slots_use t l 0 l.count))) (used_noted t (decode_protocol_list va) s)
 
 -- One list after another.
-pub field_more : (t : Tables) (f : Field) (fs : List Field) (s : List ℕ) {s' s'' : List ℕ} → s' ≡ noted_all (field_uses t f) s → s'' ≡ noted_all (fields_use t fs) s'
-    → s'' ≡ noted_all (fields_use t (f ∷ fs)) s
+pub field_more : (t : Tables) (f : Field) (fs : List Field) (s : List ℕ) → noted_all (fields_use t (f ∷ fs)) s ≡ noted_all (fields_use t fs) (noted_all (field_uses t f) s)
 unfolding fields_use
-field_more t f fs s e g = g ∙ ap (noted_all (fields_use t fs)) e ∙ sym (noted_append (field_uses t f) (fields_use t fs) s)
+field_more t f fs s = noted_append (field_uses t f) (fields_use t fs) s
 
-pub fields_end : (t : Tables) (s : List ℕ) → s ≡ noted_all (fields_use t []) s
+pub fields_end : (t : Tables) (s : List ℕ) → noted_all (fields_use t []) s ≡ s
 unfolding fields_use noted_all
 fields_end t s = refl
+
+pub ruleset fields = (field_more, fields_end)

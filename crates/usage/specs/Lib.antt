@@ -1,5 +1,6 @@
 -- The definitions that the contracts of usage cite.
-pub mod Traced
+pub mod Noting
+pub mod Entries
 pub mod Pass
 pub mod ListUses
 pub mod NamesUse

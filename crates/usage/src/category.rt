@@ -1,104 +1,66 @@
 // Categories, noted on a sheet: the reads of category_t, in the order of its definition (records/specs/Category.antt).
 ghost use Rattle.std.specs.Prelude.{◌≡◌};
-ghost use Rattle.pointers.specs.Tables.{under};
-ghost use Rattle.reads.specs.Breaks.{is_value};
-ghost use Rattle.reads.specs.Outcome.{choose};
-ghost use Rattle.reads.specs.Place.{readable};
-ghost use Rattle.records.specs.Category.{decode_category_lists, decode_category_properties, decode_category_of, decode_category};
-ghost use Rattle.ranges.specs.Sheet.{noted_all};
-ghost use Rattle.used.specs.Used.{used};
-ghost use Rattle.usage.specs.Traced.{going, going_after, trace, traced};
 ghost use Rattle.reads.specs.Answer.{outcome};
+ghost use Rattle.records.specs.Category.{decode_category_lists, decode_category_properties, decode_category_of, decode_category};
+ghost use Rattle.records.specs.Decode.{then, done};
+ghost use Rattle.usage.specs.Noting.{noting, traced, trace};
 
-use crate::leaf::{note_pointer_or_0, note_slot, note_text};
+use crate::noting::Noting;
 use pointers::imageinfo::ImageInfo;
-use pointers::setting::Setting;
-use pointers::tables::Tables;
-use ranges::sheet::WORDS;
 use reads::answer::Missing;
-use reads::place::{Image, Place, readable};
+use reads::place::readable;
+use records::category::ObjcCategory;
 
-// Whether the category's bytes can be read: it is wider where it has the field for class properties.
-#[tactic(auto, unfolding(reads::specs::Outcome::choose))]
-fn whole_category(image: &Image, va: u64, wide: bool) -> Result<Place, Missing>
-    ensures { outcome result ≡ readable image.now va (choose wide 56 48) }
-{
-    if wide {
-        return readable(image, va, 56);
+impl Noting<'_> {
+    // The lists of a category_t but its class properties, if all fields are there.
+    #[tactic(auto, using(crate::proofs::NotedBy::notes), unfolding(records::specs::Category::decode_category_lists))]
+    fn note_category_lists(&mut self, va: u64) -> Result<(), Missing>
+        ensures { traced (outcome result) self.new ≡ trace (then (decode_category_lists va) (λ lists. done tt)) self.old }
+    {
+        self.note_pointer_or_0(va, ObjcCategory::INSTANCE_METHODS)?;
+        self.note_pointer_or_0(va, ObjcCategory::CLASS_METHODS)?;
+        self.note_pointer_or_0(va, ObjcCategory::PROTOCOLS)?;
+        self.note_pointer_or_0(va, ObjcCategory::INSTANCE_PROPERTIES)?;
+        Ok(())
     }
-    readable(image, va, 48)
-}
 
-// The lists of a category_t but its class properties, if all fields are there.
-fn note_category_lists(
-    tables: &Tables,
-    setting: Setting,
-    va: u64,
-    sheet: &mut [u64; WORDS],
-) -> Result<(), Missing>
-    ensures { let t = under setting tables.now in
-        going (is_value (outcome result)) sheet.new ≡ going_after t (decode_category_lists va) sheet.old }
-{
-    note_pointer_or_0(tables, setting, va, 16, sheet)?;
-    note_pointer_or_0(tables, setting, va, 24, sheet)?;
-    note_pointer_or_0(tables, setting, va, 32, sheet)?;
-    note_pointer_or_0(tables, setting, va, 40, sheet)?;
-    Ok(())
-}
-
-// _classProperties where the image has the field, else 0.
-fn note_category_properties(
-    tables: &Tables,
-    setting: Setting,
-    va: u64,
-    wide: bool,
-    sheet: &mut [u64; WORDS],
-) -> Result<u64, Missing>
-    ensures { let t = under setting tables.now in
-        traced (outcome result) sheet.new ≡ trace t (decode_category_properties va wide) sheet.old }
-{
-    if wide {
-        return note_pointer_or_0(tables, setting, va, 48, sheet);
+    // _classProperties where the image has the field, else 0.
+    #[tactic(auto, using(crate::proofs::NotedBy::notes), unfolding(records::specs::Category::decode_category_properties, reads::specs::Outcome::choose))]
+    fn note_category_properties(&mut self, va: u64, wide: bool) -> Result<u64, Missing>
+        ensures { traced (outcome result) self.new ≡ trace (decode_category_properties va wide) self.old }
+    {
+        if wide {
+            return self.note_pointer_or_0(va, ObjcCategory::CLASS_PROPERTIES);
+        }
+        Ok(0)
     }
-    Ok(0)
-}
 
-// category_t: the slots, the name's text last.
-fn note_category_of(
-    tables: &Tables,
-    setting: Setting,
-    va: u64,
-    wide: bool,
-    sheet: &mut [u64; WORDS],
-)
-    ensures { let t = under setting tables.now in
-        sheet.new ≡ noted_all (used t (decode_category_of va wide)) sheet.old }
-{
-    let Ok(_) = whole_category(tables.image(), va, wide) else {
-        return;
-    };
-    let Ok(name) = note_slot(tables, setting, va, sheet) else {
-        return;
-    };
-    let Ok(_) = note_pointer_or_0(tables, setting, va, 8, sheet) else {
-        return;
-    };
-    let Ok(_) = note_category_lists(tables, setting, va, sheet) else {
-        return;
-    };
-    let Ok(_) = note_category_properties(tables, setting, va, wide, sheet) else {
-        return;
-    };
-    note_text(tables, name, sheet);
-}
+    // category_t, wider where it has the field for class properties: the slots, the name's text last.
+    #[tactic(auto, using(crate::proofs::NotedBy::notes), unfolding(records::specs::Category::decode_category_of, reads::specs::Outcome::choose))]
+    fn category(&mut self, va: u64, wide: bool) -> Result<(), Missing>
+        ensures { self.new ≡ noting (decode_category_of va wide) self.old }
+    {
+        let size = if wide {
+            ObjcCategory::SIZE_WITH_CLASS_PROPERTIES
+        } else {
+            ObjcCategory::SIZE
+        };
+        readable(self.tables.image(), va, size)?;
+        let name = self.note_slot(va)?;
+        self.note_pointer_or_0(va, ObjcCategory::CLS)?;
+        self.note_category_lists(va)?;
+        self.note_category_properties(va, wide)?;
+        self.note_text(name);
+        Ok(())
+    }
 
-// Bit 6 of the image info's flags says whether categories have the field.
-pub fn note_category(tables: &Tables, setting: Setting, va: u64, sheet: &mut [u64; WORDS])
-    ensures { let t = under setting tables.now in
-        sheet.new ≡ noted_all (used t (decode_category va)) sheet.old }
-{
-    if let Ok(i) = ImageInfo::parse(tables.info()) {
-        let wide = i.has_category_class_properties();
-        note_category_of(tables, setting, va, wide, sheet);
+    // Bit 6 of the image info's flags says whether categories have the field.
+    #[tactic(auto, using(crate::proofs::NotedBy::notes), unfolding(records::specs::Category::decode_category))]
+    pub fn note_category(&mut self, va: u64)
+        ensures { self.new ≡ noting (decode_category va) self.old }
+    {
+        if let Ok(info) = ImageInfo::parse(self.tables.info()) {
+            let _ = self.category(va, info.has_category_class_properties());
+        }
     }
 }

@@ -1,88 +1,70 @@
 // Classes, noted on a sheet: the reads of class_t and class_ro_t, in the order of their definitions (records/specs/Class.antt).
 ghost use Rattle.std.specs.Prelude.{◌≡◌};
-ghost use Rattle.pointers.specs.Tables.{under};
 ghost use Rattle.reads.specs.Answer.{outcome};
-ghost use Rattle.reads.specs.Breaks.{is_value};
+ghost use Rattle.records.specs.Decode.{then, done};
 ghost use Rattle.records.specs.Class.{decode_class, decode_ro_lists, decode_class_ro};
-ghost use Rattle.ranges.specs.Sheet.{noted_all};
-ghost use Rattle.used.specs.Used.{used};
-ghost use Rattle.usage.specs.Traced.{going, going_after};
+ghost use Rattle.usage.specs.Noting.{noting, traced, trace};
 
-use crate::leaf::{
-    note_field, note_pointer, note_pointer_or_0, note_slot_or_0, note_text, note_word,
-};
-use pointers::setting::Setting;
-use pointers::tables::Tables;
-use ranges::sheet::WORDS;
+use crate::noting::Noting;
 use reads::answer::{Missing, checked_add};
 use reads::place::readable;
+use records::class::{ClassRo, ObjcClass};
 
-// class_t: isa, superclass, bits.
-pub fn note_class(
-    tables: &Tables,
-    setting: Setting,
-    va: u64,
-    is_meta: bool,
-    sheet: &mut [u64; WORDS],
-)
-    ensures { let t = under setting tables.now in
-        sheet.new ≡ noted_all (used t (decode_class va is_meta)) sheet.old }
-{
-    let Ok(_) = readable(tables.image(), va, 40) else {
-        return;
-    };
-    let Ok(super_slot) = checked_add(va, 8) else {
-        return;
-    };
-    let Ok(bits_slot) = checked_add(va, 32) else {
-        return;
-    };
-    let Ok(_) = note_slot_or_0(tables, setting, va, sheet) else {
-        return;
-    };
-    let Ok(_) = note_slot_or_0(tables, setting, super_slot, sheet) else {
-        return;
-    };
-    note_word(tables, bits_slot, sheet);
-}
+impl Noting<'_> {
+    // class_t: isa, superclass, bits.
+    #[tactic(auto, using(crate::proofs::NotedBy::notes), unfolding(records::specs::Class::decode_class))]
+    fn class(&mut self, va: u64, is_meta: bool) -> Result<(), Missing>
+        ensures { self.new ≡ noting (decode_class va is_meta) self.old }
+    {
+        readable(self.tables.image(), va, ObjcClass::SIZE)?;
+        let super_slot = checked_add(va, ObjcClass::SUPERCLASS)?;
+        let bits_slot = checked_add(va, ObjcClass::BITS)?;
+        self.note_slot_or_0(va)?;
+        self.note_slot_or_0(super_slot)?;
+        self.note_word(bits_slot);
+        Ok(())
+    }
 
-// The lists of a class_ro_t and its weak ivar layout, if all fields are there.
-fn note_ro_lists(
-    tables: &Tables,
-    setting: Setting,
-    va: u64,
-    sheet: &mut [u64; WORDS],
-) -> Result<(), Missing>
-    ensures { let t = under setting tables.now in
-        going (is_value (outcome result)) sheet.new ≡ going_after t (decode_ro_lists va) sheet.old }
-{
-    note_pointer_or_0(tables, setting, va, 32, sheet)?;
-    note_pointer_or_0(tables, setting, va, 40, sheet)?;
-    note_pointer_or_0(tables, setting, va, 48, sheet)?;
-    note_pointer_or_0(tables, setting, va, 56, sheet)?;
-    note_pointer_or_0(tables, setting, va, 64, sheet)?;
-    Ok(())
-}
+    // The same, whatever ends it.
+    pub fn note_class(&mut self, va: u64, is_meta: bool)
+        ensures { self.new ≡ noting (decode_class va is_meta) self.old }
+    {
+        let _ = self.class(va, is_meta);
+    }
 
-// class_ro_t: flags, start, size, the slots in the order of class.rs, the name's text last.
-pub fn note_class_ro(tables: &Tables, setting: Setting, va: u64, sheet: &mut [u64; WORDS])
-    ensures { let t = under setting tables.now in
-        sheet.new ≡ noted_all (used t (decode_class_ro va)) sheet.old }
-{
-    let Ok(p) = readable(tables.image(), va, 72) else {
-        return;
-    };
-    note_field(tables, p, 0, 4, sheet);
-    note_field(tables, p, 4, 4, sheet);
-    note_field(tables, p, 8, 4, sheet);
-    let Ok(_) = note_pointer_or_0(tables, setting, va, 16, sheet) else {
-        return;
-    };
-    let Ok(name) = note_pointer(tables, setting, va, 24, sheet) else {
-        return;
-    };
-    let Ok(_) = note_ro_lists(tables, setting, va, sheet) else {
-        return;
-    };
-    note_text(tables, name, sheet);
+    // The lists of a class_ro_t and its weak ivar layout, if all fields are there.
+    #[tactic(auto, using(crate::proofs::NotedBy::notes), unfolding(records::specs::Class::decode_ro_lists))]
+    fn note_ro_lists(&mut self, va: u64) -> Result<(), Missing>
+        ensures { traced (outcome result) self.new ≡ trace (then (decode_ro_lists va) (λ lists. done tt)) self.old }
+    {
+        self.note_pointer_or_0(va, ClassRo::BASE_METHODS)?;
+        self.note_pointer_or_0(va, ClassRo::BASE_PROTOCOLS)?;
+        self.note_pointer_or_0(va, ClassRo::IVARS)?;
+        self.note_pointer_or_0(va, ClassRo::WEAK_IVAR_LAYOUT)?;
+        self.note_pointer_or_0(va, ClassRo::BASE_PROPERTIES)?;
+        Ok(())
+    }
+
+    // class_ro_t: flags, start, size, the slots in the order of class.rs, the name's text last.
+    #[tactic(auto, using(crate::proofs::NotedBy::notes), unfolding(records::specs::Class::decode_class_ro))]
+    fn class_ro(&mut self, va: u64) -> Result<(), Missing>
+        ensures { self.new ≡ noting (decode_class_ro va) self.old }
+    {
+        let p = readable(self.tables.image(), va, ClassRo::SIZE)?;
+        self.note_field(p, ClassRo::FLAGS, 4);
+        self.note_field(p, ClassRo::INSTANCE_START, 4);
+        self.note_field(p, ClassRo::INSTANCE_SIZE, 4);
+        self.note_pointer_or_0(va, ClassRo::IVAR_LAYOUT)?;
+        let name = self.note_pointer(va, ClassRo::NAME)?;
+        self.note_ro_lists(va)?;
+        self.note_text(name);
+        Ok(())
+    }
+
+    // The same, whatever ends it.
+    pub fn note_class_ro(&mut self, va: u64)
+        ensures { self.new ≡ noting (decode_class_ro va) self.old }
+    {
+        let _ = self.class_ro(va);
+    }
 }

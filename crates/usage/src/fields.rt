@@ -1,125 +1,50 @@
 // The lists of a record, noted on a sheet, in the order of their numbers (listing/specs/PlainListing.antt).
 ghost use Rattle.std.specs.Prelude.{◌≡◌};
-ghost use Rattle.pointers.specs.Tables.{under};
 ghost use Rattle.listing.specs.PlainListing.{ro_fields, protocol_fields, category_fields};
-ghost use Rattle.ranges.specs.Sheet.{noted_all};
 ghost use Rattle.usage.specs.NamesUse.{fields_use};
+ghost use Rattle.usage.specs.Noting.{noted_on};
 
-use crate::names::note_protocol_names;
-use crate::rows::note_list_rows;
-use pointers::setting::Setting;
-use pointers::tables::Tables;
-use ranges::sheet::WORDS;
+use crate::noting::Noting;
 use records::category::ObjcCategory;
 use records::class::ClassRo;
 use records::list::ListKind;
 use records::protocol::ObjcProtocol;
 
-// Of a class_ro_t.
-#[tactic(auto, using(crate::proofs::NamesNoted::field_more, crate::proofs::NamesNoted::fields_end), unfolding(crate::specs::NamesUse::field_uses))]
-pub fn note_ro_fields(tables: &Tables, setting: Setting, ro: ClassRo, sheet: &mut [u64; WORDS])
-    ensures { let t = under setting tables.now in
-        sheet.new ≡ noted_all (fields_use t (ro_fields ro)) sheet.old }
-{
-    note_list_rows(tables, setting, ListKind::Methods, ro.methods, sheet);
-    note_list_rows(tables, setting, ListKind::Ivars, ro.ivars, sheet);
-    note_list_rows(tables, setting, ListKind::Properties, ro.properties, sheet);
-    note_protocol_names(tables, setting, ro.protocols, sheet);
-}
+impl Noting<'_> {
+    // Of a class_ro_t.
+    #[tactic(auto, using(crate::proofs::NamesNoted::fields), unfolding(crate::specs::NamesUse::field_uses))]
+    pub fn note_ro_fields(&mut self, ro: ClassRo)
+        ensures { self.new ≡ noted_on (fields_use self.old.tables.now (ro_fields ro)) self.old }
+    {
+        self.note_list_rows(ListKind::Methods, ro.methods);
+        self.note_list_rows(ListKind::Ivars, ro.ivars);
+        self.note_list_rows(ListKind::Properties, ro.properties);
+        self.note_protocol_names(ro.protocols);
+    }
 
-// Of a protocol.
-pub fn note_protocol_fields(
-    tables: &Tables,
-    setting: Setting,
-    protocol: ObjcProtocol,
-    sheet: &mut [u64; WORDS],
-)
-    ensures { let t = under setting tables.now in
-        sheet.new ≡ noted_all (fields_use t (protocol_fields protocol)) sheet.old }
-{
-    note_list_rows(
-        tables,
-        setting,
-        ListKind::Methods,
-        protocol.instance_methods,
-        sheet,
-    );
-    note_list_rows(
-        tables,
-        setting,
-        ListKind::Methods,
-        protocol.class_methods,
-        sheet,
-    );
-    note_list_rows(
-        tables,
-        setting,
-        ListKind::Methods,
-        protocol.optional_instance_methods,
-        sheet,
-    );
-    note_list_rows(
-        tables,
-        setting,
-        ListKind::Methods,
-        protocol.optional_class_methods,
-        sheet,
-    );
-    note_list_rows(
-        tables,
-        setting,
-        ListKind::Properties,
-        protocol.instance_properties,
-        sheet,
-    );
-    note_list_rows(
-        tables,
-        setting,
-        ListKind::Properties,
-        protocol.class_properties,
-        sheet,
-    );
-    note_protocol_names(tables, setting, protocol.protocols, sheet);
-}
+    // Of a protocol.
+    #[tactic(auto, using(crate::proofs::NamesNoted::fields), unfolding(crate::specs::NamesUse::field_uses))]
+    pub fn note_protocol_fields(&mut self, protocol: ObjcProtocol)
+        ensures { self.new ≡ noted_on (fields_use self.old.tables.now (protocol_fields protocol)) self.old }
+    {
+        self.note_list_rows(ListKind::Methods, protocol.instance_methods);
+        self.note_list_rows(ListKind::Methods, protocol.class_methods);
+        self.note_list_rows(ListKind::Methods, protocol.optional_instance_methods);
+        self.note_list_rows(ListKind::Methods, protocol.optional_class_methods);
+        self.note_list_rows(ListKind::Properties, protocol.instance_properties);
+        self.note_list_rows(ListKind::Properties, protocol.class_properties);
+        self.note_protocol_names(protocol.protocols);
+    }
 
-// Of a category.
-#[tactic(auto, using(crate::proofs::NamesNoted::field_more, crate::proofs::NamesNoted::fields_end), unfolding(crate::specs::NamesUse::field_uses))]
-pub fn note_category_fields(
-    tables: &Tables,
-    setting: Setting,
-    category: ObjcCategory,
-    sheet: &mut [u64; WORDS],
-)
-    ensures { let t = under setting tables.now in
-        sheet.new ≡ noted_all (fields_use t (category_fields category)) sheet.old }
-{
-    note_list_rows(
-        tables,
-        setting,
-        ListKind::Methods,
-        category.instance_methods,
-        sheet,
-    );
-    note_list_rows(
-        tables,
-        setting,
-        ListKind::Methods,
-        category.class_methods,
-        sheet,
-    );
-    note_protocol_names(tables, setting, category.protocols, sheet);
-    note_list_rows(
-        tables,
-        setting,
-        ListKind::Properties,
-        category.instance_properties,
-        sheet,
-    );
-    note_list_rows(
-        tables,
-        setting,
-        ListKind::Properties,
-        category.class_properties,
-        sheet,
-    );
+    // Of a category.
+    #[tactic(auto, using(crate::proofs::NamesNoted::fields), unfolding(crate::specs::NamesUse::field_uses))]
+    pub fn note_category_fields(&mut self, category: ObjcCategory)
+        ensures { self.new ≡ noted_on (fields_use self.old.tables.now (category_fields category)) self.old }
+    {
+        self.note_list_rows(ListKind::Methods, category.instance_methods);
+        self.note_list_rows(ListKind::Methods, category.class_methods);
+        self.note_protocol_names(category.protocols);
+        self.note_list_rows(ListKind::Properties, category.instance_properties);
+        self.note_list_rows(ListKind::Properties, category.class_properties);
+    }
 }

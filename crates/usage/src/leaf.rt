@@ -1,157 +1,128 @@
 // Reads that are noted on a sheet: each notes the bytes that the question of the same name uses (used/specs/Used.antt), and some answer it.
-ghost use Rattle.pointers.specs.Tables.{image_in};
 ghost use Rattle.std.specs.Prelude.{◌≡◌};
-ghost use Rattle.reads.specs.Outcome.{and_then, is_absent, nonzero, or_zero};
-ghost use Rattle.reads.specs.Segment.{lookup, rows};
-ghost use Rattle.pointers.specs.Slot.{resolve, pointer_at, pointer_or0_at};
-ghost use Rattle.ranges.specs.Sheet.{noted_all};
-ghost use Rattle.used.specs.Used.{uses_word, uses_field, uses_slot_in, uses_pointer_in, uses_text, uses_symbol_in};
-ghost use Rattle.usage.specs.Traced.{traced};
+ghost use Rattle.pointers.specs.Tables.{image_in};
 ghost use Rattle.reads.specs.Answer.{outcome};
+ghost use Rattle.reads.specs.Outcome.{and_then, nonzero};
+ghost use Rattle.reads.specs.Segment.{lookup, rows};
+ghost use Rattle.records.specs.Decode as asks;
+ghost use Rattle.used.specs.Used.{uses_field, uses_text};
+ghost use Rattle.usage.specs.Noting.{noted_on, noting, traced, trace};
 
-use pointers::setting::Setting;
+use crate::noting::Noting;
 use pointers::slot::{bind_at, rebase_at, resolve_pointer};
 use pointers::tables::Tables;
-use ranges::sheet::{WORDS, note};
 use reads::answer::{Missing, checked_add, is_absent, nonzero, or_zero};
 use reads::files::file_len;
 use reads::place::{Place, readable};
 use reads::segment::vm_to_file_offset_in;
-use reads::text::{Reading, read_cstr_at};
-
-// Neither there nor refused.
-pub fn lacks<T: Copy>(w: Result<T, Missing>) -> bool
-    ensures { result ≡ is_absent (outcome w) }
-{
-    matches!(w, Err(Missing::Absent(_)))
-}
-
-// The word of 8 bytes at an address.
-#[tactic(auto, using(crate::proofs::Leaves::uses_some, crate::proofs::Leaves::uses_none, crate::proofs::Leaves::noted_one), unfolding(used::specs::Used::uses_word))]
-pub fn note_word(tables: &Tables, va: u64, sheet: &mut [u64; WORDS])
-    ensures { sheet.new ≡ noted_all (uses_word (image_in tables.now) va) sheet.old }
-{
-    if let Ok(p) = readable(tables.image(), va, 8) {
-        note(sheet, p.file, p.offset, 8);
-    }
-}
-
-// k bytes at i bytes from a place, where they lie in its file.
-#[tactic(auto, using(crate::proofs::Leaves::field_outside, crate::proofs::Leaves::field_inside))]
-pub fn note_field(tables: &Tables, p: Place, i: u64, k: u64, sheet: &mut [u64; WORDS])
-    ensures { sheet.new ≡ noted_all (uses_field tables.now.files k p i) sheet.old }
-{
-    let n = file_len(tables.files(), p.file);
-    if n < p.offset {
-        return;
-    }
-    if n - p.offset < i {
-        return;
-    }
-    if n - p.offset - i < k {
-        return;
-    }
-    note(sheet, p.file, p.offset + i, k);
-}
-
-// The word in a slot that has no rebase.
-#[tactic(auto, using(crate::proofs::Leaves::uses_else, crate::proofs::Leaves::uses_present), unfolding(used::specs::Used::uses_slot_in))]
-pub fn note_stored(tables: &Tables, setting: Setting, slot: u64, sheet: &mut [u64; WORDS])
-    ensures { sheet.new ≡ noted_all (uses_slot_in (image_in tables.now) tables.now.rebases tables.now.index setting slot) sheet.old }
-{
-    if is_absent(rebase_at(tables, setting, slot)) {
-        note_word(tables, slot, sheet);
-    }
-}
-
-// A pointer slot, and the address in it.
-pub fn note_slot(
-    tables: &Tables,
-    setting: Setting,
-    slot: u64,
-    sheet: &mut [u64; WORDS],
-) -> Result<u64, Missing>
-    ensures { traced (outcome result) sheet.new
-        ≡ traced (resolve (image_in tables.now) tables.now.rebases tables.now.index setting slot)
-        (noted_all (uses_slot_in (image_in tables.now) tables.now.rebases tables.now.index setting slot) sheet.old) }
-{
-    note_stored(tables, setting, slot, sheet);
-    resolve_pointer(tables, setting, slot)
-}
-
-// The same, an absent slot counting as 0.
-pub fn note_slot_or_0(
-    tables: &Tables,
-    setting: Setting,
-    slot: u64,
-    sheet: &mut [u64; WORDS],
-) -> Result<u64, Missing>
-    ensures { traced (outcome result) sheet.new
-        ≡ traced (or_zero (resolve (image_in tables.now) tables.now.rebases tables.now.index setting slot))
-        (noted_all (uses_slot_in (image_in tables.now) tables.now.rebases tables.now.index setting slot) sheet.old) }
-{
-    or_zero(note_slot(tables, setting, slot, sheet))
-}
-
-// The pointer in the field at va + k, and the address in it.
-#[tactic(auto, using(crate::proofs::Leaves::traced_ok, crate::proofs::Leaves::traced_err), unfolding(pointers::specs::Slot::pointer_at, used::specs::Used::uses_pointer_in))]
-pub fn note_pointer(
-    tables: &Tables,
-    setting: Setting,
-    va: u64,
-    k: u64,
-    sheet: &mut [u64; WORDS],
-) -> Result<u64, Missing>
-    ensures { traced (outcome result) sheet.new
-        ≡ traced (pointer_at (image_in tables.now) tables.now.rebases tables.now.index setting va k)
-        (noted_all (uses_pointer_in (image_in tables.now) tables.now.rebases tables.now.index setting va k) sheet.old) }
-{
-    let slot = checked_add(va, k)?;
-    note_slot(tables, setting, slot, sheet)
-}
-
-// The same, an absent slot counting as 0.
-#[tactic(auto, using(crate::proofs::Leaves::traced_ok, crate::proofs::Leaves::traced_err), unfolding(pointers::specs::Slot::pointer_or0_at, used::specs::Used::uses_pointer_in))]
-pub fn note_pointer_or_0(
-    tables: &Tables,
-    setting: Setting,
-    va: u64,
-    k: u64,
-    sheet: &mut [u64; WORDS],
-) -> Result<u64, Missing>
-    ensures { traced (outcome result) sheet.new
-        ≡ traced (pointer_or0_at (image_in tables.now) tables.now.rebases tables.now.index setting va k)
-        (noted_all (uses_pointer_in (image_in tables.now) tables.now.rebases tables.now.index setting va k) sheet.old) }
-{
-    let slot = checked_add(va, k)?;
-    note_slot_or_0(tables, setting, slot, sheet)
-}
+use reads::text::{Reading, Text, read_cstr_at};
 
 // The place of the text at an address.
 #[tactic(auto, using(reads::proofs::Outcomes::outcomes))]
-pub fn text_place(tables: &Tables, va: u64) -> Result<Place, Missing>
+fn text_place(tables: &Tables, va: u64) -> Result<Place, Missing>
     ensures { outcome result ≡ and_then (nonzero va) (λ a. lookup (rows tables.now.segments) a) }
 {
     let a = nonzero(va)?;
     vm_to_file_offset_in(tables.segments(), a)
 }
 
-// The text at an address, with the zero byte that ends it.
-pub fn note_text(tables: &Tables, va: u64, sheet: &mut [u64; WORDS])
-    ensures { sheet.new ≡ noted_all (uses_text (image_in tables.now) va) sheet.old }
-{
-    if let Ok(p) = text_place(tables, va) {
-        let r = read_cstr_at(tables.files(), Reading::Old, p);
-        note(sheet, p.file, p.offset, r.read);
+impl Noting<'_> {
+    // The word of 8 bytes at an address.
+    #[tactic(auto, using(crate::proofs::NotedBy::notes), unfolding(used::specs::Used::uses_word))]
+    pub(crate) fn note_word(&mut self, va: u64)
+        ensures { self.new ≡ noting (asks.u64_at va) self.old }
+    {
+        if let Ok(p) = readable(self.tables.image(), va, 8) {
+            self.sheet.note(p.file, p.offset, 8);
+        }
     }
-}
 
-// The name of a slot's bind.
-#[tactic(auto, using(crate::proofs::Leaves::uses_some, crate::proofs::Leaves::uses_none, crate::proofs::Leaves::noted_one), unfolding(used::specs::Used::uses_symbol_in))]
-pub fn note_symbol(tables: &Tables, slot: u64, sheet: &mut [u64; WORDS])
-    ensures { sheet.new ≡ noted_all (uses_symbol_in tables.now.files tables.now.rebases tables.now.binds tables.now.index slot) sheet.old }
-{
-    if let Ok(name) = bind_at(tables, slot) {
-        note(sheet, name.file, name.offset, name.len);
+    // k bytes at i bytes from a place, where they lie in its file.
+    #[tactic(auto, using(crate::proofs::Leaves::field_outside, crate::proofs::Leaves::field_inside))]
+    pub(crate) fn note_field(&mut self, p: Place, i: u64, k: u64)
+        ensures { self.new ≡ noted_on (uses_field self.old.tables.now.files k p i) self.old }
+    {
+        let n = file_len(self.tables.files(), p.file);
+        if p.offset <= n && i <= n - p.offset && k <= n - p.offset - i {
+            self.sheet.note(p.file, p.offset + i, k);
+        }
+    }
+
+    // The word in a slot that has no rebase.
+    #[tactic(auto, using(crate::proofs::NotedBy::notes), unfolding(used::specs::Used::uses_slot_in))]
+    pub(crate) fn note_stored(&mut self, slot: u64)
+        ensures { self.new ≡ noting (asks.slot slot) self.old }
+    {
+        if is_absent(rebase_at(self.tables, slot)) {
+            self.note_word(slot);
+        }
+    }
+
+    // A pointer slot, and the address in it.
+    #[tactic(auto, using(crate::proofs::NotedBy::notes))]
+    pub(crate) fn note_slot(&mut self, slot: u64) -> Result<u64, Missing>
+        ensures { traced (outcome result) self.new ≡ trace (asks.slot slot) self.old }
+    {
+        self.note_stored(slot);
+        resolve_pointer(self.tables, slot)
+    }
+
+    // The same, an absent slot counting as 0.
+    #[tactic(auto, using(crate::proofs::NotedBy::notes))]
+    pub(crate) fn note_slot_or_0(&mut self, slot: u64) -> Result<u64, Missing>
+        ensures { traced (outcome result) self.new ≡ trace (asks.or0 (asks.slot slot)) self.old }
+    {
+        or_zero(self.note_slot(slot))
+    }
+
+    // The pointer in the field at va + k, and the address in it.
+    #[tactic(auto, using(crate::proofs::NotedBy::notes), unfolding(pointers::specs::Slot::pointer_at, used::specs::Used::uses_pointer_in))]
+    pub(crate) fn note_pointer(&mut self, va: u64, k: u64) -> Result<u64, Missing>
+        ensures { traced (outcome result) self.new ≡ trace (asks.pointer va k) self.old }
+    {
+        let slot = checked_add(va, k)?;
+        self.note_slot(slot)
+    }
+
+    // The same, an absent slot counting as 0.
+    #[tactic(auto, using(crate::proofs::NotedBy::notes), unfolding(pointers::specs::Slot::pointer_or0_at, used::specs::Used::uses_pointer_in))]
+    pub(crate) fn note_pointer_or_0(&mut self, va: u64, k: u64) -> Result<u64, Missing>
+        ensures { traced (outcome result) self.new ≡ trace (asks.pointer_or0 va k) self.old }
+    {
+        let slot = checked_add(va, k)?;
+        self.note_slot_or_0(slot)
+    }
+
+    // The text at an address, with the zero byte that ends it.
+    #[tactic(auto, using(crate::proofs::NotedBy::notes))]
+    pub(crate) fn note_text(&mut self, va: u64)
+        ensures { self.new ≡ noted_on (uses_text (image_in self.old.tables.now) va) self.old }
+    {
+        if let Ok(p) = text_place(self.tables, va) {
+            let r = read_cstr_at(self.tables.files(), Reading::Old, p);
+            self.sheet.note(p.file, p.offset, r.read);
+        }
+    }
+
+    // The same, and what it is under the setting's reading.
+    #[tactic(auto, using(crate::proofs::NotedBy::notes))]
+    pub(crate) fn note_string(&mut self, va: u64) -> Result<Text, Missing>
+        ensures { traced (outcome result) self.new ≡ trace (asks.string va) self.old }
+    {
+        let p = text_place(self.tables, va)?;
+        let reading = self.tables.setting().reading;
+        let r = read_cstr_at(self.tables.files(), reading, p);
+        self.sheet.note(p.file, p.offset, r.read);
+        r.text
+    }
+
+    // The name of a slot's bind.
+    #[tactic(auto, using(crate::proofs::NotedBy::notes), unfolding(used::specs::Used::uses_symbol_in))]
+    pub(crate) fn note_symbol(&mut self, slot: u64)
+        ensures { self.new ≡ noting (asks.symbol slot) self.old }
+    {
+        if let Ok(name) = bind_at(self.tables, slot) {
+            self.sheet.note(name.file, name.offset, name.len);
+        }
     }
 }

@@ -1,55 +1,32 @@
 // Names of protocols in the slots of a list, noted on a sheet: by the protocol that a slot holds, else by the slot's bind
 // (walks/specs/ProtocolNames.antt).
 ghost use Rattle.std.specs.Prelude.{◌≡◌};
-ghost use Rattle.pointers.specs.Tables.{under};
-ghost use Rattle.walks.specs.ProtocolNames.{decode_protocol_name, decode_protocol_name_in, decode_name_in};
-ghost use Rattle.ranges.specs.Sheet.{noted_all};
-ghost use Rattle.used.specs.Used.{used};
-ghost use Rattle.usage.specs.Traced.{going, lacks_after};
+ghost use Rattle.reads.specs.Answer.{outcome};
+ghost use Rattle.walks.specs.ProtocolNames.{decode_protocol_name_in, decode_name_in};
+ghost use Rattle.usage.specs.Noting.{noting, traced, trace};
 
-use crate::leaf::{lacks, note_slot, note_symbol};
-use crate::protocol::note_protocol;
-use pointers::setting::Setting;
-use pointers::tables::Tables;
-use ranges::sheet::WORDS;
-use reads::answer::is_absent;
-use records::protocol::protocol_at;
+use crate::noting::Noting;
+use reads::answer::{Missing, nonzero};
+use reads::text::Text;
 
-// The name of the protocol at an address that is not 0: whether it is absent.
-fn note_protocol_name(tables: &Tables, setting: Setting, va: u64, sheet: &mut [u64; WORDS]) -> bool
-    ensures { let t = under setting tables.now in
-        going result sheet.new ≡ lacks_after t (decode_protocol_name va) sheet.old }
-{
-    if va == 0 {
-        return true;
+impl Noting<'_> {
+    // The name of the protocol whose address a slot holds, if that is not 0.
+    #[tactic(auto, using(crate::proofs::NotedBy::notes), unfolding(walks::specs::ProtocolNames::decode_protocol_name_in, walks::specs::ProtocolNames::decode_protocol_name))]
+    fn note_protocol_name_in(&mut self, slot: u64) -> Result<Text, Missing>
+        ensures { traced (outcome result) self.new ≡ trace (decode_protocol_name_in slot) self.old }
+    {
+        let word = self.note_slot(slot)?;
+        let va = nonzero(word)?;
+        self.protocol(va)
     }
-    note_protocol(tables, setting, va, sheet);
-    lacks(protocol_at(tables, setting, va))
-}
 
-// The name of the protocol whose address a slot holds: whether it is absent.
-fn note_protocol_name_in(
-    tables: &Tables,
-    setting: Setting,
-    slot: u64,
-    sheet: &mut [u64; WORDS],
-) -> bool
-    ensures { let t = under setting tables.now in
-        going result sheet.new ≡ lacks_after t (decode_protocol_name_in slot) sheet.old }
-{
-    let word = note_slot(tables, setting, slot, sheet);
-    let Ok(va) = word else {
-        return is_absent(word);
-    };
-    note_protocol_name(tables, setting, va, sheet)
-}
-
-// The name of a slot: the bind is asked only where the slot holds no protocol.
-pub fn note_name_in(tables: &Tables, setting: Setting, slot: u64, sheet: &mut [u64; WORDS])
-    ensures { let t = under setting tables.now in
-        sheet.new ≡ noted_all (used t (decode_name_in slot)) sheet.old }
-{
-    if note_protocol_name_in(tables, setting, slot, sheet) {
-        note_symbol(tables, slot, sheet);
+    // The name of a slot: the bind is asked only where the slot holds no protocol.
+    #[tactic(auto, using(crate::proofs::NotedBy::notes), unfolding(walks::specs::ProtocolNames::decode_name_in))]
+    pub fn note_name_in(&mut self, slot: u64)
+        ensures { self.new ≡ noting (decode_name_in slot) self.old }
+    {
+        if let Err(Missing::Absent(_)) = self.note_protocol_name_in(slot) {
+            self.note_symbol(slot);
+        }
     }
 }

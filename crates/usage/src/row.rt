@@ -1,186 +1,133 @@
 // Rows of method, ivar and property lists, noted on a sheet: their reads in the order of their definitions (records/specs/Row.antt).
 ghost use Rattle.std.specs.Prelude.{◌≡◌};
-ghost use Rattle.reads.specs.Relative.{relative, signed_in};
-ghost use Rattle.pointers.specs.Tables.{under};
-ghost use Rattle.records.specs.Row.{decode_legacy_method, decode_selector, decode_types, decode_small_method, decode_offset, decode_ivar, decode_property, decode_row};
-ghost use Rattle.ranges.specs.Sheet.{noted_all};
-ghost use Rattle.used.specs.Used.{used};
-ghost use Rattle.usage.specs.Traced.{traced, trace};
 ghost use Rattle.reads.specs.Answer.{outcome};
+ghost use Rattle.records.specs.Row.{decode_legacy_method, decode_selector, decode_types, decode_small_method, decode_offset, decode_ivar, decode_property, decode_row};
+ghost use Rattle.usage.specs.Noting.{noting, traced, trace};
 
-use crate::leaf::{
-    note_field, note_pointer, note_pointer_or_0, note_slot, note_slot_or_0, note_text,
-};
-use crate::text::note_string;
-use pointers::setting::Setting;
-use pointers::tables::Tables;
-use ranges::sheet::WORDS;
+use crate::noting::Noting;
 use reads::answer::{Missing, checked_add, nonzero};
 use reads::place::{Place, readable};
 use reads::relative::{i32_in, relative_pointer};
+use reads::text::or_empty;
+use records::ivar::Ivar;
 use records::list::RowKind;
+use records::method::{Method, Selectors};
+use records::property::Property;
 
-// method_t::big: name and types, the imp's slot; the types' text only where the name's is there.
-fn note_legacy_method(tables: &Tables, setting: Setting, va: u64, sheet: &mut [u64; WORDS])
-    ensures { let t = under setting tables.now in
-        sheet.new ≡ noted_all (used t (decode_legacy_method va)) sheet.old }
-{
-    let Ok(_) = readable(tables.image(), va, 24) else {
-        return;
-    };
-    let Ok(name) = note_slot(tables, setting, va, sheet) else {
-        return;
-    };
-    let Ok(types) = note_pointer(tables, setting, va, 8, sheet) else {
-        return;
-    };
-    let Ok(_) = note_pointer_or_0(tables, setting, va, 16, sheet) else {
-        return;
-    };
-    let Ok(_) = note_string(tables, setting, name, sheet) else {
-        return;
-    };
-    note_text(tables, types, sheet);
-}
-
-// The target of the offset at i bytes from a place, counted from the offset's own field.
-fn target_of(tables: &Tables, p: Place, i: u64, field: u64) -> u64
-    ensures { result ≡ relative field (signed_in tables.now.files p i) }
-{
-    relative_pointer(field, i32_in(tables.files(), p, i))
-}
-
-// A small method's selector, and its address: its offset, and the slot that it is indirect through.
-fn note_selector(
-    tables: &Tables,
-    setting: Setting,
-    direct: bool,
-    field: u64,
-    p: Place,
-    sheet: &mut [u64; WORDS],
-) -> Result<u64, Missing>
-    ensures { let t = under setting tables.now in
-        traced (outcome result) sheet.new ≡ trace t (decode_selector direct field p) sheet.old }
-{
-    note_field(tables, p, 0, 4, sheet);
-    let target = target_of(tables, p, 0, field);
-    if direct {
-        return Ok(target);
+impl Noting<'_> {
+    // method_t::big: name and types, the imp's slot; the types' text only where the name's is there.
+    #[tactic(auto, using(crate::proofs::NotedBy::notes), unfolding(records::specs::Row::decode_legacy_method))]
+    fn note_legacy_method(&mut self, va: u64) -> Result<(), Missing>
+        ensures { self.new ≡ noting (decode_legacy_method va) self.old }
+    {
+        readable(self.tables.image(), va, Method::SIZE)?;
+        let name = self.note_slot(va)?;
+        let types = self.note_pointer(va, Method::TYPES)?;
+        self.note_pointer_or_0(va, Method::IMP)?;
+        self.note_string(name)?;
+        self.note_text(types);
+        Ok(())
     }
-    note_slot(tables, setting, target, sheet)
-}
 
-// A small method's types: their offset, and the text at its target.
-fn note_types(tables: &Tables, setting: Setting, field: u64, p: Place, sheet: &mut [u64; WORDS])
-    ensures { let t = under setting tables.now in
-        sheet.new ≡ noted_all (used t (decode_types field p)) sheet.old }
-{
-    note_field(tables, p, 4, 4, sheet);
-    note_text(tables, target_of(tables, p, 4, field), sheet);
-}
+    // A small method's selector, and its address: its offset, and the slot that it is indirect through.
+    #[tactic(auto, using(crate::proofs::NotedBy::notes), unfolding(records::specs::Row::decode_selector))]
+    fn note_selector(&mut self, selectors: Selectors, field: u64, p: Place) -> Result<u64, Missing>
+        ensures { traced (outcome result) self.new ≡ trace (decode_selector selectors field p) self.old }
+    {
+        self.note_field(p, Method::SMALL_NAME, 4);
+        let offset = i32_in(self.tables.files(), p, Method::SMALL_NAME);
+        let target = relative_pointer(field, offset);
+        match selectors {
+            Selectors::Indirect => self.note_slot(target),
+            Selectors::Direct => Ok(target),
+        }
+    }
 
-// method_t::small: three offsets, the selector, and where its text is there the types.
-fn note_small_method(
-    tables: &Tables,
-    setting: Setting,
-    va: u64,
-    direct: bool,
-    sheet: &mut [u64; WORDS],
-)
-    ensures { let t = under setting tables.now in
-        sheet.new ≡ noted_all (used t (decode_small_method va direct)) sheet.old }
-{
-    let Ok(place) = readable(tables.image(), va, 12) else {
-        return;
-    };
-    note_field(tables, place, 0, 4, sheet);
-    note_field(tables, place, 4, 4, sheet);
-    note_field(tables, place, 8, 4, sheet);
-    let Ok(types_field) = checked_add(va, 4) else {
-        return;
-    };
-    let Ok(imp_field) = checked_add(va, 8) else {
-        return;
-    };
-    let Ok(name) = note_selector(tables, setting, direct, va, place, sheet) else {
-        return;
-    };
-    let Ok(_) = note_string(tables, setting, name, sheet) else {
-        return;
-    };
-    note_types(tables, setting, types_field, place, sheet);
-}
+    // A small method's types: their offset, and the text at its target.
+    #[tactic(auto, using(crate::proofs::NotedBy::notes), unfolding(records::specs::Row::decode_types))]
+    fn note_types(&mut self, field: u64, p: Place)
+        ensures { self.new ≡ noting (decode_types field p) self.old }
+    {
+        self.note_field(p, Method::SMALL_TYPES, 4);
+        let offset = i32_in(self.tables.files(), p, Method::SMALL_TYPES);
+        self.note_text(relative_pointer(field, offset));
+    }
 
-// The cell in which an ivar's offset lies.
-fn note_offset(tables: &Tables, setting: Setting, cell: u64, sheet: &mut [u64; WORDS])
-    ensures { let t = under setting tables.now in
-        sheet.new ≡ noted_all (used t (decode_offset cell)) sheet.old }
-{
-    let Ok(va) = nonzero(cell) else {
-        return;
-    };
-    let Ok(place) = readable(tables.image(), va, 4) else {
-        return;
-    };
-    note_field(tables, place, 0, 4, sheet);
-}
+    // method_t::small: three offsets, the selector, and where its text is there the types.
+    #[tactic(auto, using(crate::proofs::NotedBy::notes), unfolding(records::specs::Row::decode_small_method))]
+    fn note_small_method(&mut self, va: u64, selectors: Selectors) -> Result<(), Missing>
+        ensures { self.new ≡ noting (decode_small_method va selectors) self.old }
+    {
+        let p = readable(self.tables.image(), va, Method::SMALL_SIZE)?;
+        self.note_field(p, Method::SMALL_NAME, 4);
+        self.note_field(p, Method::SMALL_TYPES, 4);
+        self.note_field(p, Method::SMALL_IMP, 4);
+        let types_field = checked_add(va, Method::SMALL_TYPES)?;
+        checked_add(va, Method::SMALL_IMP)?;
+        let name = self.note_selector(selectors, va, p)?;
+        self.note_string(name)?;
+        self.note_types(types_field, p);
+        Ok(())
+    }
 
-// ivar_t: the slots, alignment and size, the name; where its text is there the type and the offset's cell.
-fn note_ivar(tables: &Tables, setting: Setting, va: u64, sheet: &mut [u64; WORDS])
-    ensures { let t = under setting tables.now in
-        sheet.new ≡ noted_all (used t (decode_ivar va)) sheet.old }
-{
-    let Ok(place) = readable(tables.image(), va, 32) else {
-        return;
-    };
-    let Ok(cell) = note_slot_or_0(tables, setting, va, sheet) else {
-        return;
-    };
-    let Ok(name) = note_pointer(tables, setting, va, 8, sheet) else {
-        return;
-    };
-    let Ok(encoding) = note_pointer_or_0(tables, setting, va, 16, sheet) else {
-        return;
-    };
-    note_field(tables, place, 24, 4, sheet);
-    note_field(tables, place, 28, 4, sheet);
-    let Ok(_) = note_string(tables, setting, name, sheet) else {
-        return;
-    };
-    note_text(tables, encoding, sheet);
-    note_offset(tables, setting, cell, sheet);
-}
+    // The cell in which an ivar's offset lies.
+    #[tactic(auto, using(crate::proofs::NotedBy::notes), unfolding(records::specs::Row::decode_offset))]
+    fn note_offset(&mut self, cell: u64) -> Result<(), Missing>
+        ensures { self.new ≡ noting (decode_offset cell) self.old }
+    {
+        let va = nonzero(cell)?;
+        let p = readable(self.tables.image(), va, 4)?;
+        self.note_field(p, 0, 4);
+        Ok(())
+    }
 
-// property_t: name and attributes; the attributes' text only where the name's is there.
-fn note_property(tables: &Tables, setting: Setting, va: u64, sheet: &mut [u64; WORDS])
-    ensures { let t = under setting tables.now in
-        sheet.new ≡ noted_all (used t (decode_property va)) sheet.old }
-{
-    let Ok(_) = readable(tables.image(), va, 16) else {
-        return;
-    };
-    let Ok(name) = note_slot(tables, setting, va, sheet) else {
-        return;
-    };
-    let Ok(attributes) = note_pointer_or_0(tables, setting, va, 8, sheet) else {
-        return;
-    };
-    let Ok(_) = note_string(tables, setting, name, sheet) else {
-        return;
-    };
-    note_text(tables, attributes, sheet);
-}
+    // ivar_t: the slots, alignment and size, the name; where its text is there the type and the offset's cell.
+    #[tactic(auto, using(crate::proofs::NotedBy::notes), unfolding(records::specs::Row::decode_ivar))]
+    fn note_ivar(&mut self, va: u64) -> Result<(), Missing>
+        ensures { self.new ≡ noting (decode_ivar va) self.old }
+    {
+        let p = readable(self.tables.image(), va, Ivar::SIZE)?;
+        let cell = self.note_slot_or_0(va)?;
+        let name = self.note_pointer(va, Ivar::NAME)?;
+        let encoding = self.note_pointer_or_0(va, Ivar::TYPE)?;
+        self.note_field(p, Ivar::ALIGNMENT_RAW, 4);
+        self.note_field(p, Ivar::OWN_SIZE, 4);
+        self.note_string(name)?;
+        or_empty(self.note_string(encoding))?;
+        self.note_offset(cell)
+    }
 
-// A row by what the entries of its list are.
-pub fn note_row(tables: &Tables, setting: Setting, kind: RowKind, va: u64, sheet: &mut [u64; WORDS])
-    ensures { let t = under setting tables.now in
-        sheet.new ≡ noted_all (used t (decode_row kind va)) sheet.old }
-{
-    match kind {
-        RowKind::Legacy => note_legacy_method(tables, setting, va, sheet),
-        RowKind::SmallIndirect => note_small_method(tables, setting, va, false, sheet),
-        RowKind::SmallDirect => note_small_method(tables, setting, va, true, sheet),
-        RowKind::Ivar => note_ivar(tables, setting, va, sheet),
-        RowKind::Property => note_property(tables, setting, va, sheet),
+    // property_t: name and attributes; the attributes' text only where the name's is there.
+    #[tactic(auto, using(crate::proofs::NotedBy::notes), unfolding(records::specs::Row::decode_property))]
+    fn note_property(&mut self, va: u64) -> Result<(), Missing>
+        ensures { self.new ≡ noting (decode_property va) self.old }
+    {
+        readable(self.tables.image(), va, Property::SIZE)?;
+        let name = self.note_slot(va)?;
+        let attributes = self.note_pointer_or_0(va, Property::ATTRIBUTES)?;
+        self.note_string(name)?;
+        self.note_text(attributes);
+        Ok(())
+    }
+
+    // A row by what the entries of its list are.
+    #[tactic(auto, using(crate::proofs::NotedBy::notes), unfolding(records::specs::Row::decode_row))]
+    fn row(&mut self, kind: RowKind, va: u64) -> Result<(), Missing>
+        ensures { self.new ≡ noting (decode_row kind va) self.old }
+    {
+        match kind {
+            RowKind::Legacy => self.note_legacy_method(va),
+            RowKind::SmallIndirect => self.note_small_method(va, Selectors::Indirect),
+            RowKind::SmallDirect => self.note_small_method(va, Selectors::Direct),
+            RowKind::Ivar => self.note_ivar(va),
+            RowKind::Property => self.note_property(va),
+        }
+    }
+
+    // The same, whatever ends it.
+    pub fn note_row(&mut self, kind: RowKind, va: u64)
+        ensures { self.new ≡ noting (decode_row kind va) self.old }
+    {
+        let _ = self.row(kind, va);
     }
 }

@@ -1,57 +1,65 @@
 // The rows of a list, noted on a sheet: its header, and every entry that can be read.
-ghost use Rattle.std.specs.Prelude.{◌≡◌, ◌<◌, ◌^◌};
-ghost use Rattle.pointers.specs.Tables.{under, image_in};
-ghost use Rattle.records.specs.List.{entry_address};
-ghost use Rattle.records.specs.Row.{decode_row};
+ghost use Rattle.std.specs.Iterator.{YieldsFirst, item_count};
+ghost use Rattle.std.specs.Prelude.{◌≡◌};
+ghost use Rattle.pointers.specs.Tables.{image_in};
 ghost use Rattle.records.specs.Search.{readables};
-ghost use Rattle.ranges.specs.Sheet.{noted_all};
-ghost use Rattle.used.specs.Used.{used};
+ghost use Rattle.usage.specs.Entries.{entries_left};
 ghost use Rattle.usage.specs.ListUses.{rows_use, list_uses};
+ghost use Rattle.usage.specs.Noting.{noted_on};
 
-use crate::list::note_list;
-use crate::row::note_row;
-use pointers::setting::Setting;
-use pointers::tables::Tables;
-use ranges::sheet::WORDS;
+use crate::noting::Noting;
+use reads::place::Image;
 use records::list::{Layout, ListKind, first_readable, list_at};
 
-// Entry j, which can be read.
-fn note_entry(tables: &Tables, setting: Setting, h: Layout, j: u64, sheet: &mut [u64; WORDS])
-    requires { (j < h.count) × (entry_address h j < 2 ^ 64) }
-    ensures { let t = under setting tables.now in
-        sheet.new ≡ noted_all (used t (decode_row h.kind (entry_address h j))) sheet.old }
-{
-    let kind = h.kind;
-    let va = h.base + j * (h.size as u64);
-    note_row(tables, setting, kind, va, sheet);
+// The entries of a list from one on that can be read, as where each stands.
+#[derive(Clone, Copy)]
+struct Entries<'a> {
+    image: &'a Image<'a>,
+    h: Layout,
+    from: u32,
 }
 
-// Every entry that can be read.
-fn note_rows(tables: &Tables, setting: Setting, h: Layout, sheet: &mut [u64; WORDS])
-    ensures { let t = under setting tables.now in
-        sheet.new ≡ noted_all (rows_use t h (readables (image_in tables.now) h)) sheet.old }
-{
-    // Not a `for`: `first_readable` leaps over the entries that cannot be read.
-    let mut i = 0;
-    while let Some(j) = first_readable(tables.image(), h, i) {
-        note_entry(tables, setting, h, j, sheet);
-        i = j as u32 + 1;
+impl Iterator for Entries<'_> {
+    type Item = u64;
+
+    ghost next_gives = { YieldsFirst entries_left };
+
+    ghost remaining = { item_count entries_left };
+
+    fn next(&mut self) -> Option<u64> {
+        let h = self.h;
+        let j = first_readable(self.image, h, self.from)?;
+        prove!(j < h.count as u64);
+        self.from = j as u32 + 1;
+        Some(h.base + j * h.size as u64)
     }
 }
 
-// The list at an address.
-pub fn note_list_rows(
-    tables: &Tables,
-    setting: Setting,
-    kind: ListKind,
-    va: u64,
-    sheet: &mut [u64; WORDS],
-)
-    ensures { let t = under setting tables.now in
-        sheet.new ≡ noted_all (list_uses t kind va) sheet.old }
-{
-    note_list(tables, setting, kind, va, sheet);
-    if let Ok(h) = list_at(tables, setting, kind, va) {
-        note_rows(tables, setting, h, sheet);
+impl Noting<'_> {
+    // Every entry that can be read.
+    #[tactic(auto, using(crate::proofs::NotedBy::notes, crate::proofs::RowsNoted::rows))]
+    fn note_rows(&mut self, h: Layout)
+        ensures { let t = self.old.tables.now in
+            self.new ≡ noted_on (rows_use t h (readables (image_in t) h)) self.old }
+    {
+        let entries = Entries {
+            image: self.tables.image(),
+            h,
+            from: 0,
+        };
+        for va in entries {
+            self.note_row(h.kind, va);
+        }
+    }
+
+    // The list at an address.
+    #[tactic(auto, using(crate::proofs::NotedBy::notes, crate::proofs::RowsNoted::list_noted))]
+    pub fn note_list_rows(&mut self, kind: ListKind, va: u64)
+        ensures { self.new ≡ noted_on (list_uses self.old.tables.now kind va) self.old }
+    {
+        self.note_list(kind, va);
+        if let Ok(h) = list_at(self.tables, kind, va) {
+            self.note_rows(h);
+        }
     }
 }

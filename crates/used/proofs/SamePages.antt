@@ -12,6 +12,7 @@ use Rattle.records.specs.Asks.{Each}
 use Rattle.records.specs.declared.row.Row.{Row}
 use Rattle.records.specs.declared.row.Row.TheVariants as row
 use Rattle.frames.specs.declared.frames.Frames.{Frames}
+use Rattle.frames.specs.declared.frames.Mark.{Mark}
 use Rattle.frames.specs.Marks.{met_all}
 use Rattle.listing.specs.PlainListing.{plain_listing}
 use Rattle.listing.specs.declared.line.Line.{Line}
@@ -30,7 +31,7 @@ use Rattle.std.specs.Prelude.{Option, Some, None}
 
 module _ (t : Tables) (others : List (List ℕ)) where
   -- A mark changes no text.
-  marked_same : (w : Frames) (x : Line) → SameLine t others x → SameLine t others (marked w x)
+  marked_same : (w : Option Frames) (x : Line) → SameLine t others x → SameLine t others (marked w x)
   unfolding marked
   marked_same w (line.Info i) h = h
   marked_same w (line.Class l) h = h
@@ -41,7 +42,7 @@ module _ (t : Tables) (others : List (List ℕ)) where
   marked_same w (line.Name l) h = h
   marked_same w (line.End l) h = h
 
-  lines_marked_same : (w : Frames) (xs : List Line) → Each (SameLine t others) xs → Each (SameLine t others) (marked_lines w xs)
+  lines_marked_same : (w : Option Frames) (xs : List Line) → Each (SameLine t others) xs → Each (SameLine t others) (marked_lines w xs)
   unfolding marked_lines
   lines_marked_same w xs h = each_map (SameLine t others) (SameLine t others) (marked (met_all w (starts_in xs))) (marked_same (met_all w (starts_in xs))) xs h
 
@@ -68,7 +69,7 @@ module _ (t : Tables) (others : List (List ℕ)) (lengths : (f : ℕ) → length
   fields_printed (line.Category l) h = rw (text_printed l.category.name h.0, named_printed l.class_name h.1)
   fields_printed (line.Row l) h = row_printed l.list l.mark l.row h
     where
-      row_printed : (n mark : ℕ) (r : Row) → SameRow t others r → row_text t.files n r mark ≡ row_text others n r mark
+      row_printed : (n : ℕ) (mark : Mark) (r : Row) → SameRow t others r → row_text t.files n r mark ≡ row_text others n r mark
       row_printed n mark (row.Method m) h = unfold method_text in rw (texts_printed m.selector m.types h.0 h.1)
       row_printed n mark (row.Ivar v) h = unfold ivar_text in rw (texts_printed v.name v.type_encoding h.0 h.1)
       row_printed n mark (row.Property p) h = unfold property_text in rw (texts_printed p.name p.attributes h.0 h.1)
@@ -88,7 +89,7 @@ module _ (t : Tables) (others : List (List ℕ)) (lengths : (f : ℕ) → length
 
 -- The page is still good: its lines, its text, marked or not, and the ranges are the same.
 module _ (t u : Tables) (good : StillGood t u (used_by t)) where
-  marked_texts : (w : Frames) (xs : List Line) → marked_listing w t ≡ value xs → Each (SameLine t u.files) xs
+  marked_texts : (w : Option Frames) (xs : List Line) → marked_listing w t ≡ value xs → Each (SameLine t u.files) xs
   marked_texts w xs e =
       let came = then_came (plain_listing t) (λ lines. value (marked_lines w lines)) xs e in
       let is : marked_lines w came.0 ≡ xs = cc in
@@ -98,7 +99,7 @@ module _ (t u : Tables) (good : StillGood t u (used_by t)) where
   same_listing =
       let lines = same_lines t u good in
       let lengths = lengths_same t.files u.files good.tables.lengths in
-      let marks : (w : Frames) → marked_listing w t ≡ marked_listing w u = λ w. ap (λ (o : Outcome (List Line)). and_then o (λ xs. value (marked_lines w xs))) lines in
+      let marks : (w : Option Frames) → marked_listing w t ≡ marked_listing w u = λ w. ap (λ (o : Outcome (List Line)). and_then o (λ xs. value (marked_lines w xs))) lines in
       record {
         lines = lines;
         text = listing_printed t u.files lengths (plain_listing t) (same_texts t u good) ∙ ap (listing_text u.files) lines;

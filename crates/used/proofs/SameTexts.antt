@@ -36,6 +36,8 @@ use Rattle.records.specs.declared.class.ObjcClass.{ObjcClass}
 use Rattle.records.specs.declared.list.RowKind.{RowKind}
 use Rattle.records.specs.declared.list.RowKind.TheVariants as kind
 use Rattle.records.specs.declared.method.Method.{Method}
+use Rattle.records.specs.declared.method.Selectors.{Selectors}
+use Rattle.records.specs.declared.method.Selectors.TheVariants.{Indirect, Direct}
 use Rattle.records.specs.declared.ivar.Ivar.{Ivar}
 use Rattle.records.specs.declared.property.Property.{Property}
 use Rattle.records.specs.declared.row.Row.{Row}
@@ -210,9 +212,9 @@ module _ (t : Tables) (others : List (List ℕ)) where
       yields_then t _ (text_or_empty_gives typed) (λ types alike.
       yields_done t _ (same, alike)))))))
 
-  small_gives : (va : ℕ) (direct : Bool) → Gives SameMethod (decode_small_method va direct)
+  small_gives : (va : ℕ) (selectors : Selectors) → Gives SameMethod (decode_small_method va selectors)
   unfolding decode_small_method decode_types
-  small_gives va direct =
+  small_gives va selectors =
       yields_next t _ (λ p.
       yields_next t _ (λ _.
       yields_next t _ (λ _.
@@ -251,7 +253,7 @@ module _ (t : Tables) (others : List (List ℕ)) where
   pub row_gives : (k : RowKind) (va : ℕ) → Gives SameRow (decode_row k va)
   unfolding decode_row
   row_gives kind.Legacy va = yields_then t _ (legacy_gives va) (λ m same. yields_done t _ same)
-  row_gives kind.SmallIndirect va = yields_then t _ (small_gives va false) (λ m same. yields_done t _ same)
-  row_gives kind.SmallDirect va = yields_then t _ (small_gives va true) (λ m same. yields_done t _ same)
+  row_gives kind.SmallIndirect va = yields_then t _ (small_gives va Indirect) (λ m same. yields_done t _ same)
+  row_gives kind.SmallDirect va = yields_then t _ (small_gives va Direct) (λ m same. yields_done t _ same)
   row_gives kind.Ivar va = yields_then t _ (ivar_gives va) (λ v same. yields_done t _ same)
   row_gives kind.Property va = yields_then t _ (property_gives va) (λ p same. yields_done t _ same)

@@ -21,6 +21,7 @@ use Rattle.records.specs.Ask.{even_list, entry_size}
 use Rattle.records.specs.Asks.{asks}
 use Rattle.records.specs.Decode.{slot}
 use Rattle.records.specs.List.{method_rows, decode_list}
+use Rattle.records.specs.declared.method.Selectors.TheVariants.{Direct}
 use Rattle.records.specs.Row.{decode_offset, decode_ivar, decode_property, decode_small_method}
 use Rattle.records.specs.declared.list.ListKind.TheVariants.{Methods}
 use Rattle.listing.proofs.LittleEndian.{bytes_of, eights}
@@ -38,7 +39,7 @@ unfolding asks flat_map decode_list even_list entry_size method_rows bit uses_fi
 short_entry_uses = refl
 
 -- A small method whose imp field passes 64 bits is skipped: all three words are used before field addresses are tested.
-pub small_over_uses : used (image (2 ^ 64 - 16) 15 (replicate 20 0)) (decode_small_method (2 ^ 64 - 8) true) ≡ range 0 8 4 ∷ range 0 12 4 ∷ range 0 16 4 ∷ []
+pub small_over_uses : used (image (2 ^ 64 - 16) 15 (replicate 20 0)) (decode_small_method (2 ^ 64 - 8) Direct) ≡ range 0 8 4 ∷ range 0 12 4 ∷ range 0 16 4 ∷ []
 unfolding asks flat_map decode_small_method uses_field file_of readable readable_at lookup rows ends holds placed sum64 choose
 small_over_uses = refl
 

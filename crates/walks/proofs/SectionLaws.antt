@@ -4,6 +4,7 @@ use mathlib.Core.Path.{◌≡◌, refl, ap, ◌∙◌}
 use mathlib.Core.Bool.{Bool}
 use mathlib.Core.List.{List}
 use lib.ListN.{length, set}
+use native.Mathlib.Omega.{arith}
 use borrow.Author.Tests.{eq-eqb, ne_eqb}
 use Rattle.reads.specs.Outcome.{Outcome, value, absent, refused}
 use Rattle.reads.proofs.Tests.{choose_true, choose_false}
@@ -11,7 +12,7 @@ use Rattle.pointers.specs.Tables.{Tables}
 use Rattle.records.specs.Category.{category_at}
 use Rattle.walks.specs.Handed.{unless_refused}
 use Rattle.walks.specs.Slots.{slots_of, among, asked_slot, asked_ledger, TakenSlot, address, slot_dropped, no_slot, slot_refused, slot_taken, met_below, greatest, first_met, next_slot, next_new}
-use Rattle.walks.specs.Sections.{Walk, walk, at_start, met_in, Highest, Left, stays, Kind, slots_in, categories, by_record, by_slot, take_waiting, next_waiting, take_new, take_slot, step_by, ledger_step_of, step_of, take_protocol, protocol_step_of}
+use Rattle.walks.specs.Sections.{Walk, walk, at_start, met_in, Highest, Step, found, passed, Left, leaves, stays, decoded_step, waits_after, Kind, slots_in, categories, by_record, by_slot, take_waiting, next_waiting, take_new, take_slot, step_by, ledger_step_of, step_of, take_protocol, protocol_step_of}
 use Rattle.records.specs.declared.protocol.ObjcProtocol.{ObjcProtocol}
 use Rattle.walks.specs.declared.slots.Lists.{Lists}
 use Rattle.walks.specs.declared.slots.Lists.TheVariants.{Categories, Protocols}
@@ -45,6 +46,13 @@ module _ {A : Type 0} (k : Kind A) (t : Tables) (w : Walk) (l : List ℕ) where
       rw (choose_true (take_slot (met_below w.highest (met_in w l)) k t w l) (take_waiting k t w l) (eq-eqb w.waiting 0 h))
       (e ∙ ap (by_slot w l (take_new k t w l)) (rw i at n)
       ∙ slot_step w l (take_new k t w l) (asked_ledger t (slots_in k t) w.slot w.used (length l)) (first_met (met_below w.highest (met_in w l)) (slot_taken t (slots_in k t) w.slot)))
+
+-- A record is taken by the step that its decoding is.
+module _ {A : Type 0} (w : Walk) (l : List ℕ) (after : A → ℕ) (on : ℕ → Walk) (new : List ℕ) (x : Step A) where
+  pub record_on : (o : Outcome A) → value x ≡ decoded_step o → leaves (value x) (on (waits_after after x)) new ≡ by_record w l after on new o
+  record_on (value a) e = let same : x ≡ found a = cc in rw same
+  record_on (absent r) e = let same : x ≡ passed r = cc in rw same
+  record_on (refused k) e = let z : ◌≡◌ {A = ℕ} 0 1 = cc in absurd (omega arith)
 
 -- Where no address waits, none waits after a step over categories.
 module _ (w : Walk) (l : List ℕ) (h : w.waiting ≡ 0) where

@@ -172,6 +172,18 @@ abbrev pub record_answer : {R : Type 0} → Result (RecordStep R) Question → O
 record_answer (Ok s) = value (record_step s)
 record_answer (Err k) = refused k
 
+-- A record's decoding as a step: it is found, or passed where it is absent; and the address that waits after a step, 0 for none.
+abbrev pub decoded_step : {A : Type 0} → Outcome A → Outcome (Step A)
+decoded_step (value a) = value (found a)
+decoded_step (absent r) = value (passed r)
+decoded_step (refused k) = refused k
+
+abbrev pub waits_after : {A : Type 0} → (A → ℕ) → Step A → ℕ
+waits_after after (found a) = after a
+waits_after after (passed r) = 0
+waits_after after dropped = 0
+waits_after after finished = 0
+
 -- What a step leaves, by where the walk stands then.
 abbrev pub slot_left : {R : Type 0} → SlotTaken R → List ℕ → Left R
 slot_left r ledger = leaves (record_answer r.step) (walk r.slots.slot r.slots.used r.slots.highest r.waiting) ledger

@@ -25,7 +25,8 @@ pub struct ListWalk {
     pub cursor: u32,
 }
 
-// What a step reaches: a row, or an entry whose row is skipped, its index and why, or the end.
+// What a step reaches: a row, or an entry whose row is skipped, its index and why, or the end. The end is a case here: with an Option
+// of a step each match would have two levels, `Ok(Some(ListStep::Row(row)))` and `Ok(None)`.
 #[derive(Clone, Copy)]
 pub enum ListStep {
     Row(Row),
@@ -33,13 +34,17 @@ pub enum ListStep {
     Finished,
 }
 
-// The answer, with the walk to go on with. A list that is absent has no steps, only the reason for which it is.
+// The answer, with the walk to go on with. A list that is absent has no steps, only the reason for which it is. Not one generic struct of an answer
+// and a state for all steps, those of listing, marking and face too: each names its fields by what they hold, its answer has its own cases
+// (`Missing` here, a `Question` of a section walk), and its own definition says what it leaves (`row_left`, `name_left`, `record_left`).
 #[derive(Clone, Copy)]
 pub struct ListStepped {
     pub walked: Result<ListStep, Missing>,
     pub walk: ListWalk,
 }
 
+// `new`, `under` and `starting` stand on six types, each over what else it begins with (nothing, a list, frames, an answer): a trait would have
+// that and the definition of the start as members, with their laws, for bodies of one to six lines.
 impl ListWalk {
     // The walk over a list from its first entry on, under the new reading.
     pub fn new(list: u64, kind: ListKind) -> ListWalk
@@ -97,13 +102,12 @@ impl ListWalk {
     // Settles entry j, which can be read.
     fn settle(self, tables: &Tables, h: Layout, j: u64) -> ListStepped
         requires { (j < h.count) × (entry_address h j < 2 ^ 64) }
-        ensures { let t = under self.setting tables.now in
+        ensures { let t = tables.now in
             row_left result ≡ settles self j (row_at t h.kind (entry_address h j)) }
     {
         let kind = h.kind;
-        let setting = self.setting;
         let va = h.base + j * (h.size as u64);
-        match row_at(tables, setting, kind, va) {
+        match row_at(tables, kind, va) {
             Ok(row) => self.at(ListStep::Row(row), j as u32 + 1),
             Err(Missing::Absent(why)) => { self.at(ListStep::Skipped(j as u32, why), j as u32 + 1) }
             Err(m) => self.missing(m),
@@ -113,7 +117,7 @@ impl ListWalk {
     // A step over a list: 10, then the next entry that can be read.
     #[tactic(auto, unfolding(crate::specs::Walk::over_rows), using(crate::proofs::Steps::list_past, crate::proofs::Steps::list_on))]
     fn over_list(self, tables: &Tables, h: Layout) -> ListStepped
-        ensures { let t = under self.setting tables.now in
+        ensures { let t = tables.now in
             row_left result ≡ over_rows t self (value h) }
     {
         if h.count < self.cursor {
@@ -132,10 +136,10 @@ impl ListWalk {
         ensures { let t = under self.setting tables.now in
             row_left result ≡ over_rows t self (list_at t self.kind self.list) }
     {
+        let tables = &tables.under(self.setting);
         let kind = self.kind;
         let list = self.list;
-        let setting = self.setting;
-        match list_at(tables, setting, kind, list) {
+        match list_at(tables, kind, list) {
             Ok(h) => self.over_list(tables, h),
             Err(m) => {
                 if 0 < self.cursor {

@@ -30,7 +30,9 @@ impl ProtocolList {
     pub const COUNT: u64 = 0;
 }
 
-// A walk over the names of a list: its address, the number of slots taken, and the setting that it began with.
+// A walk over the names of a list: its address, the number of slots taken, and the setting that it began with. Not one generic walk with
+// `ListWalk`: alike are seven bodies of one to six lines (`new`, `under`, `starting`, `missing`, `refused`, `at`, `next`) and the two arms of
+// `walked_list`; a trait for them would have the cursor (u32 there), list, step and the definitions of each walk as members, with their laws.
 #[derive(Clone, Copy)]
 pub struct ProtocolNameWalk {
     pub list: u64,
@@ -38,7 +40,7 @@ pub struct ProtocolNameWalk {
     pub setting: Setting,
 }
 
-// What a step reaches: a name, a slot that gives none and why, or the end.
+// What a step reaches: a name, a slot that gives none and why, or the end, a case as in `ListStep`.
 #[derive(Clone, Copy)]
 pub enum NameStep {
     Name(Text),
@@ -65,8 +67,8 @@ fn capped(count: u64) -> u64
 
 // protocol_list_t: a u64 count, then the slots.
 #[tactic(auto, using(reads::proofs::Outcomes::missed_then), unfolding(crate::specs::ProtocolNames::decode_protocol_list))]
-pub fn protocol_list_at(tables: &Tables, setting: Setting, va: u64) -> Result<ProtocolList, Missing>
-    ensures { let t = under setting tables.now in
+pub fn protocol_list_at(tables: &Tables, va: u64) -> Result<ProtocolList, Missing>
+    ensures { let t = tables.now in
         outcome result ≡ protocol_list_at t va }
 {
     nonzero(va)?;
@@ -92,33 +94,33 @@ pub fn has_slot(list: ProtocolList, i: u64) -> bool
 
 // The name of the protocol at an address that is not 0.
 #[tactic(auto, using(reads::proofs::Outcomes::missed_then), unfolding(crate::specs::ProtocolNames::decode_protocol_name))]
-fn protocol_name_at(tables: &Tables, setting: Setting, va: u64) -> Result<Text, Missing>
-    ensures { let t = under setting tables.now in
+fn protocol_name_at(tables: &Tables, va: u64) -> Result<Text, Missing>
+    ensures { let t = tables.now in
         outcome result ≡ protocol_name_at t va }
 {
     let proto_va = nonzero(va)?;
-    let p = protocol_at(tables, setting, proto_va)?;
+    let p = protocol_at(tables, proto_va)?;
     Ok(p.name)
 }
 
 // The name of the protocol whose address a slot holds.
 #[tactic(auto, using(reads::proofs::Outcomes::missed_then), unfolding(crate::specs::ProtocolNames::decode_protocol_name_in))]
-fn protocol_name_in(tables: &Tables, setting: Setting, slot: u64) -> Result<Text, Missing>
-    ensures { let t = under setting tables.now in
+fn protocol_name_in(tables: &Tables, slot: u64) -> Result<Text, Missing>
+    ensures { let t = tables.now in
         outcome result ≡ protocol_name_in t slot }
 {
-    let va = resolve_pointer(tables, setting, slot)?;
-    protocol_name_at(tables, setting, va)
+    let va = resolve_pointer(tables, slot)?;
+    protocol_name_at(tables, va)
 }
 
 // The name of a slot: of the protocol that it holds, else its bind's less the prefix. Where both are absent the reason is the
 // protocol's.
 #[tactic(auto, using(reads::proofs::Outcomes::first_absent, reads::proofs::Outcomes::first_number, reads::proofs::Outcomes::first_value_lem, reads::proofs::Outcomes::because_of), unfolding(crate::specs::ProtocolNames::decode_name_in))]
-fn name_in(tables: &Tables, setting: Setting, slot: u64) -> Result<Text, Missing>
-    ensures { let t = under setting tables.now in
+fn name_in(tables: &Tables, slot: u64) -> Result<Text, Missing>
+    ensures { let t = tables.now in
         outcome result ≡ name_in t slot }
 {
-    match protocol_name_in(tables, setting, slot) {
+    match protocol_name_in(tables, slot) {
         Err(Missing::Absent(why)) => because(symbol_at(tables, slot), why),
         name => name,
     }
@@ -199,13 +201,12 @@ impl ProtocolNameWalk {
     // The next slot; with none left the cursor becomes the count.
     #[tactic(auto, using(crate::proofs::ProtocolLists::slot_below), unfolding(crate::specs::ProtocolNames::step_in))]
     fn step_in(self, tables: &Tables, list: ProtocolList) -> ProtocolNameStepped
-        ensures { let t = under self.setting tables.now in
+        ensures { let t = tables.now in
             name_left result ≡ step_in t self list }
     {
         if has_slot(list, self.cursor) {
             let slot = list.base + 8 * self.cursor;
-            let setting = self.setting;
-            let name = name_in(tables, setting, slot);
+            let name = name_in(tables, slot);
             return self.named(name);
         }
         self.at(NameStep::Finished, list.count)
@@ -217,9 +218,9 @@ impl ProtocolNameWalk {
         ensures { let t = under self.setting tables.now in
             name_left result ≡ over_names t self (protocol_list_at t self.list) }
     {
+        let tables = &tables.under(self.setting);
         let list = self.list;
-        let setting = self.setting;
-        match protocol_list_at(tables, setting, list) {
+        match protocol_list_at(tables, list) {
             Ok(list) => {
                 if list.count < self.cursor {
                     return self.refused(Question::WalkState);

@@ -4,18 +4,18 @@ ghost use Rattle.std.specs.Prelude.{◌≡◌, List, ℕ, ◌+◌, ◌^◌, ◌<
 ghost use Rattle.reads.specs.Answer.{outcome};
 ghost use Rattle.pointers.specs.Tables.{Tables, under};
 ghost use Rattle.walks.specs.Slots.{Room};
-ghost use Rattle.walks.specs.Sections.{Walk, walk, at_start, Left, Kind, classes, categories, take_waiting, next_waiting, take_new, step_of, take_protocol, protocol_step_of, class_slots, category_slots, protocol_slots, slot_left, record_taken};
+ghost use Rattle.walks.specs.Sections.{Walk, walk, at_start, Left, Kind, classes, categories, take_waiting, next_waiting, take_new, step_of, take_protocol, protocol_step_of, class_slots, category_slots, protocol_slots, slot_left, record_taken, record_answer, record_step, decoded_step, waits_after};
 
 use crate::sections::RecordStep;
 use crate::slots::{Lists, SlotStep, SlotWalk, next_slot};
-use pointers::setting::Setting;
 use pointers::tables::Tables;
 use reads::answer::{Missing, Question};
 use records::category::{ObjcCategory, category_at};
 use records::class::{ObjcClass, class_at};
 use records::protocol::{ObjcProtocol, protocol_at};
 
-// Where a walk over classes stands: the slots, and the address of the metaclass that waits (0: none).
+// Where a walk over classes stands: the slots, and the address of the metaclass that waits. 0 is none: an isa of 0 never waits, and the walk that
+// C holds has the same word (`WalkWords` of face), so that an Option would be made from it and into it at each of C's calls.
 #[derive(Clone, Copy)]
 pub struct ClassSlots {
     pub slots: SlotWalk,
@@ -41,7 +41,7 @@ pub struct RecordTaken<R, S> {
     pub slots: S,
 }
 
-// The same of a slot: where the slots stand then, and the address that waits (0: none).
+// The same of a slot: where the slots stand then, and the address that waits, 0 for none as in `ClassSlots`.
 #[derive(Clone, Copy)]
 pub(crate) struct SlotTaken<R> {
     pub(crate) step: Result<RecordStep<R>, Question>,
@@ -62,13 +62,8 @@ pub trait RecordSlots: Copy {
         ensures { state result ≡ at_start };
 
     // One step, with the ledger of the addresses met before.
-    fn next(
-        self,
-        tables: &Tables,
-        setting: Setting,
-        ledger: &mut [u64],
-    ) -> RecordTaken<Self::Record, Self>
-        ensures { let t = under setting tables.now in
+    fn next(self, tables: &Tables, ledger: &mut [u64]) -> RecordTaken<Self::Record, Self>
+        ensures { let t = tables.now in
             record_taken state result ledger.new ≡ step t (state self) ledger.old };
 }
 
@@ -81,13 +76,34 @@ pub(crate) trait Listed: Copy {
         ensures { result ≡ kind.lists };
 
     // The record at an address.
-    fn at(tables: &Tables, setting: Setting, va: u64) -> Result<Self, Missing>
-        ensures { let t = under setting tables.now in
+    fn at(tables: &Tables, va: u64) -> Result<Self, Missing>
+        ensures { let t = tables.now in
             outcome result ≡ kind.decoded t va };
 
-    // The address that waits after it, 0 for none.
+    // The address that waits after it, 0 for none as in `ClassSlots`.
     fn after(self) -> u64
         ensures { result ≡ kind.after self };
+}
+
+// A record's decoding as a step: it is found, or passed where it is absent.
+fn decoded_step<R: Copy>(decoded: Result<R, Missing>) -> Result<RecordStep<R>, Question>
+    ensures { record_answer result ≡ decoded_step (outcome decoded) }
+{
+    match decoded {
+        Ok(record) => Ok(RecordStep::Record(record)),
+        Err(Missing::Absent(why)) => Ok(RecordStep::Passed(why)),
+        Err(Missing::Refused(k)) => Err(k),
+    }
+}
+
+// The address that waits after a step, 0 for none.
+fn waits_after<R: Listed>(step: RecordStep<R>) -> u64
+    ensures { result ≡ waits_after R.kind.after (record_step step) }
+{
+    match step {
+        RecordStep::Record(record) => record.after(),
+        _ => 0,
+    }
 }
 
 impl Listed for ObjcClass {
@@ -97,8 +113,8 @@ impl Listed for ObjcClass {
         Lists::Classes
     }
 
-    fn at(tables: &Tables, setting: Setting, va: u64) -> Result<ObjcClass, Missing> {
-        class_at(tables, setting, va, false)
+    fn at(tables: &Tables, va: u64) -> Result<ObjcClass, Missing> {
+        class_at(tables, va, false)
     }
 
     // The address of the metaclass, 0 where isa is the class itself.
@@ -117,8 +133,8 @@ impl Listed for ObjcCategory {
         Lists::Categories
     }
 
-    fn at(tables: &Tables, setting: Setting, va: u64) -> Result<ObjcCategory, Missing> {
-        category_at(tables, setting, va)
+    fn at(tables: &Tables, va: u64) -> Result<ObjcCategory, Missing> {
+        category_at(tables, va)
     }
 
     // Nothing waits.
@@ -129,30 +145,19 @@ impl Listed for ObjcCategory {
 
 impl SlotWalk {
     // Takes an address first met: the ledger word is the last write, and with a number there is none.
-    #[tactic(auto, unfolding(crate::specs::Sections::take_new))]
-    fn take_new<R: Listed>(
-        self,
-        tables: &Tables,
-        setting: Setting,
-        va: u64,
-        ledger: &mut [u64],
-    ) -> SlotTaken<R>
+    #[tactic(auto, using(crate::proofs::SectionLaws::record_on), unfolding(crate::specs::Sections::take_new))]
+    fn take_new<R: Listed>(self, tables: &Tables, va: u64, ledger: &mut [u64]) -> SlotTaken<R>
         requires { Room self (length ledger.old) }
-        ensures { let t = under setting tables.now in
+        ensures { let t = tables.now in
             slot_left result ledger.new ≡ take_new R.kind t (walk self.slot self.used self.highest 0) ledger.old va }
     {
-        match R::at(tables, setting, va) {
-            Ok(record) => SlotTaken {
-                step: Ok(RecordStep::Record(record)),
+        match decoded_step(R::at(tables, va)) {
+            Ok(step) => SlotTaken {
+                step: Ok(step),
                 slots: self.note(va, ledger),
-                waiting: record.after(),
+                waiting: waits_after(step),
             },
-            Err(Missing::Absent(why)) => SlotTaken {
-                step: Ok(RecordStep::Passed(why)),
-                slots: self.note(va, ledger),
-                waiting: 0,
-            },
-            Err(Missing::Refused(k)) => SlotTaken {
+            Err(k) => SlotTaken {
                 step: Err(k),
                 slots: self,
                 waiting: 0,
@@ -162,18 +167,13 @@ impl SlotWalk {
 
     // Takes the next slot.
     #[tactic(auto, using(crate::proofs::SectionLaws::step_slot, crate::proofs::SlotLaws::new_room))]
-    fn take_slot<R: Listed>(
-        self,
-        tables: &Tables,
-        setting: Setting,
-        ledger: &mut [u64],
-    ) -> SlotTaken<R>
-        ensures { let t = under setting tables.now in
+    fn take_slot<R: Listed>(self, tables: &Tables, ledger: &mut [u64]) -> SlotTaken<R>
+        ensures { let t = tables.now in
             slot_left result ledger.new ≡ step_of R.kind t (walk self.slot self.used self.highest 0) ledger.old }
     {
         let lists = R::lists();
-        match self.next_new(tables, setting, lists, ledger) {
-            Ok(SlotStep::Address(va)) => self.take_new(tables, setting, va, ledger),
+        match self.next_new(tables, lists, ledger) {
+            Ok(SlotStep::Address(va)) => self.take_new(tables, va, ledger),
             Ok(SlotStep::Dropped) => SlotTaken {
                 step: Ok(RecordStep::Dropped),
                 slots: self.past(),
@@ -195,22 +195,17 @@ impl SlotWalk {
 
 impl ClassSlots {
     // Takes the metaclass that waits.
-    #[tactic(auto, unfolding(crate::specs::Sections::take_waiting))]
-    fn take_meta(self, tables: &Tables, setting: Setting) -> RecordTaken<ObjcClass, ClassSlots>
-        ensures { let t = under setting tables.now in
+    #[tactic(auto, using(crate::proofs::SectionLaws::record_on), unfolding(crate::specs::Sections::take_waiting))]
+    fn take_meta(self, tables: &Tables) -> RecordTaken<ObjcClass, ClassSlots>
+        ensures { let t = tables.now in
             ((l : List ℕ) → record_taken class_slots result l ≡ take_waiting classes t (class_slots self) l) }
     {
-        let slots = self.slots;
-        match class_at(tables, setting, self.meta, true) {
-            Ok(class) => RecordTaken {
-                step: Ok(RecordStep::Record(class)),
-                slots: ClassSlots { slots, meta: 0 },
+        match decoded_step(class_at(tables, self.meta, true)) {
+            Ok(step) => RecordTaken {
+                step: Ok(step),
+                slots: ClassSlots { meta: 0, ..self },
             },
-            Err(Missing::Absent(why)) => RecordTaken {
-                step: Ok(RecordStep::Passed(why)),
-                slots: ClassSlots { slots, meta: 0 },
-            },
-            Err(Missing::Refused(k)) => RecordTaken {
+            Err(k) => RecordTaken {
                 step: Err(k),
                 slots: self,
             },
@@ -219,18 +214,13 @@ impl ClassSlots {
 
     // The waiting metaclass, where no question refuses the step over a ledger of `len` words.
     #[tactic(auto, using(crate::proofs::SectionLaws::waiting_on, crate::proofs::SectionLaws::waiting_no))]
-    fn next_meta(
-        self,
-        tables: &Tables,
-        setting: Setting,
-        len: usize,
-    ) -> RecordTaken<ObjcClass, ClassSlots>
-        ensures { let t = under setting tables.now in
+    fn next_meta(self, tables: &Tables, len: usize) -> RecordTaken<ObjcClass, ClassSlots>
+        ensures { let t = tables.now in
             ((l : List ℕ) → length l ≡ len → record_taken class_slots result l ≡ next_waiting classes t (class_slots self) l) }
     {
         let lists = Lists::Classes;
-        match self.slots.ask_ledger(tables, setting, lists, len) {
-            Ok(()) => self.take_meta(tables, setting),
+        match self.slots.ask_ledger(tables, lists, len) {
+            Ok(()) => self.take_meta(tables),
             Err(k) => RecordTaken {
                 step: Err(k),
                 slots: self,
@@ -254,17 +244,12 @@ impl RecordSlots for ClassSlots {
     }
 
     // The waiting metaclass, or else the next slot.
-    fn next(
-        self,
-        tables: &Tables,
-        setting: Setting,
-        ledger: &mut [u64],
-    ) -> RecordTaken<ObjcClass, ClassSlots> {
+    fn next(self, tables: &Tables, ledger: &mut [u64]) -> RecordTaken<ObjcClass, ClassSlots> {
         if self.meta != 0 {
             let len = ledger.len();
-            return self.next_meta(tables, setting, len);
+            return self.next_meta(tables, len);
         }
-        let taken = self.slots.take_slot(tables, setting, ledger);
+        let taken = self.slots.take_slot(tables, ledger);
         RecordTaken {
             step: taken.step,
             slots: ClassSlots {
@@ -289,13 +274,8 @@ impl RecordSlots for CategorySlots {
     }
 
     // The next slot.
-    fn next(
-        self,
-        tables: &Tables,
-        setting: Setting,
-        ledger: &mut [u64],
-    ) -> RecordTaken<ObjcCategory, CategorySlots> {
-        let taken = self.slots.take_slot(tables, setting, ledger);
+    fn next(self, tables: &Tables, ledger: &mut [u64]) -> RecordTaken<ObjcCategory, CategorySlots> {
+        let taken = self.slots.take_slot(tables, ledger);
         RecordTaken {
             step: taken.step,
             slots: CategorySlots { slots: taken.slots },
@@ -304,7 +284,8 @@ impl RecordSlots for CategorySlots {
 }
 
 impl ProtocolSlots {
-    // The walk one slot on.
+    // The walk one slot on. That its number fits is said here, in `take` and in `SlotWalk::past`: a walk that C holds may stand at any slot, so the
+    // type does not say it.
     fn past(self) -> ProtocolSlots
         requires { self.slot + 1 < 2 ^ 64 }
         ensures { protocol_slots result ≡ walk (self.slot + 1) 0 0 0 }
@@ -315,28 +296,18 @@ impl ProtocolSlots {
     }
 
     // Takes an address. Not `SlotWalk::take_new`: no ledger says which addresses were met, and a walk's state has no words for it.
-    #[tactic(auto, unfolding(crate::specs::Sections::take_protocol))]
-    fn take(
-        self,
-        tables: &Tables,
-        setting: Setting,
-        va: u64,
-    ) -> RecordTaken<ObjcProtocol, ProtocolSlots>
+    #[tactic(auto, using(crate::proofs::SectionLaws::record_on), unfolding(crate::specs::Sections::take_protocol))]
+    fn take(self, tables: &Tables, va: u64) -> RecordTaken<ObjcProtocol, ProtocolSlots>
         requires { self.slot + 1 < 2 ^ 64 }
-        ensures { let t = under setting tables.now in
+        ensures { let t = tables.now in
             ((l : List ℕ) → record_taken protocol_slots result l ≡ take_protocol t (protocol_slots self) l va) }
     {
-        let slots = self.past();
-        match protocol_at(tables, setting, va) {
-            Ok(protocol) => RecordTaken {
-                step: Ok(RecordStep::Record(protocol)),
-                slots,
+        match decoded_step(protocol_at(tables, va)) {
+            Ok(step) => RecordTaken {
+                step: Ok(step),
+                slots: self.past(),
             },
-            Err(Missing::Absent(why)) => RecordTaken {
-                step: Ok(RecordStep::Passed(why)),
-                slots,
-            },
-            Err(Missing::Refused(k)) => RecordTaken {
+            Err(k) => RecordTaken {
                 step: Err(k),
                 slots: self,
             },
@@ -359,13 +330,12 @@ impl RecordSlots for ProtocolSlots {
     fn next(
         self,
         tables: &Tables,
-        setting: Setting,
         _ledger: &mut [u64],
     ) -> RecordTaken<ObjcProtocol, ProtocolSlots> {
         let lists = Lists::Protocols;
         let slot = self.slot;
-        match next_slot(tables, setting, lists, slot) {
-            Ok(SlotStep::Address(va)) => self.take(tables, setting, va),
+        match next_slot(tables, lists, slot) {
+            Ok(SlotStep::Address(va)) => self.take(tables, va),
             Ok(SlotStep::Dropped) => RecordTaken {
                 step: Ok(RecordStep::Dropped),
                 slots: self.past(),

@@ -24,7 +24,7 @@ pub type CategoryWalk = RecordWalk<CategorySlots>;
 pub type ProtocolWalk = RecordWalk<ProtocolSlots>;
 
 // A step gives a record, or the reason for which it is absent; a slot of 0 or an address met before is dropped, which is no absence; or there was
-// nothing left.
+// nothing left, a case as in `ListStep`: with an Option each match would have two levels.
 #[derive(Clone, Copy)]
 pub enum RecordStep<R> {
     Record(R),
@@ -70,8 +70,9 @@ impl<S: RecordSlots> RecordWalk<S> {
         ensures { let t = under self.setting tables.now in
             (record_left S.state result ledger.new ≡ S.step t (S.state self.slots) ledger.old) × (result.walk.setting ≡ self.setting) }
     {
+        let tables = &tables.under(self.setting);
         let setting = self.setting;
-        let taken = self.slots.next(tables, setting, ledger);
+        let taken = self.slots.next(tables, ledger);
         RecordStepped {
             step: taken.step,
             walk: RecordWalk {

@@ -1,19 +1,18 @@
 // The slots of the section lists, taken one by one: what the section walks share.
 ghost use Rattle.std.specs.Prelude.{◌≡◌, ◌++◌, ◌+◌, ◌^◌, ◌≤◌, ◌<◌, max, length, get_or, set};
 ghost use Rattle.reads.specs.Reference.{before};
-ghost use Rattle.pointers.specs.Tables.{under};
 ghost use Rattle.walks.specs.Slots.{section_slots, slots_of, address_in, among, slot_fits, ledger_fits, asked_ledger, slot_taken, met_below, first_met, next_slot, next_new, slot_step, slot_outcome, slot_walk, Room};
 ghost use Rattle.reads.specs.Answer.{outcome, answered};
 
 use pointers::question::ask;
 use pointers::section::ObjcSection;
-use pointers::setting::Setting;
 use pointers::slot::slot_or_0;
 use pointers::tables::Tables;
 use reads::answer::{Missing, Question, nonzero};
 use reads::relative::slot_address;
 
-// The lists that are walked: class_list, then nlclslist; cat_list, then nlcat_list; proto_list.
+// The lists that are walked: class_list, then nlclslist; cat_list, then nlcat_list; proto_list. They go beside the section table where that alone
+// is read, else beside the tables: two structs with their models would save one parameter in each of eight functions.
 #[derive(Clone, Copy)]
 pub enum Lists {
     Classes,
@@ -21,7 +20,7 @@ pub enum Lists {
     Protocols,
 }
 
-// What the next slot comes to: the address in it; it is dropped; or no slot is left.
+// What the next slot comes to: the address in it; it is dropped; or no slot is left, a case as in `RecordStep`.
 #[derive(Clone, Copy)]
 pub(crate) enum SlotStep {
     Address(u64),
@@ -73,7 +72,7 @@ pub fn slot_count(sections: &[u64], lists: Lists) -> u64
     }
 }
 
-// The address of slot k of them, 0 where there is none.
+// The address of slot k of them, 0 where there is none: no Option, since callers ask for slots that are there.
 #[tactic(auto, using(crate::proofs::SlotLaws::section_length, crate::proofs::SlotLaws::section_at_lem))]
 pub fn slot_at(sections: &[u64], lists: Lists, k: u64) -> u64
     ensures { result ≡ get_or (slots_of lists (before sections)) k 0 }
@@ -93,11 +92,11 @@ pub fn slot_at(sections: &[u64], lists: Lists, k: u64) -> u64
 
 // The address in a slot, absent if it is 0.
 #[tactic(auto, unfolding(crate::specs::Slots::decode_address))]
-fn address_in(tables: &Tables, setting: Setting, slot: u64) -> Result<u64, Missing>
-    ensures { let t = under setting tables.now in
+fn address_in(tables: &Tables, slot: u64) -> Result<u64, Missing>
+    ensures { let t = tables.now in
         outcome result ≡ address_in t slot }
 {
-    let va = slot_or_0(tables, setting, slot)?;
+    let va = slot_or_0(tables, slot)?;
     nonzero(va)
 }
 
@@ -159,9 +158,9 @@ fn ledger_fits(sections: &[u64], lists: Lists, words: usize) -> bool
 
 // Takes slot k, or there is none.
 #[tactic(auto, using(crate::proofs::SlotLaws::taken_none, crate::proofs::SlotLaws::taken_by_lem))]
-fn take_slot(tables: &Tables, setting: Setting, lists: Lists, k: u64) -> Result<SlotStep, Question>
+fn take_slot(tables: &Tables, lists: Lists, k: u64) -> Result<SlotStep, Question>
     requires { k ≤ length (slots_of lists tables.now.sections) }
-    ensures { let t = under setting tables.now in
+    ensures { let t = tables.now in
         slot_outcome result ≡ slot_taken t (slots_of lists tables.now.sections) k }
 {
     let sections = tables.sections();
@@ -169,22 +168,19 @@ fn take_slot(tables: &Tables, setting: Setting, lists: Lists, k: u64) -> Result<
         return Ok(SlotStep::Finished);
     }
     let at = slot_at(sections, lists, k);
-    match address_in(tables, setting, at) {
+    match address_in(tables, at) {
         Ok(va) => Ok(SlotStep::Address(va)),
         Err(Missing::Absent(_)) => Ok(SlotStep::Dropped),
         Err(Missing::Refused(k)) => Err(k),
     }
 }
 
-// The next slot of a walk that takes an address as often as it is listed.
+// The next slot of a walk that takes an address as often as it is listed. `few`, here and in two contracts below, says that the
+// number of the slot after it fits 64 bits. Tried without, with `slots_few` in the caller: it holds no section table, whose words bound the
+// slots, and the proof did not close.
 #[tactic(auto, using(crate::proofs::SlotLaws::slots_few, crate::proofs::SlotLaws::slot_within, crate::proofs::SlotLaws::next_on, crate::proofs::SlotLaws::next_10, crate::proofs::SlotLaws::next_no))]
-pub(crate) fn next_slot(
-    tables: &Tables,
-    setting: Setting,
-    lists: Lists,
-    slot: u64,
-) -> Result<SlotStep, Question>
-    ensures step { let t = under setting tables.now in
+pub(crate) fn next_slot(tables: &Tables, lists: Lists, slot: u64) -> Result<SlotStep, Question>
+    ensures step { let t = tables.now in
         slot_outcome result ≡ next_slot t (slots_of lists tables.now.sections) slot }
     ensures few { length (slots_of lists tables.now.sections) < 2 ^ 62 }
 {
@@ -193,7 +189,7 @@ pub(crate) fn next_slot(
     if !slot_fits(sections, lists, slot, 0) {
         return Err(Question::WalkState);
     }
-    take_slot(tables, setting, lists, slot)
+    take_slot(tables, lists, slot)
 }
 
 impl SlotWalk {
@@ -213,11 +209,10 @@ impl SlotWalk {
     pub(crate) fn ask_ledger(
         self,
         tables: &Tables,
-        setting: Setting,
         lists: Lists,
         words: usize,
     ) -> Result<(), Question>
-        ensures asked { let t = under setting tables.now in
+        ensures asked { let t = tables.now in
             answered result ≡ asked_ledger t (slots_of lists tables.now.sections) self.slot self.used words }
         ensures few { length (slots_of lists tables.now.sections) < 2 ^ 62 }
     {
@@ -237,16 +232,15 @@ impl SlotWalk {
     pub(crate) fn next_new(
         self,
         tables: &Tables,
-        setting: Setting,
         lists: Lists,
         ledger: &[u64],
     ) -> Result<SlotStep, Question>
-        ensures step { let t = under setting tables.now in
+        ensures step { let t = tables.now in
             slot_outcome result ≡ next_new t (slots_of lists tables.now.sections) self.slot self.used self.highest (before ledger) }
         ensures few { length (slots_of lists tables.now.sections) < 2 ^ 62 }
     {
-        self.ask_ledger(tables, setting, lists, ledger.len())?;
-        let step = take_slot(tables, setting, lists, self.slot)?;
+        self.ask_ledger(tables, lists, ledger.len())?;
+        let step = take_slot(tables, lists, self.slot)?;
         Ok(first_met(step, &ledger[..self.used as usize], self.highest))
     }
 

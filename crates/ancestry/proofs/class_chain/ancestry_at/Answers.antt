@@ -2,7 +2,7 @@ use mathlib.Core.Path.{◌≡◌, refl, sym, ap, ◌∙◌}
 use mathlib.Core.Bool.{false}
 use Rattle.reads.proofs.Outcomes.{on_value}
 use Rattle.reads.specs.Outcome.{value}
-use Rattle.pointers.specs.Tables.{Tables, under}
+use Rattle.pointers.specs.Tables.{Tables}
 use Rattle.records.specs.Class.{class_at}
 use Rattle.ancestry.specs.Ancestry.{ancestry_of}
 use Rattle.ancestry.proofs.Known.{class_of}
@@ -13,15 +13,15 @@ use Rattle.reads.specs.Answer.{outcome}
 pub climb_from-requires : goal.climb_from-requires
 climb_from-requires c =
     let a = c.args in
-    let t : Tables = under c.args.setting c.args.tables.now in
+    let t : Tables = c.args.asked.now.tables.now in
     let s : class_at t a.va false ≡ value c.in_ok-class.class = sym c.class_at.ensures ∙ ap outcome c.in_ok-class.was in
-    (c.requires, at_address t a.va false c.in_ok-class.class refl s)
+    at_address t a.va false c.in_ok-class.class refl s
 
 pub returns : goal.returns
 unfolding ancestry_of
 returns c =
     let a = c.args in
-    let t : Tables = under c.args.setting c.args.tables.now in
+    let t : Tables = c.args.asked.now.tables.now in
     let s : class_at t a.va false ≡ value c.in_ok-class.class = sym c.class_at.ensures ∙ ap outcome c.in_ok-class.was in
     let at = (class_of t a.va false c.in_ok-class.class s).address in
     on_value outcome _ c.class_at.ensures c.in_ok-class.was refl (rw at at c.climb_from.ensures)

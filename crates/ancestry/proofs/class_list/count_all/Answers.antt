@@ -4,7 +4,6 @@ use native.Mathlib.Omega.{arith}
 use Rattle.std.proofs.lemmas.Result.{err_from_is_err_and}
 use lib.ListN.{length}
 use Rattle.reads.specs.Outcome.{value, and_then, Outcome}
-use Rattle.pointers.specs.Tables.{under}
 use Rattle.walks.specs.Gather.{present}
 use Rattle.ancestry.specs.Filling.{told_of}
 use Rattle.ancestry.specs.declared.class_chain.Ancestry.{Ancestry}
@@ -16,7 +15,7 @@ pub returns-in_err-count : goal.returns-in_err-count
 returns-in_err-count c =
     let a = c.args in
     let at = c.loop-va in
-    let t = told_of (under a.setting a.tables.now) a.together in
+    let t = told_of a.asked.now.tables.now a.together in
     let e = c.counted.ensures ∙ ap (λ (o : Outcome Ancestry). and_then (present o) (λ xs. value (at.count + length xs))) c.told_at-one.ensures in
     let p = err_from_is_err_and c.from_residual.result c.from_residual.ensures.1 in
     rw (p.1, p.2) (count_refused t a.classes.now at.count at.va-index c.loop-va-test.true at.invariant.1 _ e _ (ap answered c.in_err-count.was))
@@ -25,7 +24,7 @@ pub loop-va-preserved : goal.loop-va-preserved
 loop-va-preserved c =
     let a = c.args in
     let at = c.loop-va in
-    let t = told_of (under a.setting a.tables.now) a.together in
+    let t = told_of a.asked.now.tables.now a.together in
     let e = c.counted.ensures ∙ ap (λ (o : Outcome Ancestry). and_then (present o) (λ xs. value (at.count + length xs))) c.told_at-one.ensures in
     let few = count_few t a.classes.now at.count at.va-index c.loop-va-test.true at.invariant.1 _ e c.in_ok-count.count (ap answered c.in_ok-count.was) in
     (omega arith, count_on t a.classes.now at.count at.va-index c.loop-va-test.true at.invariant.1 _ e c.in_ok-count.count (ap answered c.in_ok-count.was))

@@ -1,4 +1,3 @@
-use Rattle.pointers.specs.Tables.{under}
 use Prim.Native.Nat.{◌≤◌}
 use mathlib.Core.Path.{◌≡◌}
 use lib.ListN.{drop}
@@ -6,4 +5,4 @@ use Rattle.ancestry.specs.Filling.{told_of, tally}
 use Rattle.ancestry.proofs.class_list.count_all.Given as goal
 
 abbrev pub invariant-loop-va : goal.invariant-loop-va
-invariant-loop-va l = (l.count ≤ l.va-index) × (tally (told_of (under l.setting l.tables) l.together) l.count (drop l.va-index l.classes) ≡ tally (told_of (under l.setting l.tables) l.together) 0 l.classes)
+invariant-loop-va l = (l.count ≤ l.va-index) × (tally (told_of l.asked.tables.now l.together) l.count (drop l.va-index l.classes) ≡ tally (told_of l.asked.tables.now l.together) 0 l.classes)

@@ -1,10 +1,15 @@
-use Rattle.ancestry.proofs.UnfollowedRows.{told_fits, fill_alone, fill_falls, fill_unfollowed, fill_told}
+use Prim.Native.Nat.{◌*◌}
+use mathlib.Core.Path.{ap}
+use mathlib.Core.List.{◌++◌}
+use native.Mathlib.Omega.{arith}
+use lib.ListN.{drop, length-take}
+use Rattle.ancestry.proofs.UnfollowedRows.{told_fits, fill_alone, fill_unfollowed, fill_told, rows_alone, alone_told}
 use Rattle.ancestry.proofs.class_list.fill.Goals as goal
 
 pub write_all-requires : goal.write_all-requires
 write_all-requires c =
     let a = c.args in
-    (c.requires.yes, told_fits _ a.count a.classes.now a.res.now c.requires.counted c.requires.room)
+    told_fits _ a.count a.classes.now a.res.now c.requires.counted c.requires.room
 
 pub returns-then-not-together : goal.returns-then-not-together
 returns-then-not-together c =
@@ -13,13 +18,13 @@ returns-then-not-together c =
 
 pub follow_all-requires : goal.follow_all-requires
 follow_all-requires c =
-    let a = c.args in (
-      c.requires.yes,
-      fill_falls _ a.together a.count a.classes.now a.res.now c.requires c.if-not-together.false,
-      fill_unfollowed _ a.together a.count a.classes.now a.res.now _ c.requires c.if-not-together.false c.write_all.ensures,
-    )
+    let a = c.args in
+    let s = fill_unfollowed _ a.together a.count a.classes.now a.res.now _ c.requires c.if-not-together.false c.write_all.ensures in
+    rows_alone _ a.count _ s _ (omega (arith, s.room, length-take (a.count * 3) c.write_all.new.res))
 
 pub returns : goal.returns
 returns c =
     let a = c.args in
-    fill_told _ a.together a.count a.classes.now a.res.now _ c.requires c.if-not-together.false c.write_all.ensures _ c.follow_all.ensures
+    fill_told _ a.together a.count a.classes.now a.res.now _ c.requires c.if-not-together.false c.write_all.ensures _
+    (λ s. ap (λ l. l ++ drop (a.count * 3) c.write_all.new.res)
+    (alone_told _ a.count _ s _ (omega (arith, s.room, length-take (a.count * 3) c.write_all.new.res)) c.follow_all.new.res c.follow_all.ensures))

@@ -1,22 +1,33 @@
-use mathlib.Core.Path.{sym, ap, ◌∙◌}
-use native.Mathlib.Omega.{arith}
-use Rattle.ancestry.proofs.Fillings.{filling_room, filling_found, filling_missing, filling_end}
-use Rattle.ancestry.proofs.class_list.write_all.Goals.{in-Ok, in_default}
+use Rattle.std.proofs.Common.{rules, arith, [], ◌∷◌, length-append}
+use Rattle.std.proofs.lemmas.Iterator.{YieldsList-from_slice}
+use Rattle.std.proofs.lemmas.Iterator.Consumers.{YieldsList-at, YieldsList-from_filter_map, YieldsList-from_enumerate, YieldsList-turn, YieldsList-end}
+use Rattle.ancestry.specs.Filling.{told_of, found}
+use Rattle.ancestry.proofs.Fillings.{filled_none, filled_room, filled_more, filled_end}
 use Rattle.ancestry.proofs.class_list.write_all.Goals as goal
-use Rattle.reads.specs.Answer.{outcome}
+
+pub loop-k-init : goal.loop-k-init
+loop-k-init c = let a = c.args in filled_none (told_of a.asked.now.tables.now a.together) a.classes.now a.res.now
 
 pub put_record-requires : goal.put_record-requires
 put_record-requires c =
-    filling_room _ _ _ _ _ _ c.loop-va.invariant c.loop-va-test.true c.in-Ok.a (sym c.told_at.ensures ∙ ap outcome c.in-Ok.is)
+    let a = c.args in
+    let one = told_of a.asked.now.tables.now a.together in
+    let turn = YieldsList-turn (YieldsList-from_enumerate {s = c.into_iter-k-iterator.result} (YieldsList-at (cc) (YieldsList-from_filter_map _ (λ va. found (one va)) (YieldsList-at c.filter_map-records.ensures.source (YieldsList-from_slice a.classes.now cc)) c.filter_map-records.ensures.closure (λ x r q k. search rules))) (cc))
+    c.loop-k.yielded _ c.loop-k.yielded_by _ c.next.new.self (c.in-Some.k, c.in-Some.a) c.in-Some.is c.next.ensures.steps in
+    filled_room one a.classes.now a.res.now c.requires _ _ _ _ turn c.loop-k.invariant
 
-pub loop-va-preserved : goal.loop-va-preserved
-loop-va-preserved c =
-    elim c.match-told_at.branch [
-      | in-Ok w ↦ rw (w.at-is, w.res-is, w.put_record.ensures)
-          (filling_found _ _ _ _ _ _ c.loop-va.invariant c.loop-va-test.true w.in-Ok.a (sym c.told_at.ensures ∙ ap outcome w.in-Ok.is))
-      | in_default w ↦ rw (w.at-is, w.res-is)
-          (filling_missing _ _ _ _ _ _ c.loop-va.invariant c.loop-va-test.true _ c.told_at.ensures w.in_default.not-Ok)
-    ]
+pub loop-k-preserved : goal.loop-k-preserved
+loop-k-preserved c =
+    let a = c.args in
+    let one = told_of a.asked.now.tables.now a.together in
+    let turn = YieldsList-turn (YieldsList-from_enumerate {s = c.into_iter-k-iterator.result} (YieldsList-at (cc) (YieldsList-from_filter_map _ (λ va. found (one va)) (YieldsList-at c.filter_map-records.ensures.source (YieldsList-from_slice a.classes.now cc)) c.filter_map-records.ensures.closure (λ x r q k. search rules))) (cc))
+    c.loop-k.yielded _ c.loop-k.yielded_by _ c.next.new.self (c.in-Some.k, c.in-Some.a) c.in-Some.is c.next.ensures.steps in
+    rw c.put_record.ensures (filled_more one a.classes.now a.res.now _ _ _ _ turn c.loop-k.invariant _ (omega (arith, length-append c.loop-k.yielded ((c.in-Some.k, c.in-Some.a) ∷ []))))
 
 pub returns : goal.returns
-returns c = filling_end _ _ _ _ _ _ c.loop-va.invariant (omega arith)
+returns c =
+    let a = c.args in
+    let one = told_of a.asked.now.tables.now a.together in
+    let end = YieldsList-end (YieldsList-from_enumerate {s = c.into_iter-k-iterator.result} (YieldsList-at (cc) (YieldsList-from_filter_map _ (λ va. found (one va)) (YieldsList-at c.filter_map-records.ensures.source (YieldsList-from_slice a.classes.now cc)) c.filter_map-records.ensures.closure (λ x r q k. search rules))) (cc))
+    c.loop-k.yielded _ c.loop-k.yielded_by _ c.next.new.self c.in-None.is c.next.ensures.steps in
+    filled_end one a.classes.now a.res.now c.requires _ _ end.1 c.loop-k.invariant

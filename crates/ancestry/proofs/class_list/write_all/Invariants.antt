@@ -1,7 +1,8 @@
-use Rattle.pointers.specs.Tables.{under}
+use mathlib.Core.Path.{◌≡◌}
+use lib.ListN.{length}
 use Rattle.ancestry.specs.Filling.{told_of}
-use Rattle.ancestry.proofs.Fillings.{Filling}
+use Rattle.ancestry.proofs.Fillings.{written_to}
 use Rattle.ancestry.proofs.class_list.write_all.Given as goal
 
-abbrev pub invariant-loop-va : goal.invariant-loop-va
-invariant-loop-va l = Filling (told_of (under l.setting l.tables) l.together) l.classes l.initial.res l.va-index l.at l.res
+abbrev pub invariant-loop-k : goal.invariant-loop-k
+invariant-loop-k l = l.res ≡ written_to (told_of l.fn.asked.tables.now l.fn.together) l.fn.classes l.fn.res (length l.yielded)

@@ -1,6 +1,8 @@
 use mathlib.Core.Path.{◌≡◌}
+use Prim.Native.Nat.{◌/◌}
+use lib.ListN.{length}
 use Rattle.ancestry.specs.Doubling.{jumped_to}
 use Rattle.ancestry.proofs.doubling.jump_all.Given as goal
 
 abbrev pub invariant-loop-i : goal.invariant-loop-i
-invariant-loop-i l = l.out ≡ jumped_to l.listed l.limit l.initial.out l.i
+invariant-loop-i l = l.out ≡ jumped_to (length l.initial.out / 3) l.limit l.initial.out l.i

@@ -1,6 +1,7 @@
-use Rattle.pointers.specs.Tables.{under}
+use Prim.Native.Nat.{◌/◌}
+use lib.ListN.{length}
 use Rattle.ancestry.proofs.Starts.{Starting}
 use Rattle.ancestry.proofs.following.first_all.Given as goal
 
 abbrev pub invariant-loop-i : goal.invariant-loop-i
-invariant-loop-i l = Starting (under l.setting l.tables) l.listed l.initial.res l.i l.res
+invariant-loop-i l = Starting l.falling.tables.now (length l.initial.res / 3) l.initial.res l.i l.res

@@ -1,6 +1,8 @@
-use mathlib.Core.Path.{◌≡◌, refl, sym, ◌∙◌}
+use mathlib.Core.Path.{◌≡◌, ap, sym, ◌∙◌}
+use Prim.Native.Nat.{◌/◌}
+use lib.ListN.{length}
 use native.Mathlib.Omega.{arith}
-use Rattle.pointers.specs.Tables.{Tables, under}
+use Rattle.pointers.specs.Tables.{Tables}
 use Rattle.ancestry.specs.Ancestry.{limit}
 use Rattle.ancestry.specs.Following.{ground_of}
 use Rattle.ancestry.proofs.Climbs.{limit_room, limit_small}
@@ -9,17 +11,18 @@ use Rattle.ancestry.proofs.following.follow_all.Goals as goal
 
 pub limit_of-most-requires : goal.limit_of-most-requires
 limit_of-most-requires c =
-    limit_room (under c.args.setting c.args.tables.now) c.requires.0
+    limit_room c.args.falling.now.tables.now c.args.falling.now.passes
 
 pub follow-requires : goal.follow-requires
-follow-requires c =
-    (omega (arith, c.requires.2.room, c.first_all.ensures.size), omega (arith, limit_small (under c.args.setting c.args.tables.now) c.requires.0, c.limit_of-most.ensures))
+follow-requires c = omega (arith, limit_small c.args.falling.now.tables.now c.args.falling.now.passes, c.limit_of-most.ensures)
 
 pub returns : goal.returns
 returns c =
     let a = c.args in
-    let t : Tables = under c.args.setting c.args.tables.now in
-    let g = ground_of t a.res.now a.listed in
+    let t : Tables = c.args.falling.now.tables.now in
+    let listed = length a.res.now / 3 in
+    let g = ground_of t a.res.now listed in
     let most : limit t ≡ c.limit_of-most.result = sym c.limit_of-most.ensures in
-    let w = c.follow.ensures.followed g a.res.now most refl c.first_all.ensures in
-    λ s. c.finish_all.ensures ∙ followed_records t a.listed a.res.now _ s (rw (← most) at w)
+    let w = c.follow.ensures.followed g a.res.now most (ap (λ n. n / 3) (sym c.first_all.ensures.size)) c.first_all.ensures in
+    let size : length c.follow.new.out ≡ length a.res.now = c.follow.ensures.size ∙ c.first_all.ensures.size in
+    λ s. c.finish_all.ensures ∙ rw size (followed_records t listed a.res.now _ s (rw (← most) at w))

@@ -1,8 +1,9 @@
+use Rattle.std.proofs.Common.{ap}
 use Rattle.std.proofs.lemmas.Result.{err_from_is_err_and}
+use Rattle.reads.specs.Answer.{outcome}
 use Rattle.attributes.specs.Attributes.{items, attributes, attributes_of, items_left}
-use Rattle.attributes.specs.declared.pass.Which.TheVariants.{All}
-use Rattle.attributes.proofs.AttributeAnswers.{attributes_made, counted, counted_missing, counted_room, counted_value}
-use Rattle.attributes.proofs.AttributeItems.{chosen_all}
+use Rattle.attributes.proofs.AttributeAnswers.{made_missing, made_value, made_count}
+use Rattle.attributes.proofs.AttributeItems.{chosen_all, type_first}
 use Rattle.attributes.proofs.items.parse_attributes.Goals as goal
 
 pub returns-in_err-count : goal.returns-in_err-count
@@ -11,25 +12,15 @@ returns-in_err-count c =
     let a = c.args in
     let p = err_from_is_err_and c.from_residual.result c.from_residual.ensures.1 in
     let h =
-    counted_missing a.text.now a.buffer.now All (chosen_all (items a.text.now)) (attributes a.text.now)
-    c.count_fitting.result c.count_fitting.ensures _ c.in_err-count.was
-    in
+    made_missing a.text.now a.buffer.now _ (attributes a.text.now) (chosen_all (items a.text.now)) c.hand_out.ensures _ (ap outcome c.in_err-count.was) in
     record { outcome = rw (p.1, p.2) h.0; contents = h.1 }
 
-pub write_items-requires : goal.write_items-requires
-write_items-requires c =
-    let a = c.args in
-    counted_room a.text.now a.buffer.now All (chosen_all (items a.text.now)) (attributes a.text.now)
-    c.count_fitting.result c.count_fitting.ensures _ c.in_ok-count.was
-
 pub returns : goal.returns
-unfolding attributes_of items_left
+unfolding attributes_of items_left attributes
 returns c =
     let a = c.args in
     let all = chosen_all (items a.text.now) in
-    let n = counted a.text.now a.buffer.now All all (attributes a.text.now) c.count_fitting.result c.count_fitting.ensures _ c.in_ok-count.was in
-    let h =
-    counted_value a.text.now a.buffer.now All all (attributes a.text.now) c.count_fitting.result c.count_fitting.ensures _ c.in_ok-count.was
-    c.write_items.ensures (attributes_made a.text.now n c.type_encoding.ensures)
-    in
-    record { outcome = h.0; contents = h.1 }
+    let came = ap outcome c.in_ok-count.was in
+    let n = made_count a.text.now a.buffer.now _ (attributes a.text.now) all c.hand_out.ensures _ came in
+    let h = made_value a.text.now a.buffer.now _ (attributes a.text.now) all c.hand_out.ensures _ came in
+    record { outcome = rw (n, all, c.first_value.ensures, type_first (items a.text.now)) h.0; contents = h.1 }

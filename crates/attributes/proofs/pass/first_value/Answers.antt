@@ -15,7 +15,7 @@ returns-in_err-item c =
     let a = c.args in
     let found =
     find_from_yields_List (λ i. eqb i.key a.letter && leb a.least i.value.len) c.find.new.self _ c.find.result c.find.ensures.ran
-    (YieldsList-from_first (λ i. i) items_left_of (items a.text.now) c.items_of.ensures) (λ x b q k. search (rules, tests)) in
+    (YieldsList-from_first (λ i. i) items_left_of (items a.text.now) c.items_of.ensures.left) (λ x b q k. search (rules, tests)) in
     c.from_residual.ensures ∙ ap value_in (rw c.in_err-item.was at found) ∙ value_found a.letter a.least (items a.text.now)
 
 pub returns : goal.returns
@@ -23,5 +23,5 @@ returns c =
     let a = c.args in
     let found =
     find_from_yields_List (λ i. eqb i.key a.letter && leb a.least i.value.len) c.find.new.self _ c.find.result c.find.ensures.ran
-    (YieldsList-from_first (λ i. i) items_left_of (items a.text.now) c.items_of.ensures) (λ x b q k. search (rules, tests)) in
+    (YieldsList-from_first (λ i. i) items_left_of (items a.text.now) c.items_of.ensures.left) (λ x b q k. search (rules, tests)) in
     ap value_in (rw c.in_ok-item.was at found) ∙ value_found a.letter a.least (items a.text.now)

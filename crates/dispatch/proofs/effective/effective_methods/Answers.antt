@@ -1,13 +1,12 @@
 use native.Mathlib.Omega.{arith}
 use Rattle.std.proofs.Common.{rules}
 use Rattle.std.proofs.lemmas.Result.{err_from_is_err_and}
-use Rattle.pointers.specs.Tables.{under}
 use Rattle.dispatch.proofs.Answers.{call_refused, call_missing, call_class}
 use Rattle.dispatch.proofs.effective.effective_methods.Goals as goal
 
 pub returns-in_err-ask : goal.returns-in_err-ask
 returns-in_err-ask c =
-    let t = under c.args.setting c.args.tables.now in
+    let t = c.args.tables.now in
     search (rules, call_refused t c.args.side c.args.class c.args.res.now c.ask.result c.ask.ensures)
 
 pub returns-in_err-c : goal.returns-in_err-c

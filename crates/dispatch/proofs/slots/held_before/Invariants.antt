@@ -1,10 +1,9 @@
 use mathlib.Core.Path.{◌≡◌}
 use mathlib.Core.Bool.{false}
 use lib.ListN.{take}
-use Rattle.pointers.specs.Tables.{under}
 use Rattle.walks.specs.Slots.{among}
 use Rattle.dispatch.specs.SlotSources.{held}
 use Rattle.dispatch.proofs.slots.held_before.Given as goal
 
 abbrev pub invariant-loop-i : goal.invariant-loop-i
-invariant-loop-i l = among l.va (take l.i (held (under l.setting l.tables))) ≡ false
+invariant-loop-i l = among l.va (take l.i (held l.tables)) ≡ false

@@ -1,7 +1,6 @@
 use mathlib.Core.Path.{ap}
 use Rattle.std.proofs.lemmas.Result.{err_from_is_err_and}
 use Rattle.encodings.proofs.Answers.{answers_missing, answers_number, answers_value}
-use Rattle.std.proofs.Common.{not}
 use Rattle.encodings.proofs.words.type_words.Goals as goal
 use Rattle.reads.specs.Answer.{outcome}
 
@@ -12,12 +11,12 @@ returns-in_err-count c =
     let h = answers_missing a.text.now a.buffer.now c.read_types.ensures _ (ap outcome c.in_err-count.was) in
     rw (p.1, p.2) (record { outcome = h.0; contents = h.1 })
 
-pub returns-then-not-words_fit : goal.returns-then-not-words_fit
-returns-then-not-words_fit c =
+pub returns-then-count-buffer : goal.returns-then-count-buffer
+returns-then-count-buffer c =
     let a = c.args in
     let h =
     answers_number a.text.now a.buffer.now c.read_types.ensures _ (ap outcome c.in_ok-count.was)
-    c.words_fit.ensures (ap not c.if-not-words_fit.true)
+    c.if-count-buffer.true
     in
     record { outcome = h.0; contents = h.1 }
 
@@ -26,6 +25,6 @@ returns c =
     let a = c.args in
     let h =
     answers_value a.text.now a.buffer.now c.read_types.ensures _ (ap outcome c.in_ok-count.was)
-    c.words_fit.ensures (ap not c.if-not-words_fit.false) c.read_types-2.ensures
+    c.if-count-buffer.false c.read_types-2.ensures
     in
     record { outcome = h.0; contents = h.1 }

@@ -6,6 +6,6 @@ use Rattle.face.proofs.decoding.objclist_class.Goals as goal
 
 pub returns : goal.returns
 returns c =
-    let lent = rw (c.lent-tables.ensures, c.setting_in-setting.ensures) at c.decode_class-answer.ensures in
+    let lent = rw (c.under-tables.ensures, c.lent.ensures, c.setting_in.ensures) at c.decode_class-answer.ensures in
     let none : c.default.result ≡ no_class = search rules in
     rw (c.told.ensures.status, c.told.ensures.words class (λ r w e. e), none, c.found.ensures ∙ ap given lent)

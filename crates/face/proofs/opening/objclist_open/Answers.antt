@@ -5,6 +5,6 @@ use Rattle.face.proofs.opening.objclist_open.Goals as goal
 
 pub returns : goal.returns
 returns c = record {
-  answer = c.from.ensures ∙ ap (λ o. opened_words (given o)) c.open-answer.ensures.outcome;
-  contents = c.open-answer.ensures.contents;
+  answer = c.from.ensures ∙ ap (λ o. opened_words (given o)) (rw c.lent-tables.ensures at c.«open».ensures.outcome);
+  contents = rw c.lent-tables.ensures at c.«open».ensures.contents;
 }

@@ -9,7 +9,7 @@ returns-in-Ok c =
     let o = c.args.opened.now in
     let both = piece_same _ _ _ _ _ _ _
     (ap listable (opened_parts o.answer _ c.in-Ok.is o.file.now o.segments.now o.sections.now o.rebases.now o.binds.now o.index.now _
-    c.range_of-info.ensures))
+    c.part-info.ensures.bytes))
     (c.piece_over.ensures.piece, c.piece_over.ensures.rest) in
     record { piece = both.0; rest = both.1 }
 

@@ -11,5 +11,5 @@ returns c =
     let both = piece_same _ _ _ _ _ _ _
     (parts_same o.file.now o.segments.now o.sections.now a.info.now o.rebases.now o.binds.now o.index.now a.count _ _
     c.segment_words-words.ensures c.index_words-entries.ensures)
-    (c.next_piece.ensures.piece, c.next_piece.ensures.rest) in
+    ((rw c.new.ensures at c.next_piece.ensures.piece), (rw c.new.ensures at c.next_piece.ensures.rest)) in
     record { piece = both.0; rest = both.1 }

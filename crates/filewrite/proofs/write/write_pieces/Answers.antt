@@ -1,33 +1,30 @@
-use Prim.Native.Nat.{ℕ}
-use mathlib.Core.Path.{ap, ◌∙◌}
-use mathlib.Core.List.{List}
+use mathlib.Core.Path.{sym, ◌∙◌}
 use native.Mathlib.Omega.{arith}
-use lib.ListN.{drop}
-use Rattle.printing.proofs.HandedOut.{piece_fits, piece_empty, less_comes}
-use Rattle.filewrite.proofs.Handing.{handed_none, handed_more}
+use Rattle.printing.proofs.HandedOut.{piece_fits, less_comes}
+use Rattle.printing.proofs.Handing.{handed_more, wrote, held_none, held_more, held_end}
 use Rattle.filewrite.proofs.write.write_pieces.Goals as goal
 
 pub loop-progress-init : goal.loop-progress-init
-loop-progress-init c = handed_none _ _ _
+loop-progress-init g c = held_none _ _ _ _ _
 
 pub returns-then-len-eq0 : goal.returns-then-len-eq0
-returns-then-len-eq0 c =
+returns-then-len-eq0 g c =
     let e = c.whole_piece-piece.ensures in
-    record {
-      handed = handed_more _ _ _ _ _ c.loop-progress.invariant _ e.piece e.rest;
-      whole = λ _. e.rest ∙ ap (λ (text : List ℕ). drop 65536 text) (piece_empty _ _ _ _ _ e.piece (omega arith) c.if-len-eq0.true);
-    }
+    let end = held_end _ _ _ _ _ _ _ _ c.loop-progress.invariant _ e.piece e.rest (omega arith) c.if-len-eq0.true in
+    record { handed = end.0; written = λ _. end.1.0; whole = λ _. end.1.1 }
 
 pub slice_bounds-write_all-end : goal.slice_bounds-write_all-end
-slice_bounds-write_all-end c = omega (arith, piece_fits _ _ _ _ _ c.whole_piece-piece.ensures.piece)
+slice_bounds-write_all-end g c = omega (arith, piece_fits _ _ _ _ _ c.whole_piece-piece.ensures.piece)
 
-pub returns-then-not-write_all-clause-handed : goal.returns-then-not-write_all-clause-handed
-returns-then-not-write_all-clause-handed c =
-    handed_more _ _ _ _ _ c.loop-progress.invariant _ c.whole_piece-piece.ensures.piece c.whole_piece-piece.ensures.rest
+pub returns-then-is_err-clause-handed : goal.returns-then-is_err-clause-handed
+returns-then-is_err-clause-handed g c =
+    handed_more _ _ _ _ _ _ c.loop-progress.invariant.over _ c.whole_piece-piece.ensures.piece c.whole_piece-piece.ensures.rest
 
 pub loop-progress-smaller : goal.loop-progress-smaller
-loop-progress-smaller c = less_comes _ _ _ _ _ c.whole_piece-piece.ensures.piece c.whole_piece-piece.ensures.rest c.if-len-eq0.false
+loop-progress-smaller g c = less_comes _ _ _ _ _ c.whole_piece-piece.ensures.piece c.whole_piece-piece.ensures.rest c.if-len-eq0.false
 
 pub loop-progress-preserved : goal.loop-progress-preserved
-loop-progress-preserved c =
-    handed_more _ _ _ _ _ c.loop-progress.invariant _ c.whole_piece-piece.ensures.piece c.whole_piece-piece.ensures.rest
+loop-progress-preserved g c =
+    let e = c.whole_piece-piece.ensures in
+    held_more _ _ _ _ _ _ _ _ c.loop-progress.invariant _ e.piece e.rest _
+    (wrote _ c.write_all.ensures.bytes (sym c.is_err.ensures.value ∙ c.if-is_err.false))

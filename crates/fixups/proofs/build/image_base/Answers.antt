@@ -1,28 +1,23 @@
-use Rattle.std.proofs.Common.{sym, ap, ◌∙◌, arith}
+use Rattle.std.proofs.Common.{rules, tests, sym, ap, ◌∙◌, arith}
+use Rattle.std.proofs.lemmas.Iterator.Adapters.{serves_from_places, option_map_id}
+use Rattle.std.proofs.lemmas.Iterator.Consumers.{YieldsList-from_first}
+use Rattle.std.proofs.lemmas.Iterator.Search.{find_from_yields_List}
 use Rattle.macho.specs.Loader.{segment_kind}
-use Rattle.macho.specs.Commands.{offsets}
-use Rattle.macho.proofs.Commands.{all_good, first_good}
+use Rattle.macho.specs.Commands.{offsets, segments_of}
+use Rattle.macho.proofs.Commands.{all_good}
 use Rattle.fixups.proofs.Building as laws
 use Rattle.fixups.proofs.build.image_base.Goals as goal
 
-pub loop-at-init : goal.loop-at-init
-loop-at-init c =
-    let a = c.args in let e = ap offsets c.into_iter-at-iterator.ensures.into_iter_gives ∙ c.commands-at-items.ensures in
-    (rw e, rw e (all_good segment_kind a.cmds.now a.count 0))
-
-pub overflow_add-at : goal.overflow_add-at
-overflow_add-at c =
-    let f = first_good segment_kind c.args.cmds.now _ _ _ c.loop-at.invariant.1 c.in-Some.ensures.steps in omega (arith, f.here.least, f.here.all)
-
-pub returns-then-has_name : goal.returns-then-has_name
-returns-then-has_name c =
-    c.u64_from.ensures ∙ laws.base_here c.args.cmds.now _ _ _ c.in-Some.ensures.steps (sym c.has_name.ensures ∙ c.if-has_name.true) ∙ sym c.loop-at.invariant.0
-
-pub loop-at-preserved : goal.loop-at-preserved
-loop-at-preserved c = (
-  c.loop-at.invariant.0 ∙ laws.base_next c.args.cmds.now _ _ _ c.in-Some.ensures.steps (sym c.has_name.ensures ∙ c.if-has_name.false),
-  (first_good segment_kind c.args.cmds.now _ _ _ c.loop-at.invariant.1 c.in-Some.ensures.steps).later,
-)
+pub find-requires-clause-callable : goal.find-requires-clause-callable
+find-requires-clause-callable c =
+    let cmds = c.args.cmds in
+    serves_from_places (YieldsList-from_first (λ x. x) offsets _ c.of_kind.ensures) (λ x q r. search rules)
+    (λ x k l e. let p = laws.segment_room cmds.bytes.now _ (all_good segment_kind cmds.bytes.now cmds.count 0) k x l in λ y. search (rules, arith))
 
 pub returns : goal.returns
-returns c = laws.base_none c.args.cmds.now _ c.in-None.ensures.steps.0 ∙ sym c.loop-at.invariant.0
+returns c =
+    let cmds = c.args.cmds in
+    let found =
+    find_from_yields_List (laws.is_text cmds.bytes.now) c.find.new.self _ c.find.result c.find.ensures.ran
+    (YieldsList-from_first (λ x. x) offsets (segments_of cmds.bytes.now cmds.count) c.of_kind.ensures) (λ x b q k. search (rules, tests)) in
+    laws.base_read cmds.bytes.now _ _ c.find.result c.map_or.ensures (λ a h. search (rules, tests)) ∙ ap (laws.base_at cmds.bytes.now) (sym (option_map_id c.find.result) ∙ found) ∙ laws.base_found cmds.bytes.now (segments_of cmds.bytes.now cmds.count)

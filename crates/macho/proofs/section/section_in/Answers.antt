@@ -1,23 +1,16 @@
-use Rattle.macho.proofs.Tables as laws
+use borrow.Author.Rules.{rules}
+use Prim.Native.Nat.{◌+◌, ◌*◌}
 use native.Mathlib.Omega.{arith}
-use Prim.Native.Nat.{◌+◌, ◌-◌, ◌*◌}
-use mathlib.Core.Path.{◌≡◌, sym, ◌∙◌}
+use Rattle.std.proofs.lemmas.Iterator.{YieldsList-from_range, YieldsList-from_map}
+use Rattle.std.proofs.lemmas.Iterator.Search.{find_from_yields_List}
+use Rattle.macho.specs.Sections.{named}
+use Rattle.macho.proofs.Tables.{first_by}
 use Rattle.macho.proofs.section.section_in.Goals as goal
 
-pub loop-i-init : goal.loop-i-init
-loop-i-init c = let a = c.args in let e : a.count - 0 ≡ a.count = omega arith in let g : a.from + 80 * 0 ≡ a.from = omega arith in rw (e, g)
-
-pub returns-then-has_name : goal.returns-then-has_name
-returns-then-has_name c =
-    let a = c.args in
-    c.section_at.ensures ∙ laws.headers_here a.cmds.now a.name.now (a.count - c.loop-i.i) (a.from + 80 * c.loop-i.i) (omega arith) (sym c.has_name.ensures ∙ c.if-has_name.true) ∙ sym c.loop-i.invariant
-
-pub loop-i-preserved : goal.loop-i-preserved
-loop-i-preserved c =
-    let a = c.args in
-    let e : a.count - (c.loop-i.i + 1) ≡ a.count - c.loop-i.i - 1 = omega arith in
-    let g : a.from + 80 * (c.loop-i.i + 1) ≡ a.from + 80 * c.loop-i.i + 80 = omega arith in
-    c.loop-i.invariant ∙ rw (e, g) (laws.headers_next a.cmds.now a.name.now (a.count - c.loop-i.i) (a.from + 80 * c.loop-i.i) (omega arith) (sym c.has_name.ensures ∙ c.if-has_name.false))
-
 pub returns : goal.returns
-returns c = laws.headers_end c.args.cmds.now c.args.name.now _ _ (omega arith) ∙ sym c.loop-i.invariant
+returns c =
+    let a = c.args in
+    let found =
+    find_from_yields_List (named a.bytes.now a.name.now) c.find.new.self _ c.find.result c.find.ensures.ran
+    (YieldsList-from_map _ (λ n. a.from + 80 * n) (YieldsList-from_range 0 a.count a.count c.map.ensures.source (omega arith)) c.map.ensures.closure (λ x r q k. search rules)) (λ x b q k. search rules) in
+    first_by a.bytes.now a.name.now a.from a.count c.find.result found _ c.map-2.result c.map-2.ensures.cases (λ i r q. search rules)

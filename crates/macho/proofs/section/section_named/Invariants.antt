@@ -7,5 +7,5 @@ use Rattle.macho.proofs.section.section_named.Given as goal
 
 abbrev pub invariant-loop-at : goal.invariant-loop-at
 invariant-loop-at l =
-    (section_named l.cmds l.count l.name ≡ first_named l.cmds l.name (sections_of l.cmds (offsets l.at-iterator)))
-    × AllGood segment_kind l.cmds (offsets l.at-iterator)
+    (section_named l.cmds.bytes.now l.cmds.count l.name ≡ first_named l.cmds.bytes.now l.name (sections_of l.cmds.bytes.now (offsets l.at-iterator)))
+    × AllGood segment_kind l.cmds.bytes.now (offsets l.at-iterator)

@@ -1,15 +1,11 @@
-use mathlib.Core.Path.{sym, ◌∙◌}
-use Rattle.marking.proofs.Framing.{last_other, last_ranges, last_index, last_absent}
+use Rattle.marking.proofs.Framing.{last_ranges, last_other, last_unfit}
 use Rattle.marking.proofs.framed.refused_last.Goals as goal
 
-pub returns-then-number : goal.returns-then-number
-returns-then-number c = last_other _ _ _ _ c.in-Refused.is (λ e. c.if-number.true (c.number.ensures ∙ (e ∙ sym c.number-in-Refused.ensures)))
+pub returns-in-Refused : goal.returns-in-Refused
+returns-in-Refused c = last_ranges _ _ _ c.in-Refused.j c.in-Refused.is c.if-fits.true cc
 
-pub returns-then-fits : goal.returns-then-fits
-returns-then-fits c = last_ranges _ _ _ _ c.in-Refused.is (sym c.number.ensures ∙ (c.if-number.false ∙ c.number-in-Refused.ensures)) c.if-fits.true
+pub returns-in_default : goal.returns-in_default
+returns-in_default c = last_other _ _ _ c.in-Refused.j c.in-Refused.is cc
 
-pub returns-in-Absent : goal.returns-in-Absent
-returns-in-Absent c = last_absent _ _ _ _ c.in-Absent.is
-
-pub returns-else-fits : goal.returns-else-fits
-returns-else-fits c = last_index _ _ _ _ c.in-Refused.is (sym c.number.ensures ∙ (c.if-number.false ∙ c.number-in-Refused.ensures)) c.if-fits.false
+pub returns-in_default-2 : goal.returns-in_default-2
+returns-in_default-2 c = last_unfit _ _ _ c.in-Refused.j c.in-Refused.is c.if-fits.false

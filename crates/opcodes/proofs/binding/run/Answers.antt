@@ -14,13 +14,21 @@ loop-preserved c =
     let e : a.count - (l.counter + 1) ≡ a.count - l.counter - 1 = omega arith in
     (l.invariant.0 ∙ rw e (laws.run_on a.end (a.count - l.counter) a.stride l.here (part_in l.binds) (omega arith) c.bound_by.result c.bound_by.ensures _ c.in_ok-x.was (part_in c.put.new.self) c.put.ensures.put c.further-here.result c.further-here.ensures), kept_on _ _ _ l.invariant.1 c.put.ensures.kept)
 
-pub returns-in_err-x-clause-told : goal.returns-in_err-x-clause-told
-returns-in_err-x-clause-told c =
-    let l = c.loop in let a = c.args in
-    let p = err_from_is_err_and c.from_residual.result c.from_residual.ensures.1 in
-    rw (p.1, p.2) (laws.run_refused a.end (a.count - l.counter) a.stride l.here (part_in l.binds) (omega arith) c.bound_by.result c.bound_by.ensures _ c.in_err-x.was ∙ sym l.invariant.0)
+pub returns-in_err-x : goal.returns-in_err-x
+returns-in_err-x c =
+    record {
+      kept = c.loop.invariant.1;
+      told =
+          let l = c.loop in let a = c.args in
+          let p = err_from_is_err_and c.from_residual.result c.from_residual.ensures.1 in
+          rw (p.1, p.2) (laws.run_refused a.end (a.count - l.counter) a.stride l.here (part_in l.binds) (omega arith) c.bound_by.result c.bound_by.ensures _ c.in_err-x.was ∙ sym l.invariant.0);
+    }
 
-pub returns-clause-told : goal.returns-clause-told
-returns-clause-told c =
-    let l = c.loop in let a = c.args in
-    laws.run_none a.end (a.count - l.counter) a.stride l.here (part_in l.binds) (omega arith) ∙ sym l.invariant.0
+pub returns : goal.returns
+returns c =
+    record {
+      kept = c.loop.invariant.1;
+      told =
+          let l = c.loop in let a = c.args in
+          laws.run_none a.end (a.count - l.counter) a.stride l.here (part_in l.binds) (omega arith) ∙ sym l.invariant.0;
+    }

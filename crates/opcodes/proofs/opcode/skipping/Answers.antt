@@ -6,5 +6,5 @@ use Rattle.opcodes.proofs.opcode.skipping.Goals as goal
 pub overflow_add-result-2 : goal.overflow_add-result-2
 overflow_add-result-2 c =
     let a = c.args in
-    let e : c.read_uleb128.result ≡ Ok c.in_ok-u.u = search rules in
-    omega (arith, uleb_in (drop a.n a.rest.now) _ (laws.uleb_there (drop a.n a.rest.now) c.read_uleb128.result (rw (take_all (length a.rest.now - a.n) (drop a.n a.rest.now) (omega (arith, length-drop a.n a.rest.now))) at c.read_uleb128.ensures) _ e), length-drop a.n a.rest.now)
+    let e : c.number.result ≡ Ok c.in_ok-u.u = search rules in
+    omega (arith, uleb_in (drop a.n a.rest.now) _ (laws.number_there (drop a.n a.rest.now) c.number.result (rw (take_all (length a.rest.now - a.n) (drop a.n a.rest.now) (omega (arith, length-drop a.n a.rest.now))) at c.number.ensures) _ e), length-drop a.n a.rest.now)

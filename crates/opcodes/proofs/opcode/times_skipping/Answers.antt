@@ -6,5 +6,5 @@ use Rattle.opcodes.proofs.opcode.times_skipping.Goals as goal
 pub skipping-requires : goal.skipping-requires
 skipping-requires c =
     let a = c.args in
-    let e : c.read_uleb128.result ≡ Ok c.in_ok-u.u = search rules in
-    uleb_in a.rest.now _ (laws.uleb_there a.rest.now c.read_uleb128.result c.read_uleb128.ensures _ e)
+    let e : c.number.result ≡ Ok c.in_ok-u.u = search rules in
+    uleb_in a.rest.now _ (laws.number_there a.rest.now c.number.result c.number.ensures _ e)

@@ -1,21 +1,28 @@
+use mathlib.Core.Path.{ap, ◌∙◌}
 use Rattle.std.proofs.lemmas.Result.{err_from_is_err_and}
+use Rattle.pointers.specs.Open.{asked_opening}
 use Rattle.pointers.proofs.Opens.{open_room, open_info, open_index, open_refused, open_kept}
 use Rattle.pointers.proofs.open.open.Goals as goal
 
 pub fill_index-requires : goal.fill_index-requires
-fill_index-requires c = open_room _ _ c.ask_opening.ensures c.in_ok-ask_opening.was
+fill_index-requires c =
+    let e = c.ask_opening.ensures ∙ ap asked_opening c.with_index.ensures in
+    open_room _ _ e c.in_ok-ask_opening.was
 
 pub returns : goal.returns
 returns c =
+    let e = c.ask_opening.ensures ∙ ap asked_opening c.with_index.ensures in
+    let parsed = rw c.info.ensures at c.parse.ensures in
     record {
-      outcome = open_info _ _ c.ask_opening.ensures c.in_ok-ask_opening.was _ c.parse.ensures;
-      contents = open_index _ _ c.ask_opening.ensures c.in_ok-ask_opening.was _ c.fill_index.ensures;
+      outcome = open_info _ _ e c.in_ok-ask_opening.was _ parsed;
+      contents = open_index _ _ e c.in_ok-ask_opening.was _ c.fill_index.ensures;
     }
 
 pub returns-in_err-ask_opening : goal.returns-in_err-ask_opening
 returns-in_err-ask_opening c =
+    let e = c.ask_opening.ensures ∙ ap asked_opening c.with_index.ensures in
     let p = err_from_is_err_and c.from_residual.result c.from_residual.ensures.1 in
     record {
-      outcome = rw (p.1, p.2) (open_refused _ _ c.ask_opening.ensures _ c.in_err-ask_opening.was);
-      contents = open_kept _ _ c.ask_opening.ensures _ c.in_err-ask_opening.was;
+      outcome = rw (p.1, p.2) (open_refused _ _ e _ c.in_err-ask_opening.was);
+      contents = open_kept _ _ e _ c.in_err-ask_opening.was;
     }

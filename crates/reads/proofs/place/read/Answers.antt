@@ -5,19 +5,23 @@ use Rattle.reads.proofs.place.read.Goals as goal
 
 pub offset_bounds-files-f : goal.offset_bounds-files-f
 offset_bounds-files-f g c =
-    let h = found_lent _ _ c.image.inside.files.now c.image.inside.segments.now c.args.va g.row.N _ c.image.view_is c.readable.ensures c.in_ok-p.was c.requires.some in
+    let e = rw c.BYTES.ensures at c.readable.ensures in
+    let h = found_lent _ _ c.image.inside.files.now c.image.inside.segments.now c.args.va g.W.Width.BYTES _ c.image.view_is e c.in_ok-p.was g.W.Width.fits.0 in
     search rules
 
 pub bounds-files-f : goal.bounds-files-f
 bounds-files-f g c =
-    found_lent _ _ c.image.inside.files.now c.image.inside.segments.now c.args.va g.row.N _ c.image.view_is c.readable.ensures c.in_ok-p.was c.requires.some
+    let e = rw c.BYTES.ensures at c.readable.ensures in
+    found_lent _ _ c.image.inside.files.now c.image.inside.segments.now c.args.va g.W.Width.BYTES _ c.image.view_is e c.in_ok-p.was g.W.Width.fits.0
 
-pub le-requires-clause-inside : goal.le-requires-clause-inside
-le-requires-clause-inside g c =
-    found_holds _ _ c.image.inside.files.now c.image.inside.segments.now c.args.va g.row.N _ c.image.view_is c.readable.ensures c.in_ok-p.was c.requires.some _
+pub le-requires : goal.le-requires
+le-requires g c =
+    let e = rw c.BYTES.ensures at c.readable.ensures in
+    found_holds _ _ c.image.inside.files.now c.image.inside.segments.now c.args.va g.W.Width.BYTES _ c.image.view_is e c.in_ok-p.was g.W.Width.fits.0 _
 
 pub returns : goal.returns
 unfolding word
 returns g c =
-    let h = found_file _ _ c.image.inside.files.now c.image.inside.segments.now c.args.va g.row.N _ c.image.view_is c.readable.ensures c.in_ok-p.was c.requires.some in
+    let e = rw c.BYTES.ensures at c.readable.ensures in
+    let h = found_file _ _ c.image.inside.files.now c.image.inside.segments.now c.args.va g.W.Width.BYTES _ c.image.view_is e c.in_ok-p.was g.W.Width.fits.0 in
     search rules

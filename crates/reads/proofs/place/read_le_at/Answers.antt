@@ -1,5 +1,7 @@
 use Rattle.reads.proofs.Numbers.{answer_at_room}
 use Rattle.reads.proofs.place.read_le_at.Goals as goal
 
-pub le-requires-clause-inside : goal.le-requires-clause-inside
-le-requires-clause-inside g c = answer_at_room c.readable_at.result _ _ _ _ c.readable_at.ensures c.in_ok-p.was
+pub le-requires : goal.le-requires
+le-requires g c =
+    let e = rw c.BYTES.ensures at c.readable_at.ensures in
+    answer_at_room c.readable_at.result _ _ _ _ e c.in_ok-p.was

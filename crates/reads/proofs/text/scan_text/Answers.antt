@@ -1,6 +1,5 @@
-use Rattle.std.proofs.Common.{◌≤◌, true, [], ap, ◌∙◌, arith}
-use borrow.Author.Tests.{not-true, not-false}
-use Rattle.reads.proofs.Passes.{Stands, byte_inside, read_there, left_ascii, left_character, stands_ahead}
+use Rattle.std.proofs.Common.{◌≤◌, ap, ◌∙◌, arith}
+use Rattle.reads.proofs.Passes.{byte_inside, read_there, left_ascii, good_character, bad_character}
 use Rattle.reads.proofs.Texts.{scan_good, scan_broken}
 use Rattle.reads.proofs.text.scan_text.Goals.{else-b-gt0, then-b-gt0+else-b-lt128}
 use Rattle.reads.proofs.text.scan_text.Goals as goal
@@ -23,26 +22,22 @@ returns-then-b-eq0 c = scan_good c.loop-read.invariant c.read_byte-b.ensures c.i
 pub broken-requires : goal.broken-requires
 broken-requires c =
     let high : 0x80 ≤ c.read_byte-b.result.byte = elim c.if-b-gt0.branch [ then-b-gt0+else-b-lt128 w ↦ omega arith | else-b-gt0 w ↦ omega arith ] in
-    let stands : Stands true c.args.s.now c.loop-read.read [] c.character-step.result = left_character c.loop-read.invariant c.read_byte-b.ensures (high) c.character-step.ensures in
-    let t = stands in (t.within, t.is)
+    let t = bad_character c.loop-read.invariant c.read_byte-b.ensures (high) c.character.ensures c.in-Err.is in
+    (t.bad.within, t.is)
 
-pub returns-then-not-step : goal.returns-then-not-step
-returns-then-not-step c =
+pub returns-in-Err : goal.returns-in-Err
+returns-in-Err c =
     let high : 0x80 ≤ c.read_byte-b.result.byte = elim c.if-b-gt0.branch [ then-b-gt0+else-b-lt128 w ↦ omega arith | else-b-gt0 w ↦ omega arith ] in
-    let stands : Stands true c.args.s.now c.loop-read.read [] c.character-step.result = left_character c.loop-read.invariant c.read_byte-b.ensures (high) c.character-step.ensures in
-    let t = stands in
-    c.broken.ensures ∙ scan_broken (t.bad (not-true _ c.if-not-step.true))
+    let t = bad_character c.loop-read.invariant c.read_byte-b.ensures (high) c.character.ensures c.in-Err.is in
+    c.broken.ensures ∙ scan_broken t.bad
 
 pub loop-read-smaller : goal.loop-read-smaller
 loop-read-smaller c =
     let high : 0x80 ≤ c.read_byte-b.result.byte = elim c.if-b-gt0.branch [ then-b-gt0+else-b-lt128 w ↦ omega arith | else-b-gt0 w ↦ omega arith ] in
-    let stands : Stands true c.args.s.now c.loop-read.read [] c.character-step.result = left_character c.loop-read.invariant c.read_byte-b.ensures (high) c.character-step.ensures in
-    let h = byte_inside c.loop-read.invariant c.read_byte-b.ensures (omega (arith, high)) in
-    let ahead = stands_ahead h (stands) in
-    omega (arith, ahead.0, ahead.1)
+    let t = good_character c.loop-read.invariant c.read_byte-b.ensures (high) c.character.ensures c.in-Ok.is in
+    omega (arith, t.ahead, t.on.within)
 
 pub loop-read-preserved : goal.loop-read-preserved
 loop-read-preserved c =
     let high : 0x80 ≤ c.read_byte-b.result.byte = elim c.if-b-gt0.branch [ then-b-gt0+else-b-lt128 w ↦ omega arith | else-b-gt0 w ↦ omega arith ] in
-    let stands : Stands true c.args.s.now c.loop-read.read [] c.character-step.result = left_character c.loop-read.invariant c.read_byte-b.ensures (high) c.character-step.ensures in
-    (stands).on (not-false _ c.if-not-step.false)
+    (good_character c.loop-read.invariant c.read_byte-b.ensures (high) c.character.ensures c.in-Ok.is).on

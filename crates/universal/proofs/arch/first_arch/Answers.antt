@@ -10,19 +10,19 @@ pub loop-i-init : goal.loop-i-init
 loop-i-init g c = λ test says. let e : c.args.count - 0 ≡ c.args.count = omega arith in rw e
 
 pub arch_at-requires : goal.arch_at-requires
-arch_at-requires g c = entry_room c.args.table.wide c.loop-i.i c.args.count (length c.args.table.file.now) c.loop-i-test.true c.requires.inside
+arch_at-requires g c = entry_room c.args.table.kind c.loop-i.i c.args.count (length c.args.table.file.now) c.loop-i-test.true c.requires.inside
 
 pub returns-then-passes : goal.returns-then-passes
 returns-then-passes g c = λ test says.
-    laws.first_here c.args.table.file.now c.args.table.wide test _ _ (omega arith)
+    laws.first_here c.args.table.file.now c.args.table.kind test _ _ (omega arith)
     (rw (← c.arch_at.ensures) (sym (says _ _ c.passes.ensures) ∙ c.if-passes.true)) ∙ sym (c.loop-i.invariant test says)
 
 pub loop-i-preserved : goal.loop-i-preserved
 loop-i-preserved g c = λ test says.
     c.loop-i.invariant test says
-    ∙ laws.first_on c.args.table.file.now c.args.table.wide test _ _ (omega arith) _ (omega arith)
+    ∙ laws.first_on c.args.table.file.now c.args.table.kind test _ _ (omega arith) _ (omega arith)
     (rw (← c.arch_at.ensures) (sym (says _ _ c.passes.ensures) ∙ c.if-passes.false))
 
 pub returns : goal.returns
 returns g c = λ test says.
-    laws.first_end c.args.table.file.now c.args.table.wide test _ _ (omega arith) ∙ sym (c.loop-i.invariant test says)
+    laws.first_end c.args.table.file.now c.args.table.kind test _ _ (omega arith) ∙ sym (c.loop-i.invariant test says)

@@ -1,7 +1,7 @@
 use Rattle.listing.proofs.listing.Listing.category_said.Goals as goal
 
 pub returns-in-Ok : goal.returns-in-Ok
-returns-in-Ok c = λ l. rw (← c.name_or_none.ensures, c.in-Ok.is, ← c.enter-lists.ensures) (c.record_said.ensures l)
+returns-in-Ok c = λ l. rw (← c.optional.ensures, c.in-Ok.is, ← c.enter-lists.ensures) (c.record_said.ensures l)
 
 pub returns-in-Err : goal.returns-in-Err
-returns-in-Err c = λ l. rw (← c.name_or_none.ensures, c.in-Err.is) (c.refused.ensures l)
+returns-in-Err c = λ l. rw (← c.optional.ensures, c.in-Err.is) (c.refused.ensures l)

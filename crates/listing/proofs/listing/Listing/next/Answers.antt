@@ -13,7 +13,7 @@ unfolding step_at
 returns-in-Record c = step_at_lem c.args.tables.now _ _ c.in-Record.is (c.record_step.ensures _)
 
 pub returns-in-Ro : goal.returns-in-Ro
-returns-in-Ro c = step_at_lem _ _ _ c.in-Ro.is (step_ro _ _ _ _ c.ro-answer.ensures (c.ro_said.ensures _))
+returns-in-Ro c = step_at_lem _ _ _ c.in-Ro.is (step_ro _ _ _ _ (rw c.under.ensures at c.ro-answer.ensures) (c.ro_said.ensures _))
 
 pub returns-in-List : goal.returns-in-List
 unfolding step_at

@@ -4,4 +4,4 @@ use Rattle.printing.proofs.buffer.Out.end.Goals as goal
 
 pub returns : goal.returns
 unfolding end_text number_field
-returns c = puts_then c.start.ensures (puts_then c.byte.ensures c.hex_of_two.ensures)
+returns c = puts_then c.start.ensures (puts_then c.byte.ensures c.hex_of_128.ensures)

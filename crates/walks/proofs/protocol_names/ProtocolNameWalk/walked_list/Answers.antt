@@ -6,4 +6,4 @@ use Rattle.reads.specs.Answer.{outcome}
 
 pub returns-else-list-self : goal.returns-else-list-self
 unfolding over_names
-returns-else-list-self c = list_on _ _ _ _ c.in-Ok.list (outcome_told outcome c.protocol_list_at.ensures c.in-Ok.is) (search rules) c.step_in.ensures
+returns-else-list-self c = list_on _ _ _ _ c.in-Ok.list (outcome_told outcome (rw (c.under.ensures) at c.protocol_list_at.ensures) c.in-Ok.is) (search rules) (rw (c.under.ensures) at c.step_in.ensures)

@@ -1,0 +1,11 @@
+use Rattle.std.proofs.Common.{rules, tests}
+use Rattle.std.proofs.lemmas.Iterator.Consumers.{YieldsList-from_first}
+use Rattle.std.proofs.lemmas.Iterator.Search.{all_from_yields_List}
+use Rattle.macho.specs.Commands.{offsets}
+use Rattle.filetables.specs.Kind.{segment_read}
+use Rattle.filetables.proofs.kind.FileCommands.segments_read.Goals as goal
+
+pub returns : goal.returns
+returns c =
+    let a = c.args in
+    all_from_yields_List (segment_read a.self.size a.self.cmds.bytes.now) c.all.new.self _ c.all.result c.all.ensures.ran (YieldsList-from_first (λ x. x) offsets _ c.of_kind.ensures) (λ x b q k. search (rules, tests))

@@ -1,8 +1,0 @@
-use Rattle.std.proofs.Common.{◌≡◌, ◌-◌}
-use Rattle.fixups.specs.Starts.{pages_from}
-use Rattle.fixups.specs.Tables.{told, state_in, Kept}
-use Rattle.fixups.proofs.starts.pages.Given as goal
-
-abbrev pub invariant-loop-p : goal.invariant-loop-p
-invariant-loop-p l = (told (pages_from l.file l.body l.f l.s l.at l.count 0) (state_in l.initial.lists) ≡ told (pages_from l.file l.body l.f l.s l.at (l.count - l.p) l.p) (state_in l.lists))
-    × Kept l.initial.lists l.lists

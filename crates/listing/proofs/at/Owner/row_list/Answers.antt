@@ -1,4 +1,0 @@
-use Rattle.listing.proofs.at.Owner.row_list.Goals as goal
-
-pub returns : goal.returns
-returns c = rw c.starting.ensures

@@ -1,0 +1,25 @@
+-- The bytes of a part that are there, as the code cuts them.
+use Prim.Native.Nat.{ℕ, ◌-◌, min}
+use mathlib.Core.Path.{◌≡◌, sym, ap, ◌∙◌}
+use mathlib.Core.List.{List}
+use native.Mathlib.Omega.{arith}
+use native.Mathlib.Decide.{dec_le}
+use lib.ListN.{length, take, drop, drop_of_length-le, length-take, length-drop}
+use lib.Seq.{take_all, take-take}
+use Rattle.reads.specs.Place.{part}
+
+pub take_there : (k n : ℕ) (l : List ℕ) → k ≡ min n (length l) → take k l ≡ take n l
+take_there k n l e = sym (take-take k n l (omega arith)) ∙ take_all k (take n l) (simp length-take (omega arith))
+
+drop_there : (k n : ℕ) (l : List ℕ) → k ≡ min n (length l) → drop k l ≡ drop n l
+drop_there k n l e =
+    elim (dec_le n (length l)) [
+      | yes h ↦ ap (λ j. drop j l) (omega arith)
+      | no h ↦ drop_of_length-le l (omega arith) ∙ sym (drop_of_length-le l (omega arith))
+    ]
+
+-- As the code cuts them, from `from` on.
+pub part_by : (bytes : List ℕ) (offset len from k : ℕ) → from ≡ min offset (length bytes) → k ≡ min len (length bytes - from)
+    → part bytes offset len ≡ take k (drop from bytes)
+part_by bytes offset len from k e h =
+    sym (take_there k len (drop from bytes) (simp length-drop h) ∙ ap (take len) (drop_there from offset bytes e))
