@@ -15,6 +15,7 @@ use pointers::question::ask;
 use pointers::tables::Tables;
 use reads::answer::{Missing, nonzero};
 use reads::files::longest;
+use reads::segment::Segment;
 use records::class::{ObjcClass, class_at};
 
 // What is told of a class, as the three words of its record: the count of decoded classes above it, the address of the last (0 if none),
@@ -59,7 +60,7 @@ pub(crate) fn limit_of(tables: &Tables) -> u64
     requires { (longest tables.now.files < 2 ^ 32) × (records segment_words tables.now.segments ≤ 64) }
     ensures { result ≡ limit_of tables.now.files tables.now.segments }
 {
-    (tables.segments().len() / 5) as u64 * longest(tables.files())
+    (tables.segments().len() / Segment::WORDS) as u64 * longest(tables.files())
 }
 
 // The address of the last of `count` classes above, the one at `top`; 0 if there is none.

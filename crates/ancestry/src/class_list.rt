@@ -15,6 +15,15 @@ use pointers::tables::Tables;
 use reads::answer::{Missing, Question};
 use records::class::class_at;
 
+// Classes at addresses under asked tables: their chains are followed together, or each alone. The choice is a bool, as in the definitions
+// (`told_of`): an enum would be no plainer, for one more match would make it from what `chains_fall` answers.
+#[derive(Clone, Copy)]
+struct Classes<'a> {
+    asked: &'a Asked<'a>,
+    together: bool,
+    list: &'a [u64],
+}
+
 // One class counted: one more if it has a record.
 fn counted(one: Result<Ancestry, Missing>, count: u64) -> Result<u64, Question>
     requires { count + 1 < 2 ^ 64 }
@@ -43,24 +52,24 @@ fn unfollowed_at(tables: &Tables, va: u64) -> Result<Ancestry, Missing>
 
 // What is written first of a class: a row to follow, or its record.
 #[tactic(auto, unfolding(crate::specs::Filling::told_of, reads::specs::Outcome::choose))]
-fn told_at(asked: &Asked, together: bool, va: u64) -> Result<Ancestry, Missing>
-    ensures { let t = asked.now.tables.now in
-        outcome result ≡ told_of t together va }
+fn told_at(classes: &Classes, va: u64) -> Result<Ancestry, Missing>
+    ensures { let t = classes.now.asked.now.tables.now in
+        outcome result ≡ told_of t classes.now.together va }
 {
-    if together {
-        return unfollowed_at(asked.tables, va);
+    if classes.together {
+        return unfollowed_at(classes.asked.tables, va);
     }
-    ancestry_at(asked, va)
+    ancestry_at(classes.asked, va)
 }
 
 // How many of the classes have a record. All are told, so that a lookup that is refused is met before anything is written.
-fn count_all(asked: &Asked, together: bool, classes: &[u64]) -> Result<u64, Question>
-    ensures { let t = asked.now.tables.now in
-        answered result ≡ tally (told_of t together) 0 (before classes) }
+fn count_all(classes: &Classes) -> Result<u64, Question>
+    ensures { let t = classes.now.asked.now.tables.now in
+        answered result ≡ tally (told_of t classes.now.together) 0 classes.now.list.now }
 {
     let mut count = 0;
-    for va in classes {
-        let one = told_at(asked, together, *va);
+    for va in classes.list {
+        let one = told_at(classes, *va);
         count = counted(one, count)?;
     }
     Ok(count)
@@ -77,41 +86,39 @@ fn put_record(res: &mut [u64], at: usize, a: Ancestry)
 
 // What is told of a class, if it is told anything.
 #[tactic(auto, using(crate::proofs::Fillings::outcome_found))]
-fn found_at(asked: &Asked, together: bool, va: u64) -> Option<Ancestry>
-    ensures { let t = asked.now.tables.now in
-        result ≡ found (told_of t together va) }
+fn found_at(classes: &Classes, va: u64) -> Option<Ancestry>
+    ensures { let t = classes.now.asked.now.tables.now in
+        result ≡ found (told_of t classes.now.together va) }
 {
-    told_at(asked, together, va).ok()
+    told_at(classes, va).ok()
 }
 
 // What the classes are told, in their order.
-fn write_all(asked: &Asked, together: bool, classes: &[u64], res: &mut [u64])
-    requires { let t = asked.now.tables.now in
-        Fits (told_of t together) classes.now res.old }
-    ensures { let t = asked.now.tables.now in
-        res.new ≡ (written_by (through (told_of t together) (before classes)) res.old).result }
+fn write_all(classes: &Classes, res: &mut [u64])
+    requires { let t = classes.now.asked.now.tables.now in
+        Fits (told_of t classes.now.together) classes.now.list.now res.old }
+    ensures { let t = classes.now.asked.now.tables.now in
+        res.new ≡ (written_by (through (told_of t classes.now.together) classes.now.list.now) res.old).result }
 {
-    let records = classes
-        .iter()
-        .filter_map(|va| found_at(asked, together, *va));
+    let records = classes.list.iter().filter_map(|va| found_at(classes, *va));
     for (k, a) in records.enumerate() {
         put_record(res, k * 3, a);
     }
 }
 
 // The records: rows that are followed together, or each class alone.
-fn fill(asked: &Asked, together: bool, count: u64, classes: &[u64], res: &mut [u64])
-    requires { let t = asked.now.tables.now in
-        Counted t together count classes.now res.old }
-    ensures { let t = asked.now.tables.now in
-        res.new ≡ (written_by (ancestries t (before classes)) res.old).result }
+fn fill(classes: &Classes, count: u64, res: &mut [u64])
+    requires { let t = classes.now.asked.now.tables.now in
+        Counted t classes.now.together count classes.now.list.now res.old }
+    ensures { let t = classes.now.asked.now.tables.now in
+        res.new ≡ (written_by (ancestries t classes.now.list.now) res.old).result }
 {
-    write_all(asked, together, classes, res);
-    if !together {
+    write_all(classes, res);
+    if !classes.together {
         return;
     }
     let falling = Falling {
-        tables: asked.tables,
+        tables: classes.asked.tables,
     };
     follow_all(&falling, &mut res[..count as usize * 3]);
 }
@@ -123,11 +130,16 @@ fn write_asked(asked: &Asked, classes: &[u64], res: &mut [u64]) -> Result<u64, Q
         written (answered result) res.new ≡ ancestries_left t (before classes) res.old }
 {
     let together = chains_fall(asked.tables);
-    let count = count_all(asked, together, classes)?;
+    let of = Classes {
+        asked,
+        together,
+        list: classes,
+    };
+    let count = count_all(&of)?;
     if ((res.len() / 3) as u64) < count {
         return Err(Question::AncestryRoom);
     }
-    fill(asked, together, count, classes, res);
+    fill(&of, count, res);
     Ok(count)
 }
 

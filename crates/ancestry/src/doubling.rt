@@ -14,7 +14,16 @@ pub enum State {
     Followed { count: u64, row: u64 },
 }
 
-// What is known of the class in row i.
+// A number of classes that no chain which ends has above a class, with room in a word for a count below it and a mark.
+#[derive(Clone, Copy)]
+pub(crate) struct Limit {
+    pub(crate) classes: u64,
+    ghost small: { classes ≤ 2 ^ 40 },
+}
+
+// What is known of the class in row i. Rows go by their number in the words that are lent, as in the definitions: a jump knows the row that
+// it comes to by its number alone, and reads it while it writes another, which chunks handed out one by one do not allow; `finish_all`,
+// over chunks, would be no plainer, for it would need a second function like this, of three words.
 pub(crate) fn state_at(out: &[u64], i: usize) -> State
     requires { i * 3 + 2 < length out.now }
     ensures { result ≡ state_at (before out) i }
@@ -86,9 +95,9 @@ fn joined(limit: u64, count: u64, address: u64, next: State) -> State
 
 // The chain of the class in row i is followed on from where the class that it has come to was followed to.
 #[tactic(auto, using(crate::proofs::Rounds::jump_stays, crate::proofs::Rounds::jump_past, crate::proofs::Rounds::jump_puts, crate::proofs::Rounds::joined_small, crate::proofs::Rounds::state_small))]
-fn jump(limit: u64, out: &mut [u64], i: usize)
-    requires { (i < length out.old / 3) × (limit ≤ 2 ^ 40) }
-    ensures { out.new ≡ jumped_at (length out.old / 3) limit out.old i }
+fn jump(limit: Limit, out: &mut [u64], i: usize)
+    requires { i < length out.old / 3 }
+    ensures { out.new ≡ jumped_at (length out.old / 3) limit.classes out.old i }
 {
     let State::Followed { count, row } = state_at(out, i) else {
         return;
@@ -98,16 +107,15 @@ fn jump(limit: u64, out: &mut [u64], i: usize)
         return;
     }
     let next = state_at(out, row);
-    let t = joined(limit, count, out[row * 3 + 2], next);
+    let t = joined(limit.classes, count, out[row * 3 + 2], next);
     put_state(out, i, t);
 }
 
 // One round: every chain is followed at least twice as far.
 #[tactic(auto, using(crate::proofs::Rounds::jumped_more, crate::proofs::Rounds::jumped_none))]
-fn jump_all(limit: u64, out: &mut [u64])
-    requires { limit ≤ 2 ^ 40 }
+fn jump_all(limit: Limit, out: &mut [u64])
     ensures { let listed = length out.old / 3 in
-        out.new ≡ jumped_to listed limit out.old listed }
+        out.new ≡ jumped_to listed limit.classes out.old listed }
 {
     for i in 0..out.len() / 3 {
         jump(limit, out, i);
@@ -115,15 +123,14 @@ fn jump_all(limit: u64, out: &mut [u64])
 }
 
 // Follows every chain, of which one step is known, as far as can be.
-pub(crate) fn follow(limit: u64, out: &mut [u64])
-    requires { limit ≤ 2 ^ 40 }
+pub(crate) fn follow(limit: Limit, out: &mut [u64])
     ensures size { length out.new ≡ length out.old }
-    ensures followed { (g : Ground) (out₀ : List ℕ) → g.limit ≡ limit → g.listed ≡ length out.old / 3 → Following g 1 out₀ out.old
-        → Following g limit out₀ out.new }
+    ensures followed { (g : Ground) (out₀ : List ℕ) → g.limit ≡ limit.classes → g.listed ≡ length out.old / 3 → Following g 1 out₀ out.old
+        → Following g limit.classes out₀ out.new }
 {
     // Not a `for`: a round doubles how far the chains are followed.
     let mut reach = 1;
-    while reach < limit {
+    while reach < limit.classes {
         jump_all(limit, out);
         reach *= 2;
     }

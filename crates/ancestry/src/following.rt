@@ -11,7 +11,7 @@ ghost use Rattle.records.specs.Class.{class_at};
 
 use crate::asked::Falling;
 use crate::class_chain::{last_at, limit_of, superclass_at};
-use crate::doubling::{State, finish_all, follow, put_state};
+use crate::doubling::{Limit, State, finish_all, follow, put_state};
 use records::class::{ObjcClass, class_at};
 
 // The rows, three words each.
@@ -86,7 +86,8 @@ fn first_from(falling: &Falling, res: &[u64], sorted: bool, class: ObjcClass, i:
     State::Looping
 }
 
-// The same, from the address in the row.
+// The same, from the address in the row. A struct of the tables, the rows and `sorted` would be no plainer: the rows are written between
+// two calls, so it would be made anew for each row.
 fn first(falling: &Falling, res: &[u64], sorted: bool, i: usize) -> State
     requires { let t = falling.now.tables.now in let listed = length res.now / 3 in
         Ready t res.now listed i }
@@ -119,7 +120,9 @@ pub(crate) fn follow_all(falling: &Falling, res: &mut [u64])
     ensures { let t = falling.now.tables.now in let listed = length res.old / 3 in
         ((s : Unfollowed t listed res.old) → res.new ≡ flat_map words_of s.told ++ drop (listed * 3) res.old) }
 {
-    let most = limit_of(falling.tables);
+    let most = Limit {
+        classes: limit_of(falling.tables),
+    };
     let sorted = ascending(res);
     first_all(falling, sorted, res);
     follow(most, res);

@@ -7,9 +7,9 @@ use mathlib.Core.List.{List, [], ◌∷◌, ◌++◌, append_assoc}
 use native.Mathlib.Numerals.{add-one}
 use native.Mathlib.Omega.{arith}
 use lib.Dec.{ltb}
-use lib.ListN.{length, get_or, drop, take, set, length-set, length-append, drop_of_length-le}
+use lib.ListN.{length, get_or, drop, take, set, length-set, length-append, length-drop, get_or-append, drop_of_length-le}
 use borrow.Rule.Slice.PartMut.{put_mid}
-use lib.Seq.{drop-cons, drop-drop, sets, sets-eq, length-sets, take_at, drop-append-add}
+use lib.Seq.{drop-cons, drop-drop, drop-append_seam, length-take-le, get_or-take, get_or-drop, sets, sets-eq, length-sets, take_at, drop-append-add}
 use borrow.Author.Tests.{lt-ltb, le-ltb, eq-eqb, ne_eqb}
 use Rattle.std.specs.Prelude.{Option, None, Some}
 use Rattle.reads.specs.Outcome.{choose, text_of}
@@ -119,7 +119,7 @@ module _ (files : List (List ℕ)) where
           let n : get_or result (4 * j + 2) 0 ≡ (get_or table j no_row).selector.len = ap (λ r. get_or r (4 * j + 2) 0) h.stored ∙ mark_len _ table j k in
           sym (t ∙ (λ i. same_selector files (text_of (f i) (o i) (n i)) s))
 
-      pub seek_here : y ≡ true → FoundIn files result count s (Some j)
+      seek_here : y ≡ true → FoundIn files result count s (Some j)
       seek_here e = record {
         finds = (
           l,
@@ -130,20 +130,64 @@ module _ (files : List (List ℕ)) where
         );
       }
 
-      pub seek_next : y ≡ false → Seek result count s (j + 1)
+      seek_next : y ≡ false → Seek result count s (j + 1)
       seek_next e old table h =
           let k : j < length table = omega (arith, h.many) in
           let p : position files s (drop j table) ≡ suc (position files s (drop (j + 1) table)) =
           rw (drop-cons table j no_row k, add-one j) (position_next s _ _ (entry_test old table h ∙ e)) in
           omega (arith, seek old table h)
 
-    pub seek_end : count ≤ j → j ≤ count → FoundIn files result count s None
+    seek_end : count ≤ j → j ≤ count → FoundIn files result count s None
     unfolding position
     seek_end l m = record {
       finds = λ old table h.
           let p : position files s (drop j table) ≡ 0 = rw (drop_of_length-le table {i = j} (let q : length table ≤ j = omega (arith, h.many) in q)) in
           omega (arith, seek old table h);
     }
+
+  -- The search stands at entry j, and these entries are left.
+  pub record Seeking (result : List ℕ) (count : ℕ) (s : Text) (j size : ℕ) (rest : List ℕ) : Type 0 where
+    pub seek : Seek result count s j
+    pub within : j ≤ count
+    pub four : size ≡ 4
+    pub left : rest ≡ drop (4 * j) (take (4 * count) result)
+
+  module _ {result : List ℕ} {count : ℕ} {s : Text} {j size : ℕ} {rest : List ℕ} (enough : 4 * count ≤ length result) (at : Seeking result count s j size rest) where
+    left_words : length rest ≡ 4 * count - 4 * j
+    left_words = ap length at.left ∙ length-drop (4 * j) (take (4 * count) result) ∙ ap (λ (k : ℕ). k - 4 * j) (length-take-le (4 * count) result enough)
+
+    module _ (row more : List ℕ) (e : rest ≡ row ++ more) (n : length row ≡ size) where
+      inside : j < count
+      inside = let q : length row + length more ≡ 4 * count - 4 * j = sym (length-append row more) ∙ ap length (sym e) ∙ left_words in omega (arith, q, n, at.four)
+
+      word : (i : ℕ) → i < 4 → get_or row i 0 ≡ get_or result (4 * j + i) 0
+      word i l =
+          sym (get_or-append row more 0 i (omega (arith, n, at.four))) ∙ ap (λ (x : List ℕ). get_or x i 0) (sym e ∙ at.left)
+          ∙ get_or-drop (4 * j) (take (4 * count) result) i 0 ∙ get_or-take (4 * count) result (4 * j + i) 0 (omega (arith, inside))
+
+      module _ {y : Bool} (t : y ≡ same_selector files (text_of (get_or row 0 0) (get_or row 1 0) (get_or row 2 0)) s) where
+        tested : y ≡ same_selector files (text_of (get_or result (4 * j) 0) (get_or result (4 * j + 1) 0) (get_or result (4 * j + 2) 0)) s
+        tested =
+            let f : get_or row 0 0 ≡ get_or result (4 * j) 0 = word 0 (omega arith) ∙ ap (λ (k : ℕ). get_or result k 0) (let z : 4 * j + 0 ≡ 4 * j = omega arith in z) in
+            let o = word 1 (omega arith) in
+            let m = word 2 (omega arith) in
+            t ∙ (λ i. same_selector files (text_of (f i) (o i) (m i)) s)
+
+        pub seeking_here : y ≡ true → {k : ℕ} → k ≡ j → FoundIn files result count s (Some k)
+        seeking_here g u = rw u (seek_here result count s j at.seek inside tested g)
+
+        pub seeking_next : y ≡ false → {k z : ℕ} → k ≡ j + 1 → z ≡ size → Seeking result count s k z more
+        seeking_next g {k} {z} u v = rw u (record {
+          seek = seek_next result count s j at.seek inside tested g;
+          within = omega (arith, inside);
+          four = v ∙ at.four;
+          left =
+              sym (drop-append_seam row more) ∙ ap (λ (i : ℕ). drop i (row ++ more)) (n ∙ at.four) ∙ ap (drop 4) (sym e ∙ at.left)
+              ∙ drop-drop 4 (4 * j) (take (4 * count) result) ∙ ap (λ (i : ℕ). drop i (take (4 * count) result)) (let q : 4 * j + 4 ≡ 4 * (j + 1) = omega arith in q);
+        })
+
+    pub seeking_end : length rest < size → FoundIn files result count s None
+    seeking_end h = seek_end result count s j at.seek (omega (arith, left_words, at.four)) at.within
 
   -- Noting a row, by the entry that has its selector.
   note_found : (b : Appearance) (table : List Appearance) → position files b.selector table < length table

@@ -20,7 +20,8 @@ use pointers::tables::Tables;
 use reads::answer::{Missing, Question};
 use records::class::{ObjcClass, class_at};
 
-// How many selectors there are, or that there are at least so many.
+// How many selectors there are, or that there are at least so many. A `Result` is no plainer: neither case is a failure, and an `Err`
+// with a number would not say that it is a bound.
 #[derive(Clone, Copy)]
 pub enum Counted {
     All(usize),
@@ -33,6 +34,9 @@ fn reachable<'a>(rows: &RowsOf<'a>) -> Reachable<'a>
 {
     Reachable { rows: *rows }
 }
+
+// The rows and the room travel as two here and in three functions below: a struct of them is no plainer, as each uses the one apart
+// from the other, and `effective_from` needs the rows alone once it has asked.
 
 // Goes over all rows to the end, and says whether they are at most so many.
 fn reach_end(rows: &RowsOf, room: usize) -> Result<bool, Question>
@@ -159,7 +163,8 @@ fn effective_from(rows: &RowsOf, own: u64, res: &mut [u64]) -> Result<u64, Missi
     Ok(write_selectors(rows, own, res))
 }
 
-// The effective methods of a class, its categories taken by their slots.
+// The effective methods of a class, its categories taken by their slots. `MethodsOf` is made here and not above: it has the class's
+// address alone, and up to here the decoded class is needed too; lent beside it, it would say the address twice.
 #[tactic(auto, using(crate::proofs::Answers::of_start, crate::proofs::Answers::of_refused))]
 fn effective_by_slots(
     tables: &Tables,

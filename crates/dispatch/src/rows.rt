@@ -67,7 +67,8 @@ impl Position {
     }
 }
 
-// A source without rows.
+// A source without rows: its list has no entries, so that no row comes of the zeros. An Option of the list is no plainer: each step
+// would ask for it first, and for `None` do what it does at the end of a list.
 fn no_rows(source: u64) -> Position
     ensures { result ≡ nowhere source }
 {

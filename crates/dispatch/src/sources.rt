@@ -4,6 +4,7 @@ ghost use Rattle.walks.specs.Sections.{meta_of};
 ghost use Rattle.dispatch.specs.Sources.{list_of, metaclass_of, own_source, methods_on};
 ghost use Rattle.dispatch.specs.SlotSources.{category_slots, taking, slot_source};
 ghost use Rattle.reads.specs.Answer.{outcome};
+ghost use Rattle.reads.specs.Outcome.{nonzero};
 
 use crate::slots::{held_before, listed_at};
 use pointers::tables::Tables;
@@ -46,15 +47,15 @@ fn list_of(tables: &Tables, class: ObjcClass) -> Result<Source, Missing>
     })
 }
 
-// The address of the metaclass: isa, 0 where it is the class itself.
-#[tactic(auto, using(std::proofs::lemmas::Bool::Decides::nat_tests), unfolding(walks::specs::Sections::meta_of, reads::specs::Outcome::choose))]
-fn meta_of(class: ObjcClass) -> u64
-    ensures { result ≡ meta_of class }
+// The address of the metaclass: isa, absent if it is 0 or the class itself.
+#[tactic(auto, using(std::proofs::lemmas::Bool::Decides::nat_tests), unfolding(walks::specs::Sections::meta_of, reads::specs::Outcome::nonzero, reads::specs::Outcome::choose))]
+fn meta_of(class: ObjcClass) -> Result<u64, Missing>
+    ensures { outcome result ≡ nonzero (meta_of class) }
 {
     if class.isa == class.address {
-        return 0;
+        return Err(Missing::Absent(Reason::NullAddress));
     }
-    class.isa
+    nonzero(class.isa)
 }
 
 // The metaclass, if isa is neither 0 nor the class and decodes.
@@ -63,11 +64,12 @@ fn metaclass_of(tables: &Tables, class: ObjcClass) -> Result<ObjcClass, Missing>
     ensures { let t = tables.now in
         outcome result ≡ metaclass_of t class }
 {
-    let va = nonzero(meta_of(class))?;
+    let va = meta_of(class)?;
     class_at(tables, va, true)
 }
 
-// The class's own list: of class methods it is the metaclass's.
+// The class's own list: of class methods it is the metaclass's. `MethodsOf` is no plainer here: it keeps the class's address alone,
+// and this needs the decoded class, which would have to travel beside it.
 #[tactic(auto, using(reads::proofs::Outcomes::missed_then), unfolding(crate::specs::Sources::own_source))]
 pub(crate) fn own_source(tables: &Tables, side: Side, class: ObjcClass) -> Result<Source, Missing>
     ensures { let t = tables.now in
@@ -94,6 +96,10 @@ fn methods_on(side: Side, category: ObjcCategory) -> u64
 }
 
 impl MethodsOf<'_> {
+    // That k is at most the number of slots stands as a clause here, below and in `held_before`: past the last slot address 0 would be
+    // looked up. A struct of the tables and k with that as its invariant is no plainer: `next_source` alone would make it, and each
+    // of the three would take it apart.
+
     // The list of a category, if its class address is the class and no slot before k holds it.
     #[tactic(auto, using(std::proofs::lemmas::Bool::Decides::nat_tests), unfolding(crate::specs::SlotSources::taking, reads::specs::Outcome::choose))]
     fn taking(&self, k: u64, va: u64, category: ObjcCategory) -> Result<Source, Missing>

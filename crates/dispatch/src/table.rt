@@ -29,7 +29,8 @@ fn mark(res: &mut [u64], at: usize, b: Appearance)
     res[at..at + 4].copy_from_slice(&[s.file, s.offset, s.len, b.source]);
 }
 
-// The record of a source: the class's own, or the category in slot n - 1.
+// The record of a source: the class's own, or the category in slot n - 1. An Option is no plainer: rows come of slots that have an
+// address (`Origins`), and the caller, who writes a word, would have to put the 0 there.
 #[tactic(auto, using(std::proofs::lemmas::Bool::Decides::nat_tests), unfolding(crate::specs::Table::origin_of, reads::specs::Outcome::choose))]
 fn origin_of(tables: &Tables, own: u64, n: u64) -> u64
     ensures { let t = tables.now in
@@ -43,17 +44,16 @@ fn origin_of(tables: &Tables, own: u64, n: u64) -> u64
 
 impl Selectors<'_> {
     // The number of the entry with a selector.
-    #[tactic(auto, using(crate::proofs::SelectorTable::seek_next, crate::proofs::SelectorTable::seek_end))]
     fn find(&self, files: &[&[u8]], s: Text) -> Option<usize>
         requires { 4 * self.now.count ≤ length self.now.words.now }
         ensures { FoundIn (files_of files) self.now.words.now self.now.count s result }
     {
-        for j in 0..self.count {
-            let at = 4 * j;
+        let entries = &self.words[..4 * self.count];
+        for (j, entry) in entries.chunks_exact(4).enumerate() {
             let u = Text {
-                file: self.words[at],
-                offset: self.words[at + 1],
-                len: self.words[at + 2],
+                file: entry[0],
+                offset: entry[1],
+                len: entry[2],
             };
             if same_selector(files, u, s) {
                 return Some(j);
@@ -83,7 +83,8 @@ impl Selectors<'_> {
         self.count += 1;
     }
 
-    // Puts the records in place of their numbers.
+    // Puts the records in place of their numbers. Not `chunks_exact_mut(4)`, tried: it lends one field while the other is used, which
+    // the check does not cover; with the words and their end taken out of the fields first it is longer, and no plainer.
     pub(crate) fn name(&mut self, tables: &Tables, own: u64)
         requires { 4 * self.old.count ≤ length self.old.words.now }
         ensures kept { SameWords self.old self.new }

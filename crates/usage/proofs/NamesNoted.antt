@@ -1,10 +1,12 @@
 -- Laws of the names of a protocol list that are noted one by one, and of the lists of a record.
-use Prim.Native.Nat.{ℕ, zero, suc, ◌+◌, ◌-◌, ◌≤◌, ◌<◌, ◌^◌}
-use mathlib.Core.Path.{◌≡◌, refl, sym, ap, ◌∙◌}
-use mathlib.Core.Bool.{Bool, true, false}
+use Prim.Native.Nat.{ℕ, zero, suc, ◌+◌, ◌-◌, ◌<◌, ◌^◌}
+use mathlib.Core.Path.{◌≡◌, refl, sym, ap, subst, ◌∙◌}
+use mathlib.Core.Bool.{Bool, true, false, cond}
 use mathlib.Core.List.{List, [], ◌∷◌, ◌++◌}
 use native.Mathlib.Omega.{arith}
 use lib.Dec.{ltb}
+use lib.ListN.{length, get_or, take}
+use Rattle.std.specs.List.{prefix_len, range_with_len}
 use borrow.Author.Tests.{ltb-true}
 use Rattle.reads.proofs.Tests.{both_true, choose_true, choose_false}
 use Rattle.pointers.specs.Tables.{Tables}
@@ -26,7 +28,7 @@ module _ (l : ProtocolList) (i : ℕ) (b : Bool) (said : b ≡ has_slot l i) whe
   unfolding has_slot
   both e = both_true (ltb i l.count) (ltb (slot_in l i) (2 ^ 64)) (sym said ∙ e)
 
-  pub slot_below : b ≡ true → i < l.count
+  slot_below : b ≡ true → i < l.count
   slot_below e = ltb-true i l.count (both e).0
 
   pub slot_in_64 : b ≡ true → slot_in l i < 2 ^ 64
@@ -45,17 +47,71 @@ module _ (l : ProtocolList) (i : ℕ) (b : Bool) (said : b ≡ has_slot l i) whe
       ap (λ (x : List ℕ). record n { sheet = record (n.sheet) { now = x } })
       (sym (ap (λ x. noted_all x n.sheet.now) (slots_first n.tables.now e) ∙ noted_append (used n.tables.now (decode_name_in (slot_in l i))) (slots_use n.tables.now l (i + 1) (l.count - (i + 1))) n.sheet.now))
 
-  pub slots_end : (t : Tables) → b ≡ false → slots_use t l i (l.count - i) ≡ []
-  slots_end t e = none (l.count - i)
-    where
-      none : (k : ℕ) → slots_use t l i k ≡ []
-      none zero = unfold slots_use in refl
-      none (suc k) = unfold slots_use in choose_false (used t (decode_name_in (slot_in l i)) ++ slots_use t l (i + 1) k) [] (sym said ∙ e)
+-- The slots that are taken: from slot a on, n at most, up to the first that is none.
+module _ (l : ProtocolList) where
+  abbrev pub taken : ℕ → ℕ → List ℕ
+  taken a n = take (prefix_len (has_slot l) (range_with_len a n)) (range_with_len a n)
 
--- The count is reached.
-pub slots_done : (t : Tables) (l : ProtocolList) (i : ℕ) → l.count ≤ i → slots_use t l i (l.count - i) ≡ []
-unfolding slots_use
-slots_done t l i h = let none : l.count - i ≡ 0 = omega arith in ap (slots_use t l i) none
+  taken_more : (a n : ℕ) → has_slot l a ≡ true → taken a (suc n) ≡ a ∷ taken (a + 1) n
+  taken_more a n e =
+      let p : ℕ = prefix_len (has_slot l) (range_with_len (a + 1) n) in
+      let one : 1 + p ≡ suc p = omega arith in
+      ap (λ (b : Bool). take (cond b (1 + p) 0) (a ∷ range_with_len (a + 1) n)) e ∙ ap (λ m. take m (a ∷ range_with_len (a + 1) n)) one
+
+  taken_none : (a n : ℕ) → has_slot l a ≡ false → taken a (suc n) ≡ []
+  taken_none a n e = ap (λ (b : Bool). take (cond b (1 + prefix_len (has_slot l) (range_with_len (a + 1) n)) 0) (a ∷ range_with_len (a + 1) n)) e
+
+  pub taken_at : (n a k d : ℕ) → k < length (taken a n) → (get_or (taken a n) k d ≡ a + k) × (has_slot l (a + k) ≡ true)
+  taken_at zero a k d h = absurd (omega arith)
+  taken_at (suc n) a k d h = by (λ j. taken_at n (a + 1) j d) (has_slot l a) refl
+    where
+      go : ((j : ℕ) → j < length (taken (a + 1) n) → (get_or (taken (a + 1) n) j d ≡ a + 1 + j) × (has_slot l (a + 1 + j) ≡ true)) → has_slot l a ≡ true → (k : ℕ) → k < length (a ∷ taken (a + 1) n) → (get_or (a ∷ taken (a + 1) n) k d ≡ a + k) × (has_slot l (a + k) ≡ true)
+      go later e zero h = let z : a ≡ a + 0 = omega arith in (z, ap (has_slot l) (sym z) ∙ e)
+      go later e (suc k) h =
+          let r = later k (omega arith) in
+          let s : a + 1 + k ≡ a + suc k = omega arith in
+          (r.0 ∙ s, ap (has_slot l) (sym s) ∙ r.1)
+
+      by : ((j : ℕ) → j < length (taken (a + 1) n) → (get_or (taken (a + 1) n) j d ≡ a + 1 + j) × (has_slot l (a + 1 + j) ≡ true)) → (b : Bool) → has_slot l a ≡ b → (get_or (taken a (suc n)) k d ≡ a + k) × (has_slot l (a + k) ≡ true)
+      by later true e = subst (λ ys. k < length ys → (get_or ys k d ≡ a + k) × (has_slot l (a + k) ≡ true)) (sym (taken_more a n e)) (go later e k) h
+      by later false e = let none : length (taken a (suc n)) ≡ 0 = ap length (taken_none a n e) in absurd (omega (arith, h, none))
+
+  pub taken_end : (t : Tables) (n a k : ℕ) → k ≡ length (taken a n) → slots_use t l (a + k) (n - k) ≡ []
+  taken_end t zero a k h = let z : 0 - k ≡ 0 = omega arith in ap (slots_use t l (a + k)) z ∙ (unfold slots_use in refl)
+  taken_end t (suc n) a k h = by (λ j. taken_end t n (a + 1) j) (has_slot l a) refl
+    where
+      by : ((j : ℕ) → j ≡ length (taken (a + 1) n) → slots_use t l (a + 1 + j) (n - j) ≡ []) → (b : Bool) → has_slot l a ≡ b → slots_use t l (a + k) (suc n - k) ≡ []
+      by later true e =
+          let j : ℕ = length (taken (a + 1) n) in
+          let more : k ≡ suc j = h ∙ ap length (taken_more a n e) in
+          let at : a + k ≡ a + 1 + j = omega arith in
+          let left : suc n - k ≡ n - j = omega arith in
+          ap (λ i. slots_use t l i (suc n - k)) at ∙ ap (slots_use t l (a + 1 + j)) left ∙ later j refl
+      by later false e =
+          let none : k ≡ 0 = h ∙ ap length (taken_none a n e) in
+          let at : a + k ≡ a = omega arith in
+          let left : suc n - k ≡ suc n = omega arith in
+          ap (λ i. slots_use t l i (suc n - k)) at ∙ ap (slots_use t l a) left
+          ∙ (unfold slots_use in choose_false (used t (decode_name_in (slot_in l a)) ++ slots_use t l (a + 1) n) [] e)
+
+  -- The same of the item that comes after k.
+  pub taken_number : (n k i : ℕ) → k < length (taken 0 n) → i ≡ get_or (taken 0 n) k i → (i ≡ k) × (has_slot l i ≡ true)
+  taken_number n k i h e =
+      let r = taken_at n 0 k i h in
+      let z : 0 + k ≡ k = omega arith in
+      let same : i ≡ k = e ∙ r.0 ∙ z in
+      (same, ap (has_slot l) (same ∙ sym z) ∙ r.1)
+
+  pub taken_all : (t : Tables) (n k : ℕ) → k ≡ length (taken 0 n) → slots_use t l k (n - k) ≡ []
+  taken_all t n k h = let z : k ≡ 0 + k = omega arith in ap (λ i. slots_use t l i (n - k)) z ∙ taken_end t n 0 k h
+
+  -- Slot i, the one after k others, noted.
+  pub slot_on : (i k m : ℕ) (now start : Noting) → i ≡ k → m ≡ i + 1 → has_slot l i ≡ true → (all : List Range)
+      → noted_on (slots_use now.tables.now l k (l.count - k)) now ≡ noted_on all start
+      → noted_on (slots_use now.tables.now l m (l.count - m)) (noting (decode_name_in (slot_in l i)) now) ≡ noted_on all start
+  slot_on i k m now start e f said all h =
+      ap (λ j. noted_on (slots_use now.tables.now l j (l.count - j)) (noting (decode_name_in (slot_in l i)) now)) f
+      ∙ slot_next l i true (sym said) now refl ∙ ap (λ j. noted_on (slots_use now.tables.now l j (l.count - j)) now) e ∙ h
 
 pub none_left : (n : Noting) (rs : List Range) → rs ≡ [] → n ≡ noted_on rs n
 unfolding noted_all

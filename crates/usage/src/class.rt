@@ -11,7 +11,8 @@ use reads::place::readable;
 use records::class::{ClassRo, ObjcClass};
 
 impl Noting<'_> {
-    // class_t: isa, superclass, bits.
+    // class_t: isa, superclass, bits. `note_class` is a function of its own, as in each such pair of this crate (class_ro, list, protocol_list,
+    // protocol, row): this one answers so that `?` hands on what ends it, and the public one could not fail and still cannot.
     #[tactic(auto, using(crate::proofs::NotedBy::notes), unfolding(records::specs::Class::decode_class))]
     fn class(&mut self, va: u64, is_meta: bool) -> Result<(), Missing>
         ensures { self.new ≡ noting (decode_class va is_meta) self.old }

@@ -11,7 +11,7 @@ ghost use Rattle.usage.specs.Noting.{noted_on, noting, traced, trace};
 use crate::noting::Noting;
 use pointers::slot::{bind_at, rebase_at, resolve_pointer};
 use pointers::tables::Tables;
-use reads::answer::{Missing, checked_add, is_absent, nonzero, or_zero};
+use reads::answer::{Missing, checked_add, nonzero, or_zero};
 use reads::files::file_len;
 use reads::place::{Place, readable};
 use reads::segment::vm_to_file_offset_in;
@@ -53,7 +53,7 @@ impl Noting<'_> {
     pub(crate) fn note_stored(&mut self, slot: u64)
         ensures { self.new ≡ noting (asks.slot slot) self.old }
     {
-        if is_absent(rebase_at(self.tables, slot)) {
+        if let Err(Missing::Absent(_)) = rebase_at(self.tables, slot) {
             self.note_word(slot);
         }
     }

@@ -11,10 +11,7 @@ impl Noting<'_> {
     fn note_slot_names(&mut self, list: ProtocolList)
         ensures { self.new ≡ noted_on (slots_use self.old.tables.now list 0 list.count) self.old }
     {
-        for i in 0..list.count {
-            if !has_slot(list, i) {
-                return;
-            }
+        for i in (0..list.count).take_while(|i| has_slot(list, *i)) {
             self.note_name_in(list.base + 8 * i);
         }
     }

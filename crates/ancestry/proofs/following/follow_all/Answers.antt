@@ -9,12 +9,12 @@ use Rattle.ancestry.proofs.Climbs.{limit_room, limit_small}
 use Rattle.ancestry.proofs.Finishes.{followed_records}
 use Rattle.ancestry.proofs.following.follow_all.Goals as goal
 
-pub limit_of-most-requires : goal.limit_of-most-requires
-limit_of-most-requires c =
+pub limit_of-requires : goal.limit_of-requires
+limit_of-requires c =
     limit_room c.args.falling.now.tables.now c.args.falling.now.passes
 
-pub follow-requires : goal.follow-requires
-follow-requires c = omega (arith, limit_small c.args.falling.now.tables.now c.args.falling.now.passes, c.limit_of-most.ensures)
+pub invariant_of-most : goal.invariant_of-most
+invariant_of-most c = omega (arith, limit_small c.args.falling.now.tables.now c.args.falling.now.passes, c.limit_of.ensures)
 
 pub returns : goal.returns
 returns c =
@@ -22,7 +22,7 @@ returns c =
     let t : Tables = c.args.falling.now.tables.now in
     let listed = length a.res.now / 3 in
     let g = ground_of t a.res.now listed in
-    let most : limit t ≡ c.limit_of-most.result = sym c.limit_of-most.ensures in
+    let most : limit t ≡ c.limit_of.result = sym c.limit_of.ensures in
     let w = c.follow.ensures.followed g a.res.now most (ap (λ n. n / 3) (sym c.first_all.ensures.size)) c.first_all.ensures in
     let size : length c.follow.new.out ≡ length a.res.now = c.follow.ensures.size ∙ c.first_all.ensures.size in
     λ s. c.finish_all.ensures ∙ rw size (followed_records t listed a.res.now _ s (rw (← most) at w))
