@@ -5,11 +5,11 @@ use mathlib.Core.Bool.{true, false}
 use native.Mathlib.Omega.{arith}
 use native.Mathlib.Numerals.{add-one}
 use native.Mathlib.Nat.{mul-le-mul}
-use Rattle.std.specs.Prelude.{cond, Result, Ok, Err}
-use Rattle.reads.specs.Outcome.{Outcome, value, absent, refused, or_else}
-use Rattle.reads.specs.Answer.{missed, outcome}
-use Rattle.reads.specs.declared.answer.Missing.{Missing}
-use Rattle.reads.specs.declared.answer.Missing.TheVariants.{Absent, Refused}
+use Rattle.std.specs.Prelude.{cond, Option, Some, None, Result, Ok, Err}
+use Rattle.reads.specs.Outcome.{Outcome, value, absent, refused, optional}
+use Rattle.reads.specs.Answer.{answered}
+use Rattle.reads.specs.declared.answer.Question.{Question}
+use Rattle.reads.specs.declared.answer.Reason.{Reason}
 use Rattle.reads.specs.Table.{records}
 use Rattle.reads.specs.Files.{longest}
 use Rattle.reads.specs.Segment.{segment_words}
@@ -24,6 +24,34 @@ use Rattle.ancestry.specs.Ancestry.{super_at, up_in, limit_of, limit}
 use Rattle.ancestry.proofs.Chain.{above_more, climb_ends, climb_refused, climb_loops}
 use Rattle.ancestry.proofs.Meaning.{comes_back, loops_told}
 use Rattle.ancestry.proofs.Loops.{up_of, super_class}
+
+-- What a lookup gave, by what is there.
+module _ {A : Type 0} where
+  is_some : (o : Outcome A) {a : A} → optional o ≡ value (Some a) → o ≡ value a
+  is_some (value b) {a} e = let f : b ≡ a = cc in ap (λ (x : A). value x) f
+  is_some (absent why) e = let z : ◌≡◌ {A = ℕ} 0 1 = cc in absurd (omega arith)
+  is_some (refused k) e = let z : ◌≡◌ {A = ℕ} 0 1 = cc in absurd (omega arith)
+
+  is_none : (o : Outcome A) → optional o ≡ value None → (why : Reason) × (o ≡ absent why)
+  is_none (value b) e = let z : ◌≡◌ {A = ℕ} 0 1 = cc in absurd (omega arith)
+  is_none (absent why) e = (why, refl)
+  is_none (refused k) e = let z : ◌≡◌ {A = ℕ} 0 1 = cc in absurd (omega arith)
+
+  is_refused : (o : Outcome A) {k : Question} → optional o ≡ refused k → o ≡ refused k
+  is_refused (value b) e = let z : ◌≡◌ {A = ℕ} 0 1 = cc in absurd (omega arith)
+  is_refused (absent why) e = let z : ◌≡◌ {A = ℕ} 0 1 = cc in absurd (omega arith)
+  is_refused (refused j) {k} e = let f : j ≡ k = cc in ap (λ (x : Question). refused x) f
+
+  -- The same, as the code asks.
+  module _ {o : Outcome A} {r : Result (Option A) Question} (e : answered r ≡ optional o) where
+    pub there_is : {f : Option A} {a : A} → r ≡ Ok f → f ≡ Some a → o ≡ value a
+    there_is was is = is_some o (sym e ∙ ap answered (was ∙ ap Ok is))
+
+    pub none_is : {f : Option A} → r ≡ Ok f → f ≡ None → (why : Reason) × (o ≡ absent why)
+    none_is was is = is_none o (sym e ∙ ap answered (was ∙ ap Ok is))
+
+    pub refused_is : {k : Question} → r ≡ Err k → o ≡ refused k
+    refused_is was = is_refused o (sym e ∙ ap answered was)
 
 -- From the class at `a` the climb has come to `at`, `count` classes up, and passed the class at `held` no later.
 pub record Climbing (t : Tables) (a : ℕ) (at : ObjcClass) (count held : ℕ) : Type 0 where
@@ -50,35 +78,31 @@ module _ (t : Tables) where
           holds = w.holds;
         }
 
-    -- By what the code found above: a class, which may be held from there on; the class that was held; or none.
-    module _ {r : Result ObjcClass Missing} (o : outcome r ≡ super_at t at) where
-      above_is : {up : ObjcClass} → r ≡ Ok up → super_at t at ≡ value up
-      above_is e = sym o ∙ ap outcome e
+    -- By what is above: a class, which may be held from there on; the class that was held; or none.
+    module _ {up : ObjcClass} (e : super_at t at ≡ value up) where
+      pub climbing_next : {kept : ℕ} → kept ≡ held → Climbing t a up (count + 1) kept
+      climbing_next k = rw k (climbing_up up e)
 
-      pub climbing_next : {up : ObjcClass} → r ≡ Ok up → {kept : ℕ} → kept ≡ held → Climbing t a up (count + 1) kept
-      climbing_next {up} e k = rw k (climbing_up up (above_is e))
+      pub climbing_hold : {kept : ℕ} → kept ≡ up.address → Climbing t a up (count + 1) kept
+      climbing_hold k = let v = climbing_up up e in rw k (record { leads = v.leads; decoded = v.decoded; passed = count + 1; behind = omega arith; holds = v.leads })
 
-      pub climbing_hold : {up : ObjcClass} → r ≡ Ok up → {kept : ℕ} → kept ≡ up.address → Climbing t a up (count + 1) kept
-      climbing_hold {up} e k = let v = climbing_up up (above_is e) in rw k (record { leads = v.leads; decoded = v.decoded; passed = count + 1; behind = omega arith; holds = v.leads })
-
-      pub climbing_back : {up : ObjcClass} → r ≡ Ok up → up.address ≡ held → value looping ≡ climb (up_in t) (limit t) a 0 0
-      climbing_back {up} e same =
-          let v = climbing_up up (above_is e) in
+      pub climbing_back : up.address ≡ held → value looping ≡ climb (up_in t) (limit t) a 0 0
+      climbing_back same =
+          let v = climbing_up up e in
           let f : above (up_in t) (count + 1) a ≡ value held = v.leads ∙ ap value same in
           sym (loops_told (up_in t) (limit t) a (comes_back (up_in t) a w.passed (count + 1) held (omega (arith, w.behind)) w.holds f))
 
-      pub climbing_stopped : {m : Missing} → r ≡ Err m → count < limit t
-          → or_else (missed m) (value (ended count (last_at count 0 at.address))) ≡ climb (up_in t) (limit t) a 0 0
-      climbing_stopped {m} e h = go m (sym o ∙ ap outcome e)
-        where
-          go : (m : Missing) → super_at t at ≡ missed m → or_else (missed m) (value (ended count (last_at count 0 at.address))) ≡ climb (up_in t) (limit t) a 0 0
-          go (Absent why) e =
-              let s : up_in t at.address ≡ absent why = up_of t at.address at w.decoded ∙ rw e in
-              let nought : 0 + count ≡ count = omega arith in
-              sym (rw nought at (climb_ends (up_in t) (limit t) count a 0 0 at.address w.leads s h))
-          go (Refused k) e =
-              let s : up_in t at.address ≡ refused k = up_of t at.address at w.decoded ∙ rw e in
-              sym (climb_refused (up_in t) (limit t) count a 0 0 at.address k w.leads s h)
+    pub climbing_ended : {why : Reason} → super_at t at ≡ absent why → count < limit t
+        → value (ended count (last_at count 0 at.address)) ≡ climb (up_in t) (limit t) a 0 0
+    climbing_ended {why} e h =
+        let s : up_in t at.address ≡ absent why = up_of t at.address at w.decoded ∙ rw e in
+        let nought : 0 + count ≡ count = omega arith in
+        sym (rw nought at (climb_ends (up_in t) (limit t) count a 0 0 at.address w.leads s h))
+
+    pub climbing_refused : {k : Question} → super_at t at ≡ refused k → count < limit t → refused k ≡ climb (up_in t) (limit t) a 0 0
+    climbing_refused {k} e h =
+        let s : up_in t at.address ≡ refused k = up_of t at.address at w.decoded ∙ rw e in
+        sym (climb_refused (up_in t) (limit t) count a 0 0 at.address k w.leads s h)
 
     -- As many steps as can be.
     pub climbing_far : limit t ≤ count → count ≤ limit t → value looping ≡ climb (up_in t) (limit t) a 0 0

@@ -12,18 +12,19 @@ use Rattle.pointers.specs.Tables.{Tables}
 use Rattle.records.specs.Class.{class_at}
 use Rattle.records.specs.declared.class.ObjcClass.{ObjcClass}
 use Rattle.ancestry.specs.Chain.{looping, climb}
-use Rattle.ancestry.specs.Ancestry.{up_in, limit, ancestry_of, words_of}
+use Rattle.ancestry.specs.Ancestry.{up_in, limit, ancestry_of, row_of, words_of}
 use Rattle.ancestry.specs.Doubling.{state_at, node_at, told_by, finished_at, finished_to, Following}
 use Rattle.ancestry.specs.Following.{ground_of, Unfollowed}
 use Rattle.ancestry.specs.declared.class_chain.Ancestry.{Ancestry}
+use Rattle.ancestry.proofs.Fillings.{put_sets}
 use Rattle.ancestry.proofs.Rows.{row_told}
 use Rattle.ancestry.proofs.Rounds.{length_finished}
 
 -- The three words of row i are those of a record.
 pub record Words (out : List ℕ) (i : ℕ) (x : Ancestry) : Type 0 where
-  pub first : get_or out (i * 3) 0 ≡ x.count
-  pub second : get_or out (i * 3 + 1) 0 ≡ x.last
-  pub third : get_or out (i * 3 + 2) 0 ≡ x.looping
+  pub first : get_or out (i * 3) 0 ≡ (row_of x).first
+  pub second : get_or out (i * 3 + 1) 0 ≡ (row_of x).second
+  pub third : get_or out (i * 3 + 2) 0 ≡ (row_of x).third
 
 -- Rows that hold records are the records.
 rows_records : (out : List ℕ) (xs : List Ancestry) → length xs * 3 ≤ length out → ((i : ℕ) → i < length xs → Words out i (get_or xs i looping))
@@ -46,8 +47,8 @@ rows_records (a ∷ b ∷ d ∷ out) (x ∷ xs) room all =
         let g : suc i * 3 + 2 ≡ suc (suc (suc (i * 3 + 2))) = omega arith in
         record { first = rw e at w.first; second = rw f at w.second; third = rw g at w.third }
 
-    joined : a ≡ x.count → b ≡ x.last → d ≡ x.looping → take (length xs * 3) out ≡ flat_map words_of xs
-        → a ∷ b ∷ d ∷ take (length xs * 3) out ≡ x.count ∷ x.last ∷ x.looping ∷ flat_map words_of xs
+    joined : a ≡ (row_of x).first → b ≡ (row_of x).second → d ≡ (row_of x).third → take (length xs * 3) out ≡ flat_map words_of xs
+        → a ∷ b ∷ d ∷ take (length xs * 3) out ≡ (row_of x).first ∷ (row_of x).second ∷ (row_of x).third ∷ flat_map words_of xs
     joined p q r s = rw (p, q, r, s)
 
 abbrev record_at : List ℕ → ℕ → Ancestry
@@ -59,32 +60,35 @@ module _ (out : List ℕ) (i : ℕ) where
   told = record_at out i
 
   abbrev one : List ℕ
-  one = set out (i * 3) told.count
+  one = set out (i * 3) (row_of told).first
 
   abbrev two : List ℕ
-  two = set one (i * 3 + 1) told.last
+  two = set one (i * 3 + 1) (row_of told).second
 
   finished_other : (k : ℕ) → (k ≡ i * 3 → ⊥) → (k ≡ i * 3 + 1 → ⊥) → (k ≡ i * 3 + 2 → ⊥) → get_or (finished_at out i) k 0 ≡ get_or out k 0
   unfolding finished_at
   finished_other k a b c =
-      get_or-set_other two (i * 3 + 2) k told.looping 0 c ∙ get_or-set_other one (i * 3 + 1) k told.last 0 b ∙ get_or-set_other out (i * 3) k told.count 0 a
+      rw (put_sets out (i * 3) (row_of told))
+      (get_or-set_other two (i * 3 + 2) k (row_of told).third 0 c ∙ get_or-set_other one (i * 3 + 1) k (row_of told).second 0 b ∙ get_or-set_other out (i * 3) k (row_of told).first 0 a)
 
   drop_finished : (n : ℕ) → i < n → drop (n * 3) (finished_at out i) ≡ drop (n * 3) out
   unfolding finished_at
   drop_finished n h =
-      drop-set-lt (n * 3) two (i * 3 + 2) told.looping (omega arith) ∙ drop-set-lt (n * 3) one (i * 3 + 1) told.last (omega arith)
-      ∙ drop-set-lt (n * 3) out (i * 3) told.count (omega arith)
+      rw (put_sets out (i * 3) (row_of told))
+      (drop-set-lt (n * 3) two (i * 3 + 2) (row_of told).third (omega arith) ∙ drop-set-lt (n * 3) one (i * 3 + 1) (row_of told).second (omega arith)
+      ∙ drop-set-lt (n * 3) out (i * 3) (row_of told).first (omega arith))
 
   finished_words : i * 3 + 2 < length out → Words (finished_at out i) i told
   unfolding finished_at
   finished_words room =
-      record {
+      rw (put_sets out (i * 3) (row_of told))
+      (record {
         first =
-            get_or-set_other two (i * 3 + 2) (i * 3) told.looping 0 (omega arith) ∙ get_or-set_other one (i * 3 + 1) (i * 3) told.last 0 (omega arith)
-            ∙ get_or-set_same out (i * 3) told.count 0 (omega arith);
-        second = get_or-set_other two (i * 3 + 2) (i * 3 + 1) told.looping 0 (omega arith) ∙ get_or-set_same one (i * 3 + 1) told.last 0 (simp length-set (omega arith));
-        third = get_or-set_same two (i * 3 + 2) told.looping 0 (simp length-set (omega arith));
-      }
+            get_or-set_other two (i * 3 + 2) (i * 3) (row_of told).third 0 (omega arith) ∙ get_or-set_other one (i * 3 + 1) (i * 3) (row_of told).second 0 (omega arith)
+            ∙ get_or-set_same out (i * 3) (row_of told).first 0 (omega arith);
+        second = get_or-set_other two (i * 3 + 2) (i * 3 + 1) (row_of told).third 0 (omega arith) ∙ get_or-set_same one (i * 3 + 1) (row_of told).second 0 (simp length-set (omega arith));
+        third = get_or-set_same two (i * 3 + 2) (row_of told).third 0 (simp length-set (omega arith));
+      })
 
 -- The first i rows are finished.
 record Finished (out : List ℕ) (i : ℕ) (now : List ℕ) : Type 0 where

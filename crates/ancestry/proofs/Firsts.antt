@@ -65,7 +65,7 @@ module _ (t : Tables) (out : List ℕ) (listed i : ℕ) (c : ObjcClass) (d : cla
 
       module _ {up : ObjcClass} (q : r ≡ Ok up) where
         v : Climbing t a up (count + 1) held
-        v = climbing_next t a at count held w o q refl
+        v = climbing_next t a at count held w (sym o ∙ ap outcome q) refl
 
         pub first_listed : (row : ℕ) → row < listed → node_at out row ≡ up.address → count + 1 < limit t
             → Row g 1 i (state.Followed (count + 1) row)

@@ -205,7 +205,7 @@ module _ (up : ℕ → Outcome ℕ) where
         other : {x y : ℕ} → value (ended x y) ≡ value looping → Loops up a
         other {x} {y} f =
             let same : ended x y ≡ looping = cc in
-            let z : ◌≡◌ {A = ℕ} 0 1 = ap (λ (r : Ancestry). r.looping) same in
+            let z : ◌≡◌ {A = ℕ} 0 1 = cc in
             absurd (omega arith)
 
         not_number : {j : Question} → ◌≡◌ {A = Outcome Ancestry} (refused j) (value looping) → Loops up a

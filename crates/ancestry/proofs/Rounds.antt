@@ -10,9 +10,11 @@ use lib.ListN.{length, get_or, set, drop, length-set}
 use lib.Seq.{get_or-set_same, get_or-set_other, drop-set-lt}
 use borrow.Author.Tests.{lt-ltb, le-ltb, leb-false}
 use Rattle.reads.proofs.Tests.{by_choose, choose_true, choose_false}
-use Rattle.ancestry.specs.Doubling.{state_of, count_of, place_of, mark_of, state_at, node_at, put_at, joined_of, jumped_by, jumped_at, jumped_to, finished_at, finished_to, Ground, Followed, Row, Rows, Nodes, Following}
+use Rattle.ancestry.specs.Doubling.{state_of, count_of, place_of, mark_of, state_at, node_at, put_at, joined_of, jumped_by, jumped_at, jumped_to, told_by, finished_at, finished_to, Ground, Followed, Row, Rows, Nodes, Following}
+use Rattle.ancestry.specs.Ancestry.{row_of}
 use Rattle.ancestry.specs.declared.doubling.State.{State}
 use Rattle.ancestry.specs.declared.doubling.State.TheVariants as state
+use Rattle.ancestry.proofs.Fillings.{length_put}
 use Rattle.ancestry.proofs.Rows.{row_less, row_joined}
 
 mark_small : (s : State) → mark_of s ≤ 2
@@ -234,7 +236,8 @@ state_small out i {s} e = rw e (go (get_or out (i * 3) 0 % 4))
     go : (m : ℕ) → count_of (state_of m (get_or out (i * 3) 0 / 4) (get_or out (i * 3 + 1) 0)) ≤ get_or out (i * 3) 0 / 4
     go zero = omega arith
     go (suc zero) = omega arith
-    go (suc (suc m)) = omega arith
+    go (suc (suc zero)) = omega arith
+    go (suc (suc (suc m))) = omega arith
 
 pub joined_small : (limit count address : ℕ) (next : State) → count_of (joined_of limit count address next) ≤ limit
 unfolding joined_of
@@ -244,7 +247,9 @@ joined_small limit count address (state.Ended more last) =
     (λ b. by_choose (λ (s : State). count_of s ≤ limit) (λ d. omega (arith, leb-false limit (count + more) b))
     (λ d. omega (arith, leb-false limit (count + more) b)))
 joined_small limit count address (state.Followed more row) =
-    by_choose (λ (s : State). count_of s ≤ limit) (λ a. omega arith) (λ b. omega (arith, leb-false limit (count + more) b))
+    by_choose (λ (s : State). count_of s ≤ limit) (λ a. omega arith)
+    (λ b. by_choose (λ (s : State). count_of s ≤ limit) (λ d. omega (arith, leb-false limit (count + more) b))
+    (λ d. omega (arith, leb-false limit (count + more) b)))
 
 -- Finished rows, one more.
 pub finished_more : (out : List ℕ) (i : ℕ) → finished_to out (i + 1) ≡ finished_at (finished_to out i) i
@@ -256,4 +261,4 @@ finished_none out = refl
 
 pub length_finished : (out : List ℕ) (i : ℕ) → length (finished_at out i) ≡ length out
 unfolding finished_at
-length_finished out i = simp length-set
+length_finished out i = length_put out (i * 3) (row_of (told_by (state_at out i)))

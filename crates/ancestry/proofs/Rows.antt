@@ -104,7 +104,9 @@ module _ (g : Ground) where
     row_joined (state.Followed more row) r =
         let e = r.known.1 in
         by_choose Joined (λ far. joined_far more (g.node row) e.leads (leb-true g.limit (count + more) far))
-        (λ near. joined_followed more row e (leb-false g.limit (count + more) near))
+        (λ near.
+        by_choose Joined (λ nought. absurd (omega (arith, eqb-true more 0 nought, e.far)))
+        (λ some. joined_followed more row e (leb-false g.limit (count + more) near)))
 
   -- Followed as far as can be, a row tells what the class alone is told.
   pub row_told : (reach i : ℕ) (s : State) → g.limit ≤ reach → Row g reach i s → climb g.up g.limit (g.node i) 0 0 ≡ value (told_by s)

@@ -2,28 +2,29 @@
 use Prim.Native.Nat.{ℕ, zero, suc, ◌+◌, ◌*◌, ◌/◌, ◌≤◌, ◌<◌}
 use mathlib.Core.Path.{◌≡◌, refl, sym, ap, ◌∙◌}
 use mathlib.Core.Bool.{Bool, true, false}
-use mathlib.Core.List.{List, [], ◌∷◌, ◌++◌, flat_map, append-nil}
+use mathlib.Core.List.{List, [], ◌∷◌, ◌++◌, map, flat_map, append-nil}
 use native.Mathlib.Omega.{arith}
 use lib.ListN.{length, get_or, take, drop, length-append, length-take, drop_of_length-le}
 use Rattle.std.proofs.lemmas.List.{get_or-take}
 use lib.Seq.{drop_at}
-use Rattle.reads.specs.Outcome.{Outcome, value, absent, choose, Unrefused, a_value, an_absence}
+use Rattle.reads.specs.Outcome.{Outcome, value, absent, refused, and_then, choose, Unrefused, a_value, an_absence}
 use Rattle.reads.specs.Table.{records}
 use Rattle.reads.specs.declared.answer.Reason.{Reason}
 use Rattle.pointers.specs.Tables.{Tables, under, reading_new, rebase_words, chains}
 use Rattle.pointers.specs.Question.{asked, asked_lent, asked_tables, asked_index}
-use Rattle.walks.specs.Gather.{gather}
+use Rattle.walks.specs.Gather.{gather, present}
 use Rattle.pointers.proofs.Rooms.{asked_index_lem}
 use Rattle.reads.proofs.Outcomes.{then_came}
 use Rattle.records.specs.Class.{class_at}
 use Rattle.records.specs.declared.class.ObjcClass.{ObjcClass}
 use Rattle.ancestry.specs.Chain.{looping}
-use Rattle.ancestry.specs.Ancestry.{up_in, limit, ancestry_of, words_of, ancestries, written_by}
-use Rattle.ancestry.specs.Filling.{through, unfollowed_of, told_of, tally, Fits, Counted}
+use Rattle.ancestry.specs.Ancestry.{up_in, limit, ancestry_of, row_of, row_words, words_of, ancestries, written_by}
+use Rattle.ancestry.specs.Filling.{through, unfollowed_of, told_of, tally, rows_left, Fits, Counted}
 use Rattle.ancestry.specs.Rebases.{chains_fall}
 use Rattle.ancestry.specs.Doubling.{node_at}
 use Rattle.ancestry.specs.Following.{Unfollowed}
 use Rattle.ancestry.specs.declared.class_chain.Ancestry.{Ancestry}
+use Rattle.ancestry.specs.declared.class_chain.Row.{Row}
 use Rattle.ancestry.proofs.Fillings.{length_records}
 use Rattle.ancestry.proofs.Falling.{class_falls, up_falls}
 use Rattle.ancestry.proofs.OpenedClasses.{climb_value}
@@ -35,36 +36,36 @@ index_room t e =
     omega (arith, asked_index_lem (under reading_new t) tt r.2)
 
 -- Rows and records, one by one.
-data Paired (t : Tables) : List Ancestry → List Ancestry → Type 0 where
+data Paired (t : Tables) : List Row → List Ancestry → Type 0 where
   none : Paired t [] []
-  more : {y x : Ancestry} {ys xs : List Ancestry} (c : ObjcClass) → class_at t y.looping false ≡ value c → ancestry_of t y.looping ≡ value x
+  more : {y : Row} {x : Ancestry} {ys : List Row} {xs : List Ancestry} (c : ObjcClass) → class_at t y.third false ≡ value c → ancestry_of t y.third ≡ value x
       → Paired t ys xs → Paired t (y ∷ ys) (x ∷ xs)
 
 record Both (t : Tables) (addresses : List ℕ) : Type 0 where
-  ys : List Ancestry
+  ys : List Row
   xs : List Ancestry
   rows : through (unfollowed_of t) addresses ≡ value ys
   told : through (ancestry_of t) addresses ≡ value xs
   pairs : Paired t ys xs
 
-paired_length : (t : Tables) {ys xs : List Ancestry} → Paired t ys xs → length ys ≡ length xs
+paired_length : (t : Tables) {ys : List Row} {xs : List Ancestry} → Paired t ys xs → length ys ≡ length xs
 paired_length t none = refl
 paired_length t (more c e f r) = ap suc (paired_length t r)
 
-paired_class : (t : Tables) {ys xs : List Ancestry} → Paired t ys xs → (i : ℕ) → i < length ys
-    → (c : ObjcClass) × (class_at t (get_or ys i looping).looping false ≡ value c)
+paired_class : (t : Tables) {ys : List Row} {xs : List Ancestry} → Paired t ys xs → (i : ℕ) → i < length ys
+    → (c : ObjcClass) × (class_at t (get_or ys i (row_of looping)).third false ≡ value c)
 paired_class t none i h = absurd (omega arith)
 paired_class t (more c e f r) zero h = (c, e)
 paired_class t (more c e f r) (suc i) h = paired_class t r i (omega arith)
 
-paired_alone : (t : Tables) {ys xs : List Ancestry} → Paired t ys xs → (i : ℕ) → i < length ys
-    → ancestry_of t (get_or ys i looping).looping ≡ value (get_or xs i looping)
+paired_alone : (t : Tables) {ys : List Row} {xs : List Ancestry} → Paired t ys xs → (i : ℕ) → i < length ys
+    → ancestry_of t (get_or ys i (row_of looping)).third ≡ value (get_or xs i looping)
 paired_alone t none i h = absurd (omega arith)
 paired_alone t (more c e f r) zero h = f
 paired_alone t (more c e f r) (suc i) h = paired_alone t r i (omega arith)
 
 -- The third word of row i.
-row_node : (ys : List Ancestry) (rest : List ℕ) (i : ℕ) → i < length ys → node_at (flat_map words_of ys ++ rest) i ≡ (get_or ys i looping).looping
+row_node : (ys : List Row) (rest : List ℕ) (i : ℕ) → i < length ys → node_at (flat_map row_words ys ++ rest) i ≡ (get_or ys i (row_of looping)).third
 unfolding flat_map
 row_node [] rest i h = absurd (omega arith)
 row_node (y ∷ ys) rest zero h = refl
@@ -79,7 +80,7 @@ module _ (t : Tables) (falls : chains_fall t.rebases t.index ≡ true) where
       let x = climb_value (up_in t) (up_falls t falls) (limit t) a 0 0 in
       let own : ancestry_of t a ≡ value x.0 = rw e x.1 in
       record {
-        ys = record { count = 0; last = 0; looping = a } ∷ b.ys;
+        ys = record { first = 0; second = 0; third = a } ∷ b.ys;
         xs = x.0 ∷ b.xs;
         rows = rw (e, b.rows);
         told = rw (e, x.1, b.told);
@@ -104,7 +105,7 @@ module _ (t : Tables) (falls : chains_fall t.rebases t.index ≡ true) where
 
   -- What the first writing leaves.
   module _ (addresses out new : List ℕ) (count : ℕ) (e : value count ≡ tally (unfollowed_of t) 0 addresses) (room : count ≤ length out / 3)
-      (n : new ≡ (written_by (through (unfollowed_of t) addresses) out).result) where
+      (n : new ≡ rows_left (through (unfollowed_of t) addresses) out) where
     size : length (both addresses).ys ≡ count
     unfolding tally
     size =
@@ -113,7 +114,7 @@ module _ (t : Tables) (falls : chains_fall t.rebases t.index ≡ true) where
         let g : count ≡ 0 + length b.ys = cc in
         omega arith
 
-    left : new ≡ flat_map words_of (both addresses).ys ++ drop (length (both addresses).ys * 3) out
+    left : new ≡ flat_map row_words (both addresses).ys ++ drop (length (both addresses).ys * 3) out
     left = n ∙ rw (both addresses).rows
 
     pub unfollowed : Unfollowed t count new
@@ -135,9 +136,9 @@ module _ (t : Tables) (falls : chains_fall t.rebases t.index ≡ true) where
     unfollowed_tail =
         let b = both addresses in
         let s = size in
-        let k : length (flat_map words_of b.ys) ≡ count * 3 = omega (arith, length_records b.ys) in
+        let k : length (flat_map row_words b.ys) ≡ count * 3 = omega (arith, length_records b.ys) in
         let l : length b.ys * 3 ≡ count * 3 = omega arith in
-        ap (drop (count * 3)) left ∙ drop_at (flat_map words_of b.ys) (drop (length b.ys * 3) out) (count * 3) k ∙ ap (λ (m : ℕ). drop m out) l
+        ap (drop (count * 3)) left ∙ drop_at (flat_map row_words b.ys) (drop (length b.ys * 3) out) (count * 3) k ∙ ap (λ (m : ℕ). drop m out) l
 
     pub unfollowed_told : (new' : List ℕ) → new' ≡ flat_map words_of unfollowed.told ++ drop (count * 3) new → new' ≡ (written_by (ancestries t addresses) out).result
     unfolding unfollowed
@@ -146,21 +147,67 @@ module _ (t : Tables) (falls : chains_fall t.rebases t.index ≡ true) where
         let s : length b.xs ≡ count = sym (paired_length t b.pairs) ∙ size in
         rw (b.told, s) (f ∙ rw unfollowed_tail)
 
+-- Records alone, as rows.
+abbrev as_rows : (ℕ → Outcome Ancestry) → ℕ → Outcome Row
+as_rows f a = and_then (f a) (λ x. value (row_of x))
+
+through_rows : (f : ℕ → Outcome Ancestry) (addresses : List ℕ) → through (as_rows f) addresses ≡ and_then (through f addresses) (λ xs. value (map row_of xs))
+unfolding gather
+through_rows f [] = refl
+through_rows f (a ∷ rest) = go (f a) (through f rest) (through_rows f rest)
+  where
+    go : (o : Outcome Ancestry) (p : Outcome (List Ancestry)) → through (as_rows f) rest ≡ and_then p (λ xs. value (map row_of xs))
+        → and_then (present (and_then o (λ x. value (row_of x)))) (λ xs. and_then (through (as_rows f) rest) (λ ys. value (xs ++ ys)))
+        ≡ and_then (and_then (present o) (λ xs. and_then p (λ ys. value (xs ++ ys)))) (λ xs. value (map row_of xs))
+    go (value x) (value ys) e = rw e
+    go (value x) (absent r) e = rw e
+    go (value x) (refused k) e = rw e
+    go (absent q) (value ys) e = rw e
+    go (absent q) (absent r) e = rw e
+    go (absent q) (refused k) e = rw e
+    go (refused j) p e = refl
+
+length_rows : (xs : List Ancestry) → length (map row_of xs) ≡ length xs
+length_rows [] = refl
+length_rows (x ∷ xs) = ap suc (length_rows xs)
+
+words_rows : (xs : List Ancestry) → flat_map row_words (map row_of xs) ≡ flat_map words_of xs
+unfolding flat_map
+words_rows [] = refl
+words_rows (x ∷ xs) = ap (λ (l : List ℕ). words_of x ++ l) (words_rows xs)
+
+tally_rows : (f : ℕ → Outcome Ancestry) (addresses : List ℕ) → tally (as_rows f) 0 addresses ≡ tally f 0 addresses
+unfolding tally
+tally_rows f addresses = rw (through_rows f addresses) (go (through f addresses))
+  where
+    go : (p : Outcome (List Ancestry)) → and_then (and_then p (λ xs. value (map row_of xs))) (λ xs. value (0 + length xs)) ≡ and_then p (λ xs. value (0 + length xs))
+    go (value xs) = rw (length_rows xs)
+    go (absent r) = refl
+    go (refused k) = refl
+
+rows_left_rows : (f : ℕ → Outcome Ancestry) (addresses out : List ℕ) → rows_left (through (as_rows f) addresses) out ≡ (written_by (through f addresses) out).result
+rows_left_rows f addresses out = rw (through_rows f addresses) (go (through f addresses))
+  where
+    go : (p : Outcome (List Ancestry)) → rows_left (and_then p (λ xs. value (map row_of xs))) out ≡ (written_by p out).result
+    go (value xs) = rw (words_rows xs, length_rows xs)
+    go (absent r) = refl
+    go (refused k) = refl
+
 -- The first writing, whichever it is.
 pub told_tally : (t : Tables) (together : Bool) (addresses : List ℕ) → together ≡ chains_fall t.rebases t.index
     → tally (told_of t together) 0 addresses ≡ tally (ancestry_of t) 0 addresses
 unfolding told_of choose
 told_tally t true addresses e = tally_unfollowed t (sym e) addresses
-told_tally t false addresses e = refl
+told_tally t false addresses e = tally_rows (ancestry_of t) addresses
 
-pub told_fits : (one : ℕ → Outcome Ancestry) (count : ℕ) (addresses out : List ℕ) → value count ≡ tally one 0 addresses → count ≤ length out / 3
+pub told_fits : (one : ℕ → Outcome Row) (count : ℕ) (addresses out : List ℕ) → value count ≡ tally one 0 addresses → count ≤ length out / 3
     → Fits one addresses out
 unfolding tally
 told_fits one count addresses out e room =
     let r = then_came (through one addresses) (λ xs. value (0 + length xs)) count (sym e) in
     record { all = r.0; told = r.1; room = omega (arith, size r.0 r.2) }
   where
-    size : (xs : List Ancestry) → value (0 + length xs) ≡ value count → length xs ≡ count
+    size : (xs : List Row) → value (0 + length xs) ≡ value count → length xs ≡ count
     size xs f = let g : 0 + length xs ≡ count = cc in omega arith
 
 -- The rows alone, without the rest of the buffer.
@@ -186,11 +233,11 @@ module _ (t : Tables) (count : ℕ) (new : List ℕ) where
       f (rows_alone s n e) ∙ ap (λ l. flat_map words_of s.told ++ l) none ∙ append-nil (flat_map words_of s.told)
 
 -- The filling, as the code has it.
-pub fill_alone : (t : Tables) (together : Bool) (addresses out new : List ℕ) → together ≡ false → new ≡ (written_by (through (told_of t together) addresses) out).result
+pub fill_alone : (t : Tables) (together : Bool) (addresses out new : List ℕ) → together ≡ false → new ≡ rows_left (through (told_of t together) addresses) out
     → new ≡ (written_by (ancestries t addresses) out).result
 unfolding told_of choose
 fill_alone t true addresses out new e n = let z : ◌≡◌ {A = ℕ} 0 1 = cc in absurd (omega arith)
-fill_alone t false addresses out new e n = n
+fill_alone t false addresses out new e n = n ∙ rows_left_rows (ancestry_of t) addresses out
 
 pub fill_falls : (t : Tables) (together : Bool) (count : ℕ) (addresses out : List ℕ) → Counted t together count addresses out → together ≡ true
     → chains_fall t.rebases t.index ≡ true
@@ -202,20 +249,20 @@ module _ (t : Tables) (addresses out new : List ℕ) (count : ℕ) where
   by_together true w e = w.counted
   by_together false w e = let z : ◌≡◌ {A = ℕ} 0 1 = cc in absurd (omega arith)
 
-  by_new : (together : Bool) → together ≡ true → new ≡ (written_by (through (told_of t together) addresses) out).result
-      → new ≡ (written_by (through (unfollowed_of t) addresses) out).result
+  by_new : (together : Bool) → together ≡ true → new ≡ rows_left (through (told_of t together) addresses) out
+      → new ≡ rows_left (through (unfollowed_of t) addresses) out
   unfolding told_of choose
   by_new true e n = n
   by_new false e n = let z : ◌≡◌ {A = ℕ} 0 1 = cc in absurd (omega arith)
 
 pub fill_unfollowed : (t : Tables) (together : Bool) (count : ℕ) (addresses out new : List ℕ) → Counted t together count addresses out → together ≡ true
-    → new ≡ (written_by (through (told_of t together) addresses) out).result → Unfollowed t count new
+    → new ≡ rows_left (through (told_of t together) addresses) out → Unfollowed t count new
 fill_unfollowed t together count addresses out new w e n =
     unfollowed t (fill_falls t together count addresses out w e) addresses out new count (by_together t addresses out new count together w e) w.room
     (by_new t addresses out new count together e n)
 
 pub fill_told : (t : Tables) (together : Bool) (count : ℕ) (addresses out new : List ℕ) → Counted t together count addresses out → together ≡ true
-    → new ≡ (written_by (through (told_of t together) addresses) out).result → (last : List ℕ)
+    → new ≡ rows_left (through (told_of t together) addresses) out → (last : List ℕ)
     → ((s : Unfollowed t count new) → last ≡ flat_map words_of s.told ++ drop (count * 3) new)
     → last ≡ (written_by (ancestries t addresses) out).result
 fill_told t together count addresses out new w e n last f =

@@ -13,6 +13,8 @@ use Rattle.walks.specs.PlainSections.{plain_classes}
 use Rattle.records.specs.declared.class.ObjcClass.{ObjcClass}
 use Rattle.ancestry.specs.Chain.{climb}
 use Rattle.ancestry.specs.declared.class_chain.Ancestry.{Ancestry}
+use Rattle.ancestry.specs.declared.class_chain.Ancestry.TheVariants as ancestry
+use Rattle.ancestry.specs.declared.class_chain.Row.{Row}
 use Rattle.reads.specs.declared.answer.Question.TheVariants.{AncestryRoom}
 
 -- The superclass of a class, if its address is not 0 and it decodes; a bind is not looked at. It is a metaclass as the class is one.
@@ -43,9 +45,17 @@ ancestry_of t a = and_then (class_at t a false) (λ _. climb (up_in t) (limit t)
 abbrev pub ancestries : Tables → List ℕ → Outcome (List Ancestry)
 ancestries t = gather (λ a. present (ancestry_of t a))
 
+-- The record of a class: the count, the address of the last, 1 if it loops.
+abbrev pub row_of : Ancestry → Row
+row_of (ancestry.Ended count last) = record { first = count; second = last; third = 0 }
+row_of ancestry.Looping = record { first = 0; second = 0; third = 1 }
+
 -- Three words a class.
+abbrev pub row_words : Row → List ℕ
+row_words r = r.first ∷ r.second ∷ r.third ∷ []
+
 abbrev pub words_of : Ancestry → List ℕ
-words_of a = a.count ∷ a.last ∷ a.looping ∷ []
+words_of a = row_words (row_of a)
 
 -- 21: the result buffer is at least one record per class.
 unfoldable pub fitting : ℕ → List Ancestry → Outcome (List Ancestry)

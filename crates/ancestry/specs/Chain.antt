@@ -5,6 +5,7 @@ use Rattle.reads.specs.Outcome.{Outcome, value, absent, refused, and_then}
 use Rattle.reads.specs.declared.answer.Question.{Question}
 use Rattle.reads.specs.declared.answer.Reason.{Reason}
 use Rattle.ancestry.specs.declared.class_chain.Ancestry.{Ancestry}
+use Rattle.ancestry.specs.declared.class_chain.Ancestry.TheVariants as ancestry
 
 -- The class k steps up.
 unfoldable pub above : (ℕ → Outcome ℕ) → ℕ → ℕ → Outcome ℕ
@@ -31,10 +32,10 @@ pub record Ends (up : ℕ → Outcome ℕ) (a count top : ℕ) : Type 0 where
 
 -- What is told of a class: the count of the classes above it and the address of the last (0 if none); or that it loops.
 abbrev pub ended : ℕ → ℕ → Ancestry
-ended count last = record { count = count; last = last; looping = 0 }
+ended count last = ancestry.Ended count last
 
 abbrev pub looping : Ancestry
-looping = record { count = 0; last = 0; looping = 1 }
+looping = ancestry.Looping
 
 -- The address of the last of `count` classes above, if there is one.
 abbrev pub last_at : ℕ → ℕ → ℕ → ℕ

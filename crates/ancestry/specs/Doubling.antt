@@ -4,15 +4,18 @@
 use Rattle.std.specs.Prelude.{ℕ, zero, suc, ◌+◌, ◌*◌, ◌/◌, ◌%◌, ◌≤◌, ◌<◌, ◌≡◌, List, [], ◌∷◌, eqb, leb, ltb, length, get_or, set, drop}
 use Rattle.reads.specs.Outcome.{Outcome, value, choose}
 use Rattle.ancestry.specs.Chain.{above, Ends, last_at, ended, looping}
+use Rattle.ancestry.specs.Ancestry.{row_of}
+use Rattle.ancestry.specs.Filling.{put}
 use Rattle.ancestry.specs.declared.class_chain.Ancestry.{Ancestry}
 use Rattle.ancestry.specs.declared.doubling.State.{State}
 use Rattle.ancestry.specs.declared.doubling.State.TheVariants as state
 
--- What the mark, the count and the place say.
+-- What the mark, the count and the place say. A mark of 3 is never written; a row with it stays as it is until the end, as one that loops.
 abbrev pub state_of : ℕ → ℕ → ℕ → State
 state_of zero count place = state.Ended count place
 state_of (suc zero) count place = state.Looping
-state_of (suc (suc mark)) count place = state.Followed count place
+state_of (suc (suc zero)) count place = state.Followed count place
+state_of (suc (suc (suc mark))) count place = state.Looping
 
 abbrev pub count_of : State → ℕ
 count_of (state.Ended count last) = count
@@ -50,7 +53,7 @@ joined_of limit count address state.Looping = state.Looping
 joined_of limit count address (state.Ended more last) =
     choose (leb limit (count + more)) state.Looping (choose (eqb more 0) (state.Ended count address) (state.Ended (count + more) last))
 joined_of limit count address (state.Followed more row) =
-    choose (leb limit (count + more)) state.Looping (state.Followed (count + more) row)
+    choose (leb limit (count + more)) state.Looping (choose (eqb more 0) (state.Ended count address) (state.Followed (count + more) row))
 
 -- A jump of the class in row i, of which this is known.
 abbrev pub jumped_by : ℕ → ℕ → List ℕ → ℕ → State → List ℕ
@@ -75,8 +78,7 @@ told_by (state.Followed count row) = looping
 
 -- The record of the class in row i, once its chain is followed.
 unfoldable pub finished_at : List ℕ → ℕ → List ℕ
-finished_at out i =
-    set (set (set out (i * 3) (told_by (state_at out i)).count) (i * 3 + 1) (told_by (state_at out i)).last) (i * 3 + 2) (told_by (state_at out i)).looping
+finished_at out i = put out (i * 3) (row_of (told_by (state_at out i)))
 
 unfoldable pub finished_to : List ℕ → ℕ → List ℕ
 finished_to out zero = out

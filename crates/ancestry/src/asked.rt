@@ -19,9 +19,9 @@ pub(crate) struct Asked<'a> {
 // Asked tables of which no lookup of a rebase can be refused.
 #[derive(Clone, Copy)]
 pub(crate) struct Falling<'a> {
-    pub(crate) tables: &'a Tables<'a>,
-    ghost passes: { passes (asked tables.now) ≡ true },
-    ghost falls: { chains_fall tables.now.rebases tables.now.index ≡ true },
+    pub(crate) asked: &'a Asked<'a>,
+    ghost falls: { let t = asked.now.tables.now in
+        chains_fall t.rebases t.index ≡ true },
 }
 
 impl<'a> Asked<'a> {

@@ -1,12 +1,14 @@
-// The rows of the result buffer, three words each, as room while the chains of all classes are followed together: each round doubles how far every chain is followed.
+// The rows of the result buffer, three words each, as room while the chains of all classes are followed together: each round doubles how far every
+// chain is followed.
 ghost use Rattle.std.specs.Prelude.{◌≡◌, List, ℕ, ◌+◌, ◌*◌, ◌/◌, ◌<◌, ◌≤◌, ◌^◌, length};
 ghost use Rattle.reads.specs.Reference.{before};
 ghost use Rattle.ancestry.specs.Doubling.{state_at, count_of, parts_of, told_by, put_at, joined_of, jumped_at, jumped_to, finished_at, finished_to, Ground, Following};
 
-use crate::class_chain::{Ancestry, LOOPING};
+use crate::class_chain::{Ancestry, put_row};
 
 // What is known of a class while chains are followed: its chain ended `count` classes up, the last of them at the address `last` (0 if
-// there is none); it loops; or it was followed `count` classes up, to the class in row `row`.
+// there is none); it loops; or it was followed `count` classes up, to the class in row `row`. The first two are what is told in the end; a
+// case that holds an `Ancestry` in their place would be one more level in each match on what is known.
 #[derive(Clone, Copy)]
 pub enum State {
     Ended { count: u64, last: u64 },
@@ -22,8 +24,9 @@ pub(crate) struct Limit {
 }
 
 // What is known of the class in row i. Rows go by their number in the words that are lent, as in the definitions: a jump knows the row that
-// it comes to by its number alone, and reads it while it writes another, which chunks handed out one by one do not allow; `finish_all`,
-// over chunks, would be no plainer, for it would need a second function like this, of three words.
+// it comes to by its number alone, and reads it while it writes another, which chunks handed out one by one do not allow. For `finish_all`
+// tried: `for row in out.chunks_exact_mut(3)`, with `finish` of a row alone; the proof did not close, for the check does not tell a loop's
+// invariant what the chunks before hold now, nor afterwards what is in `out`, but for its length.
 pub(crate) fn state_at(out: &[u64], i: usize) -> State
     requires { i * 3 + 2 < length out.now }
     ensures { result ≡ state_at (before out) i }
@@ -33,8 +36,8 @@ pub(crate) fn state_at(out: &[u64], i: usize) -> State
     let place = out[i * 3 + 1];
     match first % 4 {
         0 => State::Ended { count, last: place },
-        1 => State::Looping,
-        _ => State::Followed { count, row: place },
+        2 => State::Followed { count, row: place },
+        _ => State::Looping,
     }
 }
 
@@ -84,6 +87,12 @@ fn joined(limit: u64, count: u64, address: u64, next: State) -> State
         State::Followed { count: more, row } => {
             if limit <= count + more {
                 return State::Looping;
+            }
+            if more == 0 {
+                return State::Ended {
+                    count,
+                    last: address,
+                };
             }
             State::Followed {
                 count: count + more,
@@ -141,12 +150,8 @@ fn told_by(s: State) -> Ancestry
     ensures { result ≡ told_by s }
 {
     match s {
-        State::Ended { count, last } => Ancestry {
-            count,
-            last,
-            looping: 0,
-        },
-        State::Looping | State::Followed { .. } => LOOPING,
+        State::Ended { count, last } => Ancestry::Ended { count, last },
+        State::Looping | State::Followed { .. } => Ancestry::Looping,
     }
 }
 
@@ -156,10 +161,8 @@ fn finish(out: &mut [u64], i: usize)
     requires { i * 3 + 2 < length out.old }
     ensures { out.new ≡ finished_at out.old i }
 {
-    let a = told_by(state_at(out, i));
-    out[i * 3] = a.count;
-    out[i * 3 + 1] = a.last;
-    out[i * 3 + 2] = a.looping;
+    let told = told_by(state_at(out, i));
+    put_row(out, i * 3, told.row());
 }
 
 #[tactic(auto, using(crate::proofs::Rounds::finished_more, crate::proofs::Rounds::finished_none))]

@@ -51,13 +51,13 @@ fn ended_state(count: u64, top: u64) -> State
 // What is known of the class in row i after a walk up from it to the next class that has a row. The loop is that of `climb_from`, which
 // looks for no row: one function for both would need a closure and a type for four ends, and be no shorter.
 fn first_from(falling: &Falling, res: &[u64], sorted: bool, class: ObjcClass, i: usize) -> State
-    requires { let t = falling.now.tables.now in
+    requires { let t = falling.now.asked.now.tables.now in
         class_at t (node_at res.now i) false ≡ value class }
-    ensures { let t = falling.now.tables.now in let listed = length (before res) / 3 in
+    ensures { let t = falling.now.asked.now.tables.now in let listed = length (before res) / 3 in
         Row (ground_of t (before res) listed) 1 i result }
 {
-    let tables = falling.tables;
-    let most = limit_of(tables);
+    let tables = falling.asked.tables;
+    let most = limit_of(falling.asked);
     let mut at = class;
     let mut held = class.address;
     let mut hold = 1;
@@ -89,12 +89,12 @@ fn first_from(falling: &Falling, res: &[u64], sorted: bool, class: ObjcClass, i:
 // The same, from the address in the row. A struct of the tables, the rows and `sorted` would be no plainer: the rows are written between
 // two calls, so it would be made anew for each row.
 fn first(falling: &Falling, res: &[u64], sorted: bool, i: usize) -> State
-    requires { let t = falling.now.tables.now in let listed = length res.now / 3 in
+    requires { let t = falling.now.asked.now.tables.now in let listed = length res.now / 3 in
         Ready t res.now listed i }
-    ensures { let t = falling.now.tables.now in let listed = length (before res) / 3 in
+    ensures { let t = falling.now.asked.now.tables.now in let listed = length (before res) / 3 in
         Row (ground_of t (before res) listed) 1 i result }
 {
-    match class_at(falling.tables, res[i * 3 + 2], false) {
+    match class_at(falling.asked.tables, res[i * 3 + 2], false) {
         Ok(class) => first_from(falling, res, sorted, class, i),
         Err(_) => State::Looping,
     }
@@ -102,9 +102,9 @@ fn first(falling: &Falling, res: &[u64], sorted: bool, i: usize) -> State
 
 // Every chain is followed to the next class that has a row.
 fn first_all(falling: &Falling, sorted: bool, res: &mut [u64])
-    requires { let t = falling.now.tables.now in let listed = length res.old / 3 in
+    requires { let t = falling.now.asked.now.tables.now in let listed = length res.old / 3 in
         Unfollowed t listed res.old }
-    ensures { let t = falling.now.tables.now in let listed = length res.old / 3 in
+    ensures { let t = falling.now.asked.now.tables.now in let listed = length res.old / 3 in
         Following (ground_of t res.old listed) 1 res.old res.new }
 {
     for i in 0..res.len() / 3 {
@@ -115,13 +115,13 @@ fn first_all(falling: &Falling, sorted: bool, res: &mut [u64])
 
 // Every chain is followed to its end, or as far as can be, and the rows become the records.
 pub(crate) fn follow_all(falling: &Falling, res: &mut [u64])
-    requires { let t = falling.now.tables.now in let listed = length res.old / 3 in
+    requires { let t = falling.now.asked.now.tables.now in let listed = length res.old / 3 in
         Unfollowed t listed res.old }
-    ensures { let t = falling.now.tables.now in let listed = length res.old / 3 in
+    ensures { let t = falling.now.asked.now.tables.now in let listed = length res.old / 3 in
         ((s : Unfollowed t listed res.old) → res.new ≡ flat_map words_of s.told ++ drop (listed * 3) res.old) }
 {
     let most = Limit {
-        classes: limit_of(falling.tables),
+        classes: limit_of(falling.asked),
     };
     let sorted = ascending(res);
     first_all(falling, sorted, res);

@@ -7,7 +7,7 @@ use native.Mathlib.Numerals.{add-one}
 use lib.ListN.{length, take, get_or}
 use lib.Seq.{take-suc}
 use Rattle.std.proofs.lemmas.List.{take_all}
-use Rattle.attributes.specs.Written.{Part, bytes_given, part_of, front_letters, back_letters, front_of, declaration_in, given, in_order, written, items_in, written_text}
+use Rattle.attributes.specs.Written.{Part, bytes_given, part_of, front_letters, back_letters, front_of, declaration_in, given, in_order, joined, written, items_in, written_text}
 use Rattle.attributes.specs.Puts.{Put, Puts, comma_at, behind, item_at}
 use Rattle.attributes.specs.declared.items.Item.{Item}
 use Rattle.attributes.specs.declared.items.Value.{Value}
@@ -139,17 +139,23 @@ module _ (text rows : List ℕ) {o : Out} {size : ℕ} {rest : List ℕ} where
         rw (← all) at.put
 
 -- The front letters, the rows and V.
-pub put_in_order : (text : List ℕ) (d : Declared) (rows cut : List ℕ) {o a b c : Out} → o.at ≡ 0 → length o.to.now < 2 ^ 63
+pub put_in_order : (text : List ℕ) (d : Declared) (rows : List ℕ) {front back to : ℕ} {out one two left : List ℕ} → length out < 2 ^ 63
+    → Put (joined (given front_letters (map (bytes_given text) (front_of d)))) 0 out front one
+    → Put (behind front (map (part_of text) (items_in d.unknown_count rows))) front one back two
+    → Put (behind back (given back_letters (bytes_given text d.variable ∷ []))) back two to left
+    → Put (written_text text d rows) 0 out to left
+unfolding written_text written in_order declaration_in
+put_in_order text d rows small f u v =
+    let unknown = map (part_of text) (items_in d.unknown_count rows) in
+    let variable = given back_letters (bytes_given text d.variable ∷ []) in
+    put_parts (given front_letters (map (bytes_given text) (front_of d))) (unknown ++ variable) small f
+    (put_parts unknown variable (omega (arith, f.same)) u v)
+
+-- The same into a lent buffer, the rows cut to those that are counted.
+pub puts_in_order : (text : List ℕ) (d : Declared) (rows cut : List ℕ) {o a b c : Out} → o.at ≡ 0 → length o.to.now < 2 ^ 63
     → Puts o (behind o.at (given front_letters (map (bytes_given text) (front_of d)))) a
     → items_in (length cut) cut ≡ items_in d.unknown_count rows
     → Puts a (behind a.at (map (part_of text) (items_in (length cut) cut))) b
     → Puts b (behind b.at (given back_letters (bytes_given text d.variable ∷ []))) c
     → Put (written_text text d rows) 0 o.to.now c.at c.to.now
-unfolding written_text written in_order declaration_in
-put_in_order text d rows cut {o = o} {a = a} z small f e u v =
-    let front = given front_letters (map (bytes_given text) (front_of d)) in
-    let unknown = map (part_of text) (items_in d.unknown_count rows) in
-    let variable = given back_letters (bytes_given text d.variable ∷ []) in
-    let behind_it = puts_parts unknown variable (omega (arith, f.put.same)) (rw (← e) u) v in
-    let all = puts_parts front (unknown ++ variable) small f behind_it in
-    rw z at all.put
+puts_in_order text d rows cut z small f e u v = put_in_order text d rows small (rw z at f.put) (rw (← e) u.put) v.put

@@ -4,11 +4,11 @@ ghost use Rattle.std.specs.List.{zip};
 ghost use Rattle.reads.specs.Reference.{before};
 ghost use Rattle.attributes.specs.Written.{bytes_given, part_of, front_letters, front_of, given, items_in, written_text, written_of, written_left};
 ghost use Rattle.attributes.specs.Puts.{Put, Puts, comma_at, behind, item_at};
-ghost use Rattle.reads.specs.Answer.{outcome};
+ghost use Rattle.reads.specs.Answer.{answered};
 
 use crate::items::{Item, Value};
 use crate::property::Declared;
-use reads::answer::{Missing, Question};
+use reads::answer::Question;
 use reads::place::part;
 
 // The front letters, each with what is given of it.
@@ -138,13 +138,13 @@ pub fn write_attributes(
     declared: Declared,
     unknown: &[u64],
     out: &mut [u8],
-) -> Result<u64, Missing>
-    ensures outcome { outcome result ≡ written_of (before text) declared (before unknown) (length out.old) }
+) -> Result<u64, Question>
+    ensures outcome { answered result ≡ written_of (before text) declared (before unknown) (length out.old) }
     ensures contents { out.new ≡ written_left (before text) declared (before unknown) out.old }
 {
     let len = put_all(text, declared, unknown, &mut out[0..0]);
     if out.len() < len {
-        return Err(Missing::Refused(Question::ItemRoom));
+        return Err(Question::ItemRoom);
     }
     put_all(text, declared, unknown, out);
     Ok(len as u64)

@@ -35,10 +35,6 @@ held_word t [] k h = absurd (omega arith)
 held_word t (a ∷ slots) zero h = refl
 held_word t (a ∷ slots) (suc k) h = held_word t slots k (omega arith)
 
-pub listed_by : (t : Tables) (k a : ℕ) {o : Outcome ℕ} → a ≡ get_or (category_slots t.sections) k 0 → o ≡ address_in t a → o ≡ listed_at t k
-unfolding listed_at
-listed_by t k a e g = g ∙ ap (address_in t) e
-
 -- No slot gives address 0.
 pub address_nonzero : (t : Tables) (a va : ℕ) → address_in t a ≡ value va → va ≡ 0 → ⊥
 unfolding decode_address

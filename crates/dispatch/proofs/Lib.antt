@@ -10,6 +10,7 @@ pub mod Plain
 pub mod SelectorTable
 pub mod Walks
 pub mod Scans
+pub mod StepsSeen
 pub mod Origin
 pub mod Answers
 pub mod Unrefused

@@ -29,10 +29,10 @@ use Rattle.dispatch.proofs.Effects.{none_earlier, selectors_stand}
 use Rattle.dispatch.proofs.Places.{in_cons, before_true, before_false, before_false_made}
 use Rattle.dispatch.proofs.Notes.{note_effective}
 
-or_here : (x y : Bool) {e : Bool} → x ≡ true → (x || y) ≡ e → true ≡ e
+pub or_here : (x y : Bool) {e : Bool} → x ≡ true → (x || y) ≡ e → true ≡ e
 or_here x y g h = rw g at h
 
-or_next : (x y : Bool) {e : Bool} → x ≡ false → (x || y) ≡ e → y ≡ e
+pub or_next : (x y : Bool) {e : Bool} → x ≡ false → (x || y) ≡ e → y ≡ e
 or_next x y g h = rw g at h
 
 -- Past a's place no row stands before it.

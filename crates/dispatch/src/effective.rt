@@ -8,7 +8,7 @@ ghost use Rattle.dispatch.specs.Dispatch.{has_earlier, firsts, effective_among, 
 ghost use Rattle.dispatch.specs.RowsLeft.{rows_ahead, files_in, reached_left};
 ghost use Rattle.dispatch.specs.Table.{Origins};
 ghost use Rattle.dispatch.specs.Written.{few_firsts, Surveyed, CountedAll, RoomFor, WroteAll};
-ghost use Rattle.reads.specs.Answer.{outcome};
+ghost use Rattle.reads.specs.Answer.{outcome, answered};
 
 use crate::asks::ask_categories;
 use crate::rows::{Appearance, Reachable, RowsOf, enter};
@@ -35,8 +35,9 @@ fn reachable<'a>(rows: &RowsOf<'a>) -> Reachable<'a>
     Reachable { rows: *rows }
 }
 
-// The rows and the room travel as two here and in three functions below: a struct of them is no plainer, as each uses the one apart
-// from the other, and `effective_from` needs the rows alone once it has asked.
+// The rows and the room travel as two here and in three functions below. A struct of the two is no plainer: `effective_from` alone would make
+// it, to write the rows alone once it has asked; `reach_end` and `selectors_fit` would take it apart, `count_fits` too before it hands it on, and
+// only `has_room` would hand it on as it is.
 
 // Goes over all rows to the end, and says whether they are at most so many.
 fn reach_end(rows: &RowsOf, room: usize) -> Result<bool, Question>
@@ -151,14 +152,14 @@ fn has_room(rows: &RowsOf, room: usize) -> Result<bool, Question>
 }
 
 // The effective methods among the rows from the first on.
-fn effective_from(rows: &RowsOf, own: u64, res: &mut [u64]) -> Result<u64, Missing>
+fn effective_from(rows: &RowsOf, own: u64, res: &mut [u64]) -> Result<u64, Question>
     requires { Origins own rows.now.of.tables.now (rows_ahead rows.now).rows }
     ensures { let rs = rows_ahead rows.now in
-        leaves (outcome result) res.new ≡ left (effective_among (files_in rows.now) rs) res.old }
+        leaves (answered result) res.new ≡ left (effective_among (files_in rows.now) rs) res.old }
 {
     let room = res.len() / 4;
     if !has_room(rows, room)? {
-        return Err(Missing::Refused(Question::SelectorRoom));
+        return Err(Question::SelectorRoom);
     }
     Ok(write_selectors(rows, own, res))
 }
@@ -171,9 +172,9 @@ fn effective_by_slots(
     side: Side,
     class: ObjcClass,
     res: &mut [u64],
-) -> Result<u64, Missing>
+) -> Result<u64, Question>
     ensures { let t = tables.now in
-        leaves (outcome result) res.new ≡ left (effective_among t.files (slot_appearances t side class)) res.old }
+        leaves (answered result) res.new ≡ left (effective_among t.files (slot_appearances t side class)) res.old }
 {
     let own = own_source(tables, side, class);
     let start = enter(tables, 0, own)?;
@@ -195,9 +196,9 @@ fn effective_of(
     side: Side,
     class: ObjcClass,
     res: &mut [u64],
-) -> Result<u64, Missing>
+) -> Result<u64, Question>
     ensures { let t = tables.now in
-        leaves (outcome result) res.new ≡ left (and_then (plain_categories t) (λ categories. effective_among t.files (appearances t side categories class))) res.old }
+        leaves (answered result) res.new ≡ left (and_then (plain_categories t) (λ categories. effective_among t.files (appearances t side categories class))) res.old }
 {
     ask_categories(tables)?;
     effective_by_slots(tables, side, class, res)
@@ -216,5 +217,5 @@ pub fn effective_methods(
 {
     ask(tables)?;
     let c = class_at(tables, class, false)?;
-    effective_of(tables, side, c, res)
+    Ok(effective_of(tables, side, c, res)?)
 }

@@ -119,12 +119,11 @@ pub(crate) fn enter(
 // The row of entry j; a method list has no other rows.
 #[tactic(auto, using(reads::proofs::Outcomes::missed_then), unfolding(crate::specs::Appearances::appearance))]
 fn appearance_at(tables: &Tables, p: Position, j: u64) -> Result<Appearance, Missing>
-    requires { (j < 2 ^ 32) × (entry_address p.list j < 2 ^ 64) }
+    requires { entry_address p.list j < 2 ^ 64 }
     ensures { let t = tables.now in
         outcome result ≡ appearance t p.source p.origin p.list j }
 {
-    let va = p.list.base + j * (p.list.size as u64);
-    match row_at(tables, p.list.kind, va)? {
+    match row_at(tables, p.list.kind, p.list.entry_address(j))? {
         Row::Method(m) => Ok(Appearance {
             selector: m.selector,
             source: p.source,

@@ -4,20 +4,18 @@ ghost use Rattle.reads.specs.Text.{or_none};
 ghost use Rattle.dispatch.specs.SlotSources.{category_slots, listed_at, held_before};
 ghost use Rattle.reads.specs.Answer.{outcome};
 
-use pointers::slot::slot_or_0;
 use pointers::tables::Tables;
-use reads::answer::{Missing, nonzero};
-use walks::slots::{Lists, slot_at};
+use reads::answer::Missing;
+use walks::slots::{Lists, address_in, slot_at};
 
 // The address in slot k, absent if it is 0.
-#[tactic(auto, using(reads::proofs::Outcomes::missed_then, crate::proofs::Held::listed_by), unfolding(walks::specs::Slots::decode_address))]
+#[tactic(auto, unfolding(crate::specs::SlotSources::listed_at))]
 pub(crate) fn listed_at(tables: &Tables, k: u64) -> Result<u64, Missing>
     ensures { let t = tables.now in
         outcome result ≡ listed_at t k }
 {
     let slot = slot_at(tables.sections(), Lists::Categories, k);
-    let va = slot_or_0(tables, slot)?;
-    nonzero(va)
+    address_in(tables, slot)
 }
 
 // Whether some slot before k holds an address.

@@ -1,16 +1,15 @@
 // The lists that take part: the class's or metaclass's own, and those of the categories of the class.
 ghost use Rattle.std.specs.Prelude.{◌≡◌, ◌≤◌, length};
-ghost use Rattle.walks.specs.Sections.{meta_of};
 ghost use Rattle.dispatch.specs.Sources.{list_of, metaclass_of, own_source, methods_on};
 ghost use Rattle.dispatch.specs.SlotSources.{category_slots, taking, slot_source};
 ghost use Rattle.reads.specs.Answer.{outcome};
-ghost use Rattle.reads.specs.Outcome.{nonzero};
 
 use crate::slots::{held_before, listed_at};
 use pointers::tables::Tables;
 use reads::answer::{Missing, Reason, nonzero};
 use records::category::{ObjcCategory, category_at};
 use records::class::{ObjcClass, class_at, ro_of};
+use walks::section_slots::meta_of;
 
 // Instance methods, or class methods.
 #[derive(Clone, Copy)]
@@ -47,24 +46,13 @@ fn list_of(tables: &Tables, class: ObjcClass) -> Result<Source, Missing>
     })
 }
 
-// The address of the metaclass: isa, absent if it is 0 or the class itself.
-#[tactic(auto, using(std::proofs::lemmas::Bool::Decides::nat_tests), unfolding(walks::specs::Sections::meta_of, reads::specs::Outcome::nonzero, reads::specs::Outcome::choose))]
-fn meta_of(class: ObjcClass) -> Result<u64, Missing>
-    ensures { outcome result ≡ nonzero (meta_of class) }
-{
-    if class.isa == class.address {
-        return Err(Missing::Absent(Reason::NullAddress));
-    }
-    nonzero(class.isa)
-}
-
 // The metaclass, if isa is neither 0 nor the class and decodes.
 #[tactic(auto, using(reads::proofs::Outcomes::missed_then), unfolding(crate::specs::Sources::metaclass_of))]
 fn metaclass_of(tables: &Tables, class: ObjcClass) -> Result<ObjcClass, Missing>
     ensures { let t = tables.now in
         outcome result ≡ metaclass_of t class }
 {
-    let va = meta_of(class)?;
+    let va = nonzero(meta_of(class))?;
     class_at(tables, va, true)
 }
 
@@ -97,8 +85,8 @@ fn methods_on(side: Side, category: ObjcCategory) -> u64
 
 impl MethodsOf<'_> {
     // That k is at most the number of slots stands as a clause here, below and in `held_before`: past the last slot address 0 would be
-    // looked up. A struct of the tables and k with that as its invariant is no plainer: `next_source` alone would make it, and each
-    // of the three would take it apart.
+    // looked up. A struct of the tables and k with that as its invariant is no plainer: `next_source` alone would make it, `held_before`
+    // would take it apart, `slot_source` too before it hands it on, and only `taking` would hand it on as it is.
 
     // The list of a category, if its class address is the class and no slot before k holds it.
     #[tactic(auto, using(std::proofs::lemmas::Bool::Decides::nat_tests), unfolding(crate::specs::SlotSources::taking, reads::specs::Outcome::choose))]

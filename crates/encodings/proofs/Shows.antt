@@ -14,8 +14,8 @@ use Rattle.std.specs.Prelude.{Option, None, Some}
 use Rattle.encodings.specs.Parser.{Kept, kept, offset_of, begun, below_pointers, followed, step_in, end_of, finish_in}
 use Rattle.encodings.specs.declared.bytes.Class.{Class}
 use Rattle.encodings.specs.declared.bytes.Class.TheVariants.{Basic, Qualifier, Object, BitField, Pointer, Array, Structure, Union, Other}
-use Rattle.encodings.specs.declared.parser.Mode.{Mode}
-use Rattle.encodings.specs.declared.parser.Mode.TheVariants as mode
+use Rattle.encodings.specs.declared.kept.Mode.{Mode}
+use Rattle.encodings.specs.declared.kept.Mode.TheVariants as mode
 use Rattle.encodings.proofs.Choices.{by_both}
 use Rattle.encodings.proofs.States.{spell_open, spell_state, Good}
 

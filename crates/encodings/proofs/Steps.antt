@@ -1,14 +1,15 @@
 -- What the code keeps of a state, part by part, and what comes after a type.
-use Prim.Native.Nat.{ℕ, ◌-◌, ◌/◌, ◌%◌, ◌<◌}
+use Prim.Native.Nat.{ℕ, ◌-◌, ◌<◌}
 use mathlib.Core.Path.{◌≡◌, ap, sym, ◌∙◌}
 use mathlib.Core.List.{List, [], ◌∷◌}
 use lib.ListN.{get_or}
 use Rattle.reads.specs.Outcome.{Outcome, value}
-use Rattle.encodings.specs.Parser.{Kept, kept, closers, levels_in, levels_of, kept_in, begun, inside, followed, step_as, end_of, finish_as}
+use Rattle.encodings.specs.Parser.{Kept, kept, closer_of, levels_in, levels_of, kept_in, begun, inside, followed, step_as, end_of, finish_as}
 use Rattle.encodings.specs.Machine.{outside}
 use Rattle.encodings.specs.declared.bytes.Class.{Class}
-use Rattle.encodings.specs.declared.parser.Mode.{Mode}
-use Rattle.encodings.specs.declared.parser.Parser.{Parser}
+use Rattle.encodings.specs.declared.kept.Level.TheVariants as level
+use Rattle.encodings.specs.declared.kept.Mode.{Mode}
+use Rattle.encodings.specs.declared.kept.Parser.{Parser}
 use Rattle.encodings.proofs.Levels.{levels_none, levels_top}
 
 module _ {m m' : Mode} {ls ls' : List ℕ} {s s' : ℕ} (e : kept m ls s ≡ kept m' ls' s') where
@@ -25,11 +26,11 @@ abbrev end_from : Kept → Outcome (Unit {0})
 end_from (kept m ls s) = end_of ls
 
 -- q is a parser without its innermost pointers: ls are the levels that are left.
-module _ (q : Parser) {m : Mode} {ls : List ℕ} {s : ℕ} (e : kept_in m q ≡ kept m ls s) where
+module _ (q : Parser) {m : Mode} {ls : List ℕ} {s : ℕ} (e : kept_in q ≡ kept m ls s) where
   none_left : q.depth ≡ 0 → levels_of q ≡ []
   none_left h = levels_none q.depth q.levels h
 
-  some_left : 0 < q.depth → levels_of q ≡ get_or closers (q.levels % 4) 0 ∷ levels_in (q.depth - 1) (q.levels / 4)
+  some_left : 0 < q.depth → levels_of q ≡ closer_of (get_or q.levels (q.depth - 1) level.Pointer) ∷ levels_in (q.depth - 1) q.levels
   some_left h = levels_top q.depth q.levels h
 
   pub followed_outer : (b i : ℕ) → q.depth ≡ 0 → followed [] q.start b i ≡ followed ls s b i
@@ -48,6 +49,10 @@ module _ (q : Parser) {m : Mode} {ls : List ℕ} {s : ℕ} (e : kept_in m q ≡ 
 
   pub end_inner : 0 < q.depth → outside ≡ end_of ls
   end_inner h = ap (λ (x : List ℕ). end_of x) (sym (some_left h)) ∙ ap end_from e
+
+-- A byte that changes nothing.
+pub stays : (p : Parser) {k : Mode} → p.mode ≡ k → value (kept_in p) ≡ value (kept k (levels_of p) p.start)
+stays p e = ap (λ (m : Mode). value (kept m (levels_of p) p.start)) e
 
 -- What a function promises in one mode, or for one class of byte, is what `step`, `finish` and `begin` promise in it.
 pub step_in : (p : Parser) (b i : ℕ) {m k : Mode} {o : Outcome Kept} → m ≡ k → o ≡ step_as k p b i → o ≡ step_as m p b i

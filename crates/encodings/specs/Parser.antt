@@ -1,49 +1,50 @@
 -- What the code keeps of a state of the machine, and what its functions promise each other.
-use Rattle.std.specs.Prelude.{ℕ, zero, suc, ◌+◌, ◌-◌, ◌*◌, ◌/◌, ◌%◌, ◌≤◌, ◌≡◌, Bool, false, List, [], ◌∷◌, eqb, ltb, length, get_or, Option, None, Some, Result, Ok, Err, unwrap_or}
+use Rattle.std.specs.Prelude.{ℕ, zero, suc, ◌+◌, ◌-◌, ◌*◌, ◌≤◌, ◌≡◌, Bool, false, List, [], ◌∷◌, eqb, ltb, length, get_or, Option, None, Some, Result, Ok, Err, unwrap_or}
 use Prim.Native.Char.{code}
 use Rattle.std.proofs.lemmas.List.Edits.{sets}
 use Rattle.reads.specs.Answer.{missed}
 use Rattle.reads.specs.Outcome.{Outcome, value, and_then, choose}
-use Rattle.pointers.specs.Symbol.{ascii}
 use Rattle.encodings.specs.Grammar.{Types, count, filled, digit_byte, name_byte, quoted_byte}
 use Rattle.encodings.specs.Machine.{outside, too_deep, class_of, parse}
 use Rattle.encodings.specs.declared.bytes.Class.{Class}
 use Rattle.encodings.specs.declared.bytes.Class.TheVariants.{Basic, Qualifier, Object, BitField, Pointer, Array, Structure, Union, Other}
-use Rattle.encodings.specs.declared.parser.Level.{Level}
-use Rattle.encodings.specs.declared.parser.Level.TheVariants as level
-use Rattle.encodings.specs.declared.parser.Mode.{Mode}
-use Rattle.encodings.specs.declared.parser.Mode.TheVariants as mode
-use Rattle.encodings.specs.declared.parser.Parser.{Parser}
+use Rattle.encodings.specs.declared.kept.Level.{Level}
+use Rattle.encodings.specs.declared.kept.Level.TheVariants as level
+use Rattle.encodings.specs.declared.kept.Mode.{Mode}
+use Rattle.encodings.specs.declared.kept.Mode.TheVariants as mode
+use Rattle.encodings.specs.declared.kept.Parser.{Parser}
 use Rattle.reads.specs.declared.answer.Missing.{Missing}
 
 -- Of a state: what was read last, the open levels, and where this type starts.
 pub data Kept : Type 0 where
   kept : Mode → List ℕ → ℕ → Kept
 
--- What closes each kind of level: a pointer (nothing does), an array, a structure, a union.
-abbrev pub closers : List ℕ
-closers = ascii "^]})"
-
+-- What closes each kind of level; a pointer nothing does.
 abbrev pub closer_of : Level → ℕ
 closer_of level.Pointer = code "^"
 closer_of level.Array = code "]"
 closer_of level.Structure = code "}"
 closer_of level.Union = code ")"
 
--- The levels of which a number has two bits each, the innermost lowest.
-unfoldable pub levels_in : ℕ → ℕ → List ℕ
-levels_in zero s = []
-levels_in (suc n) s = get_or closers (s % 4) 0 ∷ levels_in n (s / 4)
+-- The first n of the kinds as levels, the last of them innermost.
+unfoldable pub levels_in : ℕ → List Level → List ℕ
+levels_in zero ks = []
+levels_in (suc n) ks = closer_of (get_or ks n level.Pointer) ∷ levels_in n ks
+
+unfoldable pub innermost_in : ℕ → List Level → Option Level
+innermost_in zero ks = None
+innermost_in (suc n) ks = Some (get_or ks n level.Pointer)
 
 abbrev pub levels_of : Parser → List ℕ
 levels_of p = levels_in p.depth p.levels
 
-abbrev pub kept_in : Mode → Parser → Kept
-kept_in m p = kept m (levels_of p) p.start
+abbrev pub kept_in : Parser → Kept
+kept_in p = kept p.mode (levels_of p) p.start
 
-abbrev pub step_outcome : Result (Mode × Parser) Missing → Outcome Kept
-step_outcome (Ok m_p) = value (kept_in m_p.0 m_p.1)
-step_outcome (Err m) = missed m
+-- What a step comes to, from the parser that it leaves and its answer.
+abbrev pub stepped : Parser → Result (Unit {0}) Missing → Outcome Kept
+stepped p (Ok u) = value (kept_in p)
+stepped p (Err m) = missed m
 
 -- Below, ls are the levels, s is where this type starts, b is the byte and i where it stands.
 

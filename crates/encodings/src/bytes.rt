@@ -3,7 +3,8 @@ ghost use Rattle.std.specs.Prelude.{◌≡◌};
 ghost use Rattle.encodings.specs.Grammar.{digit_byte, name_byte, quoted_byte};
 ghost use Rattle.encodings.specs.Machine.{class_of};
 
-// What a byte begins, where a type may begin.
+// What a byte begins, where a type may begin. Data and no closure for each byte: the machine of the definitions goes by the same classes
+// (`class_of` and `begin` of specs/Machine.antt), and a step that takes one is proved by what it is.
 #[derive(Clone, Copy)]
 pub enum Class {
     Basic,

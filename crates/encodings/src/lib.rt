@@ -2,6 +2,7 @@
 #![tactic(auto)]
 
 mod bytes;
+mod kept;
 mod parser;
 mod reading;
 pub mod words;

@@ -1,41 +1,15 @@
-// A parser of type encodings: what it keeps of the text before, and a step for each byte.
+// A parser of type encodings: a step for each byte.
 ghost use Rattle.std.specs.Prelude.{◌≡◌, [], ◌<◌, Err};
 ghost use Rattle.reads.specs.Outcome.{value};
 ghost use Rattle.encodings.specs.Machine.{class_of};
-ghost use Rattle.encodings.specs.Parser.{closer_of, levels_of, kept, kept_in, step_outcome, opened, begun, below_pointers, closes, below, inside, followed, step_as, end_of, finish_as, offset_of};
+ghost use Rattle.encodings.specs.Parser.{closer_of, levels_of, kept, kept_in, stepped, innermost_in, opened, begun, below_pointers, closes, below, inside, followed, step_as, end_of, finish_as, offset_of};
 ghost use Rattle.reads.specs.Answer.{outcome};
 ghost use Rattle.reads.specs.declared.answer.Missing.TheVariants.{Absent};
 ghost use Rattle.reads.specs.declared.answer.Reason.TheVariants.{Malformed};
 
 use crate::bytes::{Class, class_of, in_name, in_quotes, is_digit};
+use crate::kept::{Level, Mode, Parser};
 use reads::answer::{Missing, Question, Reason};
-
-// What was read last, and so what may come. Data and no closure: it is kept from byte to byte, and the end of the text asks it too.
-#[derive(Clone, Copy)]
-pub enum Mode {
-    // a type must begin
-    Wanted,
-    // `[`
-    Counting,
-    // digits of an array's count
-    Counted,
-    // `{` or `(` and some of a name
-    Naming,
-    // the `=` behind a name
-    Named,
-    // `@"` and some of a class
-    Quoting,
-    // `b`
-    Sizing,
-    // digits of a bit field
-    Sized,
-    // `@`
-    AtSign,
-    // a type's last byte
-    Ended,
-    // digits of a frame offset, which starts there
-    Offset(usize),
-}
 
 impl Mode {
     // Where the frame offset starts, if its digits are being read.
@@ -50,250 +24,217 @@ impl Mode {
     }
 }
 
-// What is kept of the bytes before, but for the mode, which stands beside it: as a field, when it was one byte that held no offset, it
-// cost 6 to 15 in 100 more time (DECISIONS 68).
-#[derive(Clone, Copy)]
-pub struct Parser {
-    // how many levels are open, 32 at most, and two bits for each of them, its kind, the innermost lowest: fixed memory, no heap, so the
-    // levels are one word, and what it has no bits for is the refusal `Depth`
-    pub depth: usize,
-    pub levels: u64,
-    // where this outermost type starts
-    pub start: usize,
-}
-
-// The kinds of levels, in the order of their two bits, and what closes each: a pointer ends with the type that it points to.
-#[derive(Clone, Copy)]
-enum Level {
-    Pointer,
-    Array,
-    Structure,
-    Union,
-}
-
-const CLOSERS: [u8; 4] = *b"^]})";
-
-// Before the first byte.
-#[tactic(auto, unfolding(crate::specs::Parser::levels_in))]
-pub fn first() -> Parser
-    ensures { kept_in Mode.Wanted result ≡ kept Mode.Wanted [] 0 }
-{
-    Parser {
-        depth: 0,
-        levels: 0,
-        start: 0,
+impl Level {
+    fn closer(self) -> u8
+        ensures { result ≡ closer_of self }
+    {
+        match self {
+            Level::Pointer => b'^',
+            Level::Array => b']',
+            Level::Structure => b'}',
+            Level::Union => b')',
+        }
     }
 }
 
 // The text is outside the grammar.
-fn outside<T>() -> Result<T, Missing>
+fn outside() -> Result<(), Missing>
     ensures { result ≡ Err (Absent Malformed) }
 {
     Err(Missing::Absent(Reason::Malformed))
 }
 
-// One level more, of a kind.
-#[tactic(auto, using(std::proofs::lemmas::Bool::Decides::nat_tests, crate::proofs::Levels::levels_pushed, crate::proofs::Levels::levels_length), unfolding(reads::specs::Outcome::choose))]
-fn open(p: Parser, kind: Level, mode: Mode) -> Result<(Mode, Parser), Missing>
-    ensures { step_outcome result ≡ opened (closer_of kind) mode (levels_of p) p.start }
-{
-    if p.depth >= 32 {
-        return Err(Missing::Refused(Question::Depth));
-    }
-    let q = Parser {
-        depth: p.depth + 1,
-        levels: p.levels % 0x4000_0000_0000_0000 * 4 + kind as u64,
-        ..p
-    };
-    Ok((mode, q))
-}
-
-// The innermost level is closed.
-#[tactic(auto, using(crate::proofs::Levels::levels_below))]
-fn close(p: Parser) -> Result<(Mode, Parser), Missing>
-    requires { 0 < p.depth }
-    ensures { step_outcome result ≡ value (kept Mode.Ended (below (levels_of p)) p.start) }
-{
-    let q = Parser {
-        depth: p.depth - 1,
-        levels: p.levels / 4,
-        ..p
-    };
-    Ok((Mode::Ended, q))
-}
-
-// Whether the byte closes the innermost level.
-#[tactic(auto, using(crate::proofs::Levels::closes_none, crate::proofs::Levels::closes_top))]
-fn closes(p: Parser, byte: u8) -> bool
-    ensures { result ≡ closes (levels_of p) byte }
-{
-    if p.depth == 0 {
-        return false;
-    }
-    let kind = (p.levels % 4) as usize;
-    byte == CLOSERS[kind]
-}
-
-// The pointers that are innermost end with the type that ended.
-#[tactic(auto, using(crate::proofs::Levels::pointer_top, crate::proofs::Levels::other_top, crate::proofs::Levels::none_below))]
-fn below_pointers(p: Parser) -> Parser
-    ensures { kept_in Mode.Ended result ≡ kept Mode.Ended (below_pointers (levels_of p)) p.start }
-{
-    let mut depth = p.depth;
-    let mut levels = p.levels;
-    // Not a `for`: it goes on while a pointer is innermost.
-    while 0 < depth && levels % 4 == Level::Pointer as u64 {
-        depth -= 1;
-        levels /= 4;
-    }
-    Parser { depth, levels, ..p }
-}
-
-// A type begins.
-#[tactic(auto, using(crate::proofs::Steps::begin_of))]
-fn begin(p: Parser, byte: u8) -> Result<(Mode, Parser), Missing>
-    ensures { step_outcome result ≡ begun (levels_of p) p.start (class_of byte) }
-{
-    match class_of(byte) {
-        Class::Basic => Ok((Mode::Ended, p)),
-        Class::Qualifier => Ok((Mode::Wanted, p)),
-        Class::Object => Ok((Mode::AtSign, p)),
-        Class::BitField => Ok((Mode::Sizing, p)),
-        Class::Pointer => open(p, Level::Pointer, Mode::Wanted),
-        Class::Array => open(p, Level::Array, Mode::Counting),
-        Class::Structure => open(p, Level::Structure, Mode::Naming),
-        Class::Union => open(p, Level::Union, Mode::Naming),
-        Class::Other => outside(),
-    }
-}
-
-// The next outermost type begins, at `at`. A byte and its place stay two arguments: each of the four functions that take both hands the
-// byte on alone, to `begin`, `inside`, `in_naming`, `in_named` or `is_digit`, so all four would take a struct of the two apart.
-#[tactic(auto, unfolding(crate::specs::Parser::levels_in))]
-fn next_type(byte: u8, at: usize) -> Result<(Mode, Parser), Missing>
-    ensures { step_outcome result ≡ begun [] at (class_of byte) }
-{
-    let next = Parser {
-        depth: 0,
-        levels: 0,
-        start: at,
-    };
-    begin(next, byte)
-}
-
-// After an outermost type: its frame offset, or the next type.
-#[tactic(auto, using(crate::proofs::Choices::choices), unfolding(crate::specs::Parser::levels_in))]
-fn between(p: Parser, byte: u8, at: usize) -> Result<(Mode, Parser), Missing>
-    ensures { step_outcome result ≡ followed [] p.start byte at }
-{
-    if is_digit(byte) {
-        let q = Parser {
+impl Parser {
+    // Before the first byte.
+    #[tactic(auto, unfolding(crate::specs::Parser::levels_in))]
+    pub fn first() -> Parser
+        ensures { kept_in result ≡ kept Mode.Wanted [] 0 }
+    {
+        Parser {
+            mode: Mode::Wanted,
             depth: 0,
-            levels: 0,
-            ..p
-        };
-        return Ok((Mode::Offset(at), q));
+            levels: [Level::Pointer; 32],
+            start: 0,
+        }
     }
-    next_type(byte, at)
-}
 
-// After a type in an array, a structure or a union.
-#[tactic(auto, using(crate::proofs::Choices::choices))]
-fn inside(p: Parser, byte: u8) -> Result<(Mode, Parser), Missing>
-    requires { 0 < p.depth }
-    ensures { step_outcome result ≡ inside (levels_of p) p.start byte }
-{
-    if closes(p, byte) {
-        return close(p);
+    // The levels and the start stay; this was read last.
+    fn on(&mut self, mode: Mode) -> Result<(), Missing>
+        ensures { stepped self.new result ≡ value (kept mode (levels_of self.old) self.old.start) }
+    {
+        self.mode = mode;
+        Ok(())
     }
-    if closes(p, b']') {
-        return outside();
-    }
-    begin(p, byte)
-}
 
-// After a type.
-#[tactic(auto, using(crate::proofs::Steps::followed_outer, crate::proofs::Steps::followed_inner))]
-fn after(p: Parser, byte: u8, at: usize) -> Result<(Mode, Parser), Missing>
-    ensures { step_outcome result ≡ step_as Mode.Ended p byte at }
-{
-    let q = below_pointers(p);
-    if q.depth == 0 {
-        return between(q, byte, at);
+    // One level more.
+    #[tactic(auto, using(std::proofs::lemmas::Bool::Decides::nat_tests, crate::proofs::Levels::levels_pushed, crate::proofs::Levels::levels_length), unfolding(reads::specs::Outcome::choose))]
+    fn open(&mut self, kind: Level, mode: Mode) -> Result<(), Missing>
+        ensures { stepped self.new result ≡ opened (closer_of kind) mode (levels_of self.old) self.old.start }
+    {
+        if self.depth >= 32 {
+            return Err(Missing::Refused(Question::Depth));
+        }
+        self.levels[self.depth] = kind;
+        self.depth += 1;
+        self.on(mode)
     }
-    inside(q, byte)
-}
 
-// In a name: a byte more, its `=`, or the closing bracket.
-#[tactic(auto, using(std::proofs::lemmas::Bool::Decides::nat_tests, crate::proofs::Levels::closes_open), unfolding(reads::specs::Outcome::choose))]
-fn in_naming(p: Parser, byte: u8) -> Result<(Mode, Parser), Missing>
-    ensures { step_outcome result ≡ step_as Mode.Naming p byte 0 }
-{
-    if in_name(byte) {
-        return Ok((Mode::Naming, p));
+    // The innermost level is closed.
+    #[tactic(auto, using(crate::proofs::Levels::levels_below))]
+    fn close(&mut self) -> Result<(), Missing>
+        requires { 0 < self.old.depth }
+        ensures { stepped self.new result ≡ value (kept Mode.Ended (below (levels_of self.old)) self.old.start) }
+    {
+        self.depth -= 1;
+        self.on(Mode::Ended)
     }
-    if byte == b'=' {
-        return Ok((Mode::Named, p));
-    }
-    if closes(p, byte) {
-        return close(p);
-    }
-    outside()
-}
 
-// After a name's `=`: the closing bracket, or the first type inside.
-#[tactic(auto, using(crate::proofs::Choices::choices, crate::proofs::Levels::closes_open))]
-fn in_named(p: Parser, byte: u8) -> Result<(Mode, Parser), Missing>
-    ensures { step_outcome result ≡ step_as Mode.Named p byte 0 }
-{
-    if closes(p, byte) {
-        return close(p);
+    // The innermost level.
+    #[tactic(auto, unfolding(crate::specs::Parser::innermost_in))]
+    fn innermost(&self) -> Option<Level>
+        ensures { result ≡ innermost_in self.now.depth self.now.levels }
+    {
+        if self.depth == 0 {
+            return None;
+        }
+        Some(self.levels[self.depth - 1])
     }
-    begin(p, byte)
-}
 
-// The byte at `at` is read.
-#[tactic(auto, using(crate::proofs::Steps::step_in, crate::proofs::Choices::choices))]
-pub fn step(mode: Mode, p: Parser, byte: u8, at: usize) -> Result<(Mode, Parser), Missing>
-    ensures { step_outcome result ≡ step_as mode p byte at }
-{
-    match mode {
-        Mode::Counting | Mode::Counted if is_digit(byte) => Ok((Mode::Counted, p)),
-        Mode::Sizing | Mode::Sized if is_digit(byte) => Ok((Mode::Sized, p)),
-        Mode::Offset(from) if is_digit(byte) => Ok((Mode::Offset(from), p)),
-        Mode::Quoting if !in_quotes(byte) => Ok((Mode::Ended, p)),
-        Mode::AtSign if in_quotes(byte) => after(p, byte, at),
-        Mode::Quoting | Mode::AtSign => Ok((Mode::Quoting, p)),
-        Mode::Wanted | Mode::Counted => begin(p, byte),
-        Mode::Counting | Mode::Sizing => outside(),
-        // Not guards: the bytes of a name take a third longer with them.
-        Mode::Naming => in_naming(p, byte),
-        Mode::Named => in_named(p, byte),
-        Mode::Sized | Mode::Ended => after(p, byte, at),
-        Mode::Offset(_) => next_type(byte, at),
+    // Whether the byte closes the innermost level.
+    #[tactic(auto, using(crate::proofs::Levels::closes_none, crate::proofs::Levels::closes_top))]
+    fn closes(&self, byte: u8) -> bool
+        ensures { result ≡ closes (levels_of self.now) byte }
+    {
+        match self.innermost() {
+            Some(kind) => byte == kind.closer(),
+            None => false,
+        }
     }
-}
 
-// The text ends after a type: at the outermost level, or outside the grammar.
-#[tactic(auto, using(crate::proofs::Steps::end_outer, crate::proofs::Steps::end_inner))]
-fn end(p: Parser) -> Result<(), Missing>
-    ensures { outcome result ≡ end_of (below_pointers (levels_of p)) }
-{
-    let q = below_pointers(p);
-    if q.depth == 0 {
-        return Ok(());
+    // The pointers that are innermost end with the type that ended.
+    #[tactic(auto, using(crate::proofs::Levels::pointer_top, crate::proofs::Levels::other_top, crate::proofs::Levels::innermost_open))]
+    fn below_pointers(&mut self)
+        ensures { kept_in self.new ≡ kept self.old.mode (below_pointers (levels_of self.old)) self.old.start }
+    {
+        while let Some(Level::Pointer) = self.innermost() {
+            self.depth -= 1;
+        }
     }
-    outside()
-}
 
-// The text ends: after a type, or outside the grammar.
-pub fn finish(mode: Mode, p: Parser) -> Result<(), Missing>
-    ensures { outcome result ≡ finish_as mode p }
-{
-    match mode {
-        Mode::Wanted | Mode::Counting | Mode::Counted | Mode::Naming => outside(),
-        Mode::Named | Mode::Quoting | Mode::Sizing => outside(),
-        Mode::Sized | Mode::AtSign | Mode::Ended => end(p),
-        Mode::Offset(_) => Ok(()),
+    // A type begins.
+    #[tactic(auto, using(crate::proofs::Steps::begin_of))]
+    fn begin(&mut self, byte: u8) -> Result<(), Missing>
+        ensures { stepped self.new result ≡ begun (levels_of self.old) self.old.start (class_of byte) }
+    {
+        match class_of(byte) {
+            Class::Basic => self.on(Mode::Ended),
+            Class::Qualifier => self.on(Mode::Wanted),
+            Class::Object => self.on(Mode::AtSign),
+            Class::BitField => self.on(Mode::Sizing),
+            Class::Pointer => self.open(Level::Pointer, Mode::Wanted),
+            Class::Array => self.open(Level::Array, Mode::Counting),
+            Class::Structure => self.open(Level::Structure, Mode::Naming),
+            Class::Union => self.open(Level::Union, Mode::Naming),
+            Class::Other => outside(),
+        }
+    }
+
+    // The next outermost type begins, at `at`. A byte and its place stay two arguments: each of the four functions that take both hands the
+    // byte on alone, to `begin`, `inside` or `is_digit`, so all four would take a struct of the two apart.
+    #[tactic(auto, unfolding(crate::specs::Parser::levels_in))]
+    fn next_type(&mut self, byte: u8, at: usize) -> Result<(), Missing>
+        ensures { stepped self.new result ≡ begun [] at (class_of byte) }
+    {
+        self.depth = 0;
+        self.start = at;
+        self.begin(byte)
+    }
+
+    // After an outermost type: its frame offset, or the next type.
+    #[tactic(auto, using(crate::proofs::Choices::choices, crate::proofs::Levels::levels_none))]
+    fn between(&mut self, byte: u8, at: usize) -> Result<(), Missing>
+        requires { self.old.depth ≡ 0 }
+        ensures { stepped self.new result ≡ followed [] self.old.start byte at }
+    {
+        if is_digit(byte) {
+            return self.on(Mode::Offset(at));
+        }
+        self.next_type(byte, at)
+    }
+
+    // After a type in an array, a structure or a union.
+    #[tactic(auto, using(crate::proofs::Choices::choices))]
+    fn inside(&mut self, byte: u8) -> Result<(), Missing>
+        requires { 0 < self.old.depth }
+        ensures { stepped self.new result ≡ inside (levels_of self.old) self.old.start byte }
+    {
+        if self.closes(byte) {
+            return self.close();
+        }
+        if self.closes(b']') {
+            return outside();
+        }
+        self.begin(byte)
+    }
+
+    // After a type.
+    #[tactic(auto, using(crate::proofs::Steps::followed_outer, crate::proofs::Steps::followed_inner))]
+    fn after(&mut self, byte: u8, at: usize) -> Result<(), Missing>
+        ensures { stepped self.new result ≡ step_as Mode.Ended self.old byte at }
+    {
+        self.below_pointers();
+        if self.depth == 0 {
+            return self.between(byte, at);
+        }
+        self.inside(byte)
+    }
+
+    // The byte at `at` is read.
+    #[tactic(auto, using(crate::proofs::Steps::step_in, crate::proofs::Steps::stays, crate::proofs::Choices::choices, crate::proofs::Levels::closes_open))]
+    pub fn step(&mut self, byte: u8, at: usize) -> Result<(), Missing>
+        ensures { stepped self.new result ≡ step_as self.old.mode self.old byte at }
+    {
+        match self.mode {
+            Mode::Counting | Mode::Counted if is_digit(byte) => self.on(Mode::Counted),
+            Mode::Sizing | Mode::Sized if is_digit(byte) => self.on(Mode::Sized),
+            Mode::Offset(_) if is_digit(byte) => Ok(()),
+            Mode::Quoting if !in_quotes(byte) => self.on(Mode::Ended),
+            Mode::AtSign if in_quotes(byte) => self.after(byte, at),
+            Mode::Quoting | Mode::AtSign => self.on(Mode::Quoting),
+            Mode::Wanted | Mode::Counted => self.begin(byte),
+            Mode::Counting | Mode::Sizing => outside(),
+            Mode::Naming if in_name(byte) => Ok(()),
+            Mode::Naming if byte == b'=' => self.on(Mode::Named),
+            Mode::Naming | Mode::Named if self.closes(byte) => self.close(),
+            Mode::Naming => outside(),
+            Mode::Named => self.begin(byte),
+            Mode::Sized | Mode::Ended => self.after(byte, at),
+            Mode::Offset(_) => self.next_type(byte, at),
+        }
+    }
+
+    // The text ends after a type: at the outermost level, or outside the grammar.
+    #[tactic(auto, using(crate::proofs::Steps::end_outer, crate::proofs::Steps::end_inner))]
+    fn end(self) -> Result<(), Missing>
+        ensures { outcome result ≡ end_of (below_pointers (levels_of self)) }
+    {
+        let mut p = self;
+        p.below_pointers();
+        if p.depth == 0 {
+            return Ok(());
+        }
+        outside()
+    }
+
+    // The text ends: after a type, or outside the grammar.
+    pub fn finish(self) -> Result<(), Missing>
+        ensures { outcome result ≡ finish_as self.mode self }
+    {
+        match self.mode {
+            Mode::Wanted | Mode::Counting | Mode::Counted | Mode::Naming => outside(),
+            Mode::Named | Mode::Quoting | Mode::Sizing => outside(),
+            Mode::Sized | Mode::AtSign | Mode::Ended => self.end(),
+            Mode::Offset(_) => Ok(()),
+        }
     }
 }

@@ -4,7 +4,7 @@ ghost use Rattle.reads.specs.Reference.{before};
 ghost use Rattle.encodings.specs.Parser.{offset_of, Ordered, RowPut, Read};
 ghost use Rattle.reads.specs.Answer.{outcome};
 
-use crate::parser::{Mode, finish, first, step};
+use crate::kept::{Mode, Parser};
 use reads::answer::Missing;
 
 // Puts the words of type k, which starts at `start`, has its frame offset where the mode says, and ends at `end`, if they fit.
@@ -32,22 +32,21 @@ fn put_row(mode: Mode, start: usize, k: usize, end: usize, buffer: &mut [u64])
 pub fn read_types(text: &[u8], buffer: &mut [u64]) -> Result<u64, Missing>
     ensures { Read (before text) buffer.old (outcome result) buffer.new }
 {
-    let mut mode = Mode::Wanted;
-    let mut p = first();
+    let mut p = Parser::first();
     let mut types = 0;
     for (i, byte) in text.iter().enumerate() {
-        let (before, start) = (mode, p.start);
-        (mode, p) = step(mode, p, *byte, i)?;
+        let (mode, start) = (p.mode, p.start);
+        p.step(*byte, i)?;
         // The next type begins at this byte, or the same goes on.
         if p.start == start {
             continue;
         }
-        put_row(before, start, types, i, buffer);
+        put_row(mode, start, types, i, buffer);
         // Counted by hand: an iterator over types has this loop, its state and `?` in its `next`, and a flag for the last, which the
         // text's end ends.
         types += 1;
     }
-    finish(mode, p)?;
-    put_row(mode, p.start, types, text.len(), buffer);
+    p.finish()?;
+    put_row(p.mode, p.start, types, text.len(), buffer);
     Ok((types + 1) as u64)
 }

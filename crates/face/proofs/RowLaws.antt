@@ -29,14 +29,10 @@ use Rattle.reads.specs.declared.answer.Question.TheVariants.{WalkState}
 
 -- A step, by what is listed.
 module _ (t : Tables) (w : RowWalk) where
-  module _ (k : ListKind) (e : listed w.kind ≡ Some (Rows k)) where
-    pub turn_past : 2 ^ 32 ≤ w.cursor → refused_turn w WalkState ≡ turn_over t w
-    unfolding turn_over
-    turn_past h = rw (e, choose_false _ _ (le-ltb _ _ h))
-
-    pub turn_list : w.cursor < 2 ^ 32 → list_turn (list_over t) w k ≡ turn_over t w
-    unfolding turn_over
-    turn_list h = rw (e, choose_true _ _ (lt-ltb _ _ h))
+  pub turn_listed : (k : ListKind) → listed w.kind ≡ Some (Rows k)
+      → choose (ltb w.cursor (2 ^ 32)) (list_turn (list_over t) w k) (refused_turn w WalkState) ≡ turn_over t w
+  unfolding turn_over
+  turn_listed k e = rw e
 
   pub turn_names : listed w.kind ≡ Some Names → name_turn (names_over t) w ≡ turn_over t w
   unfolding turn_over

@@ -51,17 +51,6 @@ abbrev pub says_missing : Missing → Status
 says_missing (Absent r) = says_absent r
 says_missing (Refused k) = says_refused k
 
--- A call that decodes one record answers as a step does that reaches it.
-abbrev pub given : {A : Type 0} → Outcome A → Outcome (Step A)
-given (value a) = value (found a)
-given (absent r) = value (passed r)
-given (refused k) = refused k
-
--- A step, or what stands in its place.
-abbrev pub stepped : {A : Type 0} → Result (RecordStep A) Missing → Outcome (Step A)
-stepped (Ok s) = value (record_step s)
-stepped (Err m) = missed m
-
 -- What an answer says first, and the words of what it found: `none` where it found nothing.
 abbrev pub says : {A : Type 0} → Outcome (Step A) → Status
 says (value (found a)) = says_found

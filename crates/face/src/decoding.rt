@@ -5,7 +5,8 @@ ghost use Rattle.pointers.specs.Tables.{lent, under};
 ghost use Rattle.records.specs.Category.{category_at, category_class_name};
 ghost use Rattle.records.specs.Class.{class_at, ro_of, class_name_at, superclass_name};
 ghost use Rattle.records.specs.Protocol.{protocol_at};
-ghost use Rattle.face.specs.Status.{given, stepped, says, words_or};
+ghost use Rattle.face.specs.Status.{says, words_or};
+ghost use Rattle.walks.specs.Sections.{decoded_step, record_answer};
 ghost use Rattle.face.specs.Words.{is_set, setting_in, class_in, category_in};
 ghost use Rattle.face.specs.Decoding.{class_told, ro_told, protocol_told, category_told, name_told};
 ghost use Rattle.reads.specs.Answer.{outcome};
@@ -14,11 +15,12 @@ use crate::status::Status;
 use crate::words::{CategoryWords, ClassWords, ProtocolWords, RoWords, TextWords, setting_in};
 use pointers::setting::Setting;
 use pointers::tables::Tables;
-use reads::answer::Missing;
+use reads::answer::Question;
 use reads::place::Image;
 use records::calls::{decode_category, decode_class, decode_class_name, decode_protocol};
 use records::category::ObjcCategory;
 use records::class::ObjcClass;
+use walks::section_slots::decoded_step;
 use walks::sections::RecordStep;
 
 // Five structs and not a generic one: a function for C takes and gives none.
@@ -57,31 +59,21 @@ pub struct NameTold {
     pub name: TextWords,
 }
 
-// What a step, or what stands in its place, says first; and the words of the record that it gives, or else `none`.
+// What a step says first, or the question that refuses it; and the words of the record that it gives, or else `none`. A record decoded at an address is
+// told as by a step that reaches it (`decoded_step`).
 pub(crate) fn told<R: Copy, W: Copy + From<R>>(
-    answer: Result<RecordStep<R>, Missing>,
+    answer: Result<RecordStep<R>, Question>,
     none: W,
 ) -> (Status, W)
-    ensures status { result.0 ≡ says (stepped answer) }
-    ensures words { (words : R → W) → ((r : _) (w : _) → W.from_gives r w → w ≡ words r) → result.1 ≡ words_or none words (stepped answer) }
+    ensures status { result.0 ≡ says (record_answer answer) }
+    ensures words { (words : R → W) → ((r : _) (w : _) → W.from_gives r w → w ≡ words r) → result.1 ≡ words_or none words (record_answer answer) }
 {
     match answer {
         Ok(RecordStep::Record(r)) => (Status::found(), W::from(r)),
         Ok(RecordStep::Passed(why)) => (Status::from(why), none),
         Ok(RecordStep::Dropped) => (Status::of(Status::DROPPED), none),
         Ok(RecordStep::Finished) => (Status::of(Status::FINISHED), none),
-        Err(m) => (Status::from(m), none),
-    }
-}
-
-// A record decoded at an address is given as by a step that reaches it. No `?` for what refuses: what is absent is a step before it.
-fn found<R: Copy>(answer: Result<R, Missing>) -> Result<RecordStep<R>, Missing>
-    ensures { stepped result ≡ given (outcome answer) }
-{
-    match answer {
-        Ok(r) => Ok(RecordStep::Record(r)),
-        Err(Missing::Absent(why)) => Ok(RecordStep::Passed(why)),
-        Err(m) => Err(m),
+        Err(k) => (Status::refused(k), none),
     }
 }
 
@@ -124,13 +116,13 @@ pub extern "C" fn objclist_class(
     is_meta: u64,
 ) -> ClassTold
     ensures { let t = under (setting_in old_reading) (lent files segments sections info rebases binds index) in
-        result ≡ class_told (given (guarded t (class_at t address (is_set is_meta)))) }
+        result ≡ class_told (decoded_step (guarded t (class_at t address (is_set is_meta)))) }
 {
     let tables = lent(files, segments, sections, info, rebases, binds, index).under(setting_in(
         old_reading,
     ));
     let answer = decode_class(&tables, address, is_meta != 0);
-    let (status, cls) = told(found(answer), ClassWords::default());
+    let (status, cls) = told(decoded_step(answer), ClassWords::default());
     ClassTold { status, cls }
 }
 
@@ -148,14 +140,14 @@ pub extern "C" fn objclist_class_ro(
     cls: ClassWords,
 ) -> RoTold
     ensures { let t = under (setting_in old_reading) (lent files segments sections info rebases binds index) in
-        result ≡ ro_told (given (guarded t (ro_of t (class_in cls)))) }
+        result ≡ ro_told (decoded_step (guarded t (ro_of t (class_in cls)))) }
 {
     let tables = lent(files, segments, sections, info, rebases, binds, index).under(setting_in(
         old_reading,
     ));
     let class = ObjcClass::from(cls);
     let answer = class.ro(&tables);
-    let (status, ro) = told(found(answer), RoWords::default());
+    let (status, ro) = told(decoded_step(answer), RoWords::default());
     RoTold { status, ro }
 }
 
@@ -173,13 +165,13 @@ pub extern "C" fn objclist_class_name(
     address: u64,
 ) -> NameTold
     ensures { let t = under (setting_in old_reading) (lent files segments sections info rebases binds index) in
-        result ≡ name_told (given (guarded t (class_name_at t address))) }
+        result ≡ name_told (decoded_step (guarded t (class_name_at t address))) }
 {
     let tables = lent(files, segments, sections, info, rebases, binds, index).under(setting_in(
         old_reading,
     ));
     let answer = decode_class_name(&tables, address);
-    let (status, name) = told(found(answer), TextWords::default());
+    let (status, name) = told(decoded_step(answer), TextWords::default());
     NameTold { status, name }
 }
 
@@ -197,14 +189,14 @@ pub extern "C" fn objclist_superclass_name(
     cls: ClassWords,
 ) -> NameTold
     ensures { let t = under (setting_in old_reading) (lent files segments sections info rebases binds index) in
-        result ≡ name_told (given (guarded t (superclass_name t (class_in cls)))) }
+        result ≡ name_told (decoded_step (guarded t (superclass_name t (class_in cls)))) }
 {
     let tables = lent(files, segments, sections, info, rebases, binds, index).under(setting_in(
         old_reading,
     ));
     let class = ObjcClass::from(cls);
     let answer = class.superclass_name(&tables);
-    let (status, name) = told(found(answer), TextWords::default());
+    let (status, name) = told(decoded_step(answer), TextWords::default());
     NameTold { status, name }
 }
 
@@ -222,13 +214,13 @@ pub extern "C" fn objclist_protocol(
     address: u64,
 ) -> ProtocolTold
     ensures { let t = under (setting_in old_reading) (lent files segments sections info rebases binds index) in
-        result ≡ protocol_told (given (guarded t (protocol_at t address))) }
+        result ≡ protocol_told (decoded_step (guarded t (protocol_at t address))) }
 {
     let tables = lent(files, segments, sections, info, rebases, binds, index).under(setting_in(
         old_reading,
     ));
     let answer = decode_protocol(&tables, address);
-    let (status, protocol) = told(found(answer), ProtocolWords::default());
+    let (status, protocol) = told(decoded_step(answer), ProtocolWords::default());
     ProtocolTold { status, protocol }
 }
 
@@ -246,13 +238,13 @@ pub extern "C" fn objclist_category(
     address: u64,
 ) -> CategoryTold
     ensures { let t = under (setting_in old_reading) (lent files segments sections info rebases binds index) in
-        result ≡ category_told (given (guarded t (category_at t address))) }
+        result ≡ category_told (decoded_step (guarded t (category_at t address))) }
 {
     let tables = lent(files, segments, sections, info, rebases, binds, index).under(setting_in(
         old_reading,
     ));
     let answer = decode_category(&tables, address);
-    let (status, category) = told(found(answer), CategoryWords::default());
+    let (status, category) = told(decoded_step(answer), CategoryWords::default());
     CategoryTold { status, category }
 }
 
@@ -270,13 +262,13 @@ pub extern "C" fn objclist_category_class_name(
     category: CategoryWords,
 ) -> NameTold
     ensures { let t = under (setting_in old_reading) (lent files segments sections info rebases binds index) in
-        result ≡ name_told (given (guarded t (category_class_name t (category_in category)))) }
+        result ≡ name_told (decoded_step (guarded t (category_class_name t (category_in category)))) }
 {
     let tables = lent(files, segments, sections, info, rebases, binds, index).under(setting_in(
         old_reading,
     ));
     let extended = ObjcCategory::from(category);
     let answer = extended.class_name(&tables);
-    let (status, name) = told(found(answer), TextWords::default());
+    let (status, name) = told(decoded_step(answer), TextWords::default());
     NameTold { status, name }
 }

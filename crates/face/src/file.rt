@@ -24,7 +24,8 @@ use universal::arch::Arch;
 use universal::fat::Part;
 use universal::part::{find_part, part_at};
 
-// A part of a universal file. Status 0: it was found; 1: refused, by the number; 2: there is none.
+// A part of a universal file. Status 0: it was found; 1: refused, by the number; 2: there is none. Numbers, here and below: C is handed these structs
+// as they are.
 #[repr(C)]
 #[derive(Clone, Copy, Default)]
 pub struct FilePart {

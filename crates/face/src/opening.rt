@@ -4,17 +4,18 @@ ghost use Rattle.reads.specs.Files.{files_of};
 ghost use Rattle.reads.specs.Reference.{before};
 ghost use Rattle.pointers.specs.Open.{opening, opened_index};
 ghost use Rattle.pointers.specs.Tables.{tables_of};
-ghost use Rattle.face.specs.Status.{given};
+ghost use Rattle.walks.specs.Sections.{decoded_step};
 ghost use Rattle.macho.specs.OpenFile.{opening_file, segments_left, sections_left, index_left};
 ghost use Rattle.face.specs.Opening.{opened_words, file_words, file_told};
 ghost use Rattle.reads.specs.Answer.{outcome};
 
-use crate::decoding::lent;
+use crate::decoding::{lent, told};
 use crate::status::Status;
 use macho::open::{Lent, OpenedFile, open_file};
 use pointers::imageinfo::ImageInfo;
 use pointers::open::open;
 use reads::answer::Missing;
+use walks::section_slots::decoded_step;
 
 // The image info: version and flags.
 #[repr(C)]
@@ -58,25 +59,8 @@ impl From<OpenedFile> for FileWords {
     }
 }
 
-impl From<Result<OpenedFile, Missing>> for FileTold {
-    ghost from_gives = { λ x w. w ≡ file_told (given (outcome x)) };
-
-    fn from(answer: Result<OpenedFile, Missing>) -> FileTold {
-        match answer {
-            Ok(opened) => FileTold {
-                status: Status::found(),
-                file: FileWords::from(opened),
-            },
-            Err(m) => FileTold {
-                status: Status::from(m),
-                file: FileWords::default(),
-            },
-        }
-    }
-}
-
 impl From<Result<ImageInfo, Missing>> for InfoTold {
-    ghost from_gives = { λ x w. w ≡ opened_words (given (outcome x)) };
+    ghost from_gives = { λ x w. w ≡ opened_words (decoded_step (outcome x)) };
 
     fn from(answer: Result<ImageInfo, Missing>) -> InfoTold {
         match answer {
@@ -106,7 +90,7 @@ pub extern "C" fn objclist_open(
     index: &mut [u32],
 ) -> InfoTold
     ensures answer { let t = tables_of (files_of files) (before segments) (before sections) (before info) (before rebases) (before binds) index.old in
-        result ≡ opened_words (given (opening t)) }
+        result ≡ opened_words (decoded_step (opening t)) }
     ensures contents { let t = tables_of (files_of files) (before segments) (before sections) (before info) (before rebases) (before binds) index.old in
         index.new ≡ opened_index t }
 {
@@ -124,7 +108,7 @@ pub extern "C" fn objclist_open_file<'a, 'b>(
     binds: &'b [u64],
     index: &'a mut [u32],
 ) -> FileTold
-    ensures answer { result ≡ file_told (given (opening_file (before file) segments.old sections.old (before rebases) (before binds) index.old)) }
+    ensures answer { result ≡ file_told (decoded_step (opening_file (before file) segments.old sections.old (before rebases) (before binds) index.old)) }
     ensures segments { segments.new ≡ segments_left (before file) segments.old sections.old (before rebases) (before binds) index.old }
     ensures sections { sections.new ≡ sections_left (before file) segments.old sections.old (before rebases) (before binds) index.old }
     ensures index { index.new ≡ index_left (before file) segments.old sections.old (before rebases) (before binds) index.old }
@@ -137,5 +121,6 @@ pub extern "C" fn objclist_open_file<'a, 'b>(
         binds,
     };
     let answer = open_file(file, &mut lent);
-    FileTold::from(answer)
+    let (status, file) = told(decoded_step(answer), FileWords::default());
+    FileTold { status, file }
 }

@@ -1,7 +1,9 @@
 // The rows of a list, as many a call as the lent words hold: methods, ivars, properties and protocol names.
-ghost use Rattle.std.specs.Prelude.{◌≡◌, ◌+◌, ◌*◌, ◌/◌, ◌^◌, ◌≤◌, ◌<◌, length};
+ghost use Rattle.std.specs.Prelude.{◌≡◌, ◌+◌, ◌/◌, ◌^◌, ◌≤◌, length, ltb};
 ghost use Rattle.std.proofs.lemmas.List.Edits.{sets};
 ghost use Rattle.reads.specs.Reference.{before};
+ghost use Rattle.reads.specs.Outcome.{choose};
+ghost use Rattle.reads.specs.declared.answer.Question.TheVariants.{WalkState};
 ghost use Rattle.pointers.specs.Tables.{lent};
 ghost use Rattle.face.specs.Rows.{Lists, refused_turn, moved_to, list_turn, name_turn, list_over, names_over, turn_over, row_turn, gather};
 
@@ -86,18 +88,20 @@ impl RowWalk {
         RowTurn { said, walk: self }
     }
 
-    // A step over a list of methods, ivars or properties.
+    // A step over a list of methods, ivars or properties: what is no cursor of one is 10.
     fn list_turn(self, tables: &Tables, kind: ListKind) -> RowTurn
-        requires { self.cursor < 2 ^ 32 }
         ensures { let t = tables.now in
-            result ≡ list_turn (list_over t) self kind }
+            result ≡ choose (ltb self.cursor (2 ^ 32)) (list_turn (list_over t) self kind) (refused_turn self WalkState) }
     {
+        let Ok(cursor) = u32::try_from(self.cursor) else {
+            return self.refused(Question::WalkState);
+        };
         let setting = setting_in(self.old_reading);
         let walk = ListWalk {
             list: self.list,
             kind,
             setting,
-            cursor: self.cursor as u32,
+            cursor,
         };
         let stepped = walk.walked_list(tables);
         let walked = stepped.walked;
@@ -125,18 +129,13 @@ impl RowWalk {
     }
 
     // A step over tables that no question refuses.
-    #[tactic(auto, using(crate::proofs::RowLaws::turn_past, crate::proofs::RowLaws::turn_list, crate::proofs::RowLaws::turn_names, crate::proofs::RowLaws::turn_nothing))]
+    #[tactic(auto, using(crate::proofs::RowLaws::turn_listed, crate::proofs::RowLaws::turn_names, crate::proofs::RowLaws::turn_nothing))]
     fn next(self, tables: &Tables) -> RowTurn
         ensures { let t = tables.now in
             result ≡ turn_over t self }
     {
         match Listed::try_from(self.kind) {
-            Ok(Listed::Rows(kind)) => {
-                if 0x1_0000_0000 <= self.cursor {
-                    return self.refused(Question::WalkState);
-                }
-                self.list_turn(tables, kind)
-            }
+            Ok(Listed::Rows(kind)) => self.list_turn(tables, kind),
             Ok(Listed::Names) => self.name_turn(tables),
             Err(k) => self.refused(k),
         }
@@ -164,12 +163,12 @@ fn put_row(table: &mut [u64], from: usize, words: [u64; ROW_WORDS])
     table[from..from + ROW_WORDS].copy_from_slice(&words);
 }
 
-// At most `room` steps over tables that no question refuses, each with its row.
-fn gather_rows(tables: &Tables, walk: RowWalk, room: usize, table: &mut [u64]) -> RowsTold
-    requires { (15 * room ≤ length table.old) × (15 * room < 2 ^ 64) }
+// As many steps over tables that no question refuses as the table has room for, each with its row.
+fn gather_rows(tables: &Tables, walk: RowWalk, table: &mut [u64]) -> RowsTold
     ensures { let t = tables.now in
-        record { told = result; table = table.new } ≡ gather (turn_over t) room walk 0 table.old }
+        record { told = result; table = table.new } ≡ gather (turn_over t) (length table.old / 15) walk 0 table.old }
 {
+    let room = table.len() / ROW_WORDS;
     let mut at = walk;
     for n in 0..room {
         let turn = at.next(tables);
@@ -211,7 +210,7 @@ pub extern "C" fn objclist_rows(
     let tables = lent(files, segments, sections, info, rebases, binds, index);
     let room = table.len() / ROW_WORDS;
     match ask(&tables) {
-        Ok(()) => gather_rows(&tables, walk, room, table),
+        Ok(()) => gather_rows(&tables, walk, table),
         Err(k) => {
             if room == 0 {
                 return RowsTold::none(Status::of(Status::MORE), walk);

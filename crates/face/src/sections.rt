@@ -1,21 +1,19 @@
 // A step of the walk over classes, over categories and over protocols: the walk's state goes in and comes back as words.
 ghost use Rattle.std.specs.Prelude.{◌≡◌, []};
 ghost use Rattle.pointers.specs.Tables.{lent, under};
-ghost use Rattle.walks.specs.Sections.{classes, categories, step_of, protocol_step_of, record_answer};
-ghost use Rattle.face.specs.Status.{stepped};
+ghost use Rattle.walks.specs.Sections.{walk, classes, categories, step_of, protocol_step_of};
 ghost use Rattle.face.specs.Words.{setting_in};
-ghost use Rattle.face.specs.Sections.{class_state, category_state, protocol_state, class_walked, category_walked, protocol_walked};
+ghost use Rattle.face.specs.Sections.{walk_words, class_state, category_state, protocol_state, class_walked, category_walked, protocol_walked};
 
 use crate::decoding::{CategoryTold, ClassTold, ProtocolTold, lent, told};
 use crate::words::{CategoryWords, ClassWords, ProtocolWords, setting_in};
-use reads::answer::{Missing, Question};
 use walks::section_slots::{CategorySlots, ClassSlots, ProtocolSlots};
-use walks::sections::{CategoryWalk, ClassWalk, ProtocolWalk, RecordStep};
+use walks::sections::{CategoryWalk, ClassWalk, ProtocolWalk};
 use walks::slots::SlotWalk;
 
 // Where a walk stands: the next slot; the words of the ledger in use and the highest of them; the address of the metaclass that waits;
-// and whether texts are read under the old reading. All 0 before the first slot. Each walk is made of them, and they of it, where it steps: no
-// `From`, since each would have one use, and a walk does not hold the word of its reading, which comes back as given.
+// and whether texts are read under the old reading. All 0 before the first slot. No `From` gives them: a walk does not hold the word of its
+// reading, which comes back as it went in.
 #[repr(C)]
 #[derive(Clone, Copy)]
 pub struct WalkWords {
@@ -47,11 +45,33 @@ pub struct ProtocolWalked {
     pub walk: WalkWords,
 }
 
-// A step of a walk, whose question is what is missing.
-fn step_of_walk<R: Copy>(step: Result<RecordStep<R>, Question>) -> Result<RecordStep<R>, Missing>
-    ensures { stepped result ≡ record_answer step }
-{
-    Ok(step?)
+impl From<WalkWords> for SlotWalk {
+    ghost use Rattle.walks.specs.Slots.{slot_walk};
+
+    ghost from_gives = { λ w s. s ≡ slot_walk w.slot w.used w.highest };
+
+    fn from(w: WalkWords) -> SlotWalk {
+        SlotWalk {
+            slot: w.slot,
+            used: w.used,
+            highest: w.highest,
+        }
+    }
+}
+
+impl WalkWords {
+    // The words of a walk that stands at these slots, with the address that waits.
+    fn at(self, slots: SlotWalk, waiting: u64) -> WalkWords
+        ensures { result ≡ walk_words self.old_reading (walk slots.slot slots.used slots.highest waiting) }
+    {
+        WalkWords {
+            slot: slots.slot,
+            used: slots.used,
+            highest: slots.highest,
+            waiting,
+            ..self
+        }
+    }
 }
 
 // The next class, or the metaclass that waits.
@@ -76,11 +96,7 @@ pub extern "C" fn objclist_next_class(
     let setting = setting_in(walk.old_reading);
     let at = ClassWalk {
         slots: ClassSlots {
-            slots: SlotWalk {
-                slot: walk.slot,
-                used: walk.used,
-                highest: walk.highest,
-            },
+            slots: SlotWalk::from(walk),
             meta: walk.waiting,
         },
         setting,
@@ -88,16 +104,10 @@ pub extern "C" fn objclist_next_class(
     let stepped = at.next(&tables, ledger);
     let step = stepped.step;
     let next = stepped.walk;
-    let (status, cls) = told(step_of_walk(step), ClassWords::default());
+    let (status, cls) = told(step, ClassWords::default());
     ClassWalked {
         told: ClassTold { status, cls },
-        walk: WalkWords {
-            slot: next.slots.slots.slot,
-            used: next.slots.slots.used,
-            highest: next.slots.slots.highest,
-            waiting: next.slots.meta,
-            ..walk
-        },
+        walk: walk.at(next.slots.slots, next.slots.meta),
     }
 }
 
@@ -123,27 +133,17 @@ pub extern "C" fn objclist_next_category(
     let setting = setting_in(walk.old_reading);
     let at = CategoryWalk {
         slots: CategorySlots {
-            slots: SlotWalk {
-                slot: walk.slot,
-                used: walk.used,
-                highest: walk.highest,
-            },
+            slots: SlotWalk::from(walk),
         },
         setting,
     };
     let stepped = at.next(&tables, ledger);
     let step = stepped.step;
     let next = stepped.walk;
-    let (status, category) = told(step_of_walk(step), CategoryWords::default());
+    let (status, category) = told(step, CategoryWords::default());
     CategoryWalked {
         told: CategoryTold { status, category },
-        walk: WalkWords {
-            slot: next.slots.slots.slot,
-            used: next.slots.slots.used,
-            highest: next.slots.slots.highest,
-            waiting: 0,
-            ..walk
-        },
+        walk: walk.at(next.slots.slots, 0),
     }
 }
 
@@ -171,7 +171,7 @@ pub extern "C" fn objclist_next_protocol(
     let stepped = at.next_protocol(&tables);
     let step = stepped.step;
     let next = stepped.walk;
-    let (status, protocol) = told(step_of_walk(step), ProtocolWords::default());
+    let (status, protocol) = told(step, ProtocolWords::default());
     ProtocolWalked {
         told: ProtocolTold { status, protocol },
         walk: WalkWords {

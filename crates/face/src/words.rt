@@ -182,19 +182,28 @@ impl From<ObjcCategory> for CategoryWords {
     }
 }
 
+impl From<TextWords> for Text {
+    ghost use Rattle.reads.specs.Outcome.{text_of};
+
+    ghost from_gives = { λ w x. x ≡ text_of w.file w.offset w.len };
+
+    fn from(w: TextWords) -> Text {
+        Text {
+            file: w.file,
+            offset: w.offset,
+            len: w.len,
+        }
+    }
+}
+
 impl From<CategoryWords> for ObjcCategory {
     ghost from_gives = { λ w k. k ≡ category_in w };
 
     fn from(w: CategoryWords) -> ObjcCategory {
         let name = w.name;
-        // The one text that C hands in: a `From` for it would have no other use.
         ObjcCategory {
             address: w.address,
-            name: Text {
-                file: name.file,
-                offset: name.offset,
-                len: name.len,
-            },
+            name: Text::from(name),
             class_address: w.class_address,
             instance_methods: w.instance_methods,
             class_methods: w.class_methods,

@@ -36,7 +36,8 @@ pub struct FileListing {
     pub progress: Progress,
 }
 
-// What the pieces of a listing are read from: the file, what opening it answered, and what was lent for it.
+// What the pieces of a listing are read from: the file, what opening it answered, and what was lent for it. The slices are fields, and no `Lent` with
+// its `&mut`: pieces only read them, and a caller that holds them to be read alone could then call `next_piece` no more.
 #[derive(Drop)]
 pub struct Opened<'a> {
     pub answer: Result<OpenedFile, Missing>,
@@ -60,10 +61,9 @@ fn index_words(rebases: &[u64], binds: &[u64], lent: usize) -> usize
 fn segment_words(count: u64, lent: usize) -> usize
     ensures { result ≡ min (segment_words * count) lent }
 {
-    if ((lent / Segment::WORDS) as u64) < count {
-        return lent;
-    }
-    Segment::WORDS * count as usize
+    (Segment::WORDS as u64)
+        .saturating_mul(count)
+        .min(lent as u64) as usize
 }
 
 // The image info of an opened file.
@@ -102,7 +102,10 @@ fn open_over(
 
 // Opens the file over the first words of the index.
 // `lent` and `words` are no struct: it would lend `lent` on, and each promise would say that the same is lent still. `Kept` is said in each function
-// because it tells of `lent` before and after, where an invariant tells of one value.
+// because it tells of `lent` before and after, where an invariant tells of one value. `words ≤ length lent.old.index.now`, here and below, is of the two
+// together, so that only that struct could hold it. `file` comes beside `lent`, here and below, as in `open_file` of macho: of a `&[u8]`
+// the type says that it stays, of a field of the `&mut Lent` `Kept` would have to; and header, load commands and image info are read of it alone
+// (macho::open), beside nothing lent.
 fn open_first(file: &[u8], lent: &mut Lent, words: usize) -> Result<OpenedFile, Missing>
     requires { words ≤ length lent.old.index.now }
     ensures kept { Kept lent.old lent.new }
@@ -145,7 +148,8 @@ fn begin(
     }
 }
 
-// What refuses where number k refuses the ranges: opened over no index the file is refused at the latest by 8, and nothing is written.
+// What refuses where number k refuses the ranges: opened over no index the file is refused at the latest by 8, and nothing is written. Not one function
+// with `ranges_refused` of marking: a line there.
 fn ranges_refused(file: &[u8], lent: &mut Lent, words: usize, k: Question) -> Missing
     requires { words ≤ length lent.old.index.now }
     ensures kept { Kept lent.old lent.new }

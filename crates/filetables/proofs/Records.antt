@@ -14,11 +14,10 @@ use Rattle.macho.specs.Commands.{command_bytes, of_kind}
 use Rattle.macho.specs.Segments.{written}
 use Rattle.fixups.proofs.Pages.{next_of}
 use Rattle.fixups.specs.FixupChains.{chained_fixups_kind}
-use Rattle.fixups.specs.Tables.{rebase_row, bind_row, rows_of}
+use Rattle.fixups.specs.Tables.{named_row, rebase_row, bind_row, rows_of}
 use Rattle.fixups.specs.Fixups.{Settled, pair, leaves, fixups_found, settled}
-use Rattle.opcodes.specs.Tables.{bind_row as bound_row}
 use Rattle.opcodes.specs.Binds.{binds_found, Settled as BindsResult, leaves as binds_leaves, settled as binds_settled}
-use Rattle.opcodes.specs.declared.binding.Bound.{Bound}
+use Rattle.fixups.specs.declared.name.Bound.{Bound}
 use Rattle.filetables.specs.Kind.{asked_kind}
 use Rattle.filetables.specs.FileRecords.{as_records, bound_records, records_by, records_in, file_records}
 use Rattle.reads.specs.declared.answer.Question.{Question}
@@ -29,10 +28,10 @@ unfolding as_records rows_of
 no_rebases [] = refl
 no_rebases (x ∷ xs) = no_rebases xs
 
-bind_rows : (xs : List Bound) → rows_of bind_row (as_records xs) ≡ rows_of bound_row xs
+bind_rows : (xs : List Bound) → rows_of bind_row (as_records xs) ≡ rows_of named_row xs
 unfolding as_records rows_of
 bind_rows [] = refl
-bind_rows (x ∷ xs) = ap (λ (ws : List ℕ). bound_row x ++ ws) (bind_rows xs)
+bind_rows (x ∷ xs) = ap (λ (ws : List ℕ). named_row x ++ ws) (bind_rows xs)
 
 -- A bind table beside a rebase table without records.
 module _ (rs bs : List ℕ) where
@@ -43,7 +42,7 @@ module _ (rs bs : List ℕ) where
   unfolding settled binds_settled written choose
   beside_settled (absent r) = refl
   beside_settled (refused k) = refl
-  beside_settled (value xs) = rw (no_rebases xs, bind_rows xs, choose_true _ _ (le-leb 0 (length rs) (omega arith))) (go (leb (length (rows_of bound_row xs)) (length bs)) _ _)
+  beside_settled (value xs) = rw (no_rebases xs, bind_rows xs, choose_true _ _ (le-leb 0 (length rs) (omega arith))) (go (leb (length (rows_of named_row xs)) (length bs)) _ _)
     where
       go : (t : Bool) (a b : BindsResult) → beside (choose t a b) ≡ choose t (beside a) (beside b)
       go true a b = refl

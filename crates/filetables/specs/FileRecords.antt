@@ -8,13 +8,13 @@ use Rattle.fixups.specs.Fixups.{fixups_found}
 use Rattle.fixups.specs.declared.chain.Fixup.{Fixup}
 use Rattle.fixups.specs.declared.chain.Fixup.TheVariants.{Bind}
 use Rattle.opcodes.specs.Binds.{binds_found}
-use Rattle.opcodes.specs.declared.binding.Bound.{Bound}
+use Rattle.fixups.specs.declared.name.Bound.{Bound}
 use Rattle.filetables.specs.Kind.{asked_kind}
 
 -- The binds of opcodes, as records.
 unfoldable pub as_records : List Bound → List Fixup
 as_records [] = []
-as_records (x ∷ xs) = Bind x.slot x.name x.len ∷ as_records xs
+as_records (x ∷ xs) = Bind x ∷ as_records xs
 
 abbrev pub bound_records : Outcome (List Bound) → Outcome (List Fixup)
 bound_records o = and_then o (λ xs. value (as_records xs))

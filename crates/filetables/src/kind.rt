@@ -20,7 +20,7 @@ use opcodes::dyld_info::{
     BIND_OFF, LAZY_BIND_OFF, LC_DYLD_INFO, LC_DYLD_INFO_ONLY, STREAM_SIZE, WEAK_BIND_OFF,
 };
 use reads::answer::Question;
-use reads::place::u64_from;
+use reads::place::{lies_in, u64_from};
 
 // The kinds of file that dyld loads by themselves.
 #[tactic(auto, unfolding(crate::specs::Kind::type_read), using(std::proofs::lemmas::Bool::Decides::nat_tests))]
@@ -44,10 +44,7 @@ impl FileCommands<'_> {
         ensures { result ≡ segment_read self.entry.size self.entry.cmds.bytes.now at }
     {
         let from = u64_from(self.cmds.bytes, at, FILEOFF);
-        if self.size < from {
-            return false;
-        }
-        if self.size - from < u64_from(self.cmds.bytes, at, FILESIZE) {
+        if !lies_in(self.size, from, 0, u64_from(self.cmds.bytes, at, FILESIZE)) {
             return false;
         }
         field32(self.cmds.bytes, at, SEGMENT_FLAGS) / SG_PROTECTED_VERSION_1 % 2 == 0
@@ -60,7 +57,7 @@ impl FileCommands<'_> {
         ensures { result ≡ stream_read self.entry.size self.entry.cmds.bytes.now at field }
     {
         let size = field32(self.cmds.bytes, at, field + STREAM_SIZE);
-        field32(self.cmds.bytes, at, field) + size <= self.size
+        lies_in(self.size, field32(self.cmds.bytes, at, field), 0, size)
     }
 
     // The streams of bind opcodes lie in the file.

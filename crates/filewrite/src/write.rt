@@ -23,8 +23,8 @@ use reads::answer::Question;
 use reads::text::Reading;
 use std::io::Write;
 
-// How the writing of a listing ended, for C too: status 0, the whole listing was written; 1, the file was refused, by the number; 3, a write
-// failed.
+// How the writing of a listing ended: status 0, the whole listing was written; 1, the file was refused, by the number; 3, a write failed.
+// Numbers, and no enum or Result, also inside: `objclist_write` of face hands this struct to C as it is.
 #[repr(C)]
 #[derive(Clone, Copy)]
 pub struct Wrote {
@@ -59,8 +59,9 @@ fn whole_piece(
 }
 
 // Hands all pieces that are still to come to the writer; after a write that failed nothing more.
-// Not one function with printing's: pieces come from an opened file here and from a bundle's words there, so it would take a trait with two impls,
-// longer than the loop, and promise the end only of a buffer that is not empty, which the arrays here never are.
+// Not one function with printing's over a closure that gives the next piece: two crates would call it, so that it would be public, and the loop ends only
+// where the closure's pieces are a text's, which it would have to ask (`requires`); no public function asks anything of its callers. A trait that has
+// that as its law would take two impls with their ghosts, longer than the loop.
 fn write_pieces<W: Write>(
     to: &mut W,
     start: Progress,
@@ -140,8 +141,8 @@ fn ended(said: Result<Said, Question>) -> Wrote
     }
 }
 
-// Hands the listing of a file, under the new reading and with its methods marked for these ranges, if any are given, to the writer; of a refused file `refused` and
-// the number.
+// Hands the listing of a file, under the new reading and with its methods marked for these ranges, if any are given, to the writer; of a refused
+// file `refused` and the number.
 fn write_file_to<W: Write>(
     to: &mut W,
     ranges: Option<Ranges>,

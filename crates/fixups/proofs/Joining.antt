@@ -1,23 +1,28 @@
 -- Two parts of a walk, one after the other.
-use Rattle.std.proofs.Common.{◌≡◌, List, [], ◌∷◌, ◌++◌, refl, ◌∙◌}
+use Rattle.std.proofs.Common.{◌≡◌, ℕ, MutBor, List, [], ◌∷◌, ◌++◌, refl, ◌∙◌}
 use Rattle.reads.specs.Outcome.{Outcome, value, absent, refused, and_then}
 use Rattle.fixups.specs.Starts.{joined}
-use Rattle.fixups.specs.Tables.{put, puts, told, State, reached, Kept}
+use Rattle.fixups.specs.Tables.{put, puts, told, State, reached, Kept, BothKept}
 use Rattle.fixups.specs.declared.table.Lists.{Lists}
 use Rattle.fixups.specs.declared.chain.Fixup.{Fixup}
 use Rattle.std.specs.Prelude.{Result, Ok, Err}
 use Rattle.reads.specs.declared.answer.Question.{Question}
 
-pub kept : (l : Lists) → Kept l l
-kept l = record { rebases = refl; binds = refl; rebase_words = refl; bind_words = refl }
+-- One table, then both.
+pub same : (t : MutBor (List ℕ)) → Kept t t
+same t = record { table = refl; words = refl }
 
-pub kept_on : (l m n : Lists) → Kept l m → Kept m n → Kept l n
+pub same_on : (t u v : MutBor (List ℕ)) → Kept t u → Kept u v → Kept t v
+same_on t u v h g = record { table = g.table ∙ h.table; words = g.words ∙ h.words }
+
+pub kept : (l : Lists) → BothKept l l
+kept l = record { rebases = same l.rebases; binds = same l.binds }
+
+pub kept_on : (l m n : Lists) → BothKept l m → BothKept m n → BothKept l n
 kept_on l m n h g =
     record {
-      rebases = g.rebases ∙ h.rebases;
-      binds = g.binds ∙ h.binds;
-      rebase_words = g.rebase_words ∙ h.rebase_words;
-      bind_words = g.bind_words ∙ h.bind_words;
+      rebases = same_on l.rebases m.rebases n.rebases h.rebases g.rebases;
+      binds = same_on l.binds m.binds n.binds h.binds g.binds;
     }
 
 pub puts_append : (xs ys : List Fixup) (st : State) → puts (xs ++ ys) st ≡ puts ys (puts xs st)

@@ -4,7 +4,7 @@ use Rattle.std.specs.List.{position, position_from}
 use Rattle.std.proofs.lemmas.Iterator.Adapters.{position_from-zero}
 use lib.Seq.{take_all}
 use Rattle.reads.specs.Outcome.{Outcome, value, refused, choose}
-use Rattle.fixups.specs.Imports.{zero_from, text_at, span}
+use Rattle.fixups.specs.Imports.{zero_from, text_at, name_of}
 use Rattle.reads.specs.declared.answer.Question.TheVariants.{FixupData}
 
 -- The first zero of bytes that stand i bytes after those whose first stands at j.
@@ -43,7 +43,7 @@ module _ (bs : List ℕ) (at start : ℕ) where
     from_start : r ≡ position (λ x. x == 0) (drop start bs)
     from_start = rw (take_all (length bs - start) (drop start bs) (omega (arith, length-drop start bs))) at e
 
-    pub ends : (k : ℕ) → r ≡ Some k → value (span (at + start) k) ≡ text_at bs at start
+    pub ends : (k : ℕ) → r ≡ Some k → value (name_of (at + start) k) ≡ text_at bs at start
     unfolding text_at
     ends k g = let n : start + k - start ≡ k = omega arith in rw (zero_at start k (drop start bs) r from_start g, n)
 

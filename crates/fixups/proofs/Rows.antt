@@ -147,12 +147,12 @@ module _ {A : Type 0} (row : A → List ℕ) (width : ℕ) (times : Times width)
 
 -- The two tables.
 rebase_sized : (x : Fixup) → Sized rebase_words (rebase_row x)
-rebase_sized (Rebase slot target) = whole slot (target ∷ []) refl
-rebase_sized (Bind slot name size) = none
+rebase_sized (Rebase x) = whole x.slot (x.target ∷ []) refl
+rebase_sized (Bind x) = none
 
 bind_sized : (x : Fixup) → Sized bind_words (bind_row x)
-bind_sized (Rebase slot target) = none
-bind_sized (Bind slot name size) = whole slot (name ∷ size ∷ 0 ∷ []) refl
+bind_sized (Rebase x) = none
+bind_sized (Bind x) = whole x.slot (x.name.at ∷ x.name.len ∷ 0 ∷ []) refl
 
 times_2 : Times rebase_words
 times_2 = record { nothing = refl; more = λ n. omega arith; least = λ n. omega arith }

@@ -3,8 +3,9 @@ use Rattle.std.proofs.Common.{◌≡◌, ℕ, zero, suc, ◌+◌, ◌-◌, ◌%�
 use borrow.Author.Tests.{eqb-false}
 use Rattle.reads.specs.Outcome.{Outcome, value, absent, refused, and_then, choose}
 use Rattle.fixups.specs.FixupChains.{lies}
-use Rattle.fixups.specs.Imports.{Span, import_at}
-use Rattle.fixups.specs.Chain.{Starts, slot_of, target_of, step_of, entry_of, visit_of, slot_word, Met, met, chain, chain_at}
+use Rattle.fixups.specs.Imports.{bound, import_at}
+use Rattle.fixups.specs.declared.name.Name.{Name}
+use Rattle.fixups.specs.Chain.{Starts, rebase, slot_of, target_of, step_of, entry_of, visit_of, slot_word, Met, met, chain, chain_at}
 use Rattle.fixups.specs.Slots.{slot_address, slots, InPage, Once, onwards, visited, Climbs, addresses}
 use Rattle.fixups.specs.Slots.Climbs.{top, up}
 use Rattle.fixups.specs.Slots.InPage.{none, slot}
@@ -14,11 +15,11 @@ use Rattle.fixups.specs.declared.chain.Fixup.TheVariants.{Rebase, Bind}
 use Rattle.reads.specs.declared.answer.Question.TheVariants.{FixupSlot}
 
 -- A record's slot is the one that was visited.
-entry_by : (b : Bool) (i : Outcome Span) (a t : ℕ) (x : Fixup)
-    → choose b (value (Rebase a t)) (and_then i (λ n. value (Bind a n.offset n.size))) ≡ value x → slot_address x ≡ a
+entry_by : (b : Bool) (i : Outcome Name) (a t : ℕ) (x : Fixup)
+    → choose b (value (Rebase (rebase a t))) (and_then i (λ n. value (Bind (bound a n)))) ≡ value x → slot_address x ≡ a
 unfolding choose
-entry_by true i a t x e = let q : Rebase a t ≡ x = cc in sym (ap slot_address q)
-entry_by false (value n) a t x e = let q : Bind a n.offset n.size ≡ x = cc in sym (ap slot_address q)
+entry_by true i a t x e = let q : Rebase (rebase a t) ≡ x = cc in sym (ap slot_address q)
+entry_by false (value n) a t x e = let q : Bind (bound a n) ≡ x = cc in sym (ap slot_address q)
 entry_by false (absent r) a t x e = let z : ◌≡◌ {A = ℕ} 0 1 = cc in absurd (omega arith)
 entry_by false (refused k) a t x e = let z : ◌≡◌ {A = ℕ} 0 1 = cc in absurd (omega arith)
 

@@ -3,12 +3,14 @@ use Rattle.std.specs.Prelude.{ℕ, zero, suc, ◌+◌, ◌-◌, ◌*◌, ◌/◌
 use Rattle.reads.specs.Outcome.{Outcome, value, refused, and_then, choose}
 use Rattle.macho.specs.Number.{u64_at}
 use Rattle.fixups.specs.FixupChains.{lies}
-use Rattle.fixups.specs.Imports.{import_at}
+use Rattle.fixups.specs.Imports.{bound, import_at}
 use Rattle.fixups.specs.declared.chain.PointerFormat.{PointerFormat}
 use Rattle.fixups.specs.declared.chain.PointerFormat.TheVariants.{Ptr64, Ptr64Offset}
+use Rattle.pointers.specs.declared.table.Rebase as pointers
 use Rattle.fixups.specs.declared.chain.Fixups.{Fixups}
 use Rattle.fixups.specs.declared.chain.Starts as code
 use Rattle.fixups.specs.declared.chain.Fixup.{Fixup}
+use Rattle.fixups.specs.declared.chain.Data.{Data}
 use Rattle.fixups.specs.declared.chain.Fixup.TheVariants.{Rebase, Bind}
 use Rattle.reads.specs.declared.answer.Question.TheVariants.{FixupSlot}
 
@@ -43,12 +45,15 @@ target_of format base word = (word % 2 ^ 36 + word / 2 ^ 36 % 2 ^ 8 * 2 ^ 56 + o
 unfoldable pub slot_of : Starts → ℕ → ℕ
 slot_of s at = (s.vmaddr + at) % 2 ^ 64
 
+abbrev pub rebase : ℕ → ℕ → pointers.Rebase
+rebase slot target = record { slot = slot; target = target }
+
 -- The top bit marks a bind, whose ordinal has 24 bits.
 unfoldable pub entry_of : List ℕ → Fixups → Starts → ℕ → ℕ → Outcome Fixup
 entry_of body f s at word =
     choose (nat_lt word (2 ^ 63))
-    (value (Rebase (slot_of s at) (target_of s.format f.base word)))
-    (and_then (import_at body f (word % 2 ^ 24)) (λ t. value (Bind (slot_of s at) t.offset t.size)))
+    (value (Rebase (rebase (slot_of s at) (target_of s.format f.base word))))
+    (and_then (import_at body f (word % 2 ^ 24)) (λ t. value (Bind (bound (slot_of s at) t))))
 
 -- What a chain meets at a slot: the record, and the bytes to the next slot.
 pub record Met : Type 0 where
@@ -82,3 +87,10 @@ chain file body f s page (suc k) o =
 
 abbrev pub chain_at : List ℕ → List ℕ → Fixups → Starts → ℕ → ℕ → Outcome (List Fixup)
 chain_at file body f s page o = chain file body f s page (s.size - o) o
+
+-- The same of the fixup data that the code is lent.
+abbrev pub visit_in : Data → code.Starts → ℕ → Outcome Met
+visit_in d s at = visit_of d.file.now d.body.now d.fixups (starts_in s) at
+
+abbrev pub chain_in : Data → code.Starts → ℕ → ℕ → Outcome (List Fixup)
+chain_in d s page o = chain_at d.file.now d.body.now d.fixups (starts_in s) page o

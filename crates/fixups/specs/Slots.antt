@@ -7,8 +7,8 @@ use Rattle.fixups.specs.declared.chain.Fixup.{Fixup}
 use Rattle.fixups.specs.declared.chain.Fixup.TheVariants.{Rebase, Bind}
 
 abbrev pub slot_address : Fixup → ℕ
-slot_address (Rebase slot target) = slot
-slot_address (Bind slot name size) = slot
+slot_address (Rebase x) = x.slot
+slot_address (Bind x) = x.slot
 
 abbrev pub slots : List Fixup → List ℕ
 slots [] = []

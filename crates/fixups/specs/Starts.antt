@@ -2,11 +2,14 @@
 use Rattle.std.specs.Prelude.{◌≡◌, ℕ, zero, suc, ◌+◌, ◌*◌, Bool, false, ◌||◌, Result, MatchResult, List, [], ◌++◌, drop, ◌==◌, nat_lt, slice_get, Option, None, Some}
 use Rattle.reads.specs.Outcome.{Outcome, value, refused, and_then, choose}
 use Rattle.macho.specs.Loader.{vmaddr, fileoff}
+use Rattle.macho.specs.Commands.{segments_of}
 use Rattle.fixups.specs.FixupChains.{lies, starts_offset, imports_offset, symbols_offset, imports_count, imports_format, symbols_format, seg_count, seg_info_offset, page_size, pointer_format, page_count, page_start}
-use Rattle.fixups.specs.Chain.{Starts, number_of, chain_at}
+use Rattle.fixups.specs.Chain.{Starts, number_of, starts_in, chain_at}
 use Rattle.fixups.specs.declared.chain.PointerFormat.{PointerFormat}
 use Rattle.fixups.specs.declared.chain.Fixups.{Fixups}
+use Rattle.fixups.specs.declared.chain.Starts as code
 use Rattle.fixups.specs.declared.chain.Fixup.{Fixup}
+use Rattle.fixups.specs.declared.chain.Data.{Data}
 use Rattle.reads.specs.declared.answer.Question.{Question}
 use Rattle.reads.specs.declared.answer.Question.TheVariants.{FixupData}
 
@@ -72,6 +75,22 @@ infos_from file body cmds f (suc k) i segs =
 unfoldable pub image_starts : List ℕ → List ℕ → List ℕ → Fixups → List ℕ → Outcome (List Fixup)
 image_starts file body cmds f segs =
     choose (lies body f.starts 4) (infos_from file body cmds f (seg_count body f.starts) 0 segs) (refused FixupData)
+
+-- The same of the fixup data that the code is lent: the starts of a segment stand `info` bytes after those of the image.
+abbrev pub page_in : Data → code.Starts → ℕ → Outcome (List Fixup)
+page_in d s p = page_at d.file.now d.body.now d.fixups (starts_in s) (d.fixups.starts + s.info) p
+
+abbrev pub pages_in : Data → code.Starts → ℕ → Outcome (List Fixup)
+pages_in d s count = pages_from d.file.now d.body.now d.fixups (starts_in s) (d.fixups.starts + s.info) count 0
+
+abbrev pub segment_starts_in : Data → ℕ → ℕ → Outcome (List Fixup)
+segment_starts_in d info a = segment_starts d.file.now d.body.now d.cmds.bytes.now d.fixups (d.fixups.starts + info) a
+
+abbrev pub info_in : Data → ℕ → Option ℕ → Outcome (List Fixup)
+info_in d offset segment = info_of d.file.now d.body.now d.cmds.bytes.now d.fixups offset segment
+
+abbrev pub image_starts_in : Data → Outcome (List Fixup)
+image_starts_in d = image_starts d.file.now d.body.now d.cmds.bytes.now d.fixups (segments_of d.cmds.bytes.now d.cmds.count)
 
 -- What the header says of fixup data that stands at `at` in the file.
 abbrev pub header_of : List ℕ → ℕ → ℕ → Fixups

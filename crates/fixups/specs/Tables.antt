@@ -1,20 +1,26 @@
 -- The words of the records, and what a walk leaves in the lent tables.
+use denote.Ref.{MutBor}
 use Rattle.std.specs.Prelude.{◌≡◌, ℕ, ◌+◌, ◌-◌, ◌*◌, ◌^◌, List, [], ◌∷◌, ◌++◌, length, nat_le, nat_lt, Result, Ok, Err}
 use Rattle.std.proofs.lemmas.List.Edits.{sets}
 use Rattle.reads.specs.Outcome.{Outcome, value, refused, and_then, choose}
 use Rattle.fixups.specs.declared.chain.Fixup.{Fixup}
 use Rattle.fixups.specs.declared.chain.Fixup.TheVariants.{Rebase, Bind}
+use Rattle.fixups.specs.declared.name.Bound.{Bound}
 use Rattle.fixups.specs.declared.table.Lists.{Lists}
 use Rattle.reads.specs.declared.answer.Question.{Question}
 
+-- The row of a bind: its name lies in file 0.
+abbrev pub named_row : Bound → List ℕ
+named_row x = x.slot ∷ x.name.at ∷ x.name.len ∷ 0 ∷ []
+
 -- The row of a record in the rebase table and in the bind table; it has none in the other's.
 abbrev pub rebase_row : Fixup → List ℕ
-rebase_row (Rebase slot target) = slot ∷ target ∷ []
-rebase_row (Bind slot name size) = []
+rebase_row (Rebase x) = x.slot ∷ x.target ∷ []
+rebase_row (Bind x) = []
 
 abbrev pub bind_row : Fixup → List ℕ
-bind_row (Rebase slot target) = []
-bind_row (Bind slot name size) = slot ∷ name ∷ size ∷ 0 ∷ []
+bind_row (Rebase x) = []
+bind_row (Bind x) = named_row x
 
 -- The rows of records, in order.
 unfoldable pub rows_of : {A : Type 0} → (A → List ℕ) → List A → List ℕ
@@ -55,12 +61,14 @@ state r b rs bs = record { rebases = part r rs; binds = part b bs }
 abbrev pub state_in : Lists → State
 state_in l = state l.rebased l.bound l.rebases.now l.binds.now
 
--- The tables that take rows are the same tables.
-pub record Kept (o p : Lists) : Type 0 where
-  pub rebases : p.rebases.ghost_name ≡ o.rebases.ghost_name
-  pub binds : p.binds.ghost_name ≡ o.binds.ghost_name
-  pub rebase_words : length p.rebases.now ≡ length o.rebases.now
-  pub bind_words : length p.binds.now ≡ length o.binds.now
+-- A table that takes rows is the same table.
+pub record Kept (o p : MutBor (List ℕ)) : Type 0 where
+  pub table : p.ghost_name ≡ o.ghost_name
+  pub words : length p.now ≡ length o.now
+
+pub record BothKept (o p : Lists) : Type 0 where
+  pub rebases : Kept o.rebases p.rebases
+  pub binds : Kept o.binds p.binds
 
 unfoldable pub put : Fixup → State → State
 put x s = record { rebases = put_row (rebase_row x) s.rebases; binds = put_row (bind_row x) s.binds }
@@ -80,7 +88,7 @@ reached (Err k) s = refused k
 
 -- What a walk that finds x, and its answer r, leave of the tables o: they are the same tables, with the records of x.
 pub record Walks (x : Outcome (List Fixup)) (r : Result (Unit {0}) Question) (o p : Lists) : Type 0 where
-  pub kept : Kept o p
+  pub kept : BothKept o p
   pub told : reached r (state_in p) ≡ told x (state_in o)
 
 -- And an answer of both counts.

@@ -3,7 +3,7 @@ ghost use Rattle.std.specs.Prelude.{◌≡◌, []};
 ghost use Rattle.reads.specs.Reference.{before};
 ghost use Rattle.reads.specs.Outcome.{value};
 ghost use Rattle.macho.specs.Commands.{asked_commands, segments_of};
-ghost use Rattle.fixups.specs.Starts.{image_starts};
+ghost use Rattle.fixups.specs.Starts.{image_starts_in};
 ghost use Rattle.fixups.specs.Tables.{state, told, state_of};
 ghost use Rattle.fixups.specs.Fixups.{base_of, fixups_from, fixups_found, built_outcome, leaves, settled};
 
@@ -23,7 +23,8 @@ use reads::place::{part, u32_from, u64_from};
 
 const TEXT: [u8; 16] = *b"__TEXT\0\0\0\0\0\0\0\0\0\0";
 
-// The image base: the vmaddr of the first segment `__TEXT`, or 0.
+// The image base: the vmaddr of the first segment `__TEXT`, or 0 without one: the definition `base_of` is total, and the base is only added
+// to a target (`rebased`), where an Option would be turned into 0.
 fn image_base(cmds: Commands) -> u64
     ensures { result ≡ base_of cmds.entry.bytes.now (segments_of cmds.entry.bytes.now cmds.entry.count) }
 {
@@ -35,8 +36,8 @@ fn image_base(cmds: Commands) -> u64
 
 impl Data<'_> {
     // How many records the fixup data has for each table: the walk is lent no room.
-    fn count_records(self, cmds: Commands) -> Result<(u64, u64), Question>
-        ensures { state_of result [] [] ≡ told (image_starts self.entry.file.now self.entry.body.now cmds.entry.bytes.now self.entry.fixups (segments_of cmds.entry.bytes.now cmds.entry.count)) (state 0 0 [] []) }
+    fn count_records(self) -> Result<(u64, u64), Question>
+        ensures { state_of result [] [] ≡ told (image_starts_in self.entry) (state 0 0 [] []) }
     {
         let mut none = [0u64; 0];
         let mut nothing = [0u64; 0];
@@ -46,7 +47,7 @@ impl Data<'_> {
             binds: &mut nothing,
             bound: 0,
         };
-        self.image_starts(cmds, &mut lists)?;
+        self.image_starts(&mut lists)?;
         Ok((lists.rebased, lists.bound))
     }
 
@@ -54,16 +55,11 @@ impl Data<'_> {
     // The tables are two parameters, here and below, as C lends them: `Lists` would ask for counts of 0, and a struct of the two slices
     // would be put together in `build_tables` and taken apart here alone. opcodes' `fill` is one beside this: one function for both would
     // need a trait with the walk, the tables, their counts and the questions of their room, more than the two bodies.
-    fn fill(
-        self,
-        cmds: Commands,
-        rebases: &mut [u64],
-        binds: &mut [u64],
-    ) -> Result<(u64, u64), Question>
+    fn fill(self, rebases: &mut [u64], binds: &mut [u64]) -> Result<(u64, u64), Question>
         ensures { leaves (built_outcome result) rebases.new binds.new
-            ≡ settled (image_starts self.entry.file.now self.entry.body.now cmds.entry.bytes.now self.entry.fixups (segments_of cmds.entry.bytes.now cmds.entry.count)) rebases.old binds.old }
+            ≡ settled (image_starts_in self.entry) rebases.old binds.old }
     {
-        let (r, b) = self.count_records(cmds)?;
+        let (r, b) = self.count_records()?;
         if ((rebases.len() / Rebase::WORDS) as u64) < r {
             return Err(Question::RebaseTable);
         }
@@ -76,7 +72,7 @@ impl Data<'_> {
             binds,
             bound: 0,
         };
-        let _ = self.image_starts(cmds, &mut lists);
+        let _ = self.image_starts(&mut lists);
         Ok((r, b))
     }
 }
@@ -98,7 +94,13 @@ fn fixups_at(
     let at = u32_from(cmds.bytes, command, DATAOFF);
     let body = part(file, u64::from(at), field32(cmds.bytes, command, DATASIZE));
     let fixups = fixups_of(body, at, image_base(cmds))?;
-    Data { file, body, fixups }.fill(cmds, rebases, binds)
+    let data = Data {
+        file,
+        cmds,
+        body,
+        fixups,
+    };
+    data.fill(rebases, binds)
 }
 
 // The tables from the first LC_DYLD_CHAINED_FIXUPS of a file, no records without one; or a number, with nothing written.

@@ -2,15 +2,18 @@
 ghost use Rattle.std.specs.Prelude.{◌≡◌, ◌+◌};
 ghost use Rattle.reads.specs.Reference.{before};
 ghost use Rattle.reads.specs.Outcome.{value, and_then};
-ghost use Rattle.fixups.specs.Chain.{number_of, starts_in, target_of, entry_of, visit_of, chain_at};
+ghost use Rattle.fixups.specs.Chain.{number_of, starts_in, target_of, entry_of, visit_in, chain_in};
 ghost use Rattle.fixups.specs.Starts.{Reads};
-ghost use Rattle.fixups.specs.Tables.{Kept, Walks, state_in, put, stepped, stepped_of};
+ghost use Rattle.fixups.specs.Tables.{BothKept, Walks, state_in, put, stepped, stepped_of};
 ghost use Rattle.reads.specs.Answer.{answered};
 
 use crate::fixup_chains::{DYLD_CHAINED_PTR_64, DYLD_CHAINED_PTR_64_OFFSET};
+use crate::name::Bound;
 use crate::table::{Lists, put_bind, put_rebase};
+use macho::command::Commands;
+use pointers::table::Rebase;
 use reads::answer::Question;
-use reads::place::u64_from;
+use reads::place::{lies_in, u64_from};
 
 // The pointer formats that are read (DYLD_CHAINED_PTR_64, DYLD_CHAINED_PTR_64_OFFSET).
 #[derive(Clone, Copy)]
@@ -46,10 +49,11 @@ pub struct Fixups {
     pub base: u64,
 }
 
-// The fixup data of a file: the file, the fixup data's bytes, and what their header says.
+// The fixup data of a file: the file, its load commands, the fixup data's bytes, and what their header says.
 #[derive(Clone, Copy)]
 pub(crate) struct Data<'a> {
     pub(crate) file: &'a [u8],
+    pub(crate) cmds: Commands<'a>,
     pub(crate) body: &'a [u8],
     pub(crate) fixups: Fixups,
 }
@@ -64,11 +68,11 @@ pub struct Starts {
     pub size: u16,
 }
 
-// A record: a rebase's slot and target; a bind's slot, name offset and name length.
+// A record.
 #[derive(Clone, Copy)]
 pub enum Fixup {
-    Rebase(u64, u64),
-    Bind(u64, u64, u64),
+    Rebase(Rebase),
+    Bind(Bound),
 }
 
 // The address that a rebase word holds: target 36 bits, then high8.
@@ -84,18 +88,15 @@ fn rebased(format: PointerFormat, base: u64, word: u64) -> u64
 }
 
 impl Lists<'_> {
-    // Puts a record into its table.
+    // Puts a record into its table. `BothKept` is said in each function, here and below (of `Walks` it is a part), because it tells of the
+    // tables before and after, where an invariant tells of one value.
     fn put(&mut self, x: Fixup)
-        ensures kept { Kept self.old self.new }
+        ensures kept { BothKept self.old self.new }
         ensures put { state_in self.new ≡ put x (state_in self.old) }
     {
         match x {
-            Fixup::Rebase(slot, target) => {
-                self.rebased = put_rebase(self.rebases, self.rebased, slot, target);
-            }
-            Fixup::Bind(slot, name, len) => {
-                self.bound = put_bind(self.binds, self.bound, slot, name, len);
-            }
+            Fixup::Rebase(x) => self.rebased = put_rebase(self.rebases, self.rebased, x),
+            Fixup::Bind(x) => self.bound = put_bind(self.binds, self.bound, x),
         }
     }
 }
@@ -109,24 +110,20 @@ impl Data<'_> {
         let slot = s.vmaddr.wrapping_add(at);
         if word < 0x8000_0000_0000_0000 {
             let target = rebased(s.format, self.fixups.base, word);
-            return Ok(Fixup::Rebase(slot, target));
+            return Ok(Fixup::Rebase(Rebase { slot, target }));
         }
-        let (offset, len) = self.import_at((word % 0x100_0000) as u32)?;
-        Ok(Fixup::Bind(slot, offset, len))
+        let name = self.import_at((word % 0x100_0000) as u32)?;
+        Ok(Fixup::Bind(Bound { slot, name }))
     }
 
     // One slot of a chain, o bytes into a page: the bytes to the next.
     fn visit_slot(self, s: Starts, page: u32, o: u32, lists: &mut Lists) -> Result<u32, Question>
-        ensures kept { Kept lists.old lists.new }
-        ensures told { stepped_of result (state_in lists.new) ≡ and_then (visit_of self.entry.file.now self.entry.body.now self.entry.fixups (starts_in s) (page + o))
+        ensures kept { BothKept lists.old lists.new }
+        ensures told { stepped_of result (state_in lists.new) ≡ and_then (visit_in self.entry s (page + o))
             (λ m. value (stepped m.step (put m.fixup (state_in lists.old)))) }
     {
         let at = u64::from(page) + u64::from(o);
-        let n = self.file.len() as u64;
-        if n < s.fileoff {
-            return Err(Question::FixupSlot);
-        }
-        if n - s.fileoff < at + 8 {
+        if !lies_in(self.file.len() as u64, s.fileoff, at, 8) {
             return Err(Question::FixupSlot);
         }
         let word = u64_from(self.file, s.fileoff, at);
@@ -143,7 +140,7 @@ impl Data<'_> {
         start: u16,
         lists: &mut Lists,
     ) -> Result<(), Question>
-        ensures { Walks (chain_at self.entry.file.now self.entry.body.now self.entry.fixups (starts_in s) page start) result lists.old lists.new }
+        ensures { Walks (chain_in self.entry s page start) result lists.old lists.new }
     {
         let size = u32::from(s.size);
         let mut o = u32::from(start);

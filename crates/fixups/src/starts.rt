@@ -1,9 +1,7 @@
 // Where chains start (fixup-chains.h, dyld_chained_starts_in_image and dyld_chained_starts_in_segment).
 ghost use Rattle.std.specs.Prelude.{◌≡◌, ◌+◌};
 ghost use Rattle.reads.specs.Reference.{before};
-ghost use Rattle.macho.specs.Commands.{segments_of};
-ghost use Rattle.fixups.specs.Chain.{starts_in};
-ghost use Rattle.fixups.specs.Starts.{page_at, pages_from, segment_starts, info_of, image_starts, fixups_of};
+ghost use Rattle.fixups.specs.Starts.{page_in, pages_in, segment_starts_in, info_in, image_starts_in, fixups_of};
 ghost use Rattle.fixups.specs.Tables.{Walks};
 ghost use Rattle.reads.specs.Answer.{answered};
 
@@ -15,7 +13,6 @@ use crate::fixup_chains::{
     SYMBOLS_UNCOMPRESSED,
 };
 use crate::table::Lists;
-use macho::command::Commands;
 use macho::loader::{FILEOFF, LC_SEGMENT_64, VMADDR};
 use reads::answer::Question;
 use reads::place::{u16_from, u32_from, u64_from};
@@ -30,10 +27,11 @@ impl Data<'_> {
 
     // Page p of a segment.
     fn page(self, s: Starts, p: u16, lists: &mut Lists) -> Result<(), Question>
-        ensures { Walks (page_at self.entry.file.now self.entry.body.now self.entry.fixups (starts_in s) (self.entry.fixups.starts + s.info) p) result lists.old lists.new }
+        ensures { Walks (page_in self.entry s p) result lists.old lists.new }
     {
         let first = self.starts_at(s.info) + PAGE_START;
         let i = 2 * u64::from(p);
+        // One compare and not `lies_in`, here, below and in name's `text_at` and `import_at`: a sum of u32 does not pass 64 bits.
         if (self.body.len() as u64) < first + i + 2 {
             return Err(Question::FixupData);
         }
@@ -50,7 +48,7 @@ impl Data<'_> {
 
     // The pages of a segment.
     fn pages(self, s: Starts, count: u16, lists: &mut Lists) -> Result<(), Question>
-        ensures { Walks (pages_from self.entry.file.now self.entry.body.now self.entry.fixups (starts_in s) (self.entry.fixups.starts + s.info) count 0) result lists.old lists.new }
+        ensures { Walks (pages_in self.entry s count) result lists.old lists.new }
     {
         for p in 0..count {
             self.page(s, p, lists)?;
@@ -59,14 +57,8 @@ impl Data<'_> {
     }
 
     // The starts of a seg_info_offset, of the segment whose command stands at `command`.
-    fn segment_starts(
-        self,
-        cmds: Commands,
-        info: u32,
-        command: u64,
-        lists: &mut Lists,
-    ) -> Result<(), Question>
-        ensures { Walks (segment_starts self.entry.file.now self.entry.body.now cmds.entry.bytes.now self.entry.fixups (self.entry.fixups.starts + info) command) result lists.old lists.new }
+    fn segment_starts(self, info: u32, command: u64, lists: &mut Lists) -> Result<(), Question>
+        ensures { Walks (segment_starts_in self.entry info command) result lists.old lists.new }
     {
         let at = self.starts_at(info);
         if (self.body.len() as u64) < at + PAGE_START {
@@ -74,8 +66,8 @@ impl Data<'_> {
         }
         let format = PointerFormat::try_from(u16_from(self.body, at, POINTER_FORMAT))?;
         let s = Starts {
-            vmaddr: u64_from(cmds.bytes, command, VMADDR),
-            fileoff: u64_from(cmds.bytes, command, FILEOFF),
+            vmaddr: u64_from(self.cmds.bytes, command, VMADDR),
+            fileoff: u64_from(self.cmds.bytes, command, FILEOFF),
             info,
             format,
             size: u16_from(self.body, at, PAGE_SIZE),
@@ -86,23 +78,22 @@ impl Data<'_> {
     // One seg_info_offset, of the segment whose command stands at `segment`, if there is one; 0 has no starts.
     fn segment_info(
         self,
-        cmds: Commands,
         segment: Option<u64>,
         offset: u32,
         lists: &mut Lists,
     ) -> Result<(), Question>
-        ensures { Walks (info_of self.entry.file.now self.entry.body.now cmds.entry.bytes.now self.entry.fixups offset segment) result lists.old lists.new }
+        ensures { Walks (info_in self.entry offset segment) result lists.old lists.new }
     {
         if offset == 0 {
             return Ok(());
         }
         let command = segment.ok_or(Question::FixupData)?;
-        self.segment_starts(cmds, offset, command, lists)
+        self.segment_starts(offset, command, lists)
     }
 
     // The starts of the image, segment by segment.
-    pub(crate) fn image_starts(self, cmds: Commands, lists: &mut Lists) -> Result<(), Question>
-        ensures { Walks (image_starts self.entry.file.now self.entry.body.now cmds.entry.bytes.now self.entry.fixups (segments_of cmds.entry.bytes.now cmds.entry.count)) result lists.old lists.new }
+    pub(crate) fn image_starts(self, lists: &mut Lists) -> Result<(), Question>
+        ensures { Walks (image_starts_in self.entry) result lists.old lists.new }
     {
         let starts = u64::from(self.fixups.starts);
         if (self.body.len() as u64) < starts + SEG_INFO_OFFSET {
@@ -110,14 +101,14 @@ impl Data<'_> {
         }
         let total = u32_from(self.body, starts, SEG_COUNT);
         let first = starts + SEG_INFO_OFFSET;
-        let mut segments = cmds.of_kind(LC_SEGMENT_64);
+        let mut segments = self.cmds.of_kind(LC_SEGMENT_64);
         for i in 0..total {
             let next = 4 * u64::from(i);
             if (self.body.len() as u64) < first + next + 4 {
                 return Err(Question::FixupData);
             }
             let offset = u32_from(self.body, first, next);
-            self.segment_info(cmds, segments.next(), offset, lists)?;
+            self.segment_info(segments.next(), offset, lists)?;
         }
         Ok(())
     }

@@ -11,8 +11,8 @@ use Rattle.pointers.proofs.Questions.{every_at}
 use Rattle.listing.specs.declared.bundle.Counts.{Counts}
 use Rattle.std.specs.Prelude.{Result, Ok, Bool, ◌&&◌, refl}
 use Rattle.std.specs.List.{list_all, range_with_len}
-use Rattle.reads.specs.Answer.{outcome}
-use Rattle.reads.specs.declared.answer.Missing.{Missing}
+use Rattle.reads.specs.Answer.{answered}
+use Rattle.reads.specs.declared.answer.Question.{Question}
 use Rattle.reads.specs.declared.answer.Question.TheVariants.{BundleLength}
 
 -- The length in document 01's order: counts, ends, image info, the words of the four tables, the four files.
@@ -100,7 +100,7 @@ accepted bytes c =
     (λ t e. let z : ◌≡◌ {A = ℕ} 0 1 = cc in absurd (omega arith))
 
 -- The same, of an answer of the code.
-pub measured : (r : Result Counts Missing) (bytes : List ℕ) (c : Counts) → outcome r ≡ bundle_counts bytes → r ≡ Ok c → Accepted bytes c
+pub measured : (r : Result Counts Question) (bytes : List ℕ) (c : Counts) → answered r ≡ bundle_counts bytes → r ≡ Ok c → Accepted bytes c
 measured r bytes c e g = accepted bytes c (rw (← e, g))
 
 -- The tables of an accepted bundle have at most 4,084 words together.

@@ -14,6 +14,14 @@ use Rattle.listing.specs.declared.listing.Said.{Said}
 use Rattle.listing.specs.declared.listing.Said.TheVariants as said
 use Rattle.listing.specs.declared.section.Section.{Section}
 use Rattle.listing.specs.declared.section.SectionStepped.{SectionStepped}
+use Rattle.listing.specs.declared.section.Stage.{Stage}
+use Rattle.listing.specs.declared.section.Stage.TheVariants as a_stage
+
+-- The stages of a section in their order.
+abbrev pub stage_number : Stage → ℕ
+stage_number a_stage.Classes = 0
+stage_number a_stage.Protocols = 1
+stage_number a_stage.Categories = 2
 
 -- Each walk of a section.
 abbrev pub class_begun : RecordWalk ClassSlots → Begun
@@ -26,13 +34,13 @@ abbrev pub category_begun : RecordWalk CategorySlots → Begun
 category_begun w = begun w.setting (category_walk w)
 
 abbrev pub section_walk_of : Section → SectionWalk
-section_walk_of s = walks s.stage (class_begun s.classes) (protocol_begun s.protocols) (category_begun s.categories)
+section_walk_of s = walks (stage_number s.stage) (class_begun s.classes) (protocol_begun s.protocols) (category_begun s.categories)
 
 -- What a section step gives, with a ledger.
 abbrev pub section_left_of : SectionStepped → List ℕ → SectionLeft
 section_left_of r l = record { answer = record_answer r.taken; section = section_walk_of r.section; ledger = l }
 
--- The entries settled are a number of two words.
+-- The entries settled are a number of 128 bits.
 abbrev pub state_of : Listing → State
 state_of s = state s.setting s.at (section_walk_of s.section) s.records s.settled
 

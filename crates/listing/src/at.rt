@@ -43,9 +43,10 @@ pub struct ListAt {
 }
 
 // What the next step does: the line of the image info; a step of the section walk; the line of a record that the section gave; the line
-// of a class's class_ro; a step over the record's list of that number; nothing, after the last line. The number has 16 bits: it parts the
-// seven bytes between the case and the words after it, which each step would copy by themselves, in two overlapping halves for which the next
-// load waits, into one, two and four, which are copied as numbers (docs/DECISIONS.md, 62).
+// of a class's class_ro; a step over the record's list of that number; nothing, after the last line. The number is an index into the record's
+// lists (`Owner::list`), no kind. Of 16 bits it is faster than of 8: it parts the seven bytes between the case and the words after it, which
+// each step would copy by themselves, in two overlapping halves for which the next load waits, into one, two and four, which are copied as
+// numbers; with 8 bits a listing takes 2 in 100 more instructions (docs/DECISIONS.md, 62).
 #[derive(Clone, Copy)]
 pub enum At {
     Info,
@@ -58,7 +59,7 @@ pub enum At {
 
 // A list of a record: of rows of a kind, or of protocol names; and its address.
 #[derive(Clone, Copy)]
-pub(crate) enum Field {
+pub enum Field {
     Rows(ListKind, u64),
     Names(u64),
 }
@@ -76,7 +77,7 @@ impl Field {
 }
 
 // Methods, ivars, properties, protocols.
-fn class_lists(ro: ClassRo) -> [Field; 4]
+pub fn class_lists(ro: ClassRo) -> [Field; 4]
     ensures { map field_of result ≡ ro_fields ro }
 {
     [
@@ -88,7 +89,7 @@ fn class_lists(ro: ClassRo) -> [Field; 4]
 }
 
 // As stored, with class properties sixth and protocols last.
-fn protocol_lists(protocol: ObjcProtocol) -> [Field; 7]
+pub fn protocol_lists(protocol: ObjcProtocol) -> [Field; 7]
     ensures { map field_of result ≡ protocol_fields protocol }
 {
     [
@@ -103,7 +104,7 @@ fn protocol_lists(protocol: ObjcProtocol) -> [Field; 7]
 }
 
 // Methods, class methods, protocols, properties, class properties.
-fn category_lists(category: ObjcCategory) -> [Field; 5]
+pub fn category_lists(category: ObjcCategory) -> [Field; 5]
     ensures { map field_of result ≡ category_fields category }
 {
     [

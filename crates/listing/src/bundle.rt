@@ -2,12 +2,12 @@
 ghost use Rattle.std.specs.Prelude.{◌≡◌, ◌*◌, ◌<◌, true, length};
 ghost use Rattle.reads.specs.Reference.{before};
 ghost use Rattle.listing.specs.Bundle.{word_from, words_from, ranges_of, segment_table_words, rebase_table_words, bind_table_words, sections_at, rebases_at, binds_at, image0_at, image1_at, image2_at, image3_at, said_length, counts_of, counts_fit, bundle_counts};
-ghost use Rattle.reads.specs.Answer.{outcome};
+ghost use Rattle.reads.specs.Answer.{answered};
 
 use frames::frames::Ranges;
 use pointers::section::ObjcSection;
 use pointers::table::{Bind, Rebase};
-use reads::answer::{Missing, Question};
+use reads::answer::Question;
 use reads::place::u64_from;
 use reads::segment::Segment;
 
@@ -124,7 +124,8 @@ impl Counts {
     }
 }
 
-// The word at an offset; 0 where its eight bytes do not lie in the bundle.
+// The word at an offset; 0 where its eight bytes do not lie in the bundle, and no Option: the definition's `word_from` gives a word everywhere. Question
+// 13 reads the counts of a shorter bundle so, and refuses it, for the counts and the ends alone are longer; in a bundle that it accepts all eleven lie.
 pub fn word_at(bundle: &[u8], offset: u64) -> u64
     ensures { result ≡ word_from (before bundle) offset }
 {
@@ -187,20 +188,20 @@ fn counts_of(bundle: &[u8]) -> Counts
 
 // 13: is the bundle at most 32,768 bytes long, and exactly as long as its counts say? Then these are its counts. Each
 // is small enough before they are summed.
-pub fn measure(bundle: &[u8]) -> Result<Counts, Missing>
-    ensures { outcome result ≡ bundle_counts (before bundle) }
+pub fn measure(bundle: &[u8]) -> Result<Counts, Question>
+    ensures { answered result ≡ bundle_counts (before bundle) }
 {
     let n = bundle.len() as u64;
     if n > LONGEST {
-        return Err(Missing::Refused(Question::BundleLength));
+        return Err(Question::BundleLength);
     }
     if !counts_fit(bundle) {
-        return Err(Missing::Refused(Question::BundleLength));
+        return Err(Question::BundleLength);
     }
     let counts = counts_of(bundle);
     let said = counts.said_length();
     if said != bundle.len() {
-        return Err(Missing::Refused(Question::BundleLength));
+        return Err(Question::BundleLength);
     }
     Ok(counts)
 }

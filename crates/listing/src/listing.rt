@@ -16,7 +16,7 @@ ghost use Rattle.reads.specs.Answer.{outcome, answered};
 use crate::absence::{Absence, SkippedEntry, UnnamedSlot};
 use crate::at::{At, FieldWalk, ListAt, Owner, Record};
 use crate::line::{CategoryLine, ClassLine, EndLine, InfoLine, Line, NameLine, RowLine};
-use crate::section::{Section, SectionStepped};
+use crate::section::{Section, SectionStepped, Stage};
 use frames::frames::Mark;
 use pointers::imageinfo::ImageInfo;
 use pointers::question::ask;
@@ -76,7 +76,7 @@ impl Listing {
         Listing {
             setting,
             at: At::Info,
-            section: Section::at_stage(setting, Section::CLASSES),
+            section: Section::at_stage(setting, Stage::Classes),
             records: 0,
             settled: 0,
         }
@@ -228,17 +228,17 @@ impl Listing {
         let setting = self.setting;
         let stage = section.stage;
         match stage {
-            Section::CLASSES => {
-                let first = Section::at_stage(setting, Section::PROTOCOLS);
+            Stage::Classes => {
+                let first = Section::at_stage(setting, Stage::Protocols);
                 let listing = self.in_section(At::Section, first);
                 listing.nothing()
             }
-            Section::PROTOCOLS => {
-                let first = Section::at_stage(setting, Section::CATEGORIES);
+            Stage::Protocols => {
+                let first = Section::at_stage(setting, Stage::Categories);
                 let listing = self.in_section(At::Section, first);
                 listing.nothing()
             }
-            _ => {
+            Stage::Categories => {
                 let end = self.end();
                 let listing = self.in_section(At::End, section);
                 listing.says(end)

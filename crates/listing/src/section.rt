@@ -4,7 +4,7 @@ ghost use Rattle.reads.specs.Reference.{after};
 ghost use Rattle.walks.specs.Sections.{record_answer};
 ghost use Rattle.listing.specs.declared.at.Record.{Record as SpecRecord};
 ghost use Rattle.listing.specs.Listing.{stage_start, with_classes, with_protocols, with_categories, as_record, classes_step, protocols_step, categories_step, section_step};
-ghost use Rattle.listing.specs.ListingAnswer.{class_begun, protocol_begun, category_begun, section_walk_of, section_left_of};
+ghost use Rattle.listing.specs.ListingAnswer.{stage_number, class_begun, protocol_begun, category_begun, section_walk_of, section_left_of};
 
 use crate::at::Record;
 use pointers::setting::Setting;
@@ -12,12 +12,18 @@ use pointers::tables::Tables;
 use reads::answer::Question;
 use walks::sections::{CategoryWalk, ClassWalk, ProtocolWalk, RecordStep};
 
-// The section walks side by side, and which is under way: 0, 1, and from 2 on the last. The others stand at their starts, or where a state
-// that no step handed back has them. The stage is a word: an enum's byte before the walks leaves seven, which each step would copy by themselves,
-// in two overlapping halves for which the next load waits (docs/DECISIONS.md, 62).
+// Which section walk is under way.
+#[derive(Clone, Copy)]
+pub(crate) enum Stage {
+    Classes,
+    Protocols,
+    Categories,
+}
+
+// The section walks side by side, and which is under way. The others stand at their starts, or where a state that no step handed back has them.
 #[derive(Clone, Copy)]
 pub struct Section {
-    pub(crate) stage: u64,
+    pub(crate) stage: Stage,
     classes: ClassWalk,
     protocols: ProtocolWalk,
     categories: CategoryWalk,
@@ -48,16 +54,9 @@ fn taken<R: Copy, F: Fn(R) -> Record>(
 }
 
 impl Section {
-    // The stages.
-    pub(crate) const CLASSES: u64 = 0;
-
-    pub(crate) const PROTOCOLS: u64 = 1;
-
-    pub(crate) const CATEGORIES: u64 = 2;
-
     // A stage, with every walk before its first slot, under a setting.
-    pub(crate) fn at_stage(setting: Setting, stage: u64) -> Section
-        ensures { section_walk_of result ≡ stage_start setting stage }
+    pub(crate) fn at_stage(setting: Setting, stage: Stage) -> Section
+        ensures { section_walk_of result ≡ stage_start setting (stage_number stage) }
     {
         Section {
             stage,
@@ -88,18 +87,16 @@ impl Section {
         Section { categories, ..self }
     }
 
-    // A step of the class walk. Not one function with `category_step`: the field that the walk comes from and goes to is all that either says.
+    // A step of the class walk. Not one function with the next two: each names its walk, its case of `Record` and its `with_`, and says no more; a function
+    // over closures would be handed all three.
     fn class_step(self, tables: &Tables, ledger: &mut [u64]) -> SectionStepped
         ensures { let t = tables.now in
             section_left_of result ledger.new ≡ classes_step t ledger.old (section_walk_of self) }
     {
-        let walk = self.classes;
-        let stepped = walk.next(tables, ledger);
-        let step = stepped.step;
-        let after = stepped.walk;
+        let stepped = self.classes.next(tables, ledger);
         SectionStepped {
-            taken: taken(step, |class| Record::Class(class)),
-            section: self.with_classes(after),
+            taken: taken(stepped.step, |class| Record::Class(class)),
+            section: self.with_classes(stepped.walk),
         }
     }
 
@@ -108,13 +105,10 @@ impl Section {
         ensures { let t = tables.now in
             ((l : List ℕ) → section_left_of result l ≡ protocols_step t l (section_walk_of self)) }
     {
-        let walk = self.protocols;
-        let stepped = walk.next_protocol(tables);
-        let step = stepped.step;
-        let after = stepped.walk;
+        let stepped = self.protocols.next_protocol(tables);
         SectionStepped {
-            taken: taken(step, |protocol| Record::Protocol(protocol)),
-            section: self.with_protocols(after),
+            taken: taken(stepped.step, |protocol| Record::Protocol(protocol)),
+            section: self.with_protocols(stepped.walk),
         }
     }
 
@@ -123,13 +117,10 @@ impl Section {
         ensures { let t = tables.now in
             section_left_of result ledger.new ≡ categories_step t ledger.old (section_walk_of self) }
     {
-        let walk = self.categories;
-        let stepped = walk.next(tables, ledger);
-        let step = stepped.step;
-        let after = stepped.walk;
+        let stepped = self.categories.next(tables, ledger);
         SectionStepped {
-            taken: taken(step, |category| Record::Category(category)),
-            section: self.with_categories(after),
+            taken: taken(stepped.step, |category| Record::Category(category)),
+            section: self.with_categories(stepped.walk),
         }
     }
 
@@ -140,9 +131,9 @@ impl Section {
     {
         let stage = self.stage;
         match stage {
-            Section::CLASSES => self.class_step(tables, ledger),
-            Section::PROTOCOLS => self.protocol_step(tables),
-            _ => self.category_step(tables, ledger),
+            Stage::Classes => self.class_step(tables, ledger),
+            Stage::Protocols => self.protocol_step(tables),
+            Stage::Categories => self.category_step(tables, ledger),
         }
     }
 }

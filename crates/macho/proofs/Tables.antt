@@ -120,6 +120,10 @@ module _ (cmds name : List ℕ) where
       go true g later = rw g
       go false g later = rw g later
 
+  -- With none of the name among the first, it is looked for among those after them.
+  then_append : (xs ys : List ℕ) → first_named cmds name xs ≡ None → first_named cmds name (xs ++ ys) ≡ first_named cmds name ys
+  then_append xs ys e = first_append xs ys ∙ ap (λ s. option_or s (first_named cmds name ys)) e
+
   module _ (segs : List ℕ) where
     pub sections_end : segs ≡ [] → None ≡ first_named cmds name (sections_of cmds segs)
     unfolding sections_of first_named

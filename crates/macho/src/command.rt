@@ -89,11 +89,18 @@ impl<'a> Commands<'a> {
     pub fn of_kind(self, kind: u64) -> CommandsOfKind<'a>
         ensures { offsets result ≡ of_kind kind self.entry.bytes.now self.entry.count 0 }
     {
+        self.of_kind_from(kind, 0)
+    }
+
+    // Those of a kind among the commands from an offset on, as many as are counted: public as `find` was, which it stands for.
+    pub fn of_kind_from(self, kind: u64, from: u64) -> CommandsOfKind<'a>
+        ensures { offsets result ≡ of_kind kind self.entry.bytes.now self.entry.count from }
+    {
         CommandsOfKind {
             bytes: self.bytes,
             kind,
             left: self.count,
-            at: 0,
+            at: from,
         }
     }
 }

@@ -78,7 +78,8 @@ fn ask_file(file: &[u8], segments: usize, sections: usize) -> Result<(), Questio
     ask_lent(file, segments, sections)
 }
 
-// Opens over the tables that would be filled: they are made here, so that nothing lent but the index is written.
+// Opens over the tables that would be filled: they are made here, so that nothing lent but the index is written. `Kept` is said in each
+// function, here and below, because it tells of `lent` before and after, where an invariant tells of one value.
 fn open_tables(
     file: &[u8],
     cmds: Commands,

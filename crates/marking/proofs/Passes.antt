@@ -3,17 +3,27 @@ use Prim.Native.Nat.{ℕ}
 use mathlib.Core.Path.{◌≡◌, sym, ap, ◌∙◌}
 use mathlib.Core.Bool.{Bool, true, false}
 use mathlib.Core.List.{List}
-use Rattle.reads.specs.Outcome.{Outcome}
+use Rattle.reads.specs.Outcome.{Outcome, value}
 use Rattle.pointers.specs.Tables.{Tables}
-use Rattle.listing.specs.Listing.{Answer, listing_step}
+use Rattle.frames.specs.declared.frames.Frames.{Frames}
+use Rattle.listing.specs.Listing.{State, start, Answer, nothing, listing_step}
 use Rattle.listing.specs.ListingAnswer.{state_of, said_of, left_of}
 use Rattle.listing.specs.declared.listing.Listed.{Listed}
+use Rattle.listing.specs.declared.listing.Listing.{Listing}
 use Rattle.listing.specs.declared.listing.Said.{Said}
-use Rattle.std.specs.Prelude.{Result}
+use Rattle.listing.specs.declared.listing.Said.TheVariants as said
+use Rattle.std.specs.Prelude.{Option, Result, Ok}
 use Rattle.reads.specs.declared.answer.Question.{Question}
-use Rattle.marking.specs.MarkedListing.{marking, marked_leaves, finds, marked_answer, tells, in_pass, marked_step, marking_of, marked_left_of}
+use Rattle.marking.specs.MarkedListing.{marking, marked_leaves, finds_by, finds, marked_answer, tells, in_pass, marked_step, marking_of, marked_left_of}
 use Rattle.marking.specs.declared.marked_listing.MarkedListed.{MarkedListed}
 use Rattle.marking.specs.declared.marked_listing.MarkedListing.{MarkedListing}
+
+-- The first pass after its last line: the second begins anew, under the setting that the first had.
+pub found_ended : (w : Option Frames) (r : Listed) (l : List ℕ) → r.said ≡ Ok said.Ended → (s : Listing) → state_of s ≡ start r.listing.setting
+    → marked_leaves (value nothing) (marking false w (state_of s)) l ≡ finds w (left_of r l)
+found_ended w r l e s g =
+    ap (λ (z : State). marked_leaves (value nothing) (marking false w z) l) g
+    ∙ sym (ap (λ (y : Result Said Question). finds_by w (state_of r.listing) l (said_of y)) e)
 
 -- The step, in either.
 module _ (t : Tables) (m : MarkedListing) (l k : List ℕ) (x : Listed) where

@@ -4,7 +4,8 @@ ghost use Rattle.reads.specs.Outcome.{and_then, refused};
 ghost use Rattle.pointers.specs.Open.{asked_opening};
 ghost use Rattle.pointers.specs.Tables.{with_index};
 ghost use Rattle.marking.specs.Framed.{with_frames, last_refusal, framed_opening, framed_index};
-ghost use Rattle.reads.specs.Answer.{outcome};
+ghost use Rattle.marking.specs.declared.framed.Framed.{Framed};
+ghost use Rattle.reads.specs.Answer.{missed, outcome};
 
 use frames::frames::{Frames, Ranges};
 use pointers::imageinfo::ImageInfo;
@@ -44,10 +45,11 @@ pub fn refused_last(m: Missing, fits: bool, k: Question) -> Missing
     }
 }
 
-// The same over tables.
-fn ranges_refused(tables: &Tables, index: &mut [u32], k: Question) -> Result<Framed, Missing>
+// The same over tables. Not one function with `ranges_refused` of filelist, which shares `refused_last` and `index_fits`: here an index beside the tables
+// is lent to opening, there a whole `Lent`, and a closure that opens would have to promise for both what it leaves of what is lent.
+fn ranges_refused(tables: &Tables, index: &mut [u32], k: Question) -> Missing
     ensures outcome { let t = with_index tables.now index.old in
-        outcome result ≡ and_then (asked_opening t) (λ _. refused k) }
+        missed {A = Framed} result ≡ and_then (asked_opening t) (λ _. refused k) }
     ensures contents { index.new ≡ index.old }
 {
     let fits = index_fits(
@@ -56,8 +58,8 @@ fn ranges_refused(tables: &Tables, index: &mut [u32], k: Question) -> Result<Fra
         index.len(),
     );
     match open(tables, &mut index[0..0]) {
-        Ok(_) => Err(Missing::Refused(k)),
-        Err(m) => Err(refused_last(m, fits, k)),
+        Ok(_) => Missing::Refused(k),
+        Err(m) => refused_last(m, fits, k),
     }
 }
 
@@ -75,6 +77,6 @@ pub fn open_framed(
 {
     match Frames::new(ranges) {
         Ok(frames) => with_frames(open(tables, index), frames),
-        Err(k) => ranges_refused(tables, index, k),
+        Err(k) => Err(ranges_refused(tables, index, k)),
     }
 }

@@ -14,7 +14,8 @@ use reads::answer::Question;
 use reads::text::Reading;
 
 // Whether the starts are still being found; the frames with the starts met so far; and the listing that is gone over. A bool, not an enum of
-// the passes with the frames in each case: both hold the same Option, which `meet_line` and `marked` take.
+// the passes whose first has frames for certain: `meet_line`, which is public, takes and gives an Option, as the definition's `met_line`, so that the first
+// pass would at each line take its frames out of an answer that is never None. The definition's state has these fields too, one by one.
 #[derive(Clone, Copy)]
 pub struct MarkedListing {
     finding: bool,

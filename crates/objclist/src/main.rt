@@ -2,16 +2,11 @@
 #![tactic(auto)]
 
 use printing::descriptor::Descriptor;
-use printing::program::list_input;
+use printing::program::list_whole;
 use reads::text::Reading;
 
 fn main() {
-    let mut input = [0u8; 32769];
-    let mut words = [0u64; 4096];
-    let mut index = [0u32; 10240];
-    let mut ledger = [0u64; 8192];
-    let mut out = [0u8; 4096];
-    list_input(
+    list_whole(
         &mut Descriptor {
             fd: 0,
             ended: false,
@@ -23,10 +18,5 @@ fn main() {
         Reading::New,
         b"objclist: standard output\n",
         b"objclist: the bundle is refused\n",
-        &mut input,
-        &mut words,
-        &mut index,
-        &mut ledger,
-        &mut out,
     );
 }

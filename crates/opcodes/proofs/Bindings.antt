@@ -2,13 +2,14 @@
 use Rattle.std.proofs.Common.{◌≡◌, ℕ, zero, suc, ◌-◌, ◌<◌, ◌≤◌, Bool, true, false, ◌&&◌, Some, None, List, [], ◌∷◌, sym, refl, ap, ◌∙◌, ap₂, arith}
 use Rattle.std.specs.List.{slice_get}
 use Rattle.reads.specs.Outcome.{Outcome, value, absent, refused, and_then}
-use Rattle.fixups.specs.Tables.{Part, put_row, put_rows}
+use Rattle.fixups.specs.Tables.{named_row, Part, put_row, put_rows}
 use Rattle.opcodes.specs.Binding.{further, bound_by, Moved, moved, run, with_segment, with_symbol, in_segment, perform}
-use Rattle.opcodes.specs.Tables.{bind_row, told_at, told_by, ran_of}
+use Rattle.opcodes.specs.Tables.{told_at, told_by, ran_of}
 use Rattle.opcodes.specs.declared.opcode.Instruction.{Instruction}
 use Rattle.opcodes.specs.declared.opcode.Instruction.TheVariants.{Pass, Symbol, Segment, Add, Bind}
 use Rattle.opcodes.specs.declared.binding.State.{State}
-use Rattle.opcodes.specs.declared.binding.Bound.{Bound}
+use Rattle.fixups.specs.declared.name.Name.{Name}
+use Rattle.fixups.specs.declared.name.Bound.{Bound}
 use Rattle.std.specs.Prelude.{Result, Ok, Err}
 use Rattle.reads.specs.Answer.{answered}
 use Rattle.reads.specs.declared.answer.Question.{Question}
@@ -20,7 +21,7 @@ and_false false = refl
 
 -- A run of binds.
 then_told : (x : Bound) (o : Outcome Moved) (p : Part)
-    → told_by (and_then o (λ m. value (moved (x ∷ m.binds) m.state))) p ≡ told_by o (put_row (bind_row x) p)
+    → told_by (and_then o (λ m. value (moved (x ∷ m.binds) m.state))) p ≡ told_by o (put_row (named_row x) p)
 unfolding told_by put_rows
 then_told x (value m) p = refl
 then_told x (absent r) p = refl
@@ -41,7 +42,7 @@ module _ (end left stride : ℕ) (s : State) (p : Part) where
     unfolding told_by
     run_refused k e = rw (run_more, e)
 
-    pub run_on : (x : Bound) → r ≡ Ok x → (q : Part) → q ≡ put_row (bind_row x) p → (s' : State) → s' ≡ further stride s
+    pub run_on : (x : Bound) → r ≡ Ok x → (q : Part) → q ≡ put_row (named_row x) p → (s' : State) → s' ≡ further stride s
         → told_by (run end left stride s) p ≡ told_by (run end (left - 1) stride s') q
     run_on x e q g s' f =
         ap (λ (o : Outcome Moved). told_by o p) (run_more ∙ rw e)
@@ -68,9 +69,9 @@ module _ (end : ℕ) (cmds segs : List ℕ) (x : Instruction) (s : State) (p : P
   unfolding perform told_by put_rows
   does_pass e = rw e
 
-  pub does_symbol : (name len : ℕ) → x ≡ Symbol name len → (t : State) → t ≡ with_symbol name len s → value (told_at t p) ≡ told_by (perform end cmds segs x s) p
+  pub does_symbol : (name : Name) → x ≡ Symbol name → (t : State) → t ≡ with_symbol name s → value (told_at t p) ≡ told_by (perform end cmds segs x s) p
   unfolding perform told_by put_rows
-  does_symbol name len e t g = rw (e, g)
+  does_symbol name e t g = rw (e, g)
 
   pub does_add : (n : ℕ) → x ≡ Add n → (t : State) → t ≡ further n s → value (told_at t p) ≡ told_by (perform end cmds segs x s) p
   unfolding perform told_by put_rows

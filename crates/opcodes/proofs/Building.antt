@@ -7,15 +7,15 @@ use Rattle.pointers.specs.Tables.{bind_words}
 use Rattle.macho.specs.Loader.{ncmds, cmdsize}
 use Rattle.macho.specs.Commands.{command_bytes, asked_commands, of_kind, segments_of}
 use Rattle.macho.specs.Segments.{written}
-use Rattle.fixups.specs.Tables.{rows_of, Part, part, put_rows}
+use Rattle.fixups.specs.Tables.{named_row, rows_of, Part, part, put_rows}
 use Rattle.fixups.proofs.Building.{nil_of}
 use Rattle.fixups.proofs.Pages.{next_of}
 use Rattle.fixups.proofs.Rows.{Sized, whole, Counted, table_filled, table_counted}
 use Rattle.opcodes.specs.DyldInfo.{dyld_info_kind, dyld_info_only_kind, earlier, first_info}
 use Rattle.opcodes.specs.Streams.{streams_at}
-use Rattle.opcodes.specs.Tables.{bind_row, told, part_of, reached}
+use Rattle.opcodes.specs.Tables.{told, part_of, reached}
 use Rattle.opcodes.specs.Binds.{binds_from, binds_in, binds_found, leaves, settled}
-use Rattle.opcodes.specs.declared.binding.Bound.{Bound}
+use Rattle.fixups.specs.declared.name.Bound.{Bound}
 use Rattle.std.specs.Prelude.{Result, Ok, Err, Option, None, Some, MatchOption}
 use Rattle.reads.specs.declared.answer.Question.{Question}
 use Rattle.reads.specs.declared.answer.Question.TheVariants.{BindTable, FixupData}
@@ -73,8 +73,8 @@ module _ (x : Outcome Part) (w : Result (Unit {0}) Question) (p : Part) (seen : 
   count_not k e = rw (← seen, e)
 
 -- Both walks. w is what the first gave: it was lent no room.
-sized : (x : Bound) → Sized bind_words (bind_row x)
-sized x = whole x.slot (x.name ∷ x.len ∷ 0 ∷ []) refl
+sized : (x : Bound) → Sized bind_words (named_row x)
+sized x = whole x.slot (x.name.at ∷ x.name.len ∷ 0 ∷ []) refl
 
 module _ (t : List ℕ) (ht : length t < 2 ^ 64) (x : Outcome (List Bound)) (w : Result ℕ Question) (e : part_of w [] ≡ told x (part 0 [])) where
   pub refusing : (k : Question) → w ≡ Err k → leaves (refused k) t ≡ settled x t
@@ -82,23 +82,23 @@ module _ (t : List ℕ) (ht : length t < 2 ^ 64) (x : Outcome (List Bound)) (w :
   refusing k g = go x (rw g at e)
     where
       go : (y : Outcome (List Bound)) → refused k ≡ told y (part 0 []) → leaves (refused k) t ≡ settled y t
-      go (value xs) q = let z : refused k ≡ value (put_rows bind_row xs (part 0 [])) = q in let y : ◌≡◌ {A = ℕ} 0 1 = cc in absurd (omega arith)
+      go (value xs) q = let z : refused k ≡ value (put_rows named_row xs (part 0 [])) = q in let y : ◌≡◌ {A = ℕ} 0 1 = cc in absurd (omega arith)
       go (absent r) q = let z : ◌≡◌ {A = Outcome Part} (refused k) (absent r) = q in let y : ◌≡◌ {A = ℕ} 0 1 = cc in absurd (omega arith)
       go (refused j) q = let z : ◌≡◌ {A = Outcome Part} (refused k) (refused j) = q in let y : k ≡ j = cc in rw y
 
   -- A walk that counted has made binds.
   module _ (n : ℕ) (g : w ≡ Ok n) where
-    walked : (xs : List Bound) × (x ≡ value xs) × (part n [] ≡ put_rows bind_row xs (part 0 []))
+    walked : (xs : List Bound) × (x ≡ value xs) × (part n [] ≡ put_rows named_row xs (part 0 []))
     unfolding told
     walked = go x refl (rw g at e)
       where
-        go : (y : Outcome (List Bound)) → x ≡ y → value (part n []) ≡ told y (part 0 []) → (xs : List Bound) × (x ≡ value xs) × (part n [] ≡ put_rows bind_row xs (part 0 []))
+        go : (y : Outcome (List Bound)) → x ≡ y → value (part n []) ≡ told y (part 0 []) → (xs : List Bound) × (x ≡ value xs) × (part n [] ≡ put_rows named_row xs (part 0 []))
         go (value xs) p q = (xs, p, cc)
         go (absent j) p q = let z : value (part n []) ≡ absent j = q in let y : ◌≡◌ {A = ℕ} 0 1 = cc in absurd (omega arith)
         go (refused j) p q = let z : value (part n []) ≡ refused j = q in let y : ◌≡◌ {A = ℕ} 0 1 = cc in absurd (omega arith)
 
-    counted : Counted n bind_words (rows_of bind_row walked.0)
-    counted = table_counted bind_row sized walked.0 n [] walked.2
+    counted : Counted n bind_words (rows_of named_row walked.0)
+    counted = table_counted named_row sized walked.0 n [] walked.2
 
     pub is_6 : length t / bind_words < n → leaves (refused BindTable) t ≡ settled x t
     unfolding settled
@@ -108,12 +108,12 @@ module _ (t : List ℕ) (ht : length t < 2 ^ 64) (x : Outcome (List Bound)) (w :
     unfolding settled told
     is_filled h v p u = rw walked.1 (go v (rw walked.1 at u))
       where
-        go : (v' : Result (Unit {0}) Question) → reached v' p ≡ value (put_rows bind_row walked.0 (part 0 t)) → leaves (value n) p.words ≡ settled (value walked.0) t
+        go : (v' : Result (Unit {0}) Question) → reached v' p ≡ value (put_rows named_row walked.0 (part 0 t)) → leaves (value n) p.words ≡ settled (value walked.0) t
         go (Ok u) q =
             let m = p.count in let t' = p.words in
-            let y : p ≡ put_rows bind_row walked.0 (part 0 t) = cc in
-            let z : part m t' ≡ put_rows bind_row walked.0 (part 0 t) = y in
-            let f = table_filled bind_row sized walked.0 m t' t z (counted.fits t ht h) ht in
+            let y : p ≡ put_rows named_row walked.0 (part 0 t) = cc in
+            let z : part m t' ≡ put_rows named_row walked.0 (part 0 t) = y in
+            let f = table_filled named_row sized walked.0 m t' t z (counted.fits t ht h) ht in
             ap (λ (i : ℕ). leaves (value i) t') (counted.exact t ht h)
             ∙ rw f (sym (choose_true _ _ (le-leb _ _ (counted.fits t ht h))))
         go (Err k) q = let z : ◌≡◌ {A = ℕ} 0 1 = cc in absurd (omega arith)

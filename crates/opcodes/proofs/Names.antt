@@ -6,10 +6,10 @@ use Rattle.reads.specs.Leb128.{uleb128, sleb128}
 use Rattle.reads.proofs.Tests.{by_choose}
 use Rattle.macho.specs.Loader.{ncmds}
 use Rattle.macho.specs.Commands.{command_bytes, asked_commands, segments_of}
-use Rattle.fixups.specs.Imports.{zero_from}
+use Rattle.fixups.specs.Imports.{bound, name_of, zero_from}
 use Rattle.opcodes.specs.DyldInfo.{bind_off, weak_bind_off, lazy_bind_off, stream_off, stream_size, first_info}
 use Rattle.opcodes.specs.Opcodes.{Opcode, opcode, operand, opcode_of, with_number, typed, symbol_at, addend, skipping, times_skipping, by_opcode, decode}
-use Rattle.opcodes.specs.Binding.{bound, unset, further, with_symbol, with_segment, name_of, bound_at, bound_by, Moved, moved, run, in_segment, perform}
+use Rattle.opcodes.specs.Binding.{unset, further, with_symbol, with_segment, bound_at, bound_by, Moved, moved, run, in_segment, perform}
 use Rattle.opcodes.specs.Streams.{walk, stream_at, joined, streams_at}
 use Rattle.opcodes.specs.Binds.{binds_from, binds_in, binds_found}
 use Rattle.opcodes.specs.Names.{NamesIn, none, name}
@@ -18,9 +18,9 @@ use Rattle.opcodes.specs.declared.opcode.BindOpcode.TheVariants.{Done, SetDylibO
 use Rattle.opcodes.specs.declared.opcode.Instruction.{Instruction}
 use Rattle.opcodes.specs.declared.opcode.Instruction.TheVariants.{Pass, Symbol, Segment, Add, Bind}
 use Rattle.opcodes.specs.declared.binding.Place.{Place}
-use Rattle.opcodes.specs.declared.binding.Name.{Name}
+use Rattle.fixups.specs.declared.name.Name.{Name}
 use Rattle.opcodes.specs.declared.binding.State.{State}
-use Rattle.opcodes.specs.declared.binding.Bound.{Bound}
+use Rattle.fixups.specs.declared.name.Bound.{Bound}
 use Rattle.opcodes.proofs.Sizes.{then_value, Below, zero_in, Each, each_value, each_number, each_then}
 use Rattle.reads.specs.declared.answer.Question.{Question}
 use Rattle.reads.specs.declared.answer.Question.TheVariants.{FixupData, FixupSlot}
@@ -36,7 +36,7 @@ Good n s = (x : Name) → s.name ≡ Some x → x.at + x.len < n
 -- One bind.
 module _ (n end : ℕ) (s : State) (good : Good n s) where
   Lies : Outcome Bound → Type 0
-  Lies o = (x : Bound) → o ≡ value x → x.name + x.len < n
+  Lies o = (x : Bound) → o ≡ value x → x.name.at + x.name.len < n
 
   bound_lies : Lies (bound_by end s)
   unfolding bound_by Lies
@@ -46,9 +46,9 @@ module _ (n end : ℕ) (s : State) (good : Good n s) where
       go (Some a) (Some t) h =
           by_choose Lies
           (λ _. λ x e.
-          let p : bound ((a.vmaddr + s.offset) % 2 ^ 64) t.at t.len ≡ x = cc in
+          let p : bound ((a.vmaddr + s.offset) % 2 ^ 64) t ≡ x = cc in
           let g = good t h in
-          omega (arith, ap (λ (y : Bound). y.name) p, ap (λ (y : Bound). y.len) p))
+          omega (arith, ap (λ (y : Bound). y.name.at) p, ap (λ (y : Bound). y.name.len) p))
           (λ _. λ x e. let z : ◌≡◌ {A = ℕ} 0 1 = cc in absurd (omega arith))
       go (Some a) None h = λ x e. let z : ◌≡◌ {A = ℕ} 0 1 = cc in absurd (omega arith)
       go None t h = λ x e. let z : ◌≡◌ {A = ℕ} 0 1 = cc in absurd (omega arith)
@@ -77,15 +77,15 @@ segment_kept n cmds (a ∷ segs) (suc index) offset s t g e = segment_kept n cmd
 
 -- A symbol's name ends in the bytes after its opcode.
 abbrev NameIn : ℕ → Instruction → Type 0
-NameIn n x = (at len : ℕ) → x ≡ Symbol at len → at + len < n
+NameIn n x = (t : Name) → x ≡ Symbol t → t.at + t.len < n
 
 perform_kept : (n end : ℕ) (cmds segs : List ℕ) (x : Instruction) (s : State) (m : Moved) → NameIn n x → Good n s
     → perform end cmds segs x s ≡ value m → Kept n m
 unfolding perform
 perform_kept n end cmds segs Pass s m h g e = kept n [] s m e none g
-perform_kept n end cmds segs (Symbol at len) s m h g e = kept n [] (with_symbol at len s) m e none (λ x f.
-    let p : name_of at len ≡ x = cc in
-    let g = h at len refl in
+perform_kept n end cmds segs (Symbol t) s m h g e = kept n [] (with_symbol t s) m e none (λ x f.
+    let p : t ≡ x = cc in
+    let g = h t refl in
     omega (arith, ap (λ (y : Name). y.at) p, ap (λ (y : Name). y.len) p))
 perform_kept n end cmds segs (Segment index offset) s m h g e =
     let p = then_value (in_segment cmds segs index offset s) (λ t. value (moved [] t)) m e in
@@ -96,19 +96,19 @@ perform_kept n end cmds segs (Bind count stride) s m h g e = run_kept n end stri
 -- Opcodes.
 module _ (n : ℕ) where
   unnamed_pass : NameIn n Pass
-  unnamed_pass = λ at len e. let z : ◌≡◌ {A = ℕ} 0 1 = cc in absurd (omega arith)
+  unnamed_pass = λ t e. let z : ◌≡◌ {A = ℕ} 0 1 = cc in absurd (omega arith)
 
   unnamed_segment : (i o : ℕ) → NameIn n (Segment i o)
-  unnamed_segment i o = λ at len e. let z : ◌≡◌ {A = ℕ} 0 1 = cc in absurd (omega arith)
+  unnamed_segment i o = λ t e. let z : ◌≡◌ {A = ℕ} 0 1 = cc in absurd (omega arith)
 
   unnamed_add : (k : ℕ) → NameIn n (Add k)
-  unnamed_add k = λ at len e. let z : ◌≡◌ {A = ℕ} 0 1 = cc in absurd (omega arith)
+  unnamed_add k = λ t e. let z : ◌≡◌ {A = ℕ} 0 1 = cc in absurd (omega arith)
 
   unnamed_bind : (c k : ℕ) → NameIn n (Bind c k)
-  unnamed_bind c k = λ at len e. let z : ◌≡◌ {A = ℕ} 0 1 = cc in absurd (omega arith)
+  unnamed_bind c k = λ t e. let z : ◌≡◌ {A = ℕ} 0 1 = cc in absurd (omega arith)
 
-  named_symbol : (a l : ℕ) → a + l < n → NameIn n (Symbol a l)
-  named_symbol a l h = λ at len e. let p : a ≡ at = cc in let q : l ≡ len = cc in omega arith
+  named_symbol : (a l : ℕ) → a + l < n → NameIn n (Symbol (name_of a l))
+  named_symbol a l h = λ t e. let p : name_of a l ≡ t = cc in omega (arith, ap (λ (y : Name). y.at) p, ap (λ (y : Name). y.len) p)
 
   abbrev Named : Outcome Opcode → Type 0
   Named o = Each (λ d. NameIn n d.says) o
@@ -144,7 +144,7 @@ module _ (n : ℕ) where
   opcode_named parts place rest h SetDylibOrdinalUleb imm = number_named rest (λ k. Pass) (λ k. unnamed_pass)
   opcode_named parts place rest h SetDylibSpecialImm imm = one_named Pass 0 unnamed_pass
   opcode_named parts place rest h SetSymbolTrailingFlagsImm imm =
-      onto (zero_from 0 rest) _ (λ k e. one_named (Symbol place k) _ (named_symbol place k (omega (arith, zero_in 0 rest k e))))
+      onto (zero_from 0 rest) _ (λ k e. one_named (Symbol (name_of place k)) _ (named_symbol place k (omega (arith, zero_in 0 rest k e))))
   opcode_named parts place rest h SetTypeImm imm = type_named imm
   opcode_named parts place rest h SetAddendSleb imm = onto (operand (sleb128 rest)) _ (λ s e. one_named Pass _ unnamed_pass)
   opcode_named parts place rest h SetSegmentAndOffsetUleb imm = number_named rest (λ k. Segment imm k) (unnamed_segment imm)

@@ -4,7 +4,7 @@ use Rattle.std.proofs.Common.{◌≡◌, ℕ, zero, suc, ◌+◌, ◌-◌, ◌*�
 use Rattle.reads.specs.Outcome.{Outcome, value, refused}
 use Rattle.reads.proofs.Tests.{by_choose, both_true}
 use Rattle.reads.specs.Leb128.{uleb128, sleb128}
-use Rattle.fixups.specs.Imports.{zero_from}
+use Rattle.fixups.specs.Imports.{name_of, zero_from}
 use Rattle.opcodes.specs.Opcodes.{Opcode, opcode, operand, opcode_of, with_number, typed, symbol_at, addend, skipping, times_skipping, by_opcode, decode}
 use Rattle.opcodes.specs.Binding.{further, with_symbol, inside, bound_at, bound_by, Moved, moved, run, in_segment, perform}
 use Rattle.opcodes.specs.declared.opcode.BindOpcode.{BindOpcode}
@@ -12,9 +12,9 @@ use Rattle.opcodes.specs.declared.opcode.BindOpcode.TheVariants.{Done, SetDylibO
 use Rattle.opcodes.specs.declared.opcode.Instruction.{Instruction}
 use Rattle.opcodes.specs.declared.opcode.Instruction.TheVariants.{Pass, Symbol, Segment, Add, Bind}
 use Rattle.opcodes.specs.declared.binding.Place.{Place}
-use Rattle.opcodes.specs.declared.binding.Name.{Name}
+use Rattle.fixups.specs.declared.name.Name.{Name}
 use Rattle.opcodes.specs.declared.binding.State.{State}
-use Rattle.opcodes.specs.declared.binding.Bound.{Bound}
+use Rattle.fixups.specs.declared.name.Bound.{Bound}
 use Rattle.opcodes.proofs.Sizes.{then_value, Each, each_value, each_number, each_then}
 use Rattle.reads.specs.declared.answer.Question.{Question}
 use Rattle.reads.specs.declared.answer.Question.TheVariants.{FixupData, FixupSlot}
@@ -85,8 +85,8 @@ Paced x = (count stride : ℕ) → x ≡ Bind count stride → ((count ≤ 1) �
 paced_pass : Paced Pass
 paced_pass = λ count stride e. let z : ◌≡◌ {A = ℕ} 0 1 = cc in absurd (omega arith)
 
-paced_symbol : (name len : ℕ) → Paced (Symbol name len)
-paced_symbol name len = λ count stride e. let z : ◌≡◌ {A = ℕ} 0 1 = cc in absurd (omega arith)
+paced_symbol : (name : Name) → Paced (Symbol name)
+paced_symbol name = λ count stride e. let z : ◌≡◌ {A = ℕ} 0 1 = cc in absurd (omega arith)
 
 paced_segment : (index offset : ℕ) → Paced (Segment index offset)
 paced_segment index offset = λ count stride e. let z : ◌≡◌ {A = ℕ} 0 1 = cc in absurd (omega arith)
@@ -133,7 +133,7 @@ opcode_paced parts place rest SetDylibOrdinalImm imm = one_paced Pass 0 paced_pa
 opcode_paced parts place rest SetDylibOrdinalUleb imm = number_paced rest (λ n. Pass) (λ n. paced_pass)
 opcode_paced parts place rest SetDylibSpecialImm imm = one_paced Pass 0 paced_pass
 opcode_paced parts place rest SetSymbolTrailingFlagsImm imm =
-    each_then (λ d. Paced d.says) (zero_from 0 rest) _ (λ n e. one_paced (Symbol place n) _ (paced_symbol place n))
+    each_then (λ d. Paced d.says) (zero_from 0 rest) _ (λ n e. one_paced (Symbol (name_of place n)) _ (paced_symbol (name_of place n)))
 opcode_paced parts place rest SetTypeImm imm = type_paced imm
 opcode_paced parts place rest SetAddendSleb imm = each_then (λ d. Paced d.says) (operand (sleb128 rest)) _ (λ s e. one_paced Pass _ paced_pass)
 opcode_paced parts place rest SetSegmentAndOffsetUleb imm = number_paced rest (λ n. Segment imm n) (paced_segment imm)
@@ -174,7 +174,7 @@ opcode_short end cmds segs parts place b rest d s m e g l = go d.says g (decode_
 
     go : (x : Instruction) → perform end cmds segs x s ≡ value m → Paced x → length m.binds ≤ end
     go Pass q w = still s (unfold perform in q)
-    go (Symbol name len) q w = still (with_symbol name len s) (unfold perform in q)
+    go (Symbol name) q w = still (with_symbol name s) (unfold perform in q)
     go (Segment index offset) q w =
         let p = then_value (in_segment cmds segs index offset s) (λ t. value (moved [] t)) m (unfold perform in q) in still p.0 p.2
     go (Add n) q w = still (further n s) (unfold perform in q)

@@ -1,42 +1,39 @@
 -- A stream from any of its opcodes on, and one stream after the other.
-use Rattle.std.proofs.Common.{◌≡◌, ℕ, zero, suc, ◌+◌, ◌-◌, ◌<◌, ◌≤◌, Bool, List, [], ◌∷◌, ◌++◌, length, get_or, take, drop, sym, refl, ap, ◌∙◌, ap₂, add-one, arith, length-drop, drop_of_length-le, length-take, take_all, drop-cons, drop-drop}
+use Rattle.std.proofs.Common.{◌≡◌, ℕ, zero, suc, ◌+◌, ◌-◌, ◌<◌, ◌≤◌, Bool, None, List, [], ◌∷◌, ◌++◌, length, get_or, take, drop, sym, refl, ap, ◌∙◌, ap₂, add-one, arith, length-drop, drop_of_length-le, length-take, take_all, drop-cons, drop-drop}
 use Rattle.reads.specs.Outcome.{Outcome, value, absent, refused, and_then}
 use Rattle.reads.specs.Place.{part as slice}
-use Rattle.fixups.specs.Tables.{Part, put_row, put_rows}
+use Rattle.fixups.specs.Tables.{named_row, Part, put_row, put_rows}
 use Rattle.opcodes.specs.Opcodes.{Opcode, decode, decoded_outcome}
 use Rattle.opcodes.specs.DyldInfo.{stream_off, stream_size}
 use Rattle.opcodes.specs.Binding.{unset, Moved, perform}
 use Rattle.opcodes.specs.Streams.{walk, stream_at, joined}
-use Rattle.opcodes.specs.Tables.{Kept, bind_row, told, reached, told_at, told_by, ran_of, Next, next, next_of}
+use Rattle.opcodes.specs.Tables.{told, reached, told_at, told_by, ran_of, Next, next, next_of}
 use Rattle.opcodes.specs.declared.binding.State.{State}
-use Rattle.opcodes.specs.declared.binding.Bound.{Bound}
-use Rattle.opcodes.specs.declared.binding.Binds.{Binds}
+use Rattle.fixups.specs.declared.name.Bound.{Bound}
 use Rattle.opcodes.specs.declared.opcode.Instruction.{Instruction}
 use Rattle.opcodes.proofs.Sizes.{decode_within}
 use Rattle.std.specs.Prelude.{Result, Ok, Err}
 use Rattle.reads.specs.declared.answer.Question.{Question}
 
-puts_append : (xs ys : List Bound) (p : Part) → put_rows bind_row (xs ++ ys) p ≡ put_rows bind_row ys (put_rows bind_row xs p)
+puts_append : (xs ys : List Bound) (p : Part) → put_rows named_row (xs ++ ys) p ≡ put_rows named_row ys (put_rows named_row xs p)
 unfolding put_rows
 puts_append [] ys p = refl
-puts_append (x ∷ xs) ys p = puts_append xs ys (put_row (bind_row x) p)
+puts_append (x ∷ xs) ys p = puts_append xs ys (put_row (named_row x) p)
 
 told_after : (ys : List Bound) (w : Outcome (List Bound)) (p : Part)
-    → told (and_then w (λ xs. value (ys ++ xs))) p ≡ told w (put_rows bind_row ys p)
+    → told (and_then w (λ xs. value (ys ++ xs))) p ≡ told w (put_rows named_row ys p)
 unfolding told
 told_after ys (value xs) p = rw (puts_append ys xs p)
 told_after ys (absent r) p = refl
 told_after ys (refused k) p = refl
 
+-- The state that the code begins with, by its parts.
+pub unset_is : (s : State) → (s.place ≡ None) × ((s.offset ≡ 0) × (s.name ≡ None)) → s ≡ unset
+unset_is s e = rw (e.0, e.1.0, e.1.1)
+
 -- What follows an opcode, by what it leaves.
 abbrev after : (Opcode → Outcome Moved) → Part → Opcode → Outcome Next
 after does p d = and_then (told_by (does d) p) (λ t. value (next t d.size))
-
-pub kept : (b : Binds) → Kept b b
-kept b = record { table = refl; words = refl }
-
-pub kept_on : (a b c : Binds) → Kept a b → Kept b c → Kept a c
-kept_on a b c h g = record { table = g.table ∙ h.table; words = g.words ∙ h.words }
 
 -- One opcode, as the code sees it.
 module _ (d : Outcome Opcode) (p : Part) where
@@ -62,8 +59,8 @@ module _ (does : Opcode → Outcome Moved) (rest : ℕ → State → Outcome (Li
   goes_refused (refused j) k e = cc
   goes_refused (value o) k e = go (does o) e
     where
-      go : (m : Outcome Moved) → refused k ≡ and_then (and_then m (λ m. value (told_at m.state (put_rows bind_row m.binds p)))) (λ t. value (next t o.size))
-          → refused k ≡ and_then (and_then m (λ m. and_then (rest o.size m.state) (λ xs. value (m.binds ++ xs)))) (λ xs. value (put_rows bind_row xs p))
+      go : (m : Outcome Moved) → refused k ≡ and_then (and_then m (λ m. value (told_at m.state (put_rows named_row m.binds p)))) (λ t. value (next t o.size))
+          → refused k ≡ and_then (and_then m (λ m. and_then (rest o.size m.state) (λ xs. value (m.binds ++ xs)))) (λ xs. value (put_rows named_row xs p))
       go (value m) q = let z : ◌≡◌ {A = ℕ} 0 1 = cc in absurd (omega arith)
       go (absent j) q = let z : ◌≡◌ {A = ℕ} 0 1 = cc in absurd (omega arith)
       go (refused j) q = cc
@@ -76,12 +73,12 @@ module _ (does : Opcode → Outcome Moved) (rest : ℕ → State → Outcome (Li
   goes_on (value o) s n t e = go (does o) e
     where
       go : (y : Outcome Moved)
-          → value (next (told_at s t) n) ≡ and_then (and_then y (λ y. value (told_at y.state (put_rows bind_row y.binds p)))) (λ t. value (next t o.size))
+          → value (next (told_at s t) n) ≡ and_then (and_then y (λ y. value (told_at y.state (put_rows named_row y.binds p)))) (λ t. value (next t o.size))
           → told (and_then y (λ y. and_then (rest o.size y.state) (λ xs. value (y.binds ++ xs)))) p ≡ told (rest n s) t
       go (absent j) q = let z : ◌≡◌ {A = ℕ} 0 1 = cc in absurd (omega arith)
       go (refused j) q = let z : ◌≡◌ {A = ℕ} 0 1 = cc in absurd (omega arith)
       go (value y) q =
-          let z : next (told_at s t) n ≡ next (told_at y.state (put_rows bind_row y.binds p)) o.size = cc in
+          let z : next (told_at s t) n ≡ next (told_at y.state (put_rows named_row y.binds p)) o.size = cc in
           told_after y.binds (rest o.size y.state) p
           ∙ sym (ap (λ (w : Next). told (rest w.size w.told.state) w.told.table) z)
 
@@ -93,12 +90,12 @@ module _ (does : Opcode → Outcome Moved) (rest : ℕ → State → Outcome (Li
   size_of (value o) s n t e = go (does o) e
     where
       go : (y : Outcome Moved)
-          → value (next (told_at s t) n) ≡ and_then (and_then y (λ y. value (told_at y.state (put_rows bind_row y.binds p)))) (λ t. value (next t o.size))
+          → value (next (told_at s t) n) ≡ and_then (and_then y (λ y. value (told_at y.state (put_rows named_row y.binds p)))) (λ t. value (next t o.size))
           → (o' : Opcode) × (value o ≡ value o') × (n ≡ o'.size)
       go (absent j) q = let z : ◌≡◌ {A = ℕ} 0 1 = cc in absurd (omega arith)
       go (refused j) q = let z : ◌≡◌ {A = ℕ} 0 1 = cc in absurd (omega arith)
       go (value y) q =
-          let z : next (told_at s t) n ≡ next (told_at y.state (put_rows bind_row y.binds p)) o.size = cc in
+          let z : next (told_at s t) n ≡ next (told_at y.state (put_rows named_row y.binds p)) o.size = cc in
           (o, refl, ap (λ (w : Next). w.size) z)
 
 module _ (end : ℕ) (cmds segs : List ℕ) (parts : Bool) where

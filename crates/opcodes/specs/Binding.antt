@@ -2,27 +2,22 @@
 use Rattle.std.specs.Prelude.{ℕ, zero, suc, ◌+◌, ◌%◌, ◌^◌, Bool, ◌&&◌, List, [], ◌∷◌, nat_le, Option, None, Some}
 use Rattle.reads.specs.Outcome.{Outcome, value, refused, and_then, choose}
 use Rattle.macho.specs.Loader.{vmaddr, fileoff, filesize}
+use Rattle.fixups.specs.Imports.{bound}
+use Rattle.fixups.specs.declared.name.Name.{Name}
 use Rattle.opcodes.specs.declared.opcode.Instruction.{Instruction}
 use Rattle.opcodes.specs.declared.opcode.Instruction.TheVariants.{Pass, Symbol, Segment, Add, Bind}
 use Rattle.opcodes.specs.declared.binding.Place.{Place}
-use Rattle.opcodes.specs.declared.binding.Name.{Name}
 use Rattle.opcodes.specs.declared.binding.State.{State}
-use Rattle.opcodes.specs.declared.binding.Bound.{Bound}
+use Rattle.fixups.specs.declared.name.Bound.{Bound}
 use Rattle.reads.specs.declared.answer.Question.TheVariants.{FixupData, FixupSlot}
-
-abbrev pub bound : ℕ → ℕ → ℕ → Bound
-bound slot name len = record { slot = slot; name = name; len = len }
 
 -- Neither a segment nor a symbol is set.
 abbrev pub unset : State
 unset = record { place = None; offset = 0; name = None }
 
-abbrev pub name_of : ℕ → ℕ → Name
-name_of at len = record { at = at; len = len }
-
-abbrev pub with_symbol : ℕ → ℕ → State → State
-with_symbol name len s =
-    record { place = s.place; offset = s.offset; name = Some (name_of name len) }
+abbrev pub with_symbol : Name → State → State
+with_symbol name s =
+    record { place = s.place; offset = s.offset; name = Some name }
 
 abbrev pub place_of : List ℕ → ℕ → Place
 place_of cmds a = record { vmaddr = vmaddr cmds a; fileoff = fileoff cmds a; filesize = filesize cmds a }
@@ -44,7 +39,7 @@ inside end p offset = nat_le (offset + 8) p.filesize && nat_le (p.fileoff + offs
 -- The bind of the slot at an offset, by what is set.
 abbrev pub bound_at : ℕ → ℕ → Option Place → Option Name → Outcome Bound
 bound_at end offset (Some p) (Some n) =
-    choose (inside end p offset) (value (bound ((p.vmaddr + offset) % 2 ^ 64) n.at n.len)) (refused FixupSlot)
+    choose (inside end p offset) (value (bound ((p.vmaddr + offset) % 2 ^ 64) n)) (refused FixupSlot)
 bound_at end offset (Some p) None = refused FixupData
 bound_at end offset None n = refused FixupData
 
@@ -75,7 +70,7 @@ in_segment cmds (a ∷ segs) (suc index) offset s = in_segment cmds segs index o
 
 unfoldable pub perform : ℕ → List ℕ → List ℕ → Instruction → State → Outcome Moved
 perform end cmds segs Pass s = value (moved [] s)
-perform end cmds segs (Symbol name len) s = value (moved [] (with_symbol name len s))
+perform end cmds segs (Symbol name) s = value (moved [] (with_symbol name s))
 perform end cmds segs (Segment index offset) s = and_then (in_segment cmds segs index offset s) (λ t. value (moved [] t))
 perform end cmds segs (Add n) s = value (moved [] (further n s))
 perform end cmds segs (Bind count stride) s = run end count stride s

@@ -5,11 +5,10 @@ use Rattle.pointers.specs.Tables.{bind_words}
 use Rattle.macho.specs.Loader.{ncmds, cmdsize}
 use Rattle.macho.specs.Commands.{command_bytes, asked_commands, segments_of}
 use Rattle.macho.specs.Segments.{written}
-use Rattle.fixups.specs.Tables.{rows_of}
+use Rattle.fixups.specs.Tables.{named_row, rows_of}
 use Rattle.opcodes.specs.DyldInfo.{first_info}
 use Rattle.opcodes.specs.Streams.{streams_at}
-use Rattle.opcodes.specs.Tables.{bind_row}
-use Rattle.opcodes.specs.declared.binding.Bound.{Bound}
+use Rattle.fixups.specs.declared.name.Bound.{Bound}
 use Rattle.reads.specs.declared.answer.Question.TheVariants.{BindTable, FixupData}
 
 -- The dyld_info_command at a: one under 48 bytes is 19.
@@ -42,6 +41,6 @@ unfoldable pub settled : Outcome (List Bound) → List ℕ → Settled
 settled (absent r) t = leaves (absent r) t
 settled (refused k) t = leaves (refused k) t
 settled (value xs) t =
-    choose (nat_le (length (rows_of bind_row xs)) (length t))
-    (leaves (value (length (rows_of bind_row xs) / bind_words)) (written (rows_of bind_row xs) t))
+    choose (nat_le (length (rows_of named_row xs)) (length t))
+    (leaves (value (length (rows_of named_row xs) / bind_words)) (written (rows_of named_row xs) t))
     (leaves (refused BindTable) t)

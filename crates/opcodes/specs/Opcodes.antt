@@ -2,7 +2,7 @@
 use Rattle.std.specs.Prelude.{ℕ, ◌+◌, ◌-◌, ◌*◌, ◌%◌, ◌^◌, Bool, List, length, drop, ◌==◌, nat_lt, Result, Ok, Err}
 use Rattle.reads.specs.Outcome.{Outcome, value, absent, refused, and_then, choose}
 use Rattle.reads.specs.Leb128.{uleb128, sleb128}
-use Rattle.fixups.specs.Imports.{zero_from}
+use Rattle.fixups.specs.Imports.{name_of, zero_from}
 use Rattle.opcodes.specs.declared.opcode.BindOpcode.{BindOpcode}
 use Rattle.opcodes.specs.declared.opcode.BindOpcode.TheVariants.{Done, SetDylibOrdinalImm, SetDylibOrdinalUleb, SetDylibSpecialImm, SetSymbolTrailingFlagsImm, SetTypeImm, SetAddendSleb, SetSegmentAndOffsetUleb, AddAddrUleb, DoBind, DoBindAddAddrUleb, DoBindAddAddrImmScaled, DoBindUlebTimesSkippingUleb}
 use Rattle.opcodes.specs.declared.opcode.Instruction.{Instruction}
@@ -52,7 +52,7 @@ with_number rest f = and_then (operand (uleb128 rest)) (λ u. value (opcode (f u
 
 -- BIND_OPCODE_SET_SYMBOL_TRAILING_FLAGS_IMM: the name stands at `place` in the file, and ends at its zero.
 unfoldable pub symbol_at : ℕ → List ℕ → Outcome Opcode
-symbol_at place rest = and_then (zero_from 0 rest) (λ n. value (opcode (Symbol place n) (n + 1)))
+symbol_at place rest = and_then (zero_from 0 rest) (λ n. value (opcode (Symbol (name_of place n)) (n + 1)))
 
 -- BIND_OPCODE_SET_ADDEND_SLEB.
 unfoldable pub addend : List ℕ → Outcome Opcode

@@ -8,7 +8,7 @@ use Rattle.opcodes.specs.Opcodes.{decode}
 use Rattle.opcodes.specs.Binding.{unset, perform}
 use Rattle.opcodes.specs.declared.dyld_info.Info.{Info}
 use Rattle.opcodes.specs.declared.binding.State.{State}
-use Rattle.opcodes.specs.declared.binding.Bound.{Bound}
+use Rattle.fixups.specs.declared.name.Bound.{Bound}
 
 -- The bytes of a stream from `place` in the file on, of which the first `skip` are operands that were read.
 unfoldable pub walk : ℕ → List ℕ → List ℕ → Bool → ℕ → List ℕ → ℕ → State → Outcome (List Bound)

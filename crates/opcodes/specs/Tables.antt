@@ -1,29 +1,20 @@
 -- The words of the binds, and what a walk leaves in the lent table.
-use Rattle.std.specs.Prelude.{◌≡◌, ℕ, length, List, [], ◌∷◌, Result, Ok, Err}
+use Rattle.std.specs.Prelude.{◌≡◌, ℕ, List, Result, Ok, Err}
 use Rattle.reads.specs.Outcome.{Outcome, value, refused, and_then}
-use Rattle.fixups.specs.Tables.{Part, part, put_rows}
+use Rattle.fixups.specs.Tables.{named_row, Part, part, put_rows, Kept}
 use Rattle.opcodes.specs.Binding.{Moved}
 use Rattle.opcodes.specs.declared.binding.State.{State}
-use Rattle.opcodes.specs.declared.binding.Bound.{Bound}
+use Rattle.fixups.specs.declared.name.Bound.{Bound}
 use Rattle.opcodes.specs.declared.binding.Binds.{Binds}
 use Rattle.reads.specs.declared.answer.Question.{Question}
-
--- The row of a bind: its name lies in file 0.
-abbrev pub bind_row : Bound → List ℕ
-bind_row x = x.slot ∷ x.name ∷ x.len ∷ 0 ∷ []
 
 -- The table under way.
 abbrev pub part_in : Binds → Part
 part_in b = part b.count b.table.now
 
--- A table that takes binds is the same table.
-pub record Kept (o p : Binds) : Type 0 where
-  pub table : p.table.ghost_name ≡ o.table.ghost_name
-  pub words : length p.table.now ≡ length o.table.now
-
 -- What a walk that makes these binds leaves.
 unfoldable pub told : Outcome (List Bound) → Part → Outcome Part
-told x p = and_then x (λ xs. value (put_rows bind_row xs p))
+told x p = and_then x (λ xs. value (put_rows named_row xs p))
 
 -- What a walk's answer says of the table that it leaves.
 abbrev pub reached : Result (Unit {0}) Question → Part → Outcome Part
@@ -32,7 +23,7 @@ reached (Err k) p = refused k
 
 -- What a walk that makes the binds x, and its answer r, leave of the table o: it is the same table, with the rows of x.
 pub record Walks (x : Outcome (List Bound)) (r : Result (Unit {0}) Question) (o p : Binds) : Type 0 where
-  pub kept : Kept o p
+  pub kept : Kept o.table p.table
   pub told : reached r (part_in p) ≡ told x (part_in o)
 
 -- And an answer of the count.
@@ -49,7 +40,7 @@ abbrev pub told_at : State → Part → Told
 told_at s p = record { state = s; table = p }
 
 unfoldable pub told_by : Outcome Moved → Part → Outcome Told
-told_by x p = and_then x (λ m. value (told_at m.state (put_rows bind_row m.binds p)))
+told_by x p = and_then x (λ m. value (told_at m.state (put_rows named_row m.binds p)))
 
 abbrev pub ran_of : Result State Question → Part → Outcome Told
 ran_of (Ok s) p = value (told_at s p)
@@ -57,7 +48,7 @@ ran_of (Err k) p = refused k
 
 -- What a run that makes x, and its answer r, leave of the table o.
 pub record Runs (x : Outcome Moved) (r : Result State Question) (o p : Binds) : Type 0 where
-  pub kept : Kept o p
+  pub kept : Kept o.table p.table
   pub told : ran_of r (part_in p) ≡ told_by x (part_in o)
 
 -- And with the bytes of the opcode's operands.

@@ -1,12 +1,14 @@
 // The binds that an opcode makes.
 ghost use Rattle.std.specs.Prelude.{◌≡◌};
-ghost use Rattle.fixups.specs.Tables.{put_row};
+ghost use Rattle.fixups.specs.Tables.{Kept, named_row, put_row};
 ghost use Rattle.opcodes.specs.Binding.{further, bound_by, run};
-ghost use Rattle.opcodes.specs.Tables.{Kept, Runs, part_in, bind_row};
+ghost use Rattle.opcodes.specs.Tables.{Runs, part_in};
 ghost use Rattle.reads.specs.Answer.{answered};
 
+use fixups::name::{Bound, Name};
 use fixups::table::put_bind;
 use reads::answer::Question;
+use reads::place::lies_in;
 
 // A segment, by its command's vmaddr, fileoff and filesize.
 #[derive(Clone, Copy)]
@@ -16,27 +18,12 @@ pub struct Place {
     pub filesize: u64,
 }
 
-// A symbol, by its name's offset in the file and length.
-#[derive(Clone, Copy)]
-pub struct Name {
-    pub at: u64,
-    pub len: u64,
-}
-
-// What the opcodes have set: a segment, the slot's offset in it, and a symbol.
-#[derive(Clone, Copy)]
+// What the opcodes have set: a segment, the slot's offset in it, and a symbol's name; by default neither a segment nor a symbol.
+#[derive(Clone, Copy, Default)]
 pub struct State {
     pub place: Option<Place>,
     pub offset: u64,
     pub name: Option<Name>,
-}
-
-// A bind: its slot, its name's offset in the file and length.
-#[derive(Clone, Copy)]
-pub struct Bound {
-    pub slot: u64,
-    pub name: u64,
-    pub len: u64,
 }
 
 // The bind table, and how many binds are counted: each is put where there is room for it.
@@ -47,12 +34,12 @@ pub(crate) struct Binds<'a> {
 }
 
 impl Binds<'_> {
-    // Puts a bind.
+    // Puts a bind. `Kept` is said in each function for the reason at fixups' `Lists::put`.
     fn put(&mut self, x: Bound)
-        ensures kept { Kept self.old self.new }
-        ensures put { part_in self.new ≡ put_row (bind_row x) (part_in self.old) }
+        ensures kept { Kept self.old.table self.new.table }
+        ensures put { part_in self.new ≡ put_row (named_row x) (part_in self.old) }
     {
-        self.count = put_bind(self.table, self.count, x.slot, x.name, x.len);
+        self.count = put_bind(self.table, self.count, x);
     }
 }
 
@@ -73,22 +60,15 @@ fn bound_by(end: u64, s: State) -> Result<Bound, Question>
 {
     let place = s.place.ok_or(Question::FixupData)?;
     let name = s.name.ok_or(Question::FixupData)?;
-    if place.filesize < 8 {
+    if !lies_in(place.filesize, 0, s.offset, 8) {
         return Err(Question::FixupSlot);
     }
-    if place.filesize - 8 < s.offset {
-        return Err(Question::FixupSlot);
-    }
-    if end < place.fileoff {
-        return Err(Question::FixupSlot);
-    }
-    if end - place.fileoff < s.offset + 8 {
+    if !lies_in(end, place.fileoff, s.offset, 8) {
         return Err(Question::FixupSlot);
     }
     Ok(Bound {
         slot: place.vmaddr.wrapping_add(s.offset),
-        name: name.at,
-        len: name.len,
+        name,
     })
 }
 

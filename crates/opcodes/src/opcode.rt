@@ -5,7 +5,7 @@ ghost use Rattle.opcodes.specs.Opcodes.{opcode_of, decoded_outcome, operand, sym
 ghost use Rattle.reads.specs.Answer.{answered};
 ghost use Rattle.reads.specs.Leb128.{uleb128};
 
-use fixups::name::first_zero;
+use fixups::name::{Name, first_zero};
 use reads::answer::Question;
 use reads::leb128::{Leb, read_sleb128, read_uleb128};
 
@@ -90,8 +90,7 @@ impl TryFrom<u8> for BindOpcode {
 pub enum Instruction {
     // Nothing that a bind record has.
     Pass,
-    // The name's offset in the file, and its length.
-    Symbol(u64, u64),
+    Symbol(Name),
     // The segment's index, and the slot's offset in it.
     Segment(u64, u64),
     // How many bytes further the slot is.
@@ -121,7 +120,11 @@ fn symbol_at(place: u64, rest: &[u8]) -> Result<(Instruction, usize), Question>
     ensures { decoded_outcome result ≡ symbol_at place (before rest) }
 {
     let n = first_zero(rest).ok_or(Question::FixupData)?;
-    Ok((Instruction::Symbol(place, n as u64), n + 1))
+    let name = Name {
+        at: place,
+        len: n as u64,
+    };
+    Ok((Instruction::Symbol(name), n + 1))
 }
 
 // An addend, of which no bind record has anything.

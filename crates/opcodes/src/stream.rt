@@ -4,32 +4,24 @@ ghost use Rattle.reads.specs.Outcome.{value, and_then};
 ghost use Rattle.opcodes.specs.Opcodes.{decode};
 ghost use Rattle.opcodes.specs.Binding.{unset, with_symbol, perform};
 ghost use Rattle.opcodes.specs.Streams.{walk, joined, segments_in, stream_in, streams_in};
+ghost use Rattle.fixups.specs.Tables.{Kept};
 ghost use Rattle.opcodes.specs.DyldInfo.{weak_bind_off, lazy_bind_off};
-ghost use Rattle.opcodes.specs.Tables.{Kept, Runs, Walks, part_in, told_by, next, next_of};
+ghost use Rattle.opcodes.specs.Tables.{Runs, Walks, part_in, told_by, next, next_of};
 
-use crate::binding::{Binds, Name, State, further, run};
+use crate::binding::{Binds, State, further, run};
 use crate::dyld_info::{BIND_OFF, Info, LAZY_BIND_OFF, STREAM_SIZE, WEAK_BIND_OFF};
 use crate::opcode::{Instruction, Stream, decode};
 use crate::segment::in_segment;
+use fixups::name::Name;
 use macho::number::field32;
 use reads::answer::Question;
 use reads::place::part;
 
-fn unset() -> State
-    ensures { result ≡ unset }
+fn with_symbol(name: Name, s: State) -> State
+    ensures { result ≡ with_symbol name s }
 {
     State {
-        place: None,
-        offset: 0,
-        name: None,
-    }
-}
-
-fn with_symbol(name: u64, len: u64, s: State) -> State
-    ensures { result ≡ with_symbol name len s }
-{
-    State {
-        name: Some(Name { at: name, len }),
+        name: Some(name),
         ..s
     }
 }
@@ -41,7 +33,7 @@ impl Info<'_> {
     {
         match x {
             Instruction::Pass => Ok(s),
-            Instruction::Symbol(name, len) => Ok(with_symbol(name, len, s)),
+            Instruction::Symbol(name) => Ok(with_symbol(name, s)),
             Instruction::Segment(index, offset) => in_segment(self.cmds, index, offset, s),
             Instruction::Add(bytes) => Ok(further(bytes, s)),
             Instruction::Bind(times, stride) => {
@@ -58,7 +50,7 @@ impl Info<'_> {
         s: State,
         binds: &mut Binds,
     ) -> Result<(State, usize), Question>
-        ensures kept { Kept binds.old binds.new }
+        ensures kept { Kept binds.old.table binds.new.table }
         ensures told { next_of result (part_in binds.new) ≡ and_then (decode rest.entry.parts rest.entry.at b rest.entry.bytes.now)
             (λ d. and_then (told_by (perform (length self.entry.file.now) self.entry.cmds.bytes.now (segments_in self.entry) d.says s) (part_in binds.old)) (λ t. value (next t d.size))) }
     {
@@ -73,7 +65,7 @@ impl Info<'_> {
         ensures { Walks (walk (length self.entry.file.now) self.entry.cmds.bytes.now (segments_in self.entry) stream.entry.parts stream.entry.at stream.entry.bytes.now 0 unset) result binds.old binds.new }
     {
         let body = stream.bytes;
-        let mut s = unset();
+        let mut s = State::default();
         let mut i = 0;
         // Not a `for`: the index moves by an opcode and its operands.
         while i < body.len() {

@@ -3,7 +3,7 @@
 
 pub mod imageinfo;
 pub mod index;
-mod name;
+pub mod name;
 pub mod open;
 pub mod question;
 pub mod section;

@@ -15,6 +15,7 @@ use crate::table::{Bind, Rebase, every};
 use crate::tables::Tables;
 use reads::answer::Question;
 use reads::files::{file_len, is_lent, longest};
+use reads::place::{Image, lies_in};
 use reads::segment::Segment;
 use reads::text::{Text, utf8};
 
@@ -87,21 +88,22 @@ pub fn binds_whole(n: usize) -> bool
 
 // 18: has the file number of every segment a lent slice?
 #[tactic(auto, unfolding(crate::specs::Question::segment_files))]
-pub fn segment_files(files: &[&[u8]], segments: &[u64]) -> bool
-    ensures { result ≡ segment_files (files_of files) (before segments) }
+pub fn segment_files(image: &Image) -> bool
+    ensures { result ≡ segment_files image.now.files image.now.words }
 {
+    let segments = image.segments;
     every(segments.len() / Segment::WORDS, |i| {
-        is_lent(files, segments[i * Segment::WORDS + Segment::FILE])
+        is_lent(image.files, segments[i * Segment::WORDS + Segment::FILE])
     })
 }
 
-// 7, of a record: is the name inside its file? Of the files and a name alone, as what else takes these two: a name is not the tables'.
+// 7, of a record: is the name inside its file? Files and name are two parameters, here and in what else takes these two: the contracts speak of
+// any name, not of a record's alone.
 #[tactic(auto, unfolding(crate::specs::Question::name_inside))]
 pub fn name_inside(files: &[&[u8]], name: Text) -> bool
     ensures { result ≡ name_inside (files_of files) name }
 {
-    let n = file_len(files, name.file);
-    name.offset <= n && name.len <= n - name.offset
+    lies_in(file_len(files, name.file), name.offset, 0, name.len)
 }
 
 // 14, of a record: is the name UTF-8? Of one outside its file, the bytes that are there; a file that is not lent has none.
@@ -112,7 +114,8 @@ pub fn name_utf8(files: &[&[u8]], name: Text) -> bool
     utf8(name_bytes(files, name))
 }
 
-// This and the next two ask the files and the binds alone, and their contracts name these two: over all tables both would be taken from them first.
+// This and the next two take what they read, the files and the binds, as their contracts say: for all tables a caller who has these two would have
+// to make up the other six.
 // 18: has the file number of every bind record's name a lent slice?
 #[tactic(auto, unfolding(crate::specs::Question::bind_files))]
 pub fn bind_files(files: &[&[u8]], binds: &[u64]) -> bool
@@ -163,7 +166,7 @@ pub fn ask_tables(tables: &Tables) -> Result<(), Question>
     if !segments_whole(tables.segments().len()) {
         return Err(Question::SegmentTable);
     }
-    if !segment_files(tables.files(), tables.segments()) {
+    if !segment_files(tables.image()) {
         return Err(Question::FileLent);
     }
     if !section_table(tables.sections(), n) {

@@ -16,6 +16,7 @@ impl ObjcSection {
 
     pub const TABLE_WORDS: usize = 15;
 
+    // The five. Numbers, not an enum: `at` promises a section for every number, and an enum would ask more of its callers.
     pub const CLASS_LIST: usize = 0;
 
     pub const NLCLSLIST: usize = 1;

@@ -8,10 +8,10 @@ ghost use Rattle.reads.specs.Files.{files_of};
 ghost use Rattle.reads.specs.Place.{image_of};
 ghost use Rattle.pointers.specs.Tables.{bind_words, image_in};
 ghost use Rattle.pointers.specs.Chain.{row_of};
-ghost use Rattle.pointers.specs.Slot.{rebase_number, rebase_at, bind_name, bind_at, stored, rebased_or, resolve, symbol_of, pointer_at, pointer_or0_at, unrebased, is_near, word_there, resolve_near};
+ghost use Rattle.pointers.specs.Slot.{rebase_number, bind_name, bind_at, stored, rebased_or, unrebased, is_near, word_there, resolve_near, rebase, slot as resolved, pointer, pointer_or0, symbol_at};
 ghost use Rattle.reads.specs.Answer.{outcome};
 
-use crate::index::{HEADS, find, no_rebase};
+use crate::index::{Chained, no_rebase};
 use crate::question::{name_inside, name_utf8};
 use crate::setting::{Lookup, Setting};
 use crate::sorted::find_sorted;
@@ -29,18 +29,17 @@ use reads::text::Text;
 fn rebase_row(tables: &Tables, slot: u64) -> Result<usize, Missing>
     ensures { outcome result ≡ row_of (rebase_number tables.now.setting.lookup tables.now.rebases tables.now.index slot) }
 {
-    let rebases = tables.rebases();
     let lookup = tables.setting().lookup;
     match lookup {
-        Lookup::Chained => find(rebases, Rebase::WORDS, tables.index(), 0, HEADS, slot),
-        Lookup::Sorted => find_sorted(rebases, slot),
+        Lookup::Chained => Chained::rebases(tables).find(tables.index(), slot),
+        Lookup::Sorted => find_sorted(tables.rebases(), slot),
     }
 }
 
 // The target of a slot's rebase.
 #[tactic(auto, unfolding(crate::specs::Slot::rebase_at))]
 pub fn rebase_at(tables: &Tables, slot: u64) -> Result<u64, Missing>
-    ensures { outcome result ≡ rebase_at tables.now.rebases tables.now.index tables.now.setting slot }
+    ensures { outcome result ≡ rebase tables.now slot }
 {
     let i = rebase_row(tables, slot)?;
     let rebase = Rebase::at(tables.rebases(), i);
@@ -73,15 +72,7 @@ fn bind_name(tables: &Tables, i: usize) -> Result<Text, Missing>
 pub fn bind_at(tables: &Tables, slot: u64) -> Result<Text, Missing>
     ensures { outcome result ≡ bind_at tables.now.files tables.now.rebases tables.now.binds tables.now.index slot }
 {
-    let nexts = HEADS + tables.rebases().len() / Rebase::WORDS;
-    let i = find(
-        tables.binds(),
-        Bind::WORDS,
-        tables.index(),
-        Address::CHAINS,
-        nexts,
-        slot,
-    )?;
+    let i = Chained::binds(tables).find(tables.index(), slot)?;
     bind_name(tables, i)
 }
 
@@ -107,14 +98,14 @@ fn rebased_or_stored(tables: &Tables, slot: u64) -> Result<u64, Missing>
 // The address in a pointer slot: a rebase target wins unmasked, mapped or not; else the word there; else it does not resolve.
 #[tactic(auto, unfolding(crate::specs::Slot::resolve))]
 pub fn resolve_pointer(tables: &Tables, slot: u64) -> Result<u64, Missing>
-    ensures { outcome result ≡ resolve (image_in tables.now) tables.now.rebases tables.now.index tables.now.setting slot }
+    ensures { outcome result ≡ resolved tables.now slot }
 {
     because(rebased_or_stored(tables, slot), Reason::Unresolved)
 }
 
 // The same, an absent slot counting as 0.
 pub fn slot_or_0(tables: &Tables, slot: u64) -> Result<u64, Missing>
-    ensures { outcome result ≡ or_zero (resolve (image_in tables.now) tables.now.rebases tables.now.index tables.now.setting slot) }
+    ensures { outcome result ≡ or_zero (resolved tables.now slot) }
 {
     or_zero(resolve_pointer(tables, slot))
 }
@@ -122,7 +113,7 @@ pub fn slot_or_0(tables: &Tables, slot: u64) -> Result<u64, Missing>
 // The pointer in the field at va + k.
 #[tactic(auto, unfolding(crate::specs::Slot::pointer_at))]
 pub fn pointer(tables: &Tables, va: u64, k: u64) -> Result<u64, Missing>
-    ensures { outcome result ≡ pointer_at (image_in tables.now) tables.now.rebases tables.now.index tables.now.setting va k }
+    ensures { outcome result ≡ pointer tables.now va k }
 {
     let slot = checked_add(va, k)?;
     resolve_pointer(tables, slot)
@@ -131,7 +122,7 @@ pub fn pointer(tables: &Tables, va: u64, k: u64) -> Result<u64, Missing>
 // The same, an absent slot counting as 0.
 #[tactic(auto, unfolding(crate::specs::Slot::pointer_or0_at))]
 pub fn pointer_or_0(tables: &Tables, va: u64, k: u64) -> Result<u64, Missing>
-    ensures { outcome result ≡ pointer_or0_at (image_in tables.now) tables.now.rebases tables.now.index tables.now.setting va k }
+    ensures { outcome result ≡ pointer_or0 tables.now va k }
 {
     let slot = checked_add(va, k)?;
     slot_or_0(tables, slot)
@@ -178,7 +169,7 @@ pub fn resolve_near(tables: &Tables, s: Spot, i: u64, slot: u64) -> Result<u64, 
 // The name of a slot's bind less its prefix.
 #[tactic(auto, unfolding(crate::specs::Slot::symbol_of))]
 pub fn symbol_at(tables: &Tables, slot: u64) -> Result<Text, Missing>
-    ensures { outcome result ≡ symbol_of tables.now.files tables.now.rebases tables.now.binds tables.now.index slot }
+    ensures { outcome result ≡ symbol_at tables.now slot }
 {
     let name = bind_at(tables, slot)?;
     Ok(strip_objc_symbol_prefix(tables.files(), name))

@@ -31,7 +31,8 @@ fn at_most(rebases: &[u64], slot: u64, i: usize) -> bool
 // How often the steps are halved: question 5 allows fewer than 2^24 records.
 const HALVINGS: u32 = 24;
 
-// The last record whose slot is at most the slot, where slots ascend; record 0 where there is none.
+// The last record whose slot is at most the slot, where slots ascend; record 0 where there is none, no Option: `sorted_at` compares the slot of
+// record b in any case.
 // Not `binary_search_by_key`: that promises nothing where slots do not ascend, and every table has its answer here.
 #[tactic(auto, using(crate::proofs::SortedLookups::climb_taken, crate::proofs::SortedLookups::climb_left, crate::proofs::SortedLookups::climb_end, crate::proofs::SortedLookups::at_most_below))]
 fn climb(rebases: &[u64], slot: u64) -> usize

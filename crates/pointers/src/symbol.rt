@@ -16,7 +16,7 @@ const PREFIXES: [&[u8]; 5] = [
     b"_OBJC_LABEL_PROTOCOL_$_",
 ];
 
-// Whether s starts with p.
+// Whether s starts with p: the library's method, with its equation with the definition, which macho needs too.
 #[tactic(auto, using(crate::proofs::Prefixes::starts_is))]
 pub fn starts_with(s: &[u8], p: &[u8]) -> bool
     ensures { result ≡ starts (before p) (before s) }

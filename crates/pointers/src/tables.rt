@@ -83,51 +83,12 @@ impl<'a> Tables<'a> {
         self.setting
     }
 
-    // The same tables under another setting. Here and in the two below every field is written: `Copy` was tried, and is refused for a struct with a
-    // lifetime and a Model (unsupported-model), so `..*self` has nothing to copy by.
-    pub fn under(&self, setting: Setting) -> Tables<'a>
-        ensures { result ≡ under setting self.now }
-    {
-        Tables {
-            image: Image {
-                files: self.image.files,
-                segments: self.image.segments,
-            },
-            sections: self.sections,
-            info: self.info,
-            rebases: self.rebases,
-            binds: self.binds,
-            index: self.index,
-            setting,
-        }
-    }
-
-    // The same tables with another index.
-    pub(crate) fn with_index<'b>(&self, index: &'b [u32]) -> Tables<'b>
-    where
-        'a: 'b,
-        ensures { result ≡ with_index self.now index.now }
-    {
-        Tables {
-            image: Image {
-                files: self.image.files,
-                segments: self.image.segments,
-            },
-            sections: self.sections,
-            info: self.info,
-            rebases: self.rebases,
-            binds: self.binds,
-            index,
-            setting: self.setting,
-        }
-    }
-
-    // The same tables over other files.
-    pub fn over<'b>(&self, files: &'b [&'b [u8]]) -> Tables<'b>
+    // The same tables over these files, with this index and under this setting.
+    fn with<'b>(&self, files: &'b [&'b [u8]], index: &'b [u32], setting: Setting) -> Tables<'b>
     where
         'a: 'b,
         ensures { let t = self.now in
-            result ≡ under t.setting (tables_of (files_lent files.now) t.segments t.sections t.info t.rebases t.binds t.index) }
+            result ≡ under setting (tables_of (files_lent files.now) t.segments t.sections t.info t.rebases t.binds index.now) }
     {
         Tables {
             image: Image {
@@ -138,8 +99,34 @@ impl<'a> Tables<'a> {
             info: self.info,
             rebases: self.rebases,
             binds: self.binds,
-            index: self.index,
-            setting: self.setting,
+            index,
+            setting,
         }
+    }
+
+    // The same tables under another setting.
+    pub fn under(&self, setting: Setting) -> Tables<'a>
+        ensures { result ≡ under setting self.now }
+    {
+        self.with(self.files(), self.index(), setting)
+    }
+
+    // The same tables with another index.
+    pub(crate) fn with_index<'b>(&self, index: &'b [u32]) -> Tables<'b>
+    where
+        'a: 'b,
+        ensures { result ≡ with_index self.now index.now }
+    {
+        self.with(self.files(), index, self.setting())
+    }
+
+    // The same tables over other files.
+    pub fn over<'b>(&self, files: &'b [&'b [u8]]) -> Tables<'b>
+    where
+        'a: 'b,
+        ensures { let t = self.now in
+            result ≡ under t.setting (tables_of (files_lent files.now) t.segments t.sections t.info t.rebases t.binds t.index) }
+    {
+        self.with(files, self.index(), self.setting())
     }
 }

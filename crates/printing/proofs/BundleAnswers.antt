@@ -9,14 +9,12 @@ use lib.Dec.{leb}
 use lib.ListN.{length, take, drop}
 use lib.Seq.{take_all, take-length}
 use borrow.Author.Tests.{leb-true, leb-false}
-use Rattle.reads.specs.Answer.{missed, outcome}
-use Rattle.reads.specs.Outcome.{Outcome, value}
-use Rattle.reads.specs.declared.answer.Missing.{Missing}
-use Rattle.reads.specs.declared.answer.Missing.TheVariants.{Absent, Refused}
+use Rattle.reads.specs.Answer.{answered}
+use Rattle.reads.specs.Outcome.{Outcome, value, refused}
+use Rattle.reads.specs.declared.answer.Question.{Question}
 use Rattle.pointers.specs.Tables.{Tables, tables_of}
 use Rattle.listing.specs.Bundle.{bundle_counts}
 use Rattle.listing.specs.declared.bundle.Counts.{Counts}
-use Rattle.marking.specs.declared.framed.Framed.{Framed}
 use Rattle.printing.specs.BundleLent.{words_by, opening_by, index_by, tables_by}
 use Rattle.printing.specs.Pieces.{Standing, to_come, Handed, piece_of}
 use Rattle.std.specs.Prelude.{Result, Ok, Err}
@@ -34,42 +32,26 @@ first_bytes input n m e =
         rw (h, take-length input) (sym (take_all n input (le_of_lt less)))
 
 -- An answer of the code, matched.
-module _ (bytes : List ℕ) (r : Result Counts Missing) (e : outcome r ≡ bundle_counts bytes) where
+module _ (bytes : List ℕ) (r : Result Counts Question) (e : answered r ≡ bundle_counts bytes) where
   pub counted_is : (c : Counts) → r ≡ Ok c → bundle_counts bytes ≡ value c
-  counted_is c g = sym e ∙ ap outcome g
+  counted_is c g = sym e ∙ ap answered g
 
-  pub uncounted_is : (m : Missing) → r ≡ Err m → bundle_counts bytes ≡ missed m
-  uncounted_is m g = sym e ∙ ap outcome g
+  pub uncounted_is : (k : Question) → r ≡ Err k → bundle_counts bytes ≡ refused k
+  uncounted_is k g = sym e ∙ ap answered g
 
--- What a missing answer leaves.
-module _ (bytes : List ℕ) (m : Missing) (o : Outcome Counts) (e : o ≡ missed m) where
+-- What a refusal leaves.
+module _ (bytes : List ℕ) (k : Question) (o : Outcome Counts) (e : o ≡ refused k) where
   pub words_kept : (words : List ℕ) → words ≡ words_by bytes o words
-  words_kept words = rw e (go m)
-    where
-      go : (m : Missing) → words ≡ words_by bytes (missed m) words
-      go (Absent r) = refl
-      go (Refused k) = refl
+  words_kept words = rw e refl
 
   pub index_kept : (words index : List ℕ) → index ≡ index_by bytes o words index
-  index_kept words index = rw e (go m)
-    where
-      go : (m : Missing) → index ≡ index_by bytes (missed m) words index
-      go (Absent r) = refl
-      go (Refused k) = refl
+  index_kept words index = rw e refl
 
-  pub not_opened : (words index : List ℕ) → missed m ≡ opening_by bytes o words index
-  not_opened words index = rw e (go m)
-    where
-      go : (m : Missing) → ◌≡◌ {A = Outcome Framed} (missed m) (opening_by bytes (missed m) words index)
-      go (Absent r) = refl
-      go (Refused k) = refl
+  pub not_opened : (words index : List ℕ) → refused k ≡ opening_by bytes o words index
+  not_opened words index = rw e refl
 
   pub no_tables : (words index : List ℕ) → tables_of ([] ∷ []) [] [] [] [] [] [] ≡ tables_by bytes o words index
-  no_tables words index = rw e (go m)
-    where
-      go : (m : Missing) → tables_of ([] ∷ []) [] [] [] [] [] [] ≡ tables_by bytes (missed m) words index
-      go (Absent r) = refl
-      go (Refused k) = refl
+  no_tables words index = rw e refl
 
 -- The same tables hand out the same pieces.
 pub piece_same : (t u : Tables) (p q : Standing) (n : ℕ) (x : Handed) (old : List ℕ) → t ≡ u

@@ -7,7 +7,7 @@ use denote.Laws.{Is}
 use Rattle.listing.specs.contracts.at.At as at-type
 use Rattle.printing.specs.contracts.pieces.Progress as progress-type
 use Rattle.listing.specs.contracts.section.Section as section-type
-use Rattle.listing.specs.ListingAnswer.{section_walk_of, state_of}
+use Rattle.listing.specs.ListingAnswer.{stage_number, section_walk_of, state_of}
 use Rattle.listing.proofs.Remaining.{slot_in, slot_of, cursor_in, cursor_of, InWords}
 use Rattle.listing.specs.declared.at.At.{At}
 use Rattle.listing.specs.declared.at.At.TheVariants as at
@@ -20,7 +20,7 @@ use Rattle.printing.proofs.Comes.{Sound}
 use Rattle.listing.specs.declared.section.Section.{Section}
 
 section_in_words : (s : Section) (vs : List Val) → Is section-type.the_row s vs → slot_of (section_walk_of s) < 2 ^ 64
-section_in_words s vs p = go s.stage
+section_in_words s vs p = go (stage_number s.stage)
   where
     go : (n : ℕ) → slot_in (section_walk_of s) n < 2 ^ 64
     go zero = omega (arith, p)

@@ -1,5 +1,5 @@
 -- What the calls over a bundle are lent and leave: words that its tables are decoded into, and an index.
-use Rattle.std.specs.Prelude.{ℕ, ◌+◌, Some, List, [], ◌∷◌, ◌++◌, take, drop}
+use Rattle.std.specs.Prelude.{ℕ, ◌+◌, Some, List, [], ◌∷◌, ◌++◌, take, drop, replicate}
 use Rattle.reads.specs.Outcome.{Outcome, value, absent, refused, and_then}
 use Rattle.reads.specs.Place.{part}
 use Rattle.pointers.specs.Tables.{Tables, tables_of}
@@ -9,6 +9,11 @@ use Rattle.listing.specs.declared.bundle.Counts.{Counts}
 use Rattle.marking.specs.Framed.{framed_opening, framed_index}
 use Rattle.marking.specs.declared.framed.Framed.{Framed}
 use Rattle.printing.specs.BundleText.{index_words}
+use Rattle.printing.specs.declared.bundle.Buffers.{Buffers}
+
+-- The buffers of a whole listing, all zeros.
+abbrev pub cleared : Buffers
+cleared = record { words = replicate 4096 0; index = replicate 10240 0; ledger = replicate 8192 0; out = replicate 4096 0 }
 
 -- The words of a bundle's four tables.
 abbrev pub table_words : Counts → ℕ

@@ -1,17 +1,17 @@
 // The listing of a bundle: its tables are decoded, opened, and its text handed out piece by piece. Each call writes nothing with its own
 // number. The buffers' sizes are those of the longest bundle, 32,768 bytes: its tables have at most 4,084 words, its index at most 8,192 +
 // 2,034, and the two lists of a section walk at most 8,138 slots. One byte more of input tells a longer bundle.
-// The buffers come one by one: what a call only reads is `&` and what it fills is `&mut`, so its type says what stays. Were they one struct, each call
-// would promise of all its other buffers that they stay.
+// The buffers come one by one where a call fills some and only reads others: what it reads is `&` and what it fills is `&mut`, so its type says what stays.
+// Were they one struct, each such call would promise of all its other buffers that they stay. A whole listing fills all: it is lent `Buffers`.
 ghost use Rattle.std.specs.Prelude.{◌≡◌, [], ◌∷◌, length, drop, MatchResult};
 ghost use Rattle.reads.specs.Reference.{before};
 ghost use Rattle.reads.specs.Files.{files_lent, files_of};
 ghost use Rattle.listing.specs.Bundle.{Accepted, bundle_counts, bundled_files};
 ghost use Rattle.printing.specs.BundleText.{index_words};
-ghost use Rattle.printing.specs.BundleLent.{table_words, words_after, tables_over, opening_in, index_after, tables_lent};
+ghost use Rattle.printing.specs.BundleLent.{cleared, table_words, words_after, tables_over, opening_in, index_after, tables_lent};
 ghost use Rattle.printing.specs.Pieces.{standing_of, to_come, handed_of, piece_of};
-ghost use Rattle.reads.specs.Answer.{missed, outcome};
-ghost use Rattle.reads.specs.Outcome.{value};
+ghost use Rattle.reads.specs.Answer.{answered, outcome};
+ghost use Rattle.reads.specs.Outcome.{refused, value};
 ghost use Rattle.pointers.specs.Tables.{tables_of, with_index};
 
 use crate::pieces::{Piece, Progress};
@@ -21,8 +21,32 @@ use pointers::index::HEADS;
 use pointers::section::ObjcSection;
 use pointers::setting::Setting;
 use pointers::tables::Tables;
-use reads::answer::Missing;
+use reads::answer::{Missing, Question};
 use reads::place::Image;
+
+// What a whole listing fills: the words of the tables, the index, the ledger, and the text on its way out. The input is no field: a part of it is lent
+// to be read while these are filled.
+#[derive(Drop)]
+pub struct Buffers {
+    pub words: [u64; 4096],
+    pub index: [u32; 10240],
+    pub ledger: [u64; 8192],
+    pub out: [u8; 4096],
+}
+
+impl Buffers {
+    // All zeros.
+    pub fn new() -> Buffers
+        ensures { result ≡ cleared }
+    {
+        Buffers {
+            words: [0; 4096],
+            index: [0; 10240],
+            ledger: [0; 8192],
+            out: [0; 4096],
+        }
+    }
+}
 
 // A bundle that question 13 accepts: its bytes, and the counts that they give.
 #[derive(Drop)]
@@ -34,8 +58,8 @@ struct Bundle<'a> {
 
 impl<'a> Bundle<'a> {
     // Question 13.
-    fn of(bytes: &'a [u8]) -> Result<Bundle<'a>, Missing>
-        ensures { MatchResult result (λ b. (b.bytes.now ≡ before bytes) × (bundle_counts (before bytes) ≡ value b.counts)) (λ m. bundle_counts (before bytes) ≡ missed m) }
+    fn of(bytes: &'a [u8]) -> Result<Bundle<'a>, Question>
+        ensures { MatchResult result (λ b. (b.bytes.now ≡ before bytes) × (bundle_counts (before bytes) ≡ value b.counts)) (λ k. bundle_counts (before bytes) ≡ refused k) }
     {
         let counts = measure(bytes)?;
         Ok(Bundle { bytes, counts })
@@ -107,8 +131,8 @@ impl<'a> Bundle<'a> {
 }
 
 // Question 13; then the words of the bundle's tables.
-pub fn decode(input: &[u8], words: &mut [u64; 4096]) -> Result<Counts, Missing>
-    ensures outcome { outcome result ≡ bundle_counts (before input) }
+pub fn decode(input: &[u8], words: &mut [u64; 4096]) -> Result<Counts, Question>
+    ensures outcome { answered result ≡ bundle_counts (before input) }
     ensures contents { words.new ≡ words_after (before input) words.old }
 {
     let bundle = Bundle::of(input)?;

@@ -29,7 +29,8 @@ pub struct Progress {
     pub listing: MarkedListing,
 }
 
-// The length of a piece, and where the printing stands after it.
+// The length of a piece, and where the printing stands after it. The length is 0 exactly where nothing is still to come or the buffer lent has no room,
+// and no Option: callers take so many bytes of the buffer, and test for 0 as after `read`; None and Some(0) would be two answers of one meaning.
 #[derive(Clone, Copy)]
 pub struct Piece {
     pub len: usize,

@@ -3,14 +3,15 @@
 ghost use Rattle.std.specs.Prelude.{◌∷◌, ◌≡◌};
 ghost use Rattle.reads.specs.Reference.{before};
 ghost use Rattle.printing.specs.Buffer.{Puts};
-ghost use Rattle.printing.specs.LineText.{none_field, number_field, string_field, part_field, text_field, text_fields, named_field, optional_field, aligned_field, class_letter, info_text, class_text, ro_text, protocol_text, category_text, method_text, ivar_text, property_text, row_text, name_text, end_text, fields_text, line_text, refused_text};
+ghost use Rattle.printing.specs.LineText.{none_field, number_field, string_field, text_field, text_fields, named_field, optional_field, class_letter, info_text, class_text, ro_text, protocol_text, category_text, method_text, ivar_text, property_text, row_text, name_text, end_text, fields_text, line_text, refused_text};
 ghost use Rattle.reads.specs.Files.{files_of};
 
 use crate::buffer::Out;
 use frames::frames::Mark;
 use listing::line::{CategoryLine, ClassLine, EndLine, InfoLine, Line, NameLine, RowLine};
+use pointers::name::name_bytes;
+use pointers::question::name_inside;
 use reads::answer::Question;
-use reads::files::bytes_of;
 use reads::text::Text;
 use records::class::ClassRo;
 use records::ivar::Ivar;
@@ -26,7 +27,9 @@ fn class_letter(meta: bool) -> u8
     if meta { b'M' } else { b'C' }
 }
 
-// The files are handed on, and no field of `Out`: `Puts` says what is done to the buffer, and each promise would also say that the files stay.
+// The files are handed on, and no field of `Out`, as usage's `Noting` has its tables: what `Noting` promises is a function of the state before a call,
+// but `Puts` says which text was put, and that is made of the files before it is put: where fields follow one another (`puts_then`) each proof would
+// first bring every later text back to the files of the start.
 impl Out<'_> {
     // A field that is none.
     #[tactic(auto, unfolding(crate::specs::LineText::none_field))]
@@ -61,28 +64,14 @@ impl Out<'_> {
         self.bytes(s);
     }
 
-    // A field that is a text of a file that has these bytes; none where it does not lie in them.
-    fn part(&mut self, bytes: &[u8], t: Text)
-        ensures { Puts self.old (part_field (before bytes) t) self.new }
-    {
-        let n = bytes.len() as u64;
-        if t.offset > n {
-            return self.none();
-        }
-        if t.len > n - t.offset {
-            return self.none();
-        }
-        let from = t.offset as usize;
-        let end = from + t.len as usize;
-        self.string(&bytes[from..end]);
-    }
-
-    // A field that is a text; a file that is not lent has no bytes.
-    #[tactic(auto, unfolding(crate::specs::LineText::text_field))]
+    // A field that is a text; none where it does not lie in its file. A file that is not lent has no bytes.
     fn text(&mut self, files: &[&[u8]], t: Text)
         ensures { Puts self.old (text_field (files_of files) t) self.new }
     {
-        self.part(bytes_of(files, t.file), t);
+        if !name_inside(files, t) {
+            return self.none();
+        }
+        self.string(name_bytes(files, t));
     }
 
     // Two fields that are texts.
@@ -109,17 +98,6 @@ impl Out<'_> {
     {
         match n {
             Some(n) => self.number(n),
-            None => self.none(),
-        }
-    }
-
-    // 1 where an ivar's offset is aligned, 0 where it is not, none where that is unknown.
-    fn aligned(&mut self, aligned: Option<bool>)
-        ensures { Puts self.old (aligned_field aligned) self.new }
-    {
-        match aligned {
-            Some(true) => self.number(1),
-            Some(false) => self.number(0),
             None => self.none(),
         }
     }
@@ -207,13 +185,13 @@ impl Out<'_> {
         let encoding = v.type_encoding;
         let offset = v.offset;
         let log2 = v.log2_alignment;
-        let is_aligned = v.aligned;
+        let aligned = v.aligned;
         self.start(b'v', list as u64);
         self.texts(files, name, encoding);
         self.optional(offset.map(|n| n as u64));
         self.number(v.size as u64);
         self.optional(log2.map(|n| n as u64));
-        self.aligned(is_aligned);
+        self.optional(aligned.map(u64::from));
     }
 
     // p: list number, name, attributes.

@@ -5,8 +5,9 @@ ghost use Rattle.pointers.specs.Tables.{reading_under};
 ghost use Rattle.printing.specs.BundleLent.{tables_lent};
 ghost use Rattle.printing.specs.BundleText.{bundle_text};
 ghost use Rattle.printing.specs.Pieces.{standing_of, to_come};
-ghost use Rattle.printing.specs.Filled.{Fills};
+ghost use Rattle.printing.specs.Filled.{Fills, Lists};
 
+use crate::bundle::Buffers;
 use crate::write::{Written, write_under};
 use reads::text::Reading;
 use std::io::{Read, Write};
@@ -54,18 +55,15 @@ pub fn list_input<R: Read, W: Write>(
     unwritten: &[u8],
     refused: &[u8],
     input: &mut [u8; 32769],
-    words: &mut [u64; 4096],
-    index: &mut [u32; 10240],
-    ledger: &mut [u64; 8192],
-    out: &mut [u8; 4096],
+    buffers: &mut Buffers,
 ) -> Listed
     ensures read { Fills (R.remaining from.old) (R.remaining from.new) result.input input.new }
     ensures written { result.written.whole ≡ true → Appends (W.contents to.old) (W.contents to.new) (bundle_text (reading_under reading) (take result.input.len input.new)) }
-    ensures whole { let t = tables_lent (take result.input.len input.new) words.new index.new in
-        (result.written.whole ≡ true → to_come t (standing_of result.written.progress ledger.new) ≡ []) }
+    ensures whole { let t = tables_lent (take result.input.len input.new) buffers.new.words buffers.new.index in
+        (result.written.whole ≡ true → to_come t (standing_of result.written.progress buffers.new.ledger) ≡ []) }
 {
     let filled = read_full(from, input);
-    let written = write_under(to, reading, &input[..filled.len], words, index, ledger, out);
+    let written = write_under(to, reading, &input[..filled.len], buffers);
     let end = written.progress;
     if !written.whole {
         io::write_all(STDERR, unwritten);
@@ -76,4 +74,27 @@ pub fn list_input<R: Read, W: Write>(
         input: filled,
         written,
     }
+}
+
+// The same with buffers of its own: all that a program does with its input.
+pub fn list_whole<R: Read, W: Write>(
+    from: &mut R,
+    to: &mut W,
+    reading: Reading,
+    unwritten: &[u8],
+    refused: &[u8],
+) -> Listed
+    ensures { Lists (R.remaining from.old) (R.remaining from.new) (W.contents to.old) (W.contents to.new) (reading_under reading) result }
+{
+    let mut input = [0u8; 32769];
+    let mut buffers = Buffers::new();
+    list_input(
+        from,
+        to,
+        reading,
+        unwritten,
+        refused,
+        &mut input,
+        &mut buffers,
+    )
 }

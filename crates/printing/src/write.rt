@@ -8,7 +8,7 @@ ghost use Rattle.printing.specs.BundleText.{bundle_text};
 ghost use Rattle.printing.specs.Pieces.{standing_of, to_come};
 ghost use Rattle.printing.specs.Written.{HandedOver};
 
-use crate::bundle::{decode, next_piece, open};
+use crate::bundle::{Buffers, decode, next_piece, open};
 use crate::pieces::Progress;
 use reads::text::Reading;
 use std::io::Write;
@@ -64,15 +64,16 @@ pub fn write_under<W: Write>(
     to: &mut W,
     reading: Reading,
     input: &[u8],
-    words: &mut [u64; 4096],
-    index: &mut [u32; 10240],
-    ledger: &mut [u64; 8192],
-    out: &mut [u8; 4096],
+    buffers: &mut Buffers,
 ) -> Written
     ensures written { (result.whole ≡ true → Appends (W.contents to.old) (W.contents to.new) (bundle_text (reading_under reading) (before input))) }
-    ensures whole { let t = tables_lent (before input) words.new index.new in
-        (result.whole ≡ true → to_come t (standing_of result.progress ledger.new) ≡ []) }
+    ensures whole { let t = tables_lent (before input) buffers.new.words buffers.new.index in
+        (result.whole ≡ true → to_come t (standing_of result.progress buffers.new.ledger) ≡ []) }
 {
+    let words = &mut buffers.words;
+    let index = &mut buffers.index;
+    let ledger = &mut buffers.ledger;
+    let out = &mut buffers.out;
     let _ = decode(input, words);
     let start = Progress::under(reading, open(input, words, index));
     write_pieces(to, start, input, words, index, ledger, out)

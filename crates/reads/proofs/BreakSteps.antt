@@ -1,12 +1,10 @@
--- The next breakpoint as a walk over the rows of a table finds it, from row i on.
+-- The next breakpoint as a walk over the rows of a table finds it.
 use Rattle.std.proofs.Common.{◌≡◌, ℕ, ◌+◌, ◌-◌, ◌^◌, ◌<◌, ◌≤◌, min, Bool, true, false, ltb, List, [], ◌∷◌, length, sym, refl, ap, ◌∙◌, arith}
 use Rattle.reads.specs.declared.segment.Segment.{Segment}
 use Rattle.reads.specs.Outcome.{choose}
 use Rattle.reads.specs.Files.{file_of}
-use Rattle.reads.specs.Table.{records}
-use Rattle.reads.specs.Segment.{segment_words, segment_at, ends}
+use Rattle.reads.specs.Segment.{ends}
 use Rattle.reads.specs.Breaks.{readable_part, breaks, lesser, lower, next_break}
-use Rattle.reads.proofs.SegmentRows.{rows_from, rows_read, rows_none}
 use Rattle.std.specs.Prelude.{Option, Some, None}
 
 -- The lesser of `best` and the least of a list above va, the list's first taken first.
@@ -48,20 +46,20 @@ module _ (s : Segment) where
   unfolding readable_part
   readable_part_size n k = omega arith
 
--- The breakpoints of the rows from row i on, with the best so far; r is what the whole walk gives.
-module _ (ws : List ℕ) (i : ℕ) (fs : List (List ℕ)) (k va : ℕ) (best r : Option ℕ) (so_far : lowest va best (breaks fs k (rows_from ws i)) ≡ r) where
-  pub lowest_out : records segment_words ws ≤ i → best ≡ r
+-- The breakpoints of the rows that are left, with the best so far; r is what the whole walk gives.
+module _ (fs : List (List ℕ)) (k va : ℕ) (best r : Option ℕ) where
+  pub lowest_out : lowest va best (breaks fs k []) ≡ r → best ≡ r
   unfolding breaks lowest
-  lowest_out h = sym (simp (rows_none ws i h)) ∙ so_far
+  lowest_out so_far = so_far
 
-  -- Row i, as the code has it.
-  module _ (fits : i < records segment_words ws) (s : Segment) (at : s ≡ segment_at ws i) where
+  -- Of the first.
+  module _ (s : Segment) (ss : List Segment) (so_far : lowest va best (breaks fs k (s ∷ ss)) ≡ r) where
     pub lowest_ends : ends s ≡ true → best ≡ r
     unfolding breaks lowest choose
-    lowest_ends e = sym (simp (rows_read ws i fits s at, e)) ∙ so_far
+    lowest_ends e = sym (simp e) ∙ so_far
 
     pub lowest_more : ends s ≡ false → (size : ℕ) (a b c : Option ℕ) → size ≡ readable_part (length (file_of fs s.file)) k s
         → a ≡ lower va best s.vmaddr → b ≡ lower va a (s.vmaddr + size) → c ≡ lower va b (s.vmaddr + s.vmsize)
-        → lowest va c (breaks fs k (rows_from ws (i + 1))) ≡ r
+        → lowest va c (breaks fs k ss) ≡ r
     unfolding breaks lowest choose
-    lowest_more e size a b c p x y z = simp (z, y, x, p) (sym (simp (rows_read ws i fits s at, e)) ∙ so_far)
+    lowest_more e size a b c p x y z = simp (z, y, x, p) (sym (simp e) ∙ so_far)

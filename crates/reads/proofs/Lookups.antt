@@ -1,15 +1,13 @@
--- What a segment answers, by the tests that the code makes, and the walk over the rows from row i on.
-use Rattle.std.proofs.Common.{◌≡◌, ℕ, ◌+◌, ◌-◌, ◌^◌, ◌<◌, ◌≤◌, true, false, ◌&&◌, eqb, ltb, leb, List, arith, ltb-true, le-ltb, le-leb, leb-false, leb-true}
+-- What a segment answers, by the tests that the code makes, and lookups by the first segment.
+use Rattle.std.proofs.Common.{◌≡◌, ℕ, ◌+◌, ◌-◌, ◌^◌, ◌<◌, ◌≤◌, true, false, ◌&&◌, eqb, ltb, leb, List, [], ◌∷◌, refl, ◌∙◌, arith, ltb-true, le-ltb, le-leb, leb-false, leb-true}
 use mathlib.Core.Bool.{and-false}
 use borrow.Author.Tests.{lt-leb}
 use Rattle.reads.specs.Outcome.{value, absent, because, choose, sum64}
 use Rattle.reads.specs.declared.answer.Reason.TheVariants.{Unmapped}
-use Rattle.reads.specs.Table.{records}
-use Rattle.reads.specs.Segment.{segment_words, segment_at, ends, holds, place_at, placed, lookup, mapped_size, ends_in_file, carries, address_of}
+use Rattle.reads.specs.Segment.{ends, holds, place_at, placed, lookup, mapped_size, ends_in_file, carries, address_of}
 use Rattle.reads.specs.declared.segment.Segment.{Segment}
 use Rattle.reads.proofs.Outcomes.{sum_fits, sum_over}
-use Rattle.reads.proofs.SegmentRows.{rows_from, rows_read, rows_none}
-use Rattle.reads.proofs.Tests.{both_true}
+use Rattle.reads.proofs.Tests.{both_true, choose_true, choose_false}
 
 module _ (s : Segment) where
   pub ends_not : ends s ≡ false → s.vmaddr + s.vmsize < 2 ^ 64
@@ -50,38 +48,38 @@ module _ (s : Segment) where
   carries_is file offset e =
       leb-true _ _ (both_true (leb s.fileoff offset) (ltb offset (s.fileoff + mapped_size s)) (both_true (eqb s.file file) _ e).1).0
 
-pub lookup_out : (ws : List ℕ) (i va : ℕ) → records segment_words ws ≤ i → lookup (rows_from ws i) va ≡ absent Unmapped
+pub lookup_out : (va : ℕ) → lookup [] va ≡ absent Unmapped
 unfolding lookup
-lookup_out ws i va h = simp (rows_none ws i h)
+lookup_out va = refl
 
-pub address_out : (ws : List ℕ) (i file offset : ℕ) → records segment_words ws ≤ i → address_of (rows_from ws i) file offset ≡ absent Unmapped
+pub address_out : (file offset : ℕ) → address_of [] file offset ≡ absent Unmapped
 unfolding address_of
-address_out ws i file offset h = simp (rows_none ws i h)
+address_out file offset = refl
 
--- Row i, as the code has it.
-module _ (ws : List ℕ) (i : ℕ) (fits : i < records segment_words ws) (s : Segment) (at : s ≡ segment_at ws i) where
-  pub lookup_ends : (va : ℕ) → ends s ≡ true → lookup (rows_from ws i) va ≡ absent Unmapped
-  unfolding lookup choose
-  lookup_ends va e = simp (rows_read ws i fits s at, e)
+-- The first of the segments decides, or is passed.
+module _ (s : Segment) (ss : List Segment) where
+  pub lookup_ends : (va : ℕ) → ends s ≡ true → lookup (s ∷ ss) va ≡ absent Unmapped
+  unfolding lookup
+  lookup_ends va e = choose_true _ _ e
 
-  pub lookup_holds : (va : ℕ) → ends s ≡ false → holds s va ≡ true → lookup (rows_from ws i) va ≡ placed s va
-  unfolding lookup choose
-  lookup_holds va e h = simp (rows_read ws i fits s at, e, h)
+  pub lookup_holds : (va : ℕ) → ends s ≡ false → holds s va ≡ true → lookup (s ∷ ss) va ≡ placed s va
+  unfolding lookup
+  lookup_holds va e h = choose_false _ _ e ∙ choose_true _ _ h
 
-  pub lookup_on : (va : ℕ) → ends s ≡ false → holds s va ≡ false → lookup (rows_from ws i) va ≡ lookup (rows_from ws (i + 1)) va
-  unfolding lookup choose
-  lookup_on va e h = simp (rows_read ws i fits s at, e, h)
+  pub lookup_on : (va : ℕ) → ends s ≡ false → holds s va ≡ false → lookup (s ∷ ss) va ≡ lookup ss va
+  unfolding lookup
+  lookup_on va e h = choose_false _ _ e ∙ choose_false _ _ h
 
-  pub address_ends : (file offset : ℕ) → ends_in_file s ≡ true → address_of (rows_from ws i) file offset ≡ absent Unmapped
-  unfolding address_of choose
-  address_ends file offset e = simp (rows_read ws i fits s at, e)
+  pub address_ends : (file offset : ℕ) → ends_in_file s ≡ true → address_of (s ∷ ss) file offset ≡ absent Unmapped
+  unfolding address_of
+  address_ends file offset e = choose_true _ _ e
 
   pub address_carries : (file offset : ℕ) → ends_in_file s ≡ false → carries s file offset ≡ true
-      → address_of (rows_from ws i) file offset ≡ because Unmapped (sum64 s.vmaddr (offset - s.fileoff))
-  unfolding address_of choose
-  address_carries file offset e h = simp (rows_read ws i fits s at, e, h)
+      → address_of (s ∷ ss) file offset ≡ because Unmapped (sum64 s.vmaddr (offset - s.fileoff))
+  unfolding address_of
+  address_carries file offset e h = choose_false _ _ e ∙ choose_true _ _ h
 
   pub address_on : (file offset : ℕ) → ends_in_file s ≡ false → carries s file offset ≡ false
-      → address_of (rows_from ws i) file offset ≡ address_of (rows_from ws (i + 1)) file offset
-  unfolding address_of choose
-  address_on file offset e h = simp (rows_read ws i fits s at, e, h)
+      → address_of (s ∷ ss) file offset ≡ address_of ss file offset
+  unfolding address_of
+  address_on file offset e h = choose_false _ _ e ∙ choose_false _ _ h

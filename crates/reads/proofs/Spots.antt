@@ -5,8 +5,7 @@ use borrow.Author.Tests.{lt-leb}
 use Rattle.reads.specs.Outcome.{Outcome, value, absent, and_then, because, choose}
 use Rattle.reads.specs.declared.answer.Reason.TheVariants.{Unmapped, Unreadable}
 use Rattle.reads.specs.Files.{file_of}
-use Rattle.reads.specs.Table.{records}
-use Rattle.reads.specs.Segment.{segment_words, segment_at, rows, ends, holds, mapped_size, place_at, placed, lookup}
+use Rattle.reads.specs.Segment.{rows, ends, holds, mapped_size, place_at, placed, lookup}
 use Rattle.reads.specs.Place.{Image, readable_at, readable, word, word_in}
 use Rattle.reads.specs.Spot.{spot, distance, spot_at, spot_from, spot_in, if_readable, readable_spot}
 use Rattle.std.specs.Prelude.{Option, None, Some}
@@ -14,10 +13,9 @@ use Rattle.reads.specs.declared.place.Place.{Place}
 use Rattle.reads.specs.declared.segment.Segment.{Segment}
 use Rattle.reads.specs.declared.spot.Spot.{Spot}
 use native.Mathlib.Decide.{dec_le}
-use Rattle.reads.proofs.Lookups.{ends_not, holds_none, holds_before, holds_is, placed_past, placed_over, placed_at}
+use Rattle.reads.proofs.Lookups.{ends_not, holds_none, holds_before, holds_is, placed_past, placed_over, placed_at, lookup_ends, lookup_holds, lookup_on}
 use Rattle.reads.proofs.Breakpoints.{holds_not_past}
 use Rattle.reads.proofs.Numbers.{readable_in, readable_out, le_inside}
-use Rattle.reads.proofs.SegmentRows.{rows_from, rows_read, rows_none}
 use Rattle.reads.proofs.Outcomes.{then_then}
 use Rattle.reads.proofs.Tests.{by_choose, choose_true, choose_false}
 
@@ -92,10 +90,6 @@ left_of n x y h l = omega arith
 one_off : (n x : ℕ) → n - 1 - x ≡ n - x - 1
 one_off n x = omega arith
 
--- Sums that the code makes stay within 64 bits.
-pub sum_within : (a b : ℕ) → a < 2 ^ 64 → b ≤ 2 ^ 64 - 1 - a → a + b < 2 ^ 64
-sum_within a b h l = omega arith
-
 -- The spot in a segment that holds the address.
 module _ (s : Segment) (far va d : ℕ) (h : holds s va ≡ true) (e : d ≡ distance s va) where
   held_distance : d ≡ va - s.vmaddr
@@ -122,23 +116,23 @@ module _ (s : Segment) (far va d : ℕ) (h : holds s va ≡ true) (e : d ≡ dis
       rw (q, r, one_off (2 ^ 64) farther, one_less left (2 ^ 64 - farther) some (left_of (2 ^ 64) far (s.fileoff + d) f o))
       (sym (rw (← held_distance) (choose_false _ _ (rw (lt-leb s.filesize d l, lt-leb (2 ^ 64) (s.fileoff + d) o)))))
 
-pub spot_out : (ws : List ℕ) (i far va : ℕ) → records segment_words ws ≤ i → spot_from far (rows_from ws i) va ≡ None
+pub spot_out : (far va : ℕ) → spot_from far [] va ≡ None
 unfolding spot_from
-spot_out ws i far va h = simp (rows_none ws i h)
+spot_out far va = refl
 
--- Row i, as the code has it.
-module _ (ws : List ℕ) (i : ℕ) (fits : i < records segment_words ws) (s : Segment) (at : s ≡ segment_at ws i) (far va : ℕ) where
-  pub spot_ends : ends s ≡ true → spot_from far (rows_from ws i) va ≡ None
-  unfolding spot_from choose
-  spot_ends e = simp (rows_read ws i fits s at, e)
+-- The first of the segments decides, or is passed.
+module _ (s : Segment) (ss : List Segment) (far va : ℕ) where
+  pub spot_ends : ends s ≡ true → spot_from far (s ∷ ss) va ≡ None
+  unfolding spot_from
+  spot_ends e = choose_true _ _ e
 
-  pub spot_holds : ends s ≡ false → holds s va ≡ true → spot_from far (rows_from ws i) va ≡ spot_at s far va
-  unfolding spot_from choose
-  spot_holds e h = simp (rows_read ws i fits s at, e, h)
+  pub spot_holds : ends s ≡ false → holds s va ≡ true → spot_from far (s ∷ ss) va ≡ spot_at s far va
+  unfolding spot_from
+  spot_holds e h = choose_false _ _ e ∙ choose_true _ _ h
 
-  pub spot_on : ends s ≡ false → holds s va ≡ false → spot_from far (rows_from ws i) va ≡ spot_from (max far (distance s va)) (rows_from ws (i + 1)) va
-  unfolding spot_from choose
-  spot_on e h = simp (rows_read ws i fits s at, e, h)
+  pub spot_on : ends s ≡ false → holds s va ≡ false → spot_from far (s ∷ ss) va ≡ spot_from (max far (distance s va)) ss va
+  unfolding spot_from
+  spot_on e h = choose_false _ _ e ∙ choose_false _ _ h
 
 -- A spot is where a lookup leads, and for as many bytes as its room the place moves with the address.
 pub record LeadsTo (ss : List Segment) (va : ℕ) (s : Spot) : Type 0 where
@@ -150,33 +144,6 @@ pub record LeadsTo (ss : List Segment) (va : ℕ) (s : Spot) : Type 0 where
 abbrev pub Leads : List Segment → ℕ → Option Spot → Type 0
 Leads ss va None = lookup ss va ≡ absent Unmapped
 Leads ss va (Some s) = LeadsTo ss va s
-
--- The first of the segments decides, or is passed.
-module _ (s : Segment) (ss : List Segment) where
-  first_ends : (x : ℕ) → ends s ≡ true → lookup (s ∷ ss) x ≡ absent Unmapped
-  unfolding lookup
-  first_ends x e = choose_true _ _ e
-
-  first_holds : (x : ℕ) → ends s ≡ false → holds s x ≡ true → lookup (s ∷ ss) x ≡ placed s x
-  unfolding lookup
-  first_holds x e h = choose_false _ _ e ∙ choose_true _ _ h
-
-  first_passed : (x : ℕ) → ends s ≡ false → holds s x ≡ false → lookup (s ∷ ss) x ≡ lookup ss x
-  unfolding lookup
-  first_passed x e h = choose_false _ _ e ∙ choose_false _ _ h
-
-  module _ (far va : ℕ) where
-    spot_first_ends : ends s ≡ true → spot_from far (s ∷ ss) va ≡ None
-    unfolding spot_from
-    spot_first_ends e = choose_true _ _ e
-
-    spot_first_holds : ends s ≡ false → holds s va ≡ true → spot_from far (s ∷ ss) va ≡ spot_at s far va
-    unfolding spot_from
-    spot_first_holds e h = choose_false _ _ e ∙ choose_true _ _ h
-
-    spot_first_passed : ends s ≡ false → holds s va ≡ false → spot_from far (s ∷ ss) va ≡ spot_from (max far (distance s va)) ss va
-    unfolding spot_from
-    spot_first_passed e h = choose_false _ _ e ∙ choose_false _ _ h
 
 distance_fits : (s : Segment) (va : ℕ) → va < 2 ^ 64 → distance s va < 2 ^ 64
 unfolding distance
@@ -228,9 +195,9 @@ module _ (s : Segment) (ss : List Segment) (far va : ℕ) (f : far < 2 ^ 64) (e 
       let u = holds_is s va h in
       let inside : d < s.vmsize = omega (arith, u.1, u.2) in
       record {
-        there = first_holds s ss va e h ∙ sym (placed_at s va l o);
+        there = lookup_holds s ss va e h ∙ sym (placed_at s va l o);
         in_words = λ k g. let w = ends_not s e in omega (arith, u.1);
-        moves = λ k g. first_holds s ss (va + k) e (holds_further k (omega arith)) ∙ placed_further k (omega arith) (omega arith);
+        moves = λ k g. lookup_holds s ss (va + k) e (holds_further k (omega arith)) ∙ placed_further k (omega arith) (omega arith);
       }
 
   held_leads : Leads (s ∷ ss) va (spot_at s far va)
@@ -238,7 +205,7 @@ module _ (s : Segment) (ss : List Segment) (far va : ℕ) (f : far < 2 ^ 64) (e 
   held_leads = go (leb s.filesize d) refl (leb (2 ^ 64) (s.fileoff + d)) refl
     where
       missed : placed s va ≡ absent Unmapped → lookup (s ∷ ss) va ≡ absent Unmapped
-      missed p = first_holds s ss va e h ∙ p
+      missed p = lookup_holds s ss va e h ∙ p
 
       go : (a : Bool) → leb s.filesize d ≡ a → (b : Bool) → leb (2 ^ 64) (s.fileoff + d) ≡ b
           → Leads (s ∷ ss) va (choose (a || b) None (Some (spot s.file (s.fileoff + d) (min (mapped_size s - d) (2 ^ 64 - max far (s.fileoff + d))))))
@@ -249,13 +216,13 @@ module _ (s : Segment) (ss : List Segment) (far va : ℕ) (f : far < 2 ^ 64) (e 
 -- What leads behind a segment that was passed leads from it.
 passed_leads : (s : Segment) (ss : List Segment) (far va : ℕ) → va < 2 ^ 64 → ends s ≡ false → holds s va ≡ false → (o : Option Spot)
     → Reaches (max far (distance s va)) o → Leads ss va o → Leads (s ∷ ss) va o
-passed_leads s ss far va w e h None near l = first_passed s ss va e h ∙ l
+passed_leads s ss far va w e h None near l = lookup_on s ss va e h ∙ l
 passed_leads s ss far va w e h (Some x) near l =
     record {
-      there = first_passed s ss va e h ∙ l.there;
+      there = lookup_on s ss va e h ∙ l.there;
       in_words = l.in_words;
       moves =
-          λ k g. first_passed s ss (va + k) e (still_not s va e k w (l.in_words k g) (omega arith) h) ∙ l.moves k g;
+          λ k g. lookup_on s ss (va + k) e (still_not s va e k w (l.in_words k g) (omega arith) h) ∙ l.moves k g;
     }
 
 spot_leads : (ss : List Segment) (far va : ℕ) → far < 2 ^ 64 → va < 2 ^ 64 → Leads ss va (spot_from far ss va)
@@ -265,10 +232,10 @@ spot_leads (s ∷ ss) far va f w = go (ends s) refl (holds s va) refl (spot_lead
   where
     go : (a : Bool) → ends s ≡ a → (b : Bool) → holds s va ≡ b → Leads ss va (spot_from (max far (distance s va)) ss va)
         → Leads (s ∷ ss) va (spot_from far (s ∷ ss) va)
-    go true e b h ih = subst (Leads (s ∷ ss) va) (sym (spot_first_ends s ss far va e)) (first_ends s ss va e)
-    go false e true h ih = subst (Leads (s ∷ ss) va) (sym (spot_first_holds s ss far va e h)) (held_leads s ss far va f e h)
+    go true e b h ih = subst (Leads (s ∷ ss) va) (sym (spot_ends s ss far va e)) (lookup_ends s ss va e)
+    go false e true h ih = subst (Leads (s ∷ ss) va) (sym (spot_holds s ss far va e h)) (held_leads s ss far va f e h)
     go false e false h ih =
-        subst (Leads (s ∷ ss) va) (sym (spot_first_passed s ss far va e h))
+        subst (Leads (s ∷ ss) va) (sym (spot_on s ss far va e h))
         (passed_leads s ss far va w e h (spot_from (max far (distance s va)) ss va) (room_far ss (max far (distance s va)) va) ih)
 
 readable_same : (n : ℕ) (p : Place) (k : ℕ) → and_then (readable_at n p k) (λ q. value p) ≡ readable_at n p k

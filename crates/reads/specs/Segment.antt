@@ -6,6 +6,7 @@ use Rattle.reads.specs.Table.{records, word_of, tabulate}
 use Rattle.reads.specs.declared.answer.Reason.TheVariants.{Unmapped}
 use Rattle.reads.specs.declared.place.Place.{Place}
 use Rattle.reads.specs.declared.segment.Segment.{Segment}
+use Rattle.reads.specs.declared.segment.Rows.{Rows}
 
 abbrev pub segment : ℕ → ℕ → ℕ → ℕ → ℕ → Segment
 segment a b c d f = record { vmaddr = a; vmsize = b; fileoff = c; filesize = d; file = f }
@@ -24,6 +25,10 @@ segment_at ws i =
 unfoldable pub rows : List ℕ → List Segment
 unfolding tabulate
 rows ws = tabulate (segment_at ws) 0 (records segment_words ws)
+
+-- Those that are left to an iterator over them.
+abbrev pub rows_left : Rows → List Segment
+rows_left r = tabulate (segment_at r.segments.now) r.from (records segment_words r.segments.now - r.from)
 
 -- vmaddr + vmsize exceeds 64 bits.
 unfoldable pub ends : Segment → Bool

@@ -105,7 +105,7 @@ impl Missing {
     }
 }
 
-// Neither a number nor refused.
+// Neither a number nor refused. Nothing here calls it: it was public, and stays so for callers who match no Result.
 pub fn is_absent(w: Result<u64, Missing>) -> bool
     ensures { result ≡ is_absent (outcome w) }
 {
@@ -119,7 +119,9 @@ pub fn because<T>(w: Result<T, Missing>, why: Reason) -> Result<T, Missing>
     w.map_err(|m| m.because(why))
 }
 
-// What is absent counts as `other`.
+// What is absent counts as `other`. Not over a closure for what is read then (`pick_either`, pointers' `rebased_or_stored`, records' `data_at` and
+// `ro_data_at`; `class_name_of` there and walks' `name_in`, where the first's reason stands): it would be public, for crates above this one, and
+// needs `requires { F.pre other }`, which no public function here has; private to each crate it would stand for one or two matches of four lines.
 pub fn or_value<T: Drop>(w: Result<T, Missing>, other: T) -> Result<T, Missing>
     ensures { outcome result ≡ or_else (outcome w) (value other) }
 {

@@ -47,8 +47,7 @@ pub fn next_break(image: &Image, least: u64, va: u64) -> Option<u64>
     ensures { result ≡ next_break (breaks_of image.now least) va }
 {
     let mut best = None;
-    for i in 0..image.segments.len() / Segment::WORDS {
-        let s = Segment::at(image.segments, i);
+    for s in Segment::rows(image.segments) {
         if s.ends() {
             return best;
         }

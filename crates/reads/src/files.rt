@@ -16,7 +16,8 @@ pub fn is_lent(files: &[&[u8]], f: u64) -> bool
     f < files.len() as u64
 }
 
-// The bytes of a file; a file that is not lent has none, as the definition says: so every read of it is past its end, and none needs an Option.
+// The bytes of a file; a file that is not lent has none, as the definition says: so every read of a byte of it is past its end, and none needs an
+// Option. What reads no byte, as a name of no length at offset 0, passes there: question 18 (pointers) asks `is_lent` before it.
 pub fn bytes_of<'a>(files: &[&'a [u8]], f: u64) -> &'a [u8]
     ensures { result.now ≡ file_of (files_of files) f }
 {

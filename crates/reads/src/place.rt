@@ -46,14 +46,12 @@ pub fn part(bytes: &[u8], offset: u64, len: u64) -> &[u8]
 }
 
 // A place, if k bytes from it lie in its file of n bytes.
-#[tactic(auto, using(std::proofs::lemmas::Bool::Decides::nat_tests), unfolding(crate::specs::Place::readable_at, crate::specs::Outcome::choose))]
+#[tactic(auto, unfolding(crate::specs::Place::readable_at, crate::specs::Outcome::choose))]
 pub fn readable_at(n: u64, p: Place, k: u64) -> Result<Place, Missing>
     ensures { outcome result ≡ readable_at n p k }
 {
-    if p.offset <= n {
-        if k <= n - p.offset {
-            return Ok(p);
-        }
+    if lies_in(n, p.offset, 0, k) {
+        return Ok(p);
     }
     Err(Missing::Absent(Reason::Unreadable))
 }
@@ -108,7 +106,8 @@ impl Width for u64 {
     ghost fits = { (leb-true 1 8 refl, leb-true 8 8 refl) };
 }
 
-// The number of the type's bytes that lie in the slice, in little-endian order.
+// The number of the type's bytes that lie in the slice, in little-endian order. A u64 with its bound, here and in `le_from` and `le_in`, not a W: the
+// contract could say the number of a W by a law of the trait alone, so that a conversion and its law in three impls would stand for four `as`.
 pub(crate) fn le<W: Width>(bytes: &[u8], at: usize) -> u64
     requires { at + W.BYTES ≤ length bytes.now }
     ensures { (result ≡ le (part (before bytes) at W.BYTES)) × (result < 256 ^ W.BYTES) }
@@ -168,7 +167,9 @@ pub(crate) fn read<W: Width>(image: &Image, va: u64) -> Result<u64, Missing>
     Ok(le::<W>(bytes, p.offset as usize))
 }
 
-// By size, here and below, not one public generic function: a caller names the size, and its contract a number, not a constant of Width.
+// By size, here and below: the five of one slice are the Rust's by name (util.rs, which document 01 names; DECISIONS 9 and its table of names),
+// those of an address are its `read_u32` and `read_u64` (mod.rs) and `read_u16` beside them, public before (DECISIONS 9), and a field's reader gives
+// the type of its size. `read_be_at` alone is public and generic: universal is generic over the width.
 
 // The number of two bytes at an offset of one slice.
 pub fn read_u16_le_at(bytes: &[u8], offset: u64) -> Result<u64, Missing>
@@ -227,7 +228,7 @@ pub fn read_u64(image: &Image, va: u64) -> Result<u64, Missing>
 }
 
 // Whether k bytes at i bytes from an offset lie in n bytes.
-fn lies_in(n: u64, from: u64, i: u64, k: u64) -> bool
+pub fn lies_in(n: u64, from: u64, i: u64, k: u64) -> bool
     ensures { result ≡ nat_le (from + i + k) n }
 {
     if n < from {

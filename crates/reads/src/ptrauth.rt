@@ -21,7 +21,7 @@ pub enum PacKey {
 }
 
 impl PacKey {
-    // The key of the two-bit field; higher bits are dropped.
+    // The key of the two-bit field; higher bits are dropped. Not `From`: it has the Rust's name (DECISIONS), which says that it takes bits.
     #[tactic(auto, using(std::proofs::lemmas::Bool::Decides::nat_tests), unfolding(crate::specs::Ptrauth::key_of))]
     pub fn from_bits(bits: u8) -> PacKey
         ensures { result ≡ key_of bits }

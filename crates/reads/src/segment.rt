@@ -1,8 +1,9 @@
 // The segment table, lent as words, and the translation between addresses and places.
 ghost use Rattle.std.specs.Prelude.{◌≡◌, ◌<◌, ◌≤◌};
+ghost use Rattle.std.specs.Iterator.{YieldsFirst, item_count};
 ghost use Rattle.reads.specs.Reference.{before};
 ghost use Rattle.reads.specs.Table.{records};
-ghost use Rattle.reads.specs.Segment.{segment_words, segment_at, rows, ends, holds, placed, lookup, ends_in_file, mapped_size, carries, address_of};
+ghost use Rattle.reads.specs.Segment.{segment_words, segment_at, rows, rows_left, ends, holds, placed, lookup, ends_in_file, mapped_size, carries, address_of};
 ghost use Rattle.reads.specs.Answer.{outcome};
 
 use crate::answer::{Missing, Reason, because, checked_add};
@@ -29,7 +30,7 @@ impl Segment {
     pub const FILE: usize = 4;
 
     // Row i of the table.
-    pub(crate) fn at(segments: &[u64], i: usize) -> Segment
+    fn at(segments: &[u64], i: usize) -> Segment
         requires { i < records segment_words segments.now }
         ensures { result ≡ segment_at (before segments) i }
     {
@@ -75,24 +76,55 @@ impl Segment {
         if self.filesize <= distance {
             return Err(Missing::Absent(Reason::Unmapped));
         }
-        if Segment::MAX - self.fileoff < distance {
-            return Err(Missing::Absent(Reason::Unmapped));
-        }
+        let offset = because(checked_add(self.fileoff, distance), Reason::Unmapped)?;
         Ok(Place {
             file: self.file,
-            offset: self.fileoff + distance,
+            offset,
         })
+    }
+}
+
+// The rows of a table from one on, in order.
+#[derive(Clone, Copy)]
+pub(crate) struct Rows<'a> {
+    segments: &'a [u64],
+    from: usize,
+}
+
+impl Segment {
+    // All of a table.
+    #[tactic(auto, using(crate::proofs::SegmentRows::rows_all))]
+    pub(crate) fn rows(segments: &[u64]) -> Rows<'_>
+        ensures { rows_left result ≡ rows (before segments) }
+    {
+        Rows { segments, from: 0 }
+    }
+}
+
+impl Iterator for Rows<'_> {
+    type Item = Segment;
+
+    ghost next_gives = { YieldsFirst rows_left };
+
+    ghost remaining = { item_count rows_left };
+
+    fn next(&mut self) -> Option<Segment> {
+        let i = self.from;
+        if i < self.segments.len() / Segment::WORDS {
+            self.from = i + 1;
+            return Some(Segment::at(self.segments, i));
+        }
+        None
     }
 }
 
 // The place of an address. Segments count in order: one that exceeds 64 bits ends the lookup, the first that holds the
 // address decides. What is absent is Unmapped, whatever ends the lookup.
-#[tactic(auto, using(crate::proofs::SegmentRows::rows_all, crate::proofs::Lookups::holds_is, crate::proofs::Lookups::lookup_ends, crate::proofs::Lookups::lookup_holds, crate::proofs::Lookups::lookup_on, crate::proofs::Lookups::lookup_out))]
+#[tactic(auto, using(crate::proofs::Lookups::holds_is, crate::proofs::Lookups::lookup_ends, crate::proofs::Lookups::lookup_holds, crate::proofs::Lookups::lookup_on, crate::proofs::Lookups::lookup_out))]
 pub fn vm_to_file_offset_in(segments: &[u64], va: u64) -> Result<Place, Missing>
     ensures { outcome result ≡ lookup (rows (before segments)) va }
 {
-    for i in 0..segments.len() / Segment::WORDS {
-        let s = Segment::at(segments, i);
+    for s in Segment::rows(segments) {
         if s.ends() {
             return Err(Missing::Absent(Reason::Unmapped));
         }
@@ -135,13 +167,14 @@ impl Segment {
     }
 }
 
-// The address of an offset of a file: the inverse of `vm_to_file_offset_in`. The first segment that maps the offset decides.
-#[tactic(auto, using(crate::proofs::Outcomes::because_of, crate::proofs::SegmentRows::rows_all, crate::proofs::Lookups::carries_is, crate::proofs::Lookups::address_ends, crate::proofs::Lookups::address_carries, crate::proofs::Lookups::address_on, crate::proofs::Lookups::address_out))]
+// The address of an offset of a file: the inverse of `vm_to_file_offset_in`. The first segment that maps the offset decides. Not one search with it
+// over closures: what ends it, what it stops at and what it gives there would be three parameters, each with its relation in the contract, for
+// four lines.
+#[tactic(auto, using(crate::proofs::Outcomes::because_of, crate::proofs::Lookups::carries_is, crate::proofs::Lookups::address_ends, crate::proofs::Lookups::address_carries, crate::proofs::Lookups::address_on, crate::proofs::Lookups::address_out))]
 pub fn file_offset_to_vm_in(segments: &[u64], file: u64, offset: u64) -> Result<u64, Missing>
     ensures { outcome result ≡ address_of (rows (before segments)) file offset }
 {
-    for i in 0..segments.len() / Segment::WORDS {
-        let s = Segment::at(segments, i);
+    for s in Segment::rows(segments) {
         if s.ends_in_file() {
             return Err(Missing::Absent(Reason::Unmapped));
         }

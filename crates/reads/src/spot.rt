@@ -39,7 +39,7 @@ fn holds_at(s: Segment, va: u64, d: u64) -> bool
 }
 
 // The spot of an address that the segment holds, at this distance; the segments before it lie at most `far` behind the address.
-#[tactic(auto, using(crate::proofs::Spots::held_inside, crate::proofs::Spots::spot_past, crate::proofs::Spots::spot_over, crate::proofs::Spots::spot_there, crate::proofs::Spots::sum_within), unfolding(crate::specs::Segment::mapped_size))]
+#[tactic(auto, using(crate::proofs::Spots::held_inside, crate::proofs::Spots::spot_past, crate::proofs::Spots::spot_over, crate::proofs::Spots::spot_there), unfolding(crate::specs::Segment::mapped_size))]
 fn spot_at(s: Segment, far: u64, va: u64, d: u64) -> Option<Spot>
     requires va_value { holds s va ≡ true }
     requires d_value { d ≡ distance s va }
@@ -48,10 +48,7 @@ fn spot_at(s: Segment, far: u64, va: u64, d: u64) -> Option<Spot>
     if s.filesize <= d {
         return None;
     }
-    if Segment::MAX - s.fileoff < d {
-        return None;
-    }
-    let offset = s.fileoff + d;
+    let offset = s.fileoff.checked_add(d)?;
     let last = s.mapped_size() - d - 1;
     let place = Place {
         file: s.file,
@@ -64,13 +61,12 @@ fn spot_at(s: Segment, far: u64, va: u64, d: u64) -> Option<Spot>
 }
 
 // The spot of an address. Segments count in order: one that exceeds 64 bits ends the lookup, the first that holds the address decides.
-#[tactic(auto, using(crate::proofs::SegmentRows::rows_all, crate::proofs::Spots::spot_ends, crate::proofs::Spots::spot_holds, crate::proofs::Spots::spot_on, crate::proofs::Spots::spot_out))]
+#[tactic(auto, using(crate::proofs::Spots::spot_ends, crate::proofs::Spots::spot_holds, crate::proofs::Spots::spot_on, crate::proofs::Spots::spot_out))]
 fn spot_in(segments: &[u64], va: u64) -> Option<Spot>
     ensures { result ≡ spot_in (before segments) va }
 {
     let mut far = 0;
-    for i in 0..segments.len() / Segment::WORDS {
-        let s = Segment::at(segments, i);
+    for s in Segment::rows(segments) {
         if s.ends() {
             return None;
         }

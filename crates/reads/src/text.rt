@@ -12,12 +12,12 @@ ghost use Rattle.reads.specs.Text.{ended, scan_of, good_text, text_of_scan, text
 ghost use Rattle.reads.specs.Answer.{outcome};
 
 use crate::answer::{Missing, Reason, nonzero, or_value};
-use crate::files::{bytes_of, is_lent};
+use crate::files::bytes_of;
 use crate::place::{Image, Place};
 use crate::segment::vm_to_file_offset_in;
 
-// A text: a part of a file of the image.
-#[derive(Clone, Copy)]
+// A text: a part of a file of the image; the empty one, in file 0 at offset 0, is the default.
+#[derive(Clone, Copy, Default)]
 pub struct Text {
     pub file: u64,
     pub offset: u64,
@@ -149,7 +149,7 @@ fn broken(s: &[u8], bad: ByteRead) -> Scan
     requires { (bad.at ≤ length s.now) × (bad ≡ byte_after s.now bad.at) }
     ensures { result ≡ broken_at (before s) bad.at }
 {
-    // Not a `for`: it goes on to the zero byte, or to the end that stands for it.
+    // Not `position` of the zero byte: each byte is read by `read_byte`, which counts it.
     let mut b = bad;
     while 0 < b.byte {
         b = read_byte(s, b.read);
@@ -245,27 +245,23 @@ fn read_cstr_in(bytes: &[u8], reading: Reading, p: Place) -> CstrRead
 }
 
 // The text at a place, and how many bytes were read: a file that is not lent has no bytes.
-#[tactic(auto, using(crate::proofs::LentFiles::file_not_lent, crate::proofs::LentFiles::said_not))]
 pub fn read_cstr_at(files: &[&[u8]], reading: Reading, p: Place) -> CstrRead
     ensures { (outcome result.text ≡ text_at reading (files_of files) p) × (result.read ≡ read_at (files_of files) p) }
 {
-    // Not one call: the compiler would copy the pass into each caller, and its loop is slower there.
-    if !is_lent(files, p.file) {
-        return read_cstr_in(b"", reading, p);
-    }
     read_cstr_in(bytes_of(files, p.file), reading, p)
 }
 
 // The place of the text at an address: absent at 0 and where nothing is mapped.
 #[tactic(auto, using(crate::proofs::Outcomes::outcomes))]
-fn text_place(image: &Image, va: u64) -> Result<Place, Missing>
+pub fn text_place(image: &Image, va: u64) -> Result<Place, Missing>
     ensures { outcome result ≡ and_then (nonzero va) (λ a. lookup (rows image.now.words) a) }
 {
     let a = nonzero(va)?;
     vm_to_file_offset_in(image.segments, a)
 }
 
-// The text at an address, and how many bytes were read: absent at 0 and where nothing is mapped, and then none.
+// The text at an address, and how many bytes were read: absent at 0 and where nothing is mapped, and then none. Image, reading and address come one by
+// one, here and in the two below: the address is a call's own, and a struct of the other two would be made for one call each time (records' `string`).
 #[tactic(auto, using(crate::proofs::Outcomes::outcomes, crate::proofs::Outcomes::then_then), unfolding(crate::specs::Text::text_in, crate::specs::Text::read_in))]
 pub fn read_cstr_counted(image: &Image, reading: Reading, va: u64) -> CstrRead
     ensures { (outcome result.text ≡ text_in reading image.now va) × (result.read ≡ read_in image.now va) }
@@ -291,22 +287,18 @@ pub fn read_cstr(image: &Image, reading: Reading, va: u64) -> Result<Text, Missi
 pub fn or_empty(t: Result<Text, Missing>) -> Result<Text, Missing>
     ensures { outcome result ≡ or_empty (outcome t) }
 {
-    let empty = Text {
-        file: 0,
-        offset: 0,
-        len: 0,
-    };
-    or_value(t, empty)
+    or_value(t, Text::default())
 }
 
-// The same, an absent text counting as the empty one.
+// The text at an address, an absent one counting as the empty one.
 pub fn read_cstr_or_empty(image: &Image, reading: Reading, va: u64) -> Result<Text, Missing>
     ensures { outcome result ≡ or_empty (text_in reading image.now va) }
 {
     or_empty(read_cstr(image, reading, va))
 }
 
-// The length of the text in a field of 16 bytes, as segname and sectname: 0 where it is not UTF-8.
+// The length of the text in a field of 16 bytes, as segname and sectname: 0 where it is not UTF-8, not an Option: the Rust gives "" there
+// (DECISIONS 8).
 #[tactic(auto, unfolding(crate::specs::Text::fixed_length, crate::specs::Utf8::utf8, crate::specs::Outcome::choose))]
 pub fn cstr_from_fixed(bytes: &[u8; 16]) -> u64
     ensures { result ≡ fixed_length (before bytes) }

@@ -312,6 +312,7 @@ impl ClassRo {
 
     pub const BASE_PROPERTIES: u64 = 64;
 
+    // Each flag has a method, as in the Rust and as those of pointers' `ImageInfo`.
     pub fn is_meta(self) -> bool
         ensures { result ≡ bit 0 self.flags }
     {

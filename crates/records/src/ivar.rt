@@ -1,5 +1,6 @@
 // Rows of ivar lists (objc-runtime-new.h, ivar_t).
-ghost use Rattle.std.specs.Prelude.{◌≡◌};
+ghost use Rattle.std.specs.Prelude.{◌≡◌, Some};
+ghost use Rattle.reads.specs.Outcome.{value, and_then};
 ghost use Rattle.reads.specs.Answer.{outcome};
 ghost use Rattle.records.specs.Row.{alignment_of, aligned_of, decode_offset_there, offset_at, ivar_at};
 ghost use Rattle.records.specs.Decode.{run};
@@ -7,7 +8,7 @@ ghost use Rattle.records.specs.Decode.{run};
 use crate::near::Near;
 use crate::text::{string, string_or_empty};
 use pointers::tables::Tables;
-use reads::answer::{Missing, nonzero, or_value, or_zero};
+use reads::answer::{Missing, nonzero, optional, or_zero};
 use reads::place::{readable, u32_in};
 use reads::text::Text;
 
@@ -61,13 +62,13 @@ fn aligned_of(offset: Option<u32>, alignment: Option<u8>) -> Option<bool>
 
 // The four bytes at the pointed place.
 #[tactic(auto, using(reads::proofs::Outcomes::missed_then))]
-fn offset_there(tables: &Tables, place: u64) -> Result<Option<u32>, Missing>
+fn offset_there(tables: &Tables, place: u64) -> Result<u32, Missing>
     ensures { let t = tables.now in
-        outcome result ≡ run t (decode_offset_there place) }
+        and_then (outcome result) (λ n. value (Some n)) ≡ run t (decode_offset_there place) }
 {
     let va = nonzero(place)?;
     let p = readable(tables.image(), va, 4)?;
-    Ok(Some(u32_in(tables.files(), p, 0)))
+    Ok(u32_in(tables.files(), p, 0))
 }
 
 // The offset in the four bytes at the pointed place, none if the pointer is 0 or they cannot be read.
@@ -76,7 +77,7 @@ fn offset_at(tables: &Tables, place: u64) -> Result<Option<u32>, Missing>
     ensures { let t = tables.now in
         outcome result ≡ offset_at t place }
 {
-    or_value(offset_there(tables, place), None)
+    Ok(optional(offset_there(tables, place))?)
 }
 
 // ivar_t; the offset's place is read last.

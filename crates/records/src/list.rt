@@ -1,10 +1,10 @@
 // Headers of method, ivar and property lists, and the search for the next entry that can be read.
-ghost use Rattle.std.specs.Prelude.{◌≡◌, ◌<◌};
+ghost use Rattle.std.specs.Prelude.{◌≡◌, ◌<◌, ◌%◌, ◌^◌};
 ghost use Rattle.reads.specs.Reference.{before};
 ghost use Rattle.reads.specs.Breaks.{can_read};
 ghost use Rattle.reads.specs.Outcome.{value, choose};
 ghost use Rattle.records.specs.Ask.{even_list, entry_size};
-ghost use Rattle.records.specs.List.{least, method_rows, rows_of, size_of, must_be_even, list_at};
+ghost use Rattle.records.specs.List.{least, method_rows, rows_of, size_of, must_be_even, list_at, entry_address};
 ghost use Rattle.records.specs.Search.{first_readable, search_budget};
 ghost use Rattle.records.specs.Tries.{ahead, Leads};
 ghost use Rattle.reads.specs.Answer.{outcome};
@@ -35,7 +35,8 @@ pub enum ListKind {
 }
 
 // What the entries of a list are. MethodKind and Selectors have fewer cases: with this enum for them, each match on a method's kind or on where its
-// offset leads would have arms that cannot come.
+// offset leads would have arms that cannot come. Nor `Method(MethodKind)` for the first three: `least`, `row_at` and usage's `row` would have the
+// same five arms, three of them two levels deep, and no match would lose one, since nothing matches what `method_rows` alone gives.
 #[derive(Clone, Copy)]
 pub enum RowKind {
     Legacy,
@@ -61,6 +62,14 @@ impl Layout {
     pub const ENTSIZE_AND_FLAGS: u64 = 0;
 
     pub const COUNT: u64 = 4;
+
+    // The address of entry j. An address over 64 bits wraps: callers ask for entries that can be read, whose addresses do not.
+    pub fn entry_address(self, j: u64) -> u64
+        ensures wraps { result ≡ entry_address self j % 2 ^ 64 }
+        ensures fits { entry_address self j < 2 ^ 64 → result ≡ entry_address self j }
+    {
+        self.base.wrapping_add(j.wrapping_mul(self.size as u64))
+    }
 }
 
 // The rows of a method list, by its first word.
@@ -183,10 +192,9 @@ fn try_at(image: &Image, h: Layout, i: u64) -> ControlFlow<Option<u64>, u64>
     let size = h.size as u64;
     // Entries from the first whose address passes 64 bits are not readable.
     let way = i * size;
-    if 0xFFFF_FFFF_FFFF_FFFF - h.base < way {
+    let Some(va) = h.base.checked_add(way) else {
         return ControlFlow::Break(None);
-    }
-    let va = h.base + way;
+    };
     let rows = h.kind;
     let k = least(rows);
     if can_read(image, k, va) {

@@ -57,15 +57,11 @@ impl Method {
     pub const SMALL_IMP: u64 = 8;
 
     // The row is of the form of relative offsets.
+    #[tactic(auto, unfolding(crate::specs::Row::is_small))]
     pub fn is_small(self) -> bool
         ensures { result ≡ is_small self.kind }
     {
-        let kind = self.kind;
-        match kind {
-            MethodKind::Legacy => false,
-            MethodKind::SmallIndirect => true,
-            MethodKind::SmallDirect => true,
-        }
+        !matches!(self.kind, MethodKind::Legacy)
     }
 }
 

@@ -50,7 +50,8 @@ impl<'a> Near<'a> {
         self.spot.place
     }
 
-    // The pointer in the slot k bytes behind its address.
+    // The pointer in the slot k bytes behind its address. That it ends within the record is said here, in `field` and in `field_or_0`: it is a fact of
+    // the k of a call, not of the record, so no ghost field can hold it.
     #[tactic(auto, using(crate::proofs::NearFields::near_slot))]
     fn slot(&self, k: u64, va: u64) -> Result<u64, Missing>
         requires at { va ≡ self.now.va + k }

@@ -6,6 +6,7 @@
 ghost use Rattle.std.specs.Prelude.{◌≤◌, length};
 ghost use Rattle.std.specs.Result.{IfOk};
 
+use printing::bundle::Buffers;
 use printing::descriptor::Descriptor;
 use printing::write::write_under;
 use reads::text::Reading;
@@ -52,16 +53,9 @@ fn write_title(to: &mut Descriptor, title: &[u8]) -> Result<(), Failure> {
 }
 
 // Both listings of a bundle, first under the old reading.
-fn write_listings(
-    to: &mut Descriptor,
-    input: &[u8],
-    words: &mut [u64; 4096],
-    index: &mut [u32; 10240],
-    ledger: &mut [u64; 8192],
-    out: &mut [u8; 4096],
-) -> Result<(), Failure> {
+fn write_listings(to: &mut Descriptor, input: &[u8], buffers: &mut Buffers) -> Result<(), Failure> {
     for reading in [Reading::Old, Reading::New] {
-        let listed = write_under(to, reading, input, words, index, ledger, out);
+        let listed = write_under(to, reading, input, buffers);
         if !listed.whole {
             return Err(Failure::Unwritten);
         }
@@ -69,18 +63,16 @@ fn write_listings(
     Ok(())
 }
 
-// A case after its title.
+// A case after its title. File and descriptor come one by one, here and below: each part is read of the one or written to the other (`read_part`,
+// `write_title`), so a struct of them would be taken apart.
 fn replay_bundle(
     file: &mut File,
     to: &mut Descriptor,
     input: &mut [u8; 32769],
-    words: &mut [u64; 4096],
-    index: &mut [u32; 10240],
-    ledger: &mut [u64; 8192],
-    out: &mut [u8; 4096],
+    buffers: &mut Buffers,
 ) -> Result<(), Failure> {
     let n = read_part(file, input)?;
-    write_listings(to, &input[..n], words, index, ledger, out)
+    write_listings(to, &input[..n], buffers)
 }
 
 // The next title, and its line.
@@ -89,20 +81,17 @@ fn replay_title(file: &mut File, to: &mut Descriptor, title: &mut [u8]) -> Resul
     write_title(to, &title[0..n])
 }
 
-// So many cases. The lent buffers go from case to case as they are, one by one as `write_under` takes them (the head of bundle.rt in printing).
+// So many cases. The lent buffers go from case to case as they are.
 fn replay_all(
     file: &mut File,
     to: &mut Descriptor,
     count: u64,
     input: &mut [u8; 32769],
-    words: &mut [u64; 4096],
-    index: &mut [u32; 10240],
-    ledger: &mut [u64; 8192],
-    out: &mut [u8; 4096],
+    buffers: &mut Buffers,
 ) -> Result<(), Failure> {
     for _ in 0..count {
         replay_title(file, to, input)?;
-        replay_bundle(file, to, input, words, index, ledger, out)?;
+        replay_bundle(file, to, input, buffers)?;
     }
     Ok(())
 }
@@ -111,20 +100,8 @@ fn replay_all(
 fn replay_file(file: &mut File, to: &mut Descriptor) -> Result<(), Failure> {
     let count = read_word(file)?;
     let mut input = [0u8; 32769];
-    let mut words = [0u64; 4096];
-    let mut index = [0u32; 10240];
-    let mut ledger = [0u64; 8192];
-    let mut out = [0u8; 4096];
-    replay_all(
-        file,
-        to,
-        count,
-        &mut input,
-        &mut words,
-        &mut index,
-        &mut ledger,
-        &mut out,
-    )
+    let mut buffers = Buffers::new();
+    replay_all(file, to, count, &mut input, &mut buffers)
 }
 
 // The cases that stand where the program runs; where they cannot be opened none is there.

@@ -1,6 +1,5 @@
 // Architectures (machine.h), and the entry of a universal file's table that is looked for.
-ghost use Rattle.std.specs.Prelude.{◌≡◌, ◌≤◌, Bool, length};
-ghost use Rattle.universal.specs.Fat.{arch_offset};
+ghost use Rattle.std.specs.Prelude.{◌≡◌, Bool};
 ghost use Rattle.universal.specs.Architecture.{is_arch, is_abi64, first_arch, chosen};
 ghost use Rattle.universal.specs.declared.fat.Part.{Part};
 
@@ -47,14 +46,13 @@ fn is_abi64(p: Part) -> bool
     p.cputype / CPU_ARCH_ABI64 % 2 == 1
 }
 
-// The first entry that passes a test, of a table that lies in the file.
-fn first_arch<F: Fn(Part) -> bool>(table: Table, count: u64, passes: F) -> Option<u64>
-    requires inside { arch_offset table.kind count ≤ length table.file.now }
-    requires callable { F.IsAlwaysCallable passes }
-    ensures { (test : Part → Bool) → ((p : Part) (r : Bool) → F.post passes p r → r ≡ test p) → result ≡ first_arch table.entry.file.now table.entry.kind test count 0 }
+// The first entry of a table that passes a test.
+fn first_arch<F: Fn(Part) -> bool>(table: Table, passes: F) -> Option<u64>
+    requires { F.IsAlwaysCallable passes }
+    ensures { (test : Part → Bool) → ((p : Part) (r : Bool) → F.post passes p r → r ≡ test p) → result ≡ first_arch table.entry.file.now table.entry.kind test table.entry.count 0 }
 {
-    // Not `find`: its closure would need clauses written out, that the entry lies in the file and that the test can be called.
-    for i in 0..count {
+    // Not `find`: its closure would need clauses written out, that the entry is one of the table's and that the test can be called.
+    for i in 0..table.count {
         if passes(arch_at(table, i)) {
             return Some(i);
         }
@@ -63,21 +61,20 @@ fn first_arch<F: Fn(Part) -> bool>(table: Table, count: u64, passes: F) -> Optio
 }
 
 // The entry that is wanted: of an architecture; or arm64, without it the first 64-bit one.
-pub(crate) fn chosen(table: Table, count: u64, wanted: Option<Arch>) -> Option<u64>
-    requires { arch_offset table.kind count ≤ length table.file.now }
-    ensures { result ≡ chosen table.entry.file.now table.entry.kind count wanted }
+pub(crate) fn chosen(table: Table, wanted: Option<Arch>) -> Option<u64>
+    ensures { result ≡ chosen table.entry.file.now table.entry.kind table.entry.count wanted }
 {
     match wanted {
-        Some(a) => first_arch(table, count, |p| is_arch(a, p)),
+        Some(a) => first_arch(table, |p| is_arch(a, p)),
         None => {
             let arm64 = Arch {
                 cputype: CPU_TYPE_ARM64,
                 cpusubtype: CPU_SUBTYPE_ARM64_ALL,
             };
-            let first = first_arch(table, count, |p| is_arch(arm64, p));
+            let first = first_arch(table, |p| is_arch(arm64, p));
             // Not `or_else`: its closure would need the search's two clauses written out.
             match first {
-                None => first_arch(table, count, is_abi64),
+                None => first_arch(table, is_abi64),
                 Some(_) => first,
             }
         }

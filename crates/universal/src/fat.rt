@@ -1,9 +1,10 @@
 // The structs of fat.h: fat_header, and after it a table of fat_arch, or of fat_arch_64.
-ghost use Rattle.std.specs.Prelude.{◌≡◌, ◌+◌, ◌≤◌, length};
+ghost use Rattle.std.specs.Prelude.{◌≡◌, ◌+◌, ◌≤◌, ◌<◌, length};
 ghost use Rattle.reads.specs.Reference.{before};
-ghost use Rattle.universal.specs.Fat.{kind_of, arch_in, arch_offset, arch_at, table_fits};
+ghost use Rattle.universal.specs.Fat.{nfat_arch, kind_of, arch_in, arch_offset, arch_at, table_fits};
 
 use crate::number::be_in;
+use reads::answer::Question;
 use reads::place::Width;
 
 // fat_header
@@ -73,38 +74,63 @@ fn arch_in<W: Width>(file: &[u8], at: u64) -> Part
     }
 }
 
-// The table of a universal file, of a kind.
+// The table of a universal file, of a kind, and its count of entries: all of them lie in the file.
 #[derive(Clone, Copy)]
 pub(crate) struct Table<'a> {
     pub(crate) file: &'a [u8],
     pub(crate) kind: Kind,
+    pub(crate) count: u64,
+    ghost counted: { count ≡ nfat_arch file.now },
+    ghost inside: { arch_offset kind count ≤ length file.now },
+}
+
+impl<'a> Table<'a> {
+    ghost use Rattle.std.specs.Prelude.{IfOk};
+    ghost use Rattle.std.specs.Result.{result_map_both};
+    ghost use Rattle.universal.specs.Parts.{entries};
+
+    // A table that lies in its file; 16 where it does not.
+    #[tactic(auto, using(crate::proofs::Tables::table_room), unfolding(crate::specs::Parts::entries, reads::specs::Outcome::choose))]
+    pub(crate) fn of(file: &'a [u8], kind: Kind) -> Result<Table<'a>, Question>
+        ensures count { result_map_both (λ t. t.count) (λ q. q) result ≡ entries (before file) kind }
+        ensures table { IfOk result (λ t. (t.file.now ≡ before file) × (t.kind ≡ kind)) }
+    {
+        if !table_fits(file, kind) {
+            return Err(Question::LoadCommands);
+        }
+        Ok(Table {
+            file,
+            kind,
+            count: be_in::<u32>(file, NFAT_ARCH),
+        })
+    }
+}
+
+// Whether a table lies in the file.
+#[tactic(auto, using(crate::proofs::Tables::table_short, crate::proofs::Tables::table_fat, crate::proofs::Tables::table_fat64))]
+fn table_fits(file: &[u8], kind: Kind) -> bool
+    ensures { result ≡ table_fits (before file) kind }
+{
+    let n = file.len() as u64;
+    if n < SIZEOF_FAT_HEADER {
+        return false;
+    }
+    let room = n - SIZEOF_FAT_HEADER;
+    let count = be_in::<u32>(file, NFAT_ARCH);
+    match kind {
+        Kind::Fat => count <= room / SIZEOF_FAT_ARCH,
+        Kind::Fat64 => count <= room / SIZEOF_FAT_ARCH_64,
+    }
 }
 
 // Entry i of a table.
-#[tactic(auto, using(crate::proofs::Tables::room_fat, crate::proofs::Tables::room_fat64), unfolding(crate::specs::Fat::arch_at))]
+#[tactic(auto, unfolding(crate::specs::Fat::arch_at))]
 pub(crate) fn arch_at(table: Table, i: u64) -> Part
-    requires { arch_offset table.kind (i + 1) ≤ length table.file.now }
+    requires { i < table.count }
     ensures { result ≡ arch_at table.entry.file.now table.entry.kind i }
 {
     match table.kind {
         Kind::Fat => arch_in::<u32>(table.file, SIZEOF_FAT_HEADER + SIZEOF_FAT_ARCH * i),
         Kind::Fat64 => arch_in::<u64>(table.file, SIZEOF_FAT_HEADER + SIZEOF_FAT_ARCH_64 * i),
-    }
-}
-
-// 16, of a table: does it lie in the file?
-#[tactic(auto, using(crate::proofs::Tables::table_short, crate::proofs::Tables::table_fat, crate::proofs::Tables::table_fat64))]
-pub(crate) fn table_fits(table: Table) -> bool
-    ensures { result ≡ table_fits table.entry.file.now table.entry.kind }
-{
-    let n = table.file.len() as u64;
-    if n < SIZEOF_FAT_HEADER {
-        return false;
-    }
-    let room = n - SIZEOF_FAT_HEADER;
-    let count = be_in::<u32>(table.file, NFAT_ARCH);
-    match table.kind {
-        Kind::Fat => count <= room / SIZEOF_FAT_ARCH,
-        Kind::Fat64 => count <= room / SIZEOF_FAT_ARCH_64,
     }
 }

@@ -1,4 +1,5 @@
-// Numbers in bytes, in big-endian order: at an offset, in a word of 64 bits, 0 where they do not lie in the bytes.
+// Numbers in bytes, in big-endian order: at an offset, in a word of 64 bits, 0 where they do not lie in the bytes: the definition's number is total,
+// and who reads a field of a table asks first whether it lies in the file, so that no reader handles an Option.
 ghost use Rattle.std.specs.Prelude.{◌≡◌};
 ghost use Rattle.reads.specs.Reference.{before};
 ghost use Rattle.universal.specs.Number.{be_in};

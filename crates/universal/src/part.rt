@@ -1,14 +1,13 @@
 // The part of a file that is the image, and what parts there are. A thin file is one part, the whole file. An answer is a part, or none
 // where there is no such part, or the question that says no.
-ghost use Rattle.std.specs.Prelude.{◌≡◌};
+ghost use Rattle.std.specs.Prelude.{◌≡◌, Ok};
 ghost use Rattle.reads.specs.Reference.{before};
-ghost use Rattle.universal.specs.Parts.{thin_part, thin_wanted, in_file, entries, fat_wanted, part_wanted, fat_at, part_at};
+ghost use Rattle.universal.specs.Parts.{thin_part, thin_wanted, in_file, fat_wanted, part_wanted, fat_at, part_at};
 
 use crate::arch::{Arch, chosen, is_arch};
-use crate::fat::{NFAT_ARCH, Part, Table, arch_at, kind_of, table_fits};
-use crate::number::be_in;
+use crate::fat::{Part, Table, arch_at, kind_of};
 use reads::answer::Question;
-use reads::place::u32_from;
+use reads::place::{lies_in, u32_from};
 
 // mach_header_64 (loader.h). macho has its magic too: that crate is not below this one.
 const MH_MAGIC_64: u32 = 0xFEED_FACF;
@@ -54,33 +53,18 @@ fn thin_wanted(file: &[u8], wanted: Option<Arch>) -> Option<Part>
 fn in_file(n: u64, p: Part) -> Result<Part, Question>
     ensures { result ≡ in_file n p }
 {
-    if n < p.offset {
-        return Err(Question::LoadCommands);
+    if lies_in(n, p.offset, 0, p.size) {
+        return Ok(p);
     }
-    if n - p.offset < p.size {
-        return Err(Question::LoadCommands);
-    }
-    Ok(p)
+    Err(Question::LoadCommands)
 }
 
-// How many entries a table has; 16 where it does not lie in the file.
-#[tactic(auto, unfolding(crate::specs::Parts::entries, reads::specs::Outcome::choose))]
-fn entries(table: Table) -> Result<u64, Question>
-    ensures { result ≡ entries table.entry.file.now table.entry.kind }
-{
-    if !table_fits(table) {
-        return Err(Question::LoadCommands);
-    }
-    Ok(be_in::<u32>(table.file, NFAT_ARCH))
-}
-
-// The wanted part of a universal file: 16 of the table, then of that part.
-#[tactic(auto, using(std::proofs::lemmas::Bool::Decides::nat_tests, crate::proofs::Tables::table_room, crate::proofs::Searches::chosen_below, crate::proofs::Tables::entry_inside, crate::proofs::Tables::entries_fit, crate::proofs::Tables::entries_cut, std::proofs::lemmas::Result::err_from_is_err_and), unfolding(crate::specs::Parts::fat_wanted, reads::specs::Outcome::choose))]
+// The wanted part of a universal file: 16 of that part.
+#[tactic(auto, using(crate::proofs::Searches::chosen_below, crate::proofs::Tables::table_whole), unfolding(crate::specs::Parts::fat_wanted, reads::specs::Outcome::choose))]
 fn fat_wanted(table: Table, wanted: Option<Arch>) -> Result<Option<Part>, Question>
     ensures { result ≡ fat_wanted table.entry.file.now table.entry.kind wanted }
 {
-    let count = entries(table)?;
-    let Some(i) = chosen(table, count, wanted) else {
+    let Some(i) = chosen(table, wanted) else {
         return Ok(None);
     };
     let p = in_file(table.file.len() as u64, arch_at(table, i))?;
@@ -88,34 +72,34 @@ fn fat_wanted(table: Table, wanted: Option<Arch>) -> Result<Option<Part>, Questi
 }
 
 // The part of a file that is the image: of the architecture that is wanted; or arm64, without it the first 64-bit one.
-#[tactic(auto, unfolding(crate::specs::Parts::part_wanted))]
+#[tactic(auto, using(crate::proofs::Tables::entries_cut), unfolding(crate::specs::Parts::part_wanted, crate::specs::Parts::fat_wanted, reads::specs::Outcome::choose))]
 pub fn find_part(file: &[u8], wanted: Option<Arch>) -> Result<Option<Part>, Question>
     ensures { result ≡ part_wanted (before file) wanted }
 {
     match kind_of(file) {
-        Some(kind) => fat_wanted(Table { file, kind }, wanted),
+        Some(kind) => fat_wanted(Table::of(file, kind)?, wanted),
         None => Ok(thin_wanted(file, wanted)),
     }
 }
 
 // Part i of a universal file, wherever its range lies.
-#[tactic(auto, using(std::proofs::lemmas::Bool::Decides::nat_tests, crate::proofs::Tables::entry_inside, crate::proofs::Tables::entries_fit, crate::proofs::Tables::entries_cut, std::proofs::lemmas::Result::err_from_is_err_and), unfolding(crate::specs::Parts::fat_at, reads::specs::Outcome::choose))]
-fn fat_at(table: Table, i: u64) -> Result<Option<Part>, Question>
-    ensures { result ≡ fat_at table.entry.file.now table.entry.kind i }
+#[tactic(auto, using(crate::proofs::Tables::table_whole), unfolding(crate::specs::Parts::fat_at, reads::specs::Outcome::choose))]
+fn fat_at(table: Table, i: u64) -> Option<Part>
+    ensures { Ok result ≡ fat_at table.entry.file.now table.entry.kind i }
 {
-    if entries(table)? <= i {
-        return Ok(None);
+    if table.count <= i {
+        return None;
     }
-    Ok(Some(arch_at(table, i)))
+    Some(arch_at(table, i))
 }
 
 // Part i of a file, in table order; absent past the last.
-#[tactic(auto, using(std::proofs::lemmas::Bool::Decides::nat_tests), unfolding(crate::specs::Parts::part_at, reads::specs::Outcome::choose))]
+#[tactic(auto, using(crate::proofs::Tables::entries_cut), unfolding(crate::specs::Parts::part_at, crate::specs::Parts::fat_at, reads::specs::Outcome::choose))]
 pub fn part_at(file: &[u8], i: u64) -> Result<Option<Part>, Question>
     ensures { result ≡ part_at (before file) i }
 {
     match kind_of(file) {
-        Some(kind) => fat_at(Table { file, kind }, i),
+        Some(kind) => Ok(fat_at(Table::of(file, kind)?, i)),
         None => {
             if i == 0 {
                 return Ok(Some(thin_part(file)));

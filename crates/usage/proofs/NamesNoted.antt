@@ -1,11 +1,11 @@
 -- Laws of the names of a protocol list that are noted one by one, and of the lists of a record.
-use Prim.Native.Nat.{ℕ, zero, suc, ◌+◌, ◌-◌, ◌<◌, ◌^◌}
+use Prim.Native.Nat.{ℕ, zero, suc, ◌+◌, ◌-◌, ◌<◌, ◌≤◌, ◌^◌}
 use mathlib.Core.Path.{◌≡◌, refl, sym, ap, subst, ◌∙◌}
 use mathlib.Core.Bool.{Bool, true, false, cond}
-use mathlib.Core.List.{List, [], ◌∷◌, ◌++◌}
+use mathlib.Core.List.{List, [], ◌∷◌, ◌++◌, map}
 use native.Mathlib.Omega.{arith}
 use lib.Dec.{ltb}
-use lib.ListN.{length, get_or, take}
+use lib.ListN.{length, get_or, take, drop}
 use Rattle.std.specs.List.{prefix_len, range_with_len}
 use borrow.Author.Tests.{ltb-true}
 use Rattle.reads.proofs.Tests.{both_true, choose_true, choose_false}
@@ -13,7 +13,10 @@ use Rattle.pointers.specs.Tables.{Tables}
 use Rattle.records.specs.Asks.{if_value}
 use Rattle.walks.specs.ProtocolNames.{has_slot, slot_in, decode_protocol_list, protocol_list_at, decode_name_in}
 use Rattle.walks.specs.declared.protocol_names.ProtocolList.{ProtocolList}
+use Rattle.std.proofs.lemmas.List.{drop_more, drop_all}
 use Rattle.listing.specs.PlainListing.{Field}
+use Rattle.listing.specs.Listing.{field_of}
+use Rattle.listing.specs.declared.at.Field as an
 use Rattle.ranges.specs.Sheet.{noted_all}
 use Rattle.ranges.proofs.SheetLaws.{noted_append}
 use Rattle.used.specs.Used.{used}
@@ -126,12 +129,18 @@ names_noted t va s =
     ∙ ap (on_value (protocol_list_at t va) (λ l. noted_all (slots_use t l 0 l.count))) (used_noted t (decode_protocol_list va) s)
 
 -- One list after another.
-pub field_more : (t : Tables) (f : Field) (fs : List Field) (s : List ℕ) → noted_all (fields_use t (f ∷ fs)) s ≡ noted_all (fields_use t fs) (noted_all (field_uses t f) s)
+field_more : (t : Tables) (f : Field) (fs : List Field) (s : List ℕ) → noted_all (fields_use t (f ∷ fs)) s ≡ noted_all (fields_use t fs) (noted_all (field_uses t f) s)
 unfolding fields_use
 field_more t f fs s = noted_append (field_uses t f) (fields_use t fs) s
 
-pub fields_end : (t : Tables) (s : List ℕ) → noted_all (fields_use t []) s ≡ s
-unfolding fields_use noted_all
-fields_end t s = refl
+-- The same of the lists that are left at an index.
+module _ (n : Noting) (fs : List an.Field) (i : ℕ) where
+  pub lists_on : (d : an.Field) → i < length fs
+      → noted_on (fields_use n.tables.now (map field_of (drop (i + 1) fs))) (noted_on (field_uses n.tables.now (field_of (get_or fs i d))) n)
+      ≡ noted_on (fields_use n.tables.now (map field_of (drop i fs))) n
+  lists_on d h =
+      ap (λ (x : List ℕ). record n { sheet = record (n.sheet) { now = x } })
+      (sym (ap (λ l. noted_all (fields_use n.tables.now (map field_of l)) n.sheet.now) (drop_more fs i d h) ∙ field_more n.tables.now (field_of (get_or fs i d)) (map field_of (drop (i + 1) fs)) n.sheet.now))
 
-pub ruleset fields = (field_more, fields_end)
+  pub lists_done : length fs ≤ i → n ≡ noted_on (fields_use n.tables.now (map field_of (drop i fs))) n
+  lists_done h = none_left n _ (ap (λ l. fields_use n.tables.now (map field_of l)) (drop_all i fs h) ∙ unfold fields_use in refl)

@@ -24,15 +24,15 @@ impl Noting<'_> {
         Ok(())
     }
 
-    // _classProperties where the image has the field, else 0.
+    // _classProperties where the image has the field.
     #[tactic(auto, using(crate::proofs::NotedBy::notes), unfolding(records::specs::Category::decode_category_properties, reads::specs::Outcome::choose))]
-    fn note_category_properties(&mut self, va: u64, wide: bool) -> Result<u64, Missing>
-        ensures { traced (outcome result) self.new ≡ trace (decode_category_properties va wide) self.old }
+    fn note_category_properties(&mut self, va: u64, wide: bool) -> Result<(), Missing>
+        ensures { traced (outcome result) self.new ≡ trace (then (decode_category_properties va wide) (λ list. done tt)) self.old }
     {
         if wide {
-            return self.note_pointer_or_0(va, ObjcCategory::CLASS_PROPERTIES);
+            self.note_pointer_or_0(va, ObjcCategory::CLASS_PROPERTIES)?;
         }
-        Ok(0)
+        Ok(())
     }
 
     // category_t, wider where it has the field for class properties: the slots, the name's text last.

@@ -10,7 +10,7 @@ use reads::address::Address;
 use reads::answer::{Missing, checked_add, nonzero};
 use reads::place::{read_u64, readable};
 use reads::text::Text;
-use records::class::ObjcClass;
+use records::class::{ClassRo, ObjcClass};
 
 impl Noting<'_> {
     // The class_ro_t of the bits word in a slot, and its address: a rebase target is not picked from.
@@ -36,7 +36,7 @@ impl Noting<'_> {
         readable(self.tables.image(), va, ObjcClass::SIZE)?;
         let bits_slot = checked_add(va, ObjcClass::BITS)?;
         let ro = self.note_ro_data(bits_slot)?;
-        let name = self.note_pointer(ro, 24)?;
+        let name = self.note_pointer(ro, ClassRo::NAME)?;
         self.note_string(name)
     }
 

@@ -2,29 +2,16 @@
 ghost use Rattle.std.specs.Prelude.{◌≡◌};
 ghost use Rattle.pointers.specs.Tables.{image_in};
 ghost use Rattle.reads.specs.Answer.{outcome};
-ghost use Rattle.reads.specs.Outcome.{and_then, nonzero};
-ghost use Rattle.reads.specs.Segment.{lookup, rows};
 ghost use Rattle.records.specs.Decode as asks;
 ghost use Rattle.used.specs.Used.{uses_field, uses_text};
 ghost use Rattle.usage.specs.Noting.{noted_on, noting, traced, trace};
 
 use crate::noting::Noting;
 use pointers::slot::{bind_at, rebase_at, resolve_pointer};
-use pointers::tables::Tables;
-use reads::answer::{Missing, checked_add, nonzero, or_zero};
+use reads::answer::{Missing, checked_add, or_zero};
 use reads::files::file_len;
-use reads::place::{Place, readable};
-use reads::segment::vm_to_file_offset_in;
-use reads::text::{Reading, Text, read_cstr_at};
-
-// The place of the text at an address.
-#[tactic(auto, using(reads::proofs::Outcomes::outcomes))]
-fn text_place(tables: &Tables, va: u64) -> Result<Place, Missing>
-    ensures { outcome result ≡ and_then (nonzero va) (λ a. lookup (rows tables.now.segments) a) }
-{
-    let a = nonzero(va)?;
-    vm_to_file_offset_in(tables.segments(), a)
-}
+use reads::place::{Place, lies_in, readable};
+use reads::text::{Text, read_cstr_at, text_place};
 
 impl Noting<'_> {
     // The word of 8 bytes at an address.
@@ -43,7 +30,7 @@ impl Noting<'_> {
         ensures { self.new ≡ noted_on (uses_field self.old.tables.now.files k p i) self.old }
     {
         let n = file_len(self.tables.files(), p.file);
-        if p.offset <= n && i <= n - p.offset && k <= n - p.offset - i {
+        if lies_in(n, p.offset, i, k) {
             self.sheet.note(p.file, p.offset + i, k);
         }
     }
@@ -93,27 +80,24 @@ impl Noting<'_> {
         self.note_slot_or_0(slot)
     }
 
-    // The text at an address, with the zero byte that ends it.
-    #[tactic(auto, using(crate::proofs::NotedBy::notes))]
-    pub(crate) fn note_text(&mut self, va: u64)
-        ensures { self.new ≡ noted_on (uses_text (image_in self.old.tables.now) va) self.old }
-    {
-        if let Ok(p) = text_place(self.tables, va) {
-            let r = read_cstr_at(self.tables.files(), Reading::Old, p);
-            self.sheet.note(p.file, p.offset, r.read);
-        }
-    }
-
-    // The same, and what it is under the setting's reading.
+    // The text at an address, with the zero byte that ends it, and what it is under the setting's reading.
     #[tactic(auto, using(crate::proofs::NotedBy::notes))]
     pub(crate) fn note_string(&mut self, va: u64) -> Result<Text, Missing>
         ensures { traced (outcome result) self.new ≡ trace (asks.string va) self.old }
     {
-        let p = text_place(self.tables, va)?;
+        let p = text_place(self.tables.image(), va)?;
         let reading = self.tables.setting().reading;
         let r = read_cstr_at(self.tables.files(), reading, p);
         self.sheet.note(p.file, p.offset, r.read);
         r.text
+    }
+
+    // The same, whatever the text is.
+    #[tactic(auto, using(crate::proofs::NotedBy::notes))]
+    pub(crate) fn note_text(&mut self, va: u64)
+        ensures { self.new ≡ noted_on (uses_text (image_in self.old.tables.now) va) self.old }
+    {
+        let _ = self.note_string(va);
     }
 
     // The name of a slot's bind.

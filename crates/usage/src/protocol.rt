@@ -14,26 +14,27 @@ use records::protocol::ObjcProtocol;
 impl Noting<'_> {
     // _classProperties, where its 8 bytes can be read.
     #[tactic(auto, using(crate::proofs::NotedBy::notes), unfolding(records::specs::Protocol::decode_trailing))]
-    fn note_trailing(&mut self, va: u64) -> Result<u64, Missing>
-        ensures { traced (outcome result) self.new ≡ trace (decode_trailing va) self.old }
+    fn note_trailing(&mut self, va: u64) -> Result<(), Missing>
+        ensures { traced (outcome result) self.new ≡ trace (then (decode_trailing va) (λ list. done tt)) self.old }
     {
         let slot = checked_add(va, ObjcProtocol::CLASS_PROPERTIES)?;
         readable(self.tables.image(), slot, 8)?;
-        self.note_slot_or_0(slot)
+        self.note_slot_or_0(slot)?;
+        Ok(())
     }
 
     // The same where the protocol's own size says so.
     #[tactic(auto, using(crate::proofs::NotedBy::notes, std::proofs::lemmas::Bool::Decides::nat_tests), unfolding(records::specs::Protocol::decode_class_properties, reads::specs::Outcome::choose))]
-    fn note_class_properties(&mut self, va: u64, p: Place) -> Result<u64, Missing>
-        ensures { traced (outcome result) self.new ≡ trace (decode_class_properties va p) self.old }
+    fn note_class_properties(&mut self, va: u64, p: Place) -> Result<(), Missing>
+        ensures { traced (outcome result) self.new ≡ trace (then (decode_class_properties va p) (λ list. done tt)) self.old }
     {
         self.note_field(p, ObjcProtocol::OWN_SIZE, 4);
         if ObjcProtocol::SIZE_WITH_CLASS_PROPERTIES
             <= u32_in(self.tables.files(), p, ObjcProtocol::OWN_SIZE)
         {
-            return self.note_trailing(va);
+            self.note_trailing(va)?;
         }
-        Ok(0)
+        Ok(())
     }
 
     // The lists of a protocol_t but its class properties, if all fields are there.

@@ -31,7 +31,7 @@ impl Iterator for Entries<'_> {
         let j = first_readable(self.image, h, self.from)?;
         prove!(j < h.count as u64);
         self.from = j as u32 + 1;
-        Some(h.base + j * h.size as u64)
+        Some(h.entry_address(j))
     }
 }
 

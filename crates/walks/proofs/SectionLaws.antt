@@ -54,6 +54,18 @@ module _ {A : Type 0} (w : Walk) (l : List ℕ) (after : A → ℕ) (on : ℕ �
   record_on (absent r) e = let same : x ≡ passed r = cc in rw same
   record_on (refused k) e = let z : ◌≡◌ {A = ℕ} 0 1 = cc in absurd (omega arith)
 
+-- The same where nothing waits after it, and with a question, by which it stays.
+module _ {A : Type 0} (w : Walk) (l : List ℕ) (on : ℕ → Walk) where
+  pub record_moved : (x : Step A) (o : Outcome A) {there : Walk} → value x ≡ decoded_step o → on 0 ≡ there → leaves (value x) there l ≡ by_record w l (λ a. 0) on l o
+  record_moved x (value a) e h = let same : x ≡ found a = cc in rw (same, h) refl
+  record_moved x (absent r) e h = let same : x ≡ passed r = cc in rw (same, h) refl
+  record_moved x (refused k) e h = let z : ◌≡◌ {A = ℕ} 0 1 = cc in absurd (omega arith)
+
+  pub record_stays : (n : Question) (o : Outcome A) → refused n ≡ decoded_step o → stays w l n ≡ by_record w l (λ a. 0) on l o
+  record_stays n (value a) e = let z : ◌≡◌ {A = ℕ} 0 1 = cc in absurd (omega arith)
+  record_stays n (absent r) e = let z : ◌≡◌ {A = ℕ} 0 1 = cc in absurd (omega arith)
+  record_stays n (refused k) e = let same : n ≡ k = cc in rw same
+
 -- Where no address waits, none waits after a step over categories.
 module _ (w : Walk) (l : List ℕ) (h : w.waiting ≡ 0) where
   record_waits_none : {A : Type 0} (on : ℕ → Walk) (new : List ℕ) → (on 0).waiting ≡ 0 → (o : Outcome A) → (by_record w l (λ c. 0) on new o).walk.waiting ≡ 0

@@ -1,5 +1,8 @@
 -- What a step hands back, and the questions before it (document 01, "The questions, in order" and Steps).
-use Rattle.std.specs.Prelude.{ℕ, zero, suc, List, [], ◌∷◌, leb}
+use Rattle.std.specs.Prelude.{ℕ, zero, suc, List, [], ◌∷◌, leb, Result, Ok, Err}
+use Rattle.reads.specs.Answer.{missed}
+use Rattle.reads.specs.declared.answer.Missing.{Missing}
+use Rattle.walks.specs.declared.stepped.Stepped.{Stepped}
 use Rattle.reads.specs.Outcome.{Outcome, value, absent, refused}
 use Rattle.pointers.specs.Question.{question}
 use Rattle.reads.specs.declared.answer.Question.TheVariants.{WalkState}
@@ -45,3 +48,15 @@ from_cursor w cursor count step list =
 unfoldable pub answers_of : {A W : Type 0} → (W → Handed A W) → ℕ → W → List (Outcome A)
 answers_of step zero w = []
 answers_of step (suc n) w = (step w).answer ∷ answers_of step n (step w).walk
+
+-- Document 01's meaning of the code's answers to a step over a list, by the meaning of each case of a step; and the walk as given beside an
+-- absence or refusal.
+abbrev pub step_answer : {S A : Type 0} → (S → A) → Result S Missing → Outcome A
+step_answer meaning (Ok s) = value (meaning s)
+step_answer meaning (Err m) = missed m
+
+abbrev pub stepped : {S A W : Type 0} → (S → A) → Stepped S W → Handed A W
+stepped meaning r = hands (step_answer meaning r.walked) r.walk
+
+abbrev pub kept : {S W : Type 0} → W → Missing → Stepped S W
+kept w m = record { walked = Err m; walk = w }

@@ -1,7 +1,6 @@
 -- Protocol names (objc-runtime-new.h, protocol_list_t; document 01, Protocol names and Steps; protocol.rs, protocol_name_iter).
-use Rattle.reads.specs.Answer.{missed}
 use Rattle.reads.specs.declared.answer.Missing.{Missing}
-use Rattle.std.specs.Prelude.{ℕ, zero, suc, ◌+◌, ◌*◌, ◌^◌, min, Bool, ◌&&◌, List, [], ◌∷◌, ltb, Result, Ok, Err}
+use Rattle.std.specs.Prelude.{ℕ, zero, suc, ◌+◌, ◌*◌, ◌^◌, min, Bool, ◌&&◌, List, [], ◌∷◌, ltb, Result}
 use Rattle.reads.specs.Outcome.{Outcome, value, absent, refused, choose}
 use Rattle.reads.specs.declared.answer.Reason.{Reason}
 use Rattle.reads.specs.declared.text.Text.{Text}
@@ -12,12 +11,12 @@ use Rattle.records.specs.Header.{protocol_list_size, protocol_list_count}
 use Rattle.records.specs.Decode.{Decode, run, done, then, else_first, sum64, nonzero, even, readable, u64_in, slot, symbol}
 use Rattle.records.specs.Protocol.{decode_protocol}
 use Rattle.walks.specs.Gather.{gather, of_value, present}
-use Rattle.walks.specs.Handed.{unless_refused, Handed, hands, hands_back, from_cursor}
+use Rattle.walks.specs.Handed.{unless_refused, Handed, hands, hands_back, from_cursor, step_answer, stepped}
 use Rattle.walks.specs.declared.protocol_names.ProtocolList.{ProtocolList}
 use Rattle.walks.specs.declared.protocol_names.NameStep.{NameStep}
 use Rattle.walks.specs.declared.protocol_names.NameStep.TheVariants as step
 use Rattle.walks.specs.declared.protocol_names.ProtocolNameWalk.{ProtocolNameWalk}
-use Rattle.walks.specs.declared.protocol_names.ProtocolNameStepped.{ProtocolNameStepped}
+use Rattle.walks.specs.declared.stepped.Stepped.{Stepped}
 
 -- protocol_list_t: absent at 0, at an odd address, where its 8 bytes cannot be read and where address + 8 is over 64 bits. The count is a
 -- u64, at most 1,048,576 of it.
@@ -110,11 +109,10 @@ name_step (step.Passed r) = name_passed r
 name_step step.Finished = names_finished
 
 abbrev pub names_answer : Result NameStep Missing → Outcome ReachedName
-names_answer (Ok s) = value (name_step s)
-names_answer (Err m) = missed m
+names_answer walked = step_answer name_step walked
 
-abbrev pub name_left : ProtocolNameStepped → NameLeft
-name_left r = hands (names_answer r.walked) r.walk
+abbrev pub name_left : Stepped NameStep ProtocolNameWalk → NameLeft
+name_left r = stepped name_step r
 
 -- What the slots from i on give, k at most, up to the first that is not there.
 unfoldable pub slot_names : Tables → ProtocolList → ℕ → ℕ → List (Outcome Text)

@@ -16,7 +16,6 @@ use Rattle.walks.specs.declared.slots.Lists.TheVariants.{Classes, Categories, Pr
 use Rattle.walks.specs.declared.section_slots.ClassSlots.{ClassSlots}
 use Rattle.walks.specs.declared.section_slots.CategorySlots.{CategorySlots}
 use Rattle.walks.specs.declared.section_slots.ProtocolSlots.{ProtocolSlots}
-use Rattle.walks.specs.declared.section_slots.SlotTaken.{SlotTaken}
 use Rattle.walks.specs.declared.section_slots.RecordTaken.{RecordTaken}
 use Rattle.walks.specs.declared.sections.RecordWalk.{RecordWalk}
 use Rattle.walks.specs.declared.sections.RecordStep.{RecordStep}
@@ -185,9 +184,6 @@ waits_after after dropped = 0
 waits_after after finished = 0
 
 -- What a step leaves, by where the walk stands then.
-abbrev pub slot_left : {R : Type 0} → SlotTaken R → List ℕ → Left R
-slot_left r ledger = leaves (record_answer r.step) (walk r.slots.slot r.slots.used r.slots.highest r.waiting) ledger
-
 abbrev pub record_taken : {R S : Type 0} → (S → Walk) → RecordTaken R S → List ℕ → Left R
 record_taken state r ledger = leaves (record_answer r.step) (state r.slots) ledger
 

@@ -1,7 +1,6 @@
 -- List walks (document 01, Lists and Steps): what a step answers, and the walk after it.
-use Rattle.reads.specs.Answer.{missed}
 use Rattle.reads.specs.declared.answer.Missing.{Missing}
-use Rattle.std.specs.Prelude.{ℕ, suc, Option, None, Some, Result, Ok, Err}
+use Rattle.std.specs.Prelude.{ℕ, suc, Option, None, Some, Result}
 use Rattle.reads.specs.Outcome.{Outcome, value, absent, refused}
 use Rattle.reads.specs.declared.answer.Reason.{Reason}
 use Rattle.pointers.specs.Tables.{Tables, image_in, under}
@@ -9,7 +8,7 @@ use Rattle.pointers.specs.Question.{asked}
 use Rattle.records.specs.List.{list_at, entry_address}
 use Rattle.records.specs.Search.{first_readable}
 use Rattle.records.specs.Row.{row_at}
-use Rattle.walks.specs.Handed.{unless_refused, Handed, hands, hands_back, from_cursor}
+use Rattle.walks.specs.Handed.{unless_refused, Handed, hands, hands_back, from_cursor, step_answer, stepped}
 use Rattle.pointers.specs.declared.setting.Setting.{Setting}
 use Rattle.records.specs.declared.list.Layout.{Layout}
 use Rattle.records.specs.declared.list.ListKind.{ListKind}
@@ -17,7 +16,7 @@ use Rattle.records.specs.declared.row.Row.{Row}
 use Rattle.walks.specs.declared.list_walk.ListWalk.{ListWalk}
 use Rattle.walks.specs.declared.list_walk.ListStep.{ListStep}
 use Rattle.walks.specs.declared.list_walk.ListStep.TheVariants as step
-use Rattle.walks.specs.declared.list_walk.ListStepped.{ListStepped}
+use Rattle.walks.specs.declared.stepped.Stepped.{Stepped}
 
 -- A walk over a list, under the setting that it began with.
 abbrev pub walk_of : Setting → ℕ → ListKind → ℕ → ListWalk
@@ -73,8 +72,7 @@ row_step (step.Skipped j r) = row_skipped j r
 row_step step.Finished = rows_finished
 
 abbrev pub list_answer : Result ListStep Missing → Outcome ReachedRow
-list_answer (Ok s) = value (row_step s)
-list_answer (Err m) = missed m
+list_answer walked = step_answer row_step walked
 
-abbrev pub row_left : ListStepped → RowLeft
-row_left r = hands (list_answer r.walked) r.walk
+abbrev pub row_left : Stepped ListStep ListWalk → RowLeft
+row_left r = stepped row_step r

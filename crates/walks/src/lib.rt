@@ -7,3 +7,4 @@ pub mod protocol_names;
 pub mod section_slots;
 pub mod sections;
 pub mod slots;
+pub mod stepped;

@@ -1,13 +1,13 @@
 // Walks over method, ivar and property lists: each step settles the next entry that can be read.
 ghost use Rattle.std.specs.Prelude.{◌≡◌, ◌<◌, ◌^◌};
 ghost use Rattle.pointers.specs.Tables.{under, reading_new, reading_under};
-ghost use Rattle.reads.specs.Answer.{missed};
 ghost use Rattle.reads.specs.Outcome.{value};
-ghost use Rattle.walks.specs.Handed.{hands, hands_back};
+ghost use Rattle.walks.specs.Handed.{hands};
 ghost use Rattle.walks.specs.Walk.{walk_of, moved, settles, over_rows, next_of, row_step, row_left};
 ghost use Rattle.records.specs.List.{list_at, entry_address};
 ghost use Rattle.records.specs.Row.{row_at};
 
+use crate::stepped::Stepped;
 use pointers::question::ask;
 use pointers::setting::Setting;
 use pointers::tables::Tables;
@@ -34,17 +34,11 @@ pub enum ListStep {
     Finished,
 }
 
-// The answer, with the walk to go on with. A list that is absent has no steps, only the reason for which it is. Not one generic struct of an answer
-// and a state for all steps, those of listing, marking and face too: each names its fields by what they hold, its answer has its own cases
-// (`Missing` here, a `Question` of a section walk), and its own definition says what it leaves (`row_left`, `name_left`, `record_left`).
-#[derive(Clone, Copy)]
-pub struct ListStepped {
-    pub walked: Result<ListStep, Missing>,
-    pub walk: ListWalk,
-}
+// What a step says, with the walk to go on with.
+pub type ListStepped = Stepped<ListStep, ListWalk>;
 
 // `new`, `under` and `starting` stand on six types, each over what else it begins with (nothing, a list, frames, an answer): a trait would have
-// that and the definition of the start as members, with their laws, for bodies of one to six lines.
+// that and the definition of the start as members, with their laws, for bodies of one line, and `starting` fills in each type's own fields.
 impl ListWalk {
     // The walk over a list from its first entry on, under the new reading.
     pub fn new(list: u64, kind: ListKind) -> ListWalk
@@ -76,27 +70,10 @@ impl ListWalk {
     fn at(self, step: ListStep, cursor: u32) -> ListStepped
         ensures { row_left result ≡ hands (value (row_step step)) (moved self cursor) }
     {
-        ListStepped {
+        Stepped {
             walked: Ok(step),
             walk: ListWalk { cursor, ..self },
         }
-    }
-
-    // The walk as given, where the list is missing or a question refuses.
-    fn missing(self, m: Missing) -> ListStepped
-        ensures { row_left result ≡ hands (missed m) self }
-    {
-        ListStepped {
-            walked: Err(m),
-            walk: self,
-        }
-    }
-
-    // The walk as given, with the number of a question.
-    fn refused(self, k: Question) -> ListStepped
-        ensures { row_left result ≡ hands_back self k }
-    {
-        self.missing(Missing::Refused(k))
     }
 
     // Settles entry j, which can be read.
@@ -106,11 +83,10 @@ impl ListWalk {
             row_left result ≡ settles self j (row_at t h.kind (entry_address h j)) }
     {
         let kind = h.kind;
-        let va = h.base + j * (h.size as u64);
-        match row_at(tables, kind, va) {
+        match row_at(tables, kind, h.entry_address(j)) {
             Ok(row) => self.at(ListStep::Row(row), j as u32 + 1),
             Err(Missing::Absent(why)) => { self.at(ListStep::Skipped(j as u32, why), j as u32 + 1) }
-            Err(m) => self.missing(m),
+            Err(m) => Stepped::missing(self, m),
         }
     }
 
@@ -121,7 +97,7 @@ impl ListWalk {
             row_left result ≡ over_rows t self (value h) }
     {
         if h.count < self.cursor {
-            return self.refused(Question::WalkState);
+            return Stepped::refused(self, Question::WalkState);
         }
         let cursor = self.cursor;
         match first_readable(tables.image(), h, cursor) {
@@ -143,9 +119,9 @@ impl ListWalk {
             Ok(h) => self.over_list(tables, h),
             Err(m) => {
                 if 0 < self.cursor {
-                    return self.refused(Question::WalkState);
+                    return Stepped::refused(self, Question::WalkState);
                 }
-                self.missing(m)
+                Stepped::missing(self, m)
             }
         }
     }
@@ -158,7 +134,7 @@ impl ListWalk {
     {
         match ask(tables) {
             Ok(()) => self.walked_list(tables),
-            Err(k) => self.refused(k),
+            Err(k) => Stepped::refused(self, k),
         }
     }
 }

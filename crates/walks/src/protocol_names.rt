@@ -1,11 +1,12 @@
 // Protocol names: the walk over a protocol_list_t (objc-runtime-new.h; protocol.rs, protocol_name_iter).
 ghost use Rattle.std.specs.Prelude.{◌≡◌, ◌+◌, ◌^◌, ◌<◌, min};
-ghost use Rattle.reads.specs.Answer.{missed, outcome};
+ghost use Rattle.reads.specs.Answer.{outcome};
 ghost use Rattle.pointers.specs.Tables.{under, reading_new, reading_under};
 ghost use Rattle.reads.specs.Outcome.{value};
-ghost use Rattle.walks.specs.Handed.{hands, hands_back};
+ghost use Rattle.walks.specs.Handed.{hands};
 ghost use Rattle.walks.specs.ProtocolNames.{protocol_list_at, has_slot, protocol_name_at, protocol_name_in, name_in, walk_at, named, step_in, over_names, next_name, name_step, name_left};
 
+use crate::stepped::Stepped;
 use pointers::question::ask;
 use pointers::setting::Setting;
 use pointers::slot::{resolve_pointer, symbol_at};
@@ -31,8 +32,8 @@ impl ProtocolList {
 }
 
 // A walk over the names of a list: its address, the number of slots taken, and the setting that it began with. Not one generic walk with
-// `ListWalk`: alike are seven bodies of one to six lines (`new`, `under`, `starting`, `missing`, `refused`, `at`, `next`) and the two arms of
-// `walked_list`; a trait for them would have the cursor (u32 there), list, step and the definitions of each walk as members, with their laws.
+// `ListWalk`: alike are five bodies of one to six lines (`new`, `under`, `starting`, `at`, `next`) and the two arms of `walked_list`; a trait
+// for them would have the cursor (u32 there), list, step and the definitions of each walk as members, with their laws.
 #[derive(Clone, Copy)]
 pub struct ProtocolNameWalk {
     pub list: u64,
@@ -48,12 +49,8 @@ pub enum NameStep {
     Finished,
 }
 
-// What a step says, and the walk to give to the next. A list that is absent has no steps, only the reason for which it is.
-#[derive(Clone, Copy)]
-pub struct ProtocolNameStepped {
-    pub walked: Result<NameStep, Missing>,
-    pub walk: ProtocolNameWalk,
-}
+// What a step says, with the walk to go on with.
+pub type ProtocolNameStepped = Stepped<NameStep, ProtocolNameWalk>;
 
 // The most slots of a list (protocol.rs, protocol_name_iter).
 const MOST_SLOTS: u64 = 1_048_576;
@@ -159,28 +156,11 @@ impl ProtocolNameWalk {
         self.cursor
     }
 
-    // The walk as given, where the list is missing or a question refuses.
-    fn missing(self, m: Missing) -> ProtocolNameStepped
-        ensures { name_left result ≡ hands (missed m) self }
-    {
-        ProtocolNameStepped {
-            walked: Err(m),
-            walk: self,
-        }
-    }
-
-    // The walk as given, with the number of a question.
-    fn refused(self, k: Question) -> ProtocolNameStepped
-        ensures { name_left result ≡ hands_back self k }
-    {
-        self.missing(Missing::Refused(k))
-    }
-
     // A step, with the walk at another cursor.
     fn at(self, step: NameStep, cursor: u64) -> ProtocolNameStepped
         ensures { name_left result ≡ hands (value (name_step step)) (walk_at self.setting self.list cursor) }
     {
-        ProtocolNameStepped {
+        Stepped {
             walked: Ok(step),
             walk: ProtocolNameWalk { cursor, ..self },
         }
@@ -194,7 +174,7 @@ impl ProtocolNameWalk {
         match name {
             Ok(text) => self.at(NameStep::Name(text), self.cursor + 1),
             Err(Missing::Absent(why)) => self.at(NameStep::Passed(why), self.cursor + 1),
-            Err(m) => self.missing(m),
+            Err(m) => Stepped::missing(self, m),
         }
     }
 
@@ -223,15 +203,15 @@ impl ProtocolNameWalk {
         match protocol_list_at(tables, list) {
             Ok(list) => {
                 if list.count < self.cursor {
-                    return self.refused(Question::WalkState);
+                    return Stepped::refused(self, Question::WalkState);
                 }
                 self.step_in(tables, list)
             }
             Err(m) => {
                 if 0 < self.cursor {
-                    return self.refused(Question::WalkState);
+                    return Stepped::refused(self, Question::WalkState);
                 }
-                self.missing(m)
+                Stepped::missing(self, m)
             }
         }
     }
@@ -244,7 +224,7 @@ impl ProtocolNameWalk {
     {
         match ask(tables) {
             Ok(()) => self.walked_list(tables),
-            Err(k) => self.refused(k),
+            Err(k) => Stepped::refused(self, k),
         }
     }
 }

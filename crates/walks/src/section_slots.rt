@@ -2,9 +2,10 @@
 // by a ledger that the caller lends; their step over a slot is one, generic over the record. A protocol listed twice comes twice.
 ghost use Rattle.std.specs.Prelude.{◌≡◌, List, ℕ, ◌+◌, ◌^◌, ◌<◌, length};
 ghost use Rattle.reads.specs.Answer.{outcome};
+ghost use Rattle.reads.specs.Outcome.{refused};
 ghost use Rattle.pointers.specs.Tables.{Tables, under};
 ghost use Rattle.walks.specs.Slots.{Room};
-ghost use Rattle.walks.specs.Sections.{Walk, walk, at_start, Left, Kind, classes, categories, take_waiting, next_waiting, take_new, step_of, take_protocol, protocol_step_of, class_slots, category_slots, protocol_slots, slot_left, record_taken, record_answer, record_step, decoded_step, waits_after};
+ghost use Rattle.walks.specs.Sections.{meta_of, Walk, walk, at_start, Left, Kind, classes, categories, take_waiting, next_waiting, take_new, step_of, take_protocol, protocol_step_of, class_slots, category_slots, protocol_slots, record_taken, record_answer, record_step, decoded_step, waits_after, by_record};
 
 use crate::sections::RecordStep;
 use crate::slots::{Lists, SlotStep, SlotWalk, next_slot};
@@ -14,8 +15,9 @@ use records::category::{ObjcCategory, category_at};
 use records::class::{ObjcClass, class_at};
 use records::protocol::{ObjcProtocol, protocol_at};
 
-// Where a walk over classes stands: the slots, and the address of the metaclass that waits. 0 is none: an isa of 0 never waits, and the walk that
-// C holds has the same word (`WalkWords` of face), so that an Option would be made from it and into it at each of C's calls.
+// Where a walk over classes stands, and what a step over a slot of either ledger's walk leaves: the slots, and the address of the metaclass that
+// waits. 0 is none: an isa of 0 never waits, and the walk that C holds has the same word (`WalkWords` of face), so that an Option would be made
+// from it and into it at each of C's calls.
 #[derive(Clone, Copy)]
 pub struct ClassSlots {
     pub slots: SlotWalk,
@@ -39,14 +41,6 @@ pub struct ProtocolSlots {
 pub struct RecordTaken<R, S> {
     pub step: Result<RecordStep<R>, Question>,
     pub slots: S,
-}
-
-// The same of a slot: where the slots stand then, and the address that waits, 0 for none as in `ClassSlots`.
-#[derive(Clone, Copy)]
-pub(crate) struct SlotTaken<R> {
-    pub(crate) step: Result<RecordStep<R>, Question>,
-    pub(crate) slots: SlotWalk,
-    pub(crate) waiting: u64,
 }
 
 // Where a walk over a section list stands, and its steps: `state` and `step` say both in document 01's words.
@@ -86,7 +80,7 @@ pub(crate) trait Listed: Copy {
 }
 
 // A record's decoding as a step: it is found, or passed where it is absent.
-fn decoded_step<R: Copy>(decoded: Result<R, Missing>) -> Result<RecordStep<R>, Question>
+pub fn decoded_step<R: Copy>(decoded: Result<R, Missing>) -> Result<RecordStep<R>, Question>
     ensures { record_answer result ≡ decoded_step (outcome decoded) }
 {
     match decoded {
@@ -106,6 +100,17 @@ fn waits_after<R: Listed>(step: RecordStep<R>) -> u64
     }
 }
 
+// The address of a class's metaclass, 0 where isa is the class itself: as that of a waiting one in `ClassSlots`.
+#[tactic(auto, using(std::proofs::lemmas::Bool::Decides::nat_tests), unfolding(crate::specs::Sections::meta_of, reads::specs::Outcome::choose))]
+pub fn meta_of(class: ObjcClass) -> u64
+    ensures { result ≡ meta_of class }
+{
+    if class.isa == class.address {
+        return 0;
+    }
+    class.isa
+}
+
 impl Listed for ObjcClass {
     ghost kind = { classes };
 
@@ -117,12 +122,9 @@ impl Listed for ObjcClass {
         class_at(tables, va, false)
     }
 
-    // The address of the metaclass, 0 where isa is the class itself.
+    // Its metaclass.
     fn after(self) -> u64 {
-        if self.isa == self.address {
-            return 0;
-        }
-        self.isa
+        meta_of(self)
     }
 }
 
@@ -144,72 +146,98 @@ impl Listed for ObjcCategory {
 }
 
 impl SlotWalk {
+    // The slots, with no address that waits.
+    fn alone(self) -> ClassSlots
+        ensures { class_slots result ≡ walk self.slot self.used self.highest 0 }
+    {
+        ClassSlots {
+            slots: self,
+            meta: 0,
+        }
+    }
+
     // Takes an address first met: the ledger word is the last write, and with a number there is none.
     #[tactic(auto, using(crate::proofs::SectionLaws::record_on), unfolding(crate::specs::Sections::take_new))]
-    fn take_new<R: Listed>(self, tables: &Tables, va: u64, ledger: &mut [u64]) -> SlotTaken<R>
+    fn take_new<R: Listed>(
+        self,
+        tables: &Tables,
+        va: u64,
+        ledger: &mut [u64],
+    ) -> RecordTaken<R, ClassSlots>
         requires { Room self (length ledger.old) }
         ensures { let t = tables.now in
-            slot_left result ledger.new ≡ take_new R.kind t (walk self.slot self.used self.highest 0) ledger.old va }
+            record_taken class_slots result ledger.new ≡ take_new R.kind t (walk self.slot self.used self.highest 0) ledger.old va }
     {
         match decoded_step(R::at(tables, va)) {
-            Ok(step) => SlotTaken {
+            Ok(step) => RecordTaken {
                 step: Ok(step),
-                slots: self.note(va, ledger),
-                waiting: waits_after(step),
+                slots: ClassSlots {
+                    slots: self.note(va, ledger),
+                    meta: waits_after(step),
+                },
             },
-            Err(k) => SlotTaken {
-                step: Err(k),
-                slots: self,
-                waiting: 0,
-            },
+            Err(k) => RecordTaken::refused(self.alone(), k),
         }
     }
 
     // Takes the next slot.
     #[tactic(auto, using(crate::proofs::SectionLaws::step_slot, crate::proofs::SlotLaws::new_room))]
-    fn take_slot<R: Listed>(self, tables: &Tables, ledger: &mut [u64]) -> SlotTaken<R>
+    fn take_slot<R: Listed>(self, tables: &Tables, ledger: &mut [u64]) -> RecordTaken<R, ClassSlots>
         ensures { let t = tables.now in
-            slot_left result ledger.new ≡ step_of R.kind t (walk self.slot self.used self.highest 0) ledger.old }
+            record_taken class_slots result ledger.new ≡ step_of R.kind t (walk self.slot self.used self.highest 0) ledger.old }
     {
         let lists = R::lists();
         match self.next_new(tables, lists, ledger) {
             Ok(SlotStep::Address(va)) => self.take_new(tables, va, ledger),
-            Ok(SlotStep::Dropped) => SlotTaken {
+            Ok(SlotStep::Dropped) => RecordTaken {
                 step: Ok(RecordStep::Dropped),
-                slots: self.past(),
-                waiting: 0,
+                slots: self.past().alone(),
             },
-            Ok(SlotStep::Finished) => SlotTaken {
+            Ok(SlotStep::Finished) => RecordTaken {
                 step: Ok(RecordStep::Finished),
-                slots: self,
-                waiting: 0,
+                slots: self.alone(),
             },
-            Err(k) => SlotTaken {
-                step: Err(k),
-                slots: self,
-                waiting: 0,
+            Err(k) => RecordTaken::refused(self.alone(), k),
+        }
+    }
+}
+
+impl<R: Copy, S: Copy> RecordTaken<R, S> {
+    // The walk where it stands, with the number of a question.
+    fn refused(slots: S, k: Question) -> RecordTaken<R, S>
+        ensures { (record_answer result.step ≡ refused k) × (result.slots ≡ slots) }
+    {
+        RecordTaken {
+            step: Err(k),
+            slots,
+        }
+    }
+
+    // The step that a record's decoding is: the walk stands there then, and with a question here. Not for `SlotWalk::take_new`: its ledger
+    // is written only if there is no question, and what waits after it is the record's own.
+    #[tactic(auto, using(crate::proofs::SectionLaws::record_moved, crate::proofs::SectionLaws::record_stays))]
+    fn of(decoded: Result<R, Missing>, there: S, here: S) -> RecordTaken<R, S>
+        ensures { (state : S → Walk) → (on : ℕ → Walk) → (l : List ℕ) → on 0 ≡ state there
+            → record_taken state result l ≡ by_record (state here) l (λ r. 0) on l (outcome decoded) }
+    {
+        match decoded_step(decoded) {
+            Ok(step) => RecordTaken {
+                step: Ok(step),
+                slots: there,
             },
+            Err(k) => RecordTaken::refused(here, k),
         }
     }
 }
 
 impl ClassSlots {
     // Takes the metaclass that waits.
-    #[tactic(auto, using(crate::proofs::SectionLaws::record_on), unfolding(crate::specs::Sections::take_waiting))]
     fn take_meta(self, tables: &Tables) -> RecordTaken<ObjcClass, ClassSlots>
         ensures { let t = tables.now in
             ((l : List ℕ) → record_taken class_slots result l ≡ take_waiting classes t (class_slots self) l) }
     {
-        match decoded_step(class_at(tables, self.meta, true)) {
-            Ok(step) => RecordTaken {
-                step: Ok(step),
-                slots: ClassSlots { meta: 0, ..self },
-            },
-            Err(k) => RecordTaken {
-                step: Err(k),
-                slots: self,
-            },
-        }
+        let meta = class_at(tables, self.meta, true);
+        RecordTaken::of(meta, self.slots.alone(), self)
     }
 
     // The waiting metaclass, where no question refuses the step over a ledger of `len` words.
@@ -221,10 +249,7 @@ impl ClassSlots {
         let lists = Lists::Classes;
         match self.slots.ask_ledger(tables, lists, len) {
             Ok(()) => self.take_meta(tables),
-            Err(k) => RecordTaken {
-                step: Err(k),
-                slots: self,
-            },
+            Err(k) => RecordTaken::refused(self, k),
         }
     }
 }
@@ -237,10 +262,7 @@ impl RecordSlots for ClassSlots {
     ghost step = { step_of classes };
 
     fn start() -> ClassSlots {
-        ClassSlots {
-            slots: SlotWalk::new(),
-            meta: 0,
-        }
+        SlotWalk::default().alone()
     }
 
     // The waiting metaclass, or else the next slot.
@@ -249,14 +271,7 @@ impl RecordSlots for ClassSlots {
             let len = ledger.len();
             return self.next_meta(tables, len);
         }
-        let taken = self.slots.take_slot(tables, ledger);
-        RecordTaken {
-            step: taken.step,
-            slots: ClassSlots {
-                slots: taken.slots,
-                meta: taken.waiting,
-            },
-        }
+        self.slots.take_slot(tables, ledger)
     }
 }
 
@@ -269,16 +284,18 @@ impl RecordSlots for CategorySlots {
 
     fn start() -> CategorySlots {
         CategorySlots {
-            slots: SlotWalk::new(),
+            slots: SlotWalk::default(),
         }
     }
 
-    // The next slot.
+    // The next slot; nothing waits after it.
     fn next(self, tables: &Tables, ledger: &mut [u64]) -> RecordTaken<ObjcCategory, CategorySlots> {
         let taken = self.slots.take_slot(tables, ledger);
         RecordTaken {
             step: taken.step,
-            slots: CategorySlots { slots: taken.slots },
+            slots: CategorySlots {
+                slots: taken.slots.slots,
+            },
         }
     }
 }
@@ -296,22 +313,13 @@ impl ProtocolSlots {
     }
 
     // Takes an address. Not `SlotWalk::take_new`: no ledger says which addresses were met, and a walk's state has no words for it.
-    #[tactic(auto, using(crate::proofs::SectionLaws::record_on), unfolding(crate::specs::Sections::take_protocol))]
     fn take(self, tables: &Tables, va: u64) -> RecordTaken<ObjcProtocol, ProtocolSlots>
         requires { self.slot + 1 < 2 ^ 64 }
         ensures { let t = tables.now in
             ((l : List ℕ) → record_taken protocol_slots result l ≡ take_protocol t (protocol_slots self) l va) }
     {
-        match decoded_step(protocol_at(tables, va)) {
-            Ok(step) => RecordTaken {
-                step: Ok(step),
-                slots: self.past(),
-            },
-            Err(k) => RecordTaken {
-                step: Err(k),
-                slots: self,
-            },
-        }
+        let protocol = protocol_at(tables, va);
+        RecordTaken::of(protocol, self.past(), self)
     }
 }
 
@@ -344,10 +352,7 @@ impl RecordSlots for ProtocolSlots {
                 step: Ok(RecordStep::Finished),
                 slots: self,
             },
-            Err(k) => RecordTaken {
-                step: Err(k),
-                slots: self,
-            },
+            Err(k) => RecordTaken::refused(self, k),
         }
     }
 }

@@ -28,8 +28,9 @@ pub(crate) enum SlotStep {
     Finished,
 }
 
-// Where a walk that meets each address once stands: the next slot, the words of the ledger in use, and the highest of them.
-#[derive(Clone, Copy)]
+// Where a walk that meets each address once stands: the next slot, the words of the ledger in use, and the highest of them. Zeros stand before the
+// first slot.
+#[derive(Clone, Copy, Default)]
 pub struct SlotWalk {
     pub slot: u64,
     pub used: u64,
@@ -92,7 +93,7 @@ pub fn slot_at(sections: &[u64], lists: Lists, k: u64) -> u64
 
 // The address in a slot, absent if it is 0.
 #[tactic(auto, unfolding(crate::specs::Slots::decode_address))]
-fn address_in(tables: &Tables, slot: u64) -> Result<u64, Missing>
+pub fn address_in(tables: &Tables, slot: u64) -> Result<u64, Missing>
     ensures { let t = tables.now in
         outcome result ≡ address_in t slot }
 {
@@ -100,7 +101,10 @@ fn address_in(tables: &Tables, slot: u64) -> Result<u64, Missing>
     nonzero(va)
 }
 
-// Is the address among the words? All of them are looked at, so that the loop can take several at a time.
+// Is the address among the words? Not `contains`: it stops at the first hit and takes words of 64 bits one by one, where this loop compares
+// several at a time. Tried: 10^5 classes whose list is shuffled (that row of docs/PERFORMANCE.md, Large images) were listed in 6.0 to 6.2 s with
+// it and in 2.9 with this, in one process (another machine than the row's 1.6 s; the row holds the ratio to the Rust, 2.99 there, which `contains`
+// would double).
 #[tactic(auto, using(crate::proofs::SlotLaws::among_more), unfolding(crate::specs::Slots::among))]
 fn met(words: &[u64], va: u64) -> bool
     ensures { result ≡ among va (before words) }
@@ -193,17 +197,6 @@ pub(crate) fn next_slot(tables: &Tables, lists: Lists, slot: u64) -> Result<Slot
 }
 
 impl SlotWalk {
-    // Before the first slot.
-    pub(crate) fn new() -> SlotWalk
-        ensures { result ≡ slot_walk 0 0 0 }
-    {
-        SlotWalk {
-            slot: 0,
-            used: 0,
-            highest: 0,
-        }
-    }
-
     // 1 to 6 and 8, then 10 and 11, with a ledger of so many words.
     #[tactic(auto, using(crate::proofs::SlotLaws::slots_few, crate::proofs::SlotLaws::ask_10, crate::proofs::SlotLaws::ask_11, crate::proofs::SlotLaws::ask_yes, crate::proofs::SlotLaws::ask_no))]
     pub(crate) fn ask_ledger(

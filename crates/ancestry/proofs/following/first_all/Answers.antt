@@ -14,7 +14,7 @@ pub put_state-requires : goal.put_state-requires
 put_state-requires c =
     let a = c.args in
     let at = c.loop-i in
-    let small = starting_small _ (length at.res / 3) a.res.now a.falling.now.passes at.i at.res c.first-s.result c.first-s.ensures in
+    let small = starting_small _ (length at.res / 3) a.res.now a.falling.now.asked.now.passes at.i at.res c.first-s.result c.first-s.ensures in
     (omega (arith, at.invariant.size), small)
 
 pub loop-i-preserved : goal.loop-i-preserved

@@ -1,13 +1,12 @@
 use Prim.Native.Nat.{◌/◌}
+use mathlib.Core.Path.{sym, ap, ◌∙◌}
 use lib.ListN.{length}
 use native.Mathlib.Omega.{arith}
-use Rattle.ancestry.proofs.Climbs.{climbing_next, climbing_hold, limit_room, limit_small}
+use Rattle.reads.specs.Answer.{outcome}
+use Rattle.ancestry.proofs.Climbs.{climbing_next, climbing_hold, limit_small}
 use Rattle.ancestry.proofs.Firsts.{first_starts, first_far, first_ended, first_listed, first_back}
 use Rattle.ancestry.proofs.following.first_from.Goals.{then-count-hold, else-count-hold}
 use Rattle.ancestry.proofs.following.first_from.Goals as goal
-
-pub limit_of-most-requires : goal.limit_of-most-requires
-limit_of-most-requires c = limit_room c.args.falling.now.tables.now c.args.falling.now.passes
 
 pub loop-count-init : goal.loop-count-init
 loop-count-init c = let a = c.args in first_starts _ a.res.now (length a.res.now / 3) a.i _ c.requires
@@ -26,13 +25,13 @@ returns-then-up-held c =
     first_back _ c.args.res.now _ c.args.i _ c.requires _ _ _ c.loop-count.invariant c.superclass_at.ensures c.in-Ok.is c.if-up-held.true
 
 pub overflow_mul-hold : goal.overflow_mul-hold
-overflow_mul-hold c = omega (arith, limit_small c.args.falling.now.tables.now c.args.falling.now.passes, c.limit_of-most.ensures)
+overflow_mul-hold c = omega (arith, limit_small c.args.falling.now.asked.now.tables.now c.args.falling.now.asked.now.passes, c.limit_of-most.ensures)
 
 pub loop-count-preserved : goal.loop-count-preserved
 loop-count-preserved c =
     elim c.if-count-hold.branch [
-      | then-count-hold w ↦ climbing_hold _ _ _ _ _ c.loop-count.invariant c.superclass_at.ensures c.in-Ok.is w.held-is
-      | else-count-hold w ↦ climbing_next _ _ _ _ _ c.loop-count.invariant c.superclass_at.ensures c.in-Ok.is w.held-is
+      | then-count-hold w ↦ climbing_hold _ _ _ _ _ c.loop-count.invariant (sym c.superclass_at.ensures ∙ ap outcome c.in-Ok.is) w.held-is
+      | else-count-hold w ↦ climbing_next _ _ _ _ _ c.loop-count.invariant (sym c.superclass_at.ensures ∙ ap outcome c.in-Ok.is) w.held-is
     ]
 
 pub returns : goal.returns

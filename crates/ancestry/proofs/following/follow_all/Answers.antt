@@ -5,21 +5,17 @@ use native.Mathlib.Omega.{arith}
 use Rattle.pointers.specs.Tables.{Tables}
 use Rattle.ancestry.specs.Ancestry.{limit}
 use Rattle.ancestry.specs.Following.{ground_of}
-use Rattle.ancestry.proofs.Climbs.{limit_room, limit_small}
+use Rattle.ancestry.proofs.Climbs.{limit_small}
 use Rattle.ancestry.proofs.Finishes.{followed_records}
 use Rattle.ancestry.proofs.following.follow_all.Goals as goal
 
-pub limit_of-requires : goal.limit_of-requires
-limit_of-requires c =
-    limit_room c.args.falling.now.tables.now c.args.falling.now.passes
-
 pub invariant_of-most : goal.invariant_of-most
-invariant_of-most c = omega (arith, limit_small c.args.falling.now.tables.now c.args.falling.now.passes, c.limit_of.ensures)
+invariant_of-most c = omega (arith, limit_small c.args.falling.now.asked.now.tables.now c.args.falling.now.asked.now.passes, c.limit_of.ensures)
 
 pub returns : goal.returns
 returns c =
     let a = c.args in
-    let t : Tables = c.args.falling.now.tables.now in
+    let t : Tables = c.args.falling.now.asked.now.tables.now in
     let listed = length a.res.now / 3 in
     let g = ground_of t a.res.now listed in
     let most : limit t ≡ c.limit_of.result = sym c.limit_of.ensures in

@@ -14,5 +14,10 @@ returns-in_err-c c =
     let p = err_from_is_err_and c.from_residual-in_err-c.result c.from_residual-in_err-c.ensures.1 in
     rw (p.1, p.2) (call_missing _ _ _ _ c.ask.result c.ask.ensures (grind arith) c.class_at.result c.class_at.ensures _ c.in_err-c.was)
 
+pub returns-in_err-effective_of : goal.returns-in_err-effective_of
+returns-in_err-effective_of c =
+    let p = err_from_is_err_and c.from_residual-in_err-effective_of.result c.from_residual-in_err-effective_of.ensures.1 in
+    rw (p.1, p.2) (call_class _ _ _ _ c.ask.result c.ask.ensures (search rules) c.class_at.result c.class_at.ensures c.in_ok-c.was c.in_err-effective_of.ensures)
+
 pub returns : goal.returns
-returns c = call_class _ _ _ _ c.ask.result c.ask.ensures (search rules) c.class_at.result c.class_at.ensures c.in_ok-c.was c.effective_of.ensures
+returns c = call_class _ _ _ _ c.ask.result c.ask.ensures (search rules) c.class_at.result c.class_at.ensures c.in_ok-c.was c.in_ok-effective_of.ensures

@@ -5,10 +5,10 @@ use lib.ListN.{length}
 use Rattle.encodings.proofs.Reached.{reached_types, reached_ordered, reached_missing, reached_end, reached_end_missing}
 use Rattle.encodings.proofs.reading.read_types.Goals as goal
 
-pub returns-in_err-mode : goal.returns-in_err-mode
-returns-in_err-mode c =
+pub returns-in_err-step : goal.returns-in_err-step
+returns-in_err-step c =
     let p = err_from_is_err_and c.from_residual.result c.from_residual.ensures.1 in
-    let e = c.in_err-mode in
+    let e = c.in_err-step in
     rw (p.1, p.2) (reached_missing c.loop-i.invariant c.loop-i-test.true e.field-0.0 e.ensures)
 
 pub put_row-requires : goal.put_row-requires

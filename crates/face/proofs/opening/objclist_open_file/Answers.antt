@@ -1,7 +1,10 @@
-use mathlib.Core.Path.{ap, ◌∙◌}
-use Rattle.face.specs.Status.{given}
-use Rattle.face.specs.Opening.{file_told}
+use mathlib.Core.Path.{◌≡◌, ap, ◌∙◌}
+use borrow.Author.Rules.{rules}
+use Rattle.walks.specs.Sections.{decoded_step}
+use Rattle.face.specs.Opening.{file_words, no_file, file_told}
 use Rattle.face.proofs.opening.objclist_open_file.Goals as goal
 
 pub returns-clause-answer : goal.returns-clause-answer
-returns-clause-answer c = c.from.ensures ∙ ap (λ o. file_told (given o)) c.open_file-answer.ensures.outcome
+returns-clause-answer c =
+    let none : c.default.result ≡ no_file = search rules in
+    rw (c.told.ensures.status, c.told.ensures.words file_words (λ r w e. e), none, c.decoded_step.ensures ∙ ap decoded_step c.open_file-answer.ensures.outcome)

@@ -5,9 +5,9 @@ use Rattle.face.proofs.sections.objclist_next_class.Goals as goal
 
 pub returns : goal.returns
 returns c =
-    let left = rw (c.lent-tables.ensures, c.setting_in-setting.ensures) at c.next-stepped.ensures.0 in
+    let left = rw (c.lent-tables.ensures, c.setting_in-setting.ensures, c.from.ensures) at c.next-stepped.ensures.0 in
     let none : c.default.result ≡ no_class = search rules in
     record {
-      answer = rw (← left, c.told.ensures.status, c.told.ensures.words class (λ r w e. e), none, c.step_of_walk.ensures);
+      answer = rw (← left, c.told.ensures.status, c.told.ensures.words class (λ r w e. e), none, c.at.ensures);
       contents = rw (← left);
     }

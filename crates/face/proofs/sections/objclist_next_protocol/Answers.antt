@@ -7,4 +7,4 @@ pub returns : goal.returns
 returns c =
     let left = rw (c.lent-tables.ensures, c.setting_in-setting.ensures) at c.next_protocol-stepped.ensures.0 in
     let none : c.default.result ≡ no_protocol = search rules in
-    rw (← left, c.told.ensures.status, c.told.ensures.words protocol (λ r w e. e), none, c.step_of_walk.ensures)
+    rw (← left, c.told.ensures.status, c.told.ensures.words protocol (λ r w e. e), none)

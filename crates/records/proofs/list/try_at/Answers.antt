@@ -11,26 +11,38 @@ returns-then-count-i c = laws.search_past _ _ _ (search rules)
 pub overflow_mul-way : goal.overflow_mul-way
 overflow_mul-way c = omega (arith, laws.product_fits c.args.i c.args.h.size (omega arith) (omega arith))
 
-pub returns-then-h-way : goal.returns-then-h-way
-returns-then-h-way c = laws.search_over _ _ _ (omega arith) (omega arith)
+pub returns-in_default : goal.returns-in_default
+returns-in_default c = laws.search_over _ _ _ (omega arith) (omega (arith, c.in_default.ensures))
 
 pub returns-then-can_read : goal.returns-then-can_read
-returns-then-can_read c = laws.search_here _ _ _ (omega arith) (omega arith) (cc)
+returns-then-can_read c =
+    let at = c.in-Some.ensures in
+    laws.search_here _ _ _ (omega arith) at.0 (rw (at.1, c.least-k.ensures) at (sym c.can_read.ensures ∙ c.if-can_read.true))
 
-pub returns-in_default : goal.returns-in_default
-returns-in_default c = laws.search_past_breaks _ _ _ (omega arith) (cc)
+pub returns-in_default-next_break : goal.returns-in_default-next_break
+returns-in_default-next_break c =
+    laws.search_past_breaks _ _ _ (omega arith) (rw (c.in-Some.ensures.1, c.least-k.ensures) at (sym c.next_break.ensures ∙ c.in_default-next_break.is))
 
 pub returns-then-size-eq0 : goal.returns-then-size-eq0
-returns-then-size-eq0 c = laws.search_flat _ _ _ (omega arith) (cc) (search rules)
+returns-then-size-eq0 c =
+    laws.search_flat _ _ _ (omega arith) (rw (c.in-Some.ensures.1, c.least-k.ensures) at (sym c.can_read.ensures ∙ c.if-can_read.false)) (search rules)
 
 pub overflow_sub-gap : goal.overflow_sub-gap
-overflow_sub-gap c = omega (arith, next_break_above _ _ _ (sym c.next_break.ensures ∙ c.in-Some.is))
+overflow_sub-gap c = omega (arith, next_break_above _ _ _ (sym c.next_break.ensures ∙ c.in-Some-next_break.is))
 
 pub overflow_sub-gap-2 : goal.overflow_sub-gap-2
-overflow_sub-gap-2 c = omega (arith, next_break_above _ _ _ (sym c.next_break.ensures ∙ c.in-Some.is))
+overflow_sub-gap-2 c = omega (arith, next_break_above _ _ _ (sym c.next_break.ensures ∙ c.in-Some-next_break.is))
 
 pub returns-then-count-i-2 : goal.returns-then-count-i-2
-returns-then-count-i-2 c = laws.jump_out _ _ _ (omega arith) (cc) (search rules) c.in-Some.b (cc) (search rules)
+returns-then-count-i-2 c =
+    let is = c.in-Some.ensures.1 in
+    laws.jump_out _ _ _ (omega arith) (rw (is, c.least-k.ensures) at (sym c.can_read.ensures ∙ c.if-can_read.false)) (search rules) c.in-Some-next_break.b
+    (rw (is, c.least-k.ensures) at (sym c.next_break.ensures ∙ c.in-Some-next_break.is)) (rw (← is) c.if-count-i-2.true)
 
 pub returns : goal.returns
-returns c = (laws.jump_same _ _ _ (omega arith) (cc) (search rules) c.in-Some.b (cc) (search rules), laws.jump_fewer _ _ _ (omega arith) (cc) (search rules) c.in-Some.b (cc))
+returns c =
+    let is = c.in-Some.ensures.1 in
+    let unread = rw (is, c.least-k.ensures) at (sym c.can_read.ensures ∙ c.if-can_read.false) in
+    let next = rw (is, c.least-k.ensures) at (sym c.next_break.ensures ∙ c.in-Some-next_break.is) in
+    rw is
+    (laws.jump_same _ _ _ (omega arith) unread (search rules) c.in-Some-next_break.b next (rw is at c.if-count-i-2.false), laws.jump_fewer _ _ _ (omega arith) unread (search rules) c.in-Some-next_break.b next)

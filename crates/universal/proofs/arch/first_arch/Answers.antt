@@ -1,16 +1,11 @@
-use lib.ListN.{length}
 use Rattle.universal.proofs.Searches as laws
-use Rattle.universal.proofs.Tables.{entry_room}
 use Prim.Native.Nat.{◌-◌}
 use native.Mathlib.Omega.{arith}
 use mathlib.Core.Path.{◌≡◌, sym, ◌∙◌}
 use Rattle.universal.proofs.arch.first_arch.Goals as goal
 
 pub loop-i-init : goal.loop-i-init
-loop-i-init g c = λ test says. let e : c.args.count - 0 ≡ c.args.count = omega arith in rw e
-
-pub arch_at-requires : goal.arch_at-requires
-arch_at-requires g c = entry_room c.args.table.kind c.loop-i.i c.args.count (length c.args.table.file.now) c.loop-i-test.true c.requires.inside
+loop-i-init g c = λ test says. let e : c.args.table.count - 0 ≡ c.args.table.count = omega arith in rw e
 
 pub returns-then-passes : goal.returns-then-passes
 returns-then-passes g c = λ test says.

@@ -8,6 +8,6 @@ use Rattle.universal.proofs.part.fat_wanted.Goals as goal
 pub returns-in_err-p : goal.returns-in_err-p
 returns-in_err-p c =
     let a = c.args in
-    let p = err_from_is_err_and c.from_residual-in_err-p.result c.from_residual-in_err-p.ensures.1 in
+    let p = err_from_is_err_and c.from_residual.result c.from_residual.ensures.1 in
     let here = ap (in_file (length a.table.file.now)) (sym c.arch_at.ensures) ∙ sym c.in_file.ensures ∙ c.in_err-p.was in
-    rw (p.1, p.2) (part_missed a.table.file.now a.table.kind a.wanted _ _ _ (sym c.entries.ensures ∙ c.in_ok-count.was) (sym c.chosen.ensures ∙ c.in-Some.is) here)
+    rw (p.1, p.2) (part_missed a.table.file.now a.table.kind a.wanted _ _ _ a.table.counted a.table.inside (sym c.chosen.ensures ∙ c.in-Some.is) here)

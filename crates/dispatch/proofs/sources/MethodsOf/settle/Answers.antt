@@ -6,7 +6,7 @@ use Rattle.dispatch.proofs.Walks.{settle_found, settle_refused}
 use Rattle.dispatch.proofs.sources.MethodsOf.settle.Goals as goal
 
 pub appearance_at-requires : goal.appearance_at-requires
-appearance_at-requires c = (omega (arith, found_below_count _ _ _ _ c.requires), found_fits _ _ _ _ c.requires)
+appearance_at-requires c = found_fits _ _ _ _ c.requires
 
 pub overflow_cast-j : goal.overflow_cast-j
 overflow_cast-j c = omega (arith, found_below_count _ _ _ _ c.requires)

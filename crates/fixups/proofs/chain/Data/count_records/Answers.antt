@@ -4,7 +4,7 @@ use Rattle.fixups.proofs.chain.Data.count_records.Goals as goal
 use Rattle.std.proofs.lemmas.Result.{err_from_is_err_and}
 
 pub returns : goal.returns
-returns c = counted _ c.image_starts.result (state_in c.image_starts.new.lists) c.image_starts.ensures.told c.in_ok-image_starts.was c.image_starts.ensures.kept.rebase_words c.image_starts.ensures.kept.bind_words
+returns c = counted _ c.image_starts.result (state_in c.image_starts.new.lists) c.image_starts.ensures.told c.in_ok-image_starts.was c.image_starts.ensures.kept.rebases.words c.image_starts.ensures.kept.binds.words
 
 pub returns-in_err-image_starts : goal.returns-in_err-image_starts
 returns-in_err-image_starts c =

@@ -20,8 +20,8 @@ returns c =
     let room-rebases : length c.args.rebases.now < 2 ^ 64 = omega arith in
     let room-binds : length c.args.binds.now < 2 ^ 64 = omega arith in
     let a = c.args in
-    let same-rebases = c.image_starts.ensures.kept.rebases in
-    let same-binds = c.image_starts.ensures.kept.binds in
+    let same-rebases = c.image_starts.ensures.kept.rebases.table in
+    let same-binds = c.image_starts.ensures.kept.binds.table in
     let p = laws.is_filled a.rebases.now a.binds.now (room-rebases) (room-binds) _ c.count_records.result c.count_records.ensures _ c.in_ok-r.was c.if-rebases-r.false c.if-binds-b.false
     c.image_starts.result (state_in c.image_starts.new.lists) c.image_starts.ensures.told in
     search rules

@@ -12,7 +12,7 @@ returns-then-self-starts c =
       kept = kept _;
       told =
           let a = c.args in
-          laws.starts_out a.self.file.now a.self.body.now a.cmds.bytes.now a.self.fixups _ (state_in a.lists.now) (omega arith);
+          laws.starts_out a.self.file.now a.self.body.now a.self.cmds.bytes.now a.self.fixups _ (state_in a.lists.now) (omega arith);
     }
 
 pub loop-i-init : goal.loop-i-init
@@ -20,7 +20,7 @@ loop-i-init c =
     let a = c.args in
     let e : c.from-starts.result ≡ a.self.fixups.starts = c.from-starts.ensures in (
       rw c.of_kind-segments.ensures (ap (λ x. told x (state_in a.lists.now))
-          (laws.starts_in a.self.file.now a.self.body.now a.cmds.bytes.now a.self.fixups (segments_of a.cmds.bytes.now a.cmds.count) c.u32_from-total.result (omega arith) (rw e at c.u32_from-total.ensures))),
+          (laws.starts_in a.self.file.now a.self.body.now a.self.cmds.bytes.now a.self.fixups (segments_of a.self.cmds.bytes.now a.self.cmds.count) c.u32_from-total.result (omega arith) (rw e at c.u32_from-total.ensures))),
       kept _,
     )
 
@@ -30,14 +30,14 @@ returns-then-self-first c =
       kept = c.loop-i.invariant.1;
       told =
           let a = c.args in let l = c.loop-i in
-          sym (l.invariant.0 ∙ laws.infos_out a.self.file.now a.self.body.now a.cmds.bytes.now a.self.fixups c.u32_from-total.result l.i (c.from-starts.result + 4 + 4 * c.from-next.result) (omega arith) (omega arith)
+          sym (l.invariant.0 ∙ laws.infos_out a.self.file.now a.self.body.now a.self.cmds.bytes.now a.self.fixups c.u32_from-total.result l.i (c.from-starts.result + 4 + 4 * c.from-next.result) (omega arith) (omega arith)
           (offsets l.segments) (state_in l.lists) (omega arith));
     }
 
 pub loop-i-preserved : goal.loop-i-preserved
 loop-i-preserved c =
     let a = c.args in let l = c.loop-i in let s = state_in l.lists in
-    let h = laws.infos_more a.self.file.now a.self.body.now a.cmds.bytes.now a.self.fixups c.u32_from-total.result l.i (c.from-starts.result + 4 + 4 * c.from-next.result) (omega arith) (omega (arith, c.from-starts.ensures, c.from-next.ensures))
+    let h = laws.infos_more a.self.file.now a.self.body.now a.self.cmds.bytes.now a.self.fixups c.u32_from-total.result l.i (c.from-starts.result + 4 + 4 * c.from-next.result) (omega arith) (omega (arith, c.from-starts.ensures, c.from-next.ensures))
     (omega arith) c.u32_from-offset.result c.u32_from-offset.ensures _ _ _ c.next.ensures.steps in (
       l.invariant.0 ∙ ap (λ x. told x s) h ∙ then _ _ s c.segment_info.result (state_in c.segment_info.new.lists) c.segment_info.ensures.told c.in_ok-segment_info.was,
       kept_on _ _ _ l.invariant.1 c.segment_info.ensures.kept,
@@ -49,7 +49,7 @@ returns-in_err-segment_info c =
       kept = kept_on _ _ _ c.loop-i.invariant.1 c.segment_info.ensures.kept;
       told =
           let a = c.args in let l = c.loop-i in let s = state_in l.lists in
-          let h = laws.infos_more a.self.file.now a.self.body.now a.cmds.bytes.now a.self.fixups c.u32_from-total.result l.i (c.from-starts.result + 4 + 4 * c.from-next.result) (omega arith) (omega (arith, c.from-starts.ensures, c.from-next.ensures))
+          let h = laws.infos_more a.self.file.now a.self.body.now a.self.cmds.bytes.now a.self.fixups c.u32_from-total.result l.i (c.from-starts.result + 4 + 4 * c.from-next.result) (omega arith) (omega (arith, c.from-starts.ensures, c.from-next.ensures))
           (omega arith) c.u32_from-offset.result c.u32_from-offset.ensures _ _ _ c.next.ensures.steps in
           let p = err_from_is_err_and c.from_residual.result c.from_residual.ensures.1 in
           rw (p.1, p.2) (sym (l.invariant.0 ∙ ap (λ x. told x s) h ∙ stops _ _ s c.segment_info.result (state_in c.segment_info.new.lists) c.segment_info.ensures.told _ c.in_err-segment_info.was));
@@ -61,5 +61,5 @@ returns c =
       kept = c.loop-i.invariant.1;
       told =
           let a = c.args in let l = c.loop-i in
-          sym (l.invariant.0 ∙ laws.infos_done a.self.file.now a.self.body.now a.cmds.bytes.now a.self.fixups c.u32_from-total.result l.i (offsets l.segments) (state_in l.lists) (omega arith));
+          sym (l.invariant.0 ∙ laws.infos_done a.self.file.now a.self.body.now a.self.cmds.bytes.now a.self.fixups c.u32_from-total.result l.i (offsets l.segments) (state_in l.lists) (omega arith));
     }

@@ -12,7 +12,7 @@ returns-then-offset-eq0 c =
       kept = kept _;
       told =
           let a = c.args in
-          laws.info_none a.self.file.now a.self.body.now a.cmds.bytes.now a.self.fixups a.offset a.segment (state_in a.lists.now) c.if-offset-eq0.true;
+          laws.info_none a.self.file.now a.self.body.now a.self.cmds.bytes.now a.self.fixups a.offset a.segment (state_in a.lists.now) c.if-offset-eq0.true;
     }
 
 pub returns-in_err-command : goal.returns-in_err-command
@@ -24,7 +24,7 @@ returns-in_err-command c =
           let p = err_from_is_err_and c.from_residual.result c.from_residual.ensures.1 in
           let q = none_of _ a.segment c.in_err-command.field-0.0 (sym c.ok_or.ensures.value ∙ c.in_err-command.was) in
           rw (p.1, p.2, q.1)
-          (laws.info_absent a.self.file.now a.self.body.now a.cmds.bytes.now a.self.fixups a.offset a.segment (state_in a.lists.now) c.if-offset-eq0.false q.0);
+          (laws.info_absent a.self.file.now a.self.body.now a.self.cmds.bytes.now a.self.fixups a.offset a.segment (state_in a.lists.now) c.if-offset-eq0.false q.0);
     }
 
 pub returns : goal.returns
@@ -34,6 +34,6 @@ returns c =
       told =
           let a = c.args in
           c.segment_starts.ensures.told
-          ∙ laws.info_there a.self.file.now a.self.body.now a.cmds.bytes.now a.self.fixups a.offset a.segment (state_in a.lists.now) c.if-offset-eq0.false _ _
+          ∙ laws.info_there a.self.file.now a.self.body.now a.self.cmds.bytes.now a.self.fixups a.offset a.segment (state_in a.lists.now) c.if-offset-eq0.false _ _
           (some_of _ a.segment _ (sym c.ok_or.ensures.value ∙ c.in_ok-command.was)) (omega arith);
     }

@@ -3,6 +3,7 @@ use Rattle.opcodes.specs.Streams.{segments_in}
 use Rattle.opcodes.specs.DyldInfo.{weak_bind_off, lazy_bind_off}
 use Rattle.opcodes.specs.Streams.{stream_at}
 use Rattle.opcodes.specs.Tables.{part_in}
+use Rattle.fixups.proofs.Joining.{same_on}
 use Rattle.opcodes.proofs.Walks as laws
 use Rattle.opcodes.proofs.dyld_info.Info.weak_and_lazy.Goals as goal
 use Rattle.std.proofs.lemmas.Result.{err_from_is_err_and}
@@ -10,7 +11,7 @@ use Rattle.std.proofs.lemmas.Result.{err_from_is_err_and}
 pub returns : goal.returns
 returns c =
     record {
-      kept = laws.kept_on _ _ _ c.stream_at.ensures.kept c.stream_at-2.ensures.kept;
+      kept = same_on _ _ _ c.stream_at.ensures.kept c.stream_at-2.ensures.kept;
       told =
           let a = c.args in
           c.stream_at-2.ensures.told ∙ laws.then (stream_at a.self.file.now a.self.cmds.bytes.now (segments_in a.self) a.self.at weak_bind_off false) (stream_at a.self.file.now a.self.cmds.bytes.now (segments_in a.self) a.self.at lazy_bind_off true) (part_in a.binds.now) c.stream_at.result (part_in c.stream_at.new.binds) c.stream_at.ensures.told c.in_ok-stream_at.was;

@@ -9,14 +9,10 @@ returns-in_err-j-clause-steps c = let e = ap (map (entry_address c.args.self.now
 pub prove-unreachable-requires : goal.prove-unreachable-requires
 prove-unreachable-requires c = let b = laws.below_count _ _ _ _ _ c.first_readable.ensures c.in_ok-j.was in omega arith
 
-pub overflow_mul-result : goal.overflow_mul-result
-overflow_mul-result c = let b = laws.in_64 _ _ _ _ _ c.first_readable.ensures c.in_ok-j.was in omega arith
-
-pub overflow_add-result : goal.overflow_add-result
-overflow_add-result c = let b = laws.in_64 _ _ _ _ _ c.first_readable.ensures c.in_ok-j.was in omega arith
-
 pub returns-clause-steps : goal.returns-clause-steps
-returns-clause-steps c = ap (map (entry_address c.args.self.now.h)) (laws.entries_first _ _ _ _ _ c.first_readable.ensures c.in_ok-j.was)
+returns-clause-steps c =
+    let there = c.entry_address.ensures.fits (laws.in_64 _ _ _ _ _ c.first_readable.ensures c.in_ok-j.was) in
+    rw there (ap (map (entry_address c.args.self.now.h)) (laws.entries_first _ _ _ _ _ c.first_readable.ensures c.in_ok-j.was))
 
 pub returns-clause-goes : goal.returns-clause-goes
 returns-clause-goes c = let fewer = ap (λ (l : List ℕ). length (map (entry_address c.args.self.now.h) l)) (laws.entries_first _ _ _ _ _ c.first_readable.ensures c.in_ok-j.was) in search rules

@@ -4,5 +4,5 @@ use Rattle.walks.proofs.section_slots.CategorySlotsRecordSlots.next.Goals as goa
 
 pub returns : goal.returns
 returns c =
-    let waits : c.take_slot-taken.result.waiting ≡ 0 = ap (λ x. x.walk.waiting) c.take_slot-taken.ensures ∙ category_waits_none _ _ refl _ in
+    let waits : c.take_slot-taken.result.slots.meta ≡ 0 = ap (λ x. x.walk.waiting) c.take_slot-taken.ensures ∙ category_waits_none _ _ refl _ in
     rw waits at c.take_slot-taken.ensures

@@ -25,4 +25,4 @@ pub returns-in-Ok-Finished : goal.returns-in-Ok-Finished
 returns-in-Ok-Finished c = protocol_step_lem _ _ _ (rw (← c.next_slot.ensures.step, c.in-Ok-Finished.is, c.in-Ok-Finished.field-0-is))
 
 pub returns-in-Err : goal.returns-in-Err
-returns-in-Err c = protocol_step_lem _ _ _ (rw (← c.next_slot.ensures.step, c.in-Err.is))
+returns-in-Err c = protocol_step_lem _ _ _ (rw (← c.next_slot.ensures.step, c.in-Err.is, c.refused.ensures.0, c.refused.ensures.1))

@@ -1,7 +1,7 @@
 use mathlib.Core.Path.{◌≡◌}
 use Rattle.pointers.specs.IndexFold.{chained}
-use Rattle.pointers.proofs.index.link_all.Given as goal
+use Rattle.pointers.proofs.index.Chained.link_all.Given as goal
 
 -- The index is what the first i records make of it.
 abbrev pub invariant-loop-i : goal.invariant-loop-i
-invariant-loop-i l = l.index ≡ chained l.width l.table l.heads l.nexts l.i l.initial.index
+invariant-loop-i l = l.index ≡ chained l.self.width l.self.table.now l.self.heads l.self.nexts l.i l.initial.index
