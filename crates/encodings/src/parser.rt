@@ -116,6 +116,7 @@ impl Parser {
     fn below_pointers(&mut self)
         ensures { kept_in self.new ≡ kept self.old.mode (below_pointers (levels_of self.old)) self.old.start }
     {
+        // Not a `for`: it takes off what is innermost, until that is no pointer.
         while let Some(Level::Pointer) = self.innermost() {
             self.depth -= 1;
         }

@@ -1,5 +1,5 @@
 -- Laws of the rows of a call.
-use Prim.Native.Nat.{ℕ, zero, suc, ◌+◌, ◌*◌, ◌-◌, ◌^◌, ◌≤◌, ◌<◌}
+use Prim.Native.Nat.{ℕ, zero, suc, ◌+◌, ◌*◌, ◌-◌, ◌^◌, ◌<◌}
 use mathlib.Core.Bool.{Bool, true, false}
 use mathlib.Core.Path.{◌≡◌, refl}
 use mathlib.Core.List.{List}
@@ -7,9 +7,7 @@ use native.Mathlib.Omega.{arith}
 use native.Mathlib.Numerals.{add-one}
 use lib.Dec.{ltb}
 use lib.Seq.{sets}
-use borrow.Author.Tests.{lt-ltb, le-ltb}
 use Rattle.reads.specs.Outcome.{value, refused, choose}
-use Rattle.reads.proofs.Tests.{choose_true, choose_false}
 use Rattle.pointers.specs.Tables.{Tables}
 use Rattle.pointers.specs.Question.{asked}
 use Rattle.records.specs.declared.list.ListKind.{ListKind}

@@ -1,13 +1,11 @@
 -- What an answer of the C face says first (include/objclist.h): its kind, with the code of a reason or the number of a question.
-use Rattle.std.specs.Prelude.{ℕ, Result, Ok, Err}
+use Rattle.std.specs.Prelude.{ℕ}
 use Rattle.reads.specs.Outcome.{Outcome, value, absent, refused}
 use Rattle.reads.specs.declared.answer.Missing.{Missing}
 use Rattle.reads.specs.declared.answer.Missing.TheVariants.{Absent, Refused}
 use Rattle.reads.specs.declared.answer.Reason.{Reason}
 use Rattle.reads.specs.declared.answer.Reason.TheVariants.{NullAddress, Unmapped, PastEnd, Unterminated, NotUtf8, NoData, Unresolved, Unreadable, FieldOverflow, NoRecord, OddList, ShortEntry, Malformed}
-use Rattle.walks.specs.Sections.{Step, found, passed, dropped, finished, record_step}
-use Rattle.walks.specs.declared.sections.RecordStep.{RecordStep}
-use Rattle.reads.specs.Answer.{missed}
+use Rattle.walks.specs.Sections.{Step, found, passed, dropped, finished}
 use Rattle.face.specs.declared.status.Status.{Status}
 use Rattle.reads.specs.Question.{number_of}
 use Rattle.reads.specs.declared.answer.Question.{Question}

@@ -9,7 +9,6 @@ ghost use Rattle.face.specs.Status.{says, words_or};
 ghost use Rattle.walks.specs.Sections.{decoded_step, record_answer};
 ghost use Rattle.face.specs.Words.{is_set, setting_in, class_in, category_in};
 ghost use Rattle.face.specs.Decoding.{class_told, ro_told, protocol_told, category_told, name_told};
-ghost use Rattle.reads.specs.Answer.{outcome};
 
 use crate::status::Status;
 use crate::words::{CategoryWords, ClassWords, ProtocolWords, RoWords, TextWords, setting_in};
@@ -59,8 +58,8 @@ pub struct NameTold {
     pub name: TextWords,
 }
 
-// What a step says first, or the question that refuses it; and the words of the record that it gives, or else `none`. A record decoded at an address is
-// told as by a step that reaches it (`decoded_step`).
+// What a step says first, or the question that refuses it; and the words of the record that it gives, or else `none`. A record decoded at an address,
+// and an opened file, is told as by a step that reaches it (`decoded_step`).
 pub(crate) fn told<R: Copy, W: Copy + From<R>>(
     answer: Result<RecordStep<R>, Question>,
     none: W,

@@ -59,6 +59,7 @@ impl From<OpenedFile> for FileWords {
     }
 }
 
+// By hand and not by `told`: C gets the two words as fields beside the status, and no struct of them.
 impl From<Result<ImageInfo, Missing>> for InfoTold {
     ghost from_gives = { λ x w. w ≡ opened_words (decoded_step (outcome x)) };
 

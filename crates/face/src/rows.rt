@@ -1,7 +1,6 @@
 // The rows of a list, as many a call as the lent words hold: methods, ivars, properties and protocol names.
 ghost use Rattle.std.specs.Prelude.{◌≡◌, ◌+◌, ◌/◌, ◌^◌, ◌≤◌, length, ltb};
 ghost use Rattle.std.proofs.lemmas.List.Edits.{sets};
-ghost use Rattle.reads.specs.Reference.{before};
 ghost use Rattle.reads.specs.Outcome.{choose};
 ghost use Rattle.reads.specs.declared.answer.Question.TheVariants.{WalkState};
 ghost use Rattle.pointers.specs.Tables.{lent};

@@ -51,7 +51,8 @@ impl Data<'_> {
         Ok((lists.rebased, lists.bound))
     }
 
-    // Counts first, then writes, if both tables have room: how many rebases and binds were written.
+    // Counts first, then writes, if both tables have room: how many rebases and binds were written. The two come as two slices, here, below and in filetables,
+    // as C lends them: while they are filled `Lists` has them with their counts, and a struct of the slices alone would be taken apart for it here.
     // The tables are two parameters, here and below, as C lends them: `Lists` would ask for counts of 0, and a struct of the two slices
     // would be put together in `build_tables` and taken apart here alone. opcodes' `fill` is one beside this: one function for both would
     // need a trait with the walk, the tables, their counts and the questions of their room, more than the two bodies.

@@ -1,6 +1,5 @@
 // The chain of a page (fixup-chains.h, dyld_chained_ptr_64_rebase and dyld_chained_ptr_64_bind).
 ghost use Rattle.std.specs.Prelude.{◌≡◌, ◌+◌};
-ghost use Rattle.reads.specs.Reference.{before};
 ghost use Rattle.reads.specs.Outcome.{value, and_then};
 ghost use Rattle.fixups.specs.Chain.{number_of, starts_in, target_of, entry_of, visit_in, chain_in};
 ghost use Rattle.fixups.specs.Starts.{Reads};

@@ -40,6 +40,7 @@ fn command_fits(bytes: &[u8], at: u64) -> bool
     if n < at {
         return false;
     }
+    // Not `lies_in` of the head and then of the whole command: both are held to one room, taken once.
     let room = n - at;
     if room < SIZEOF_LOAD_COMMAND {
         return false;

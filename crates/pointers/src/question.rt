@@ -146,7 +146,8 @@ pub fn names_utf8(files: &[&[u8]], binds: &[u64]) -> bool
     })
 }
 
-// 8: has the index a word for each head and each record?
+// 8: has the index a word for each head and each record? Not `lies_in`: these are words of the index and no bytes, and each of the four would be made a
+// u64.
 #[tactic(auto, unfolding(crate::specs::Question::index_fits))]
 pub fn index_fits(rebases: usize, binds: usize, words: usize) -> bool
     ensures { result ≡ index_fits rebases binds words }

@@ -12,7 +12,8 @@ pub record Fills (left after : Option (List ℕ)) (r : Filled) (to : List ℕ) :
   pub taken : Consumes left after (take r.len to)
   pub ends : r.whole ≡ true → r.len < length to → IsAtEnd after
 
--- A buffer of 32,769 bytes was filled from the reader, and where every write went well the writer was handed, after what it held, exactly the text of that bundle.
+-- A buffer of 32,769 bytes was filled from the reader, and where every write went well the writer was handed, after what it held,
+-- exactly the text of that bundle.
 pub record Lists (left after held holds : Option (List ℕ)) (u : Setting) (r : Listed) : Type 0 where
   pub input : List ℕ
   pub room : length input ≡ 32769

@@ -49,7 +49,8 @@ fn is_abi64(p: Part) -> bool
 // The first entry of a table that passes a test.
 fn first_arch<F: Fn(Part) -> bool>(table: Table, passes: F) -> Option<u64>
     requires { F.IsAlwaysCallable passes }
-    ensures { (test : Part → Bool) → ((p : Part) (r : Bool) → F.post passes p r → r ≡ test p) → result ≡ first_arch table.entry.file.now table.entry.kind test table.entry.count 0 }
+    ensures { (test : Part → Bool) → ((p : Part) (r : Bool) → F.post passes p r → r ≡ test p)
+        → result ≡ first_arch table.entry.file.now table.entry.kind test table.entry.count 0 }
 {
     // Not `find`: its closure would need clauses written out, that the entry is one of the table's and that the test can be called.
     for i in 0..table.count {

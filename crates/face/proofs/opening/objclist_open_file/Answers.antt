@@ -1,7 +1,7 @@
 use mathlib.Core.Path.{◌≡◌, ap, ◌∙◌}
 use borrow.Author.Rules.{rules}
 use Rattle.walks.specs.Sections.{decoded_step}
-use Rattle.face.specs.Opening.{file_words, no_file, file_told}
+use Rattle.face.specs.Opening.{file_words, no_file}
 use Rattle.face.proofs.opening.objclist_open_file.Goals as goal
 
 pub returns-clause-answer : goal.returns-clause-answer
