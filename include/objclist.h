@@ -49,7 +49,8 @@ enum {
     OBJCLIST_UNMAPPED = 2,       // the lookup of a string's address is absent
     OBJCLIST_PAST_END = 3,       // a string's offset lies above its file's length
     OBJCLIST_UNTERMINATED = 4,   // no zero byte ends a string before its file's end
-    OBJCLIST_NOT_UTF8 = 5,       // `at` is the offset in the string of the first byte that no well-formed text can continue
+    OBJCLIST_NOT_UTF8 = 5,       // `at` is the offset in the string of the first byte that no well-formed text can continue, or its length
+                                 // where it ends inside a character
     OBJCLIST_NO_DATA = 6,        // the pick of a class's data word is absent
     OBJCLIST_UNRESOLVED = 7,     // a name, selector or types slot does not resolve
     OBJCLIST_UNREADABLE = 8,     // bytes of a record, row, list header or number cannot be read

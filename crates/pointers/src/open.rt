@@ -29,7 +29,9 @@ fn ask_opening(tables: &Tables) -> Result<(), Question>
 }
 
 // The image info, with the index written; or the number of the first question that says no, with the index as it was. The index
-// that stands in the tables is not read.
+// that stands in the tables is not read. A `Missing`, here and in what opens a file, a bundle or for frames, though question 4 leaves no image info
+// absent: by the definition it may be, and what is lent such an answer (printing's `Progress`, filelist's `Opened`) would with a `Question` ask more of
+// its callers.
 pub fn open(tables: &Tables, index: &mut [u32]) -> Result<ImageInfo, Missing>
     ensures outcome { let t = with_index tables.now index.old in
         outcome result ≡ opening t }

@@ -1,4 +1,4 @@
--- Worked cases of absences, one for each reason that reads make (document 02, note 2).
+-- Worked cases of absences, one for each reason that reads make (document 02, note 2); no data stands in ReadCases, malformed in LebCases.
 use Rattle.std.proofs.Common.{◌≡◌, ℕ, [], ◌∷◌, refl}
 use Rattle.reads.specs.Outcome.{absent, or_else, or_first, choose, sum64, nonzero}
 use Rattle.reads.specs.Files.{file_of}

@@ -9,7 +9,7 @@ ghost use Rattle.reads.specs.Question.{number_of};
 pub enum Reason {
     // An address is 0.
     NullAddress,
-    // The lookup of a string's address is absent.
+    // The lookup of a string's address is absent, or that of a file's offset.
     Unmapped,
     // A string's offset lies above its file's length.
     PastEnd,
