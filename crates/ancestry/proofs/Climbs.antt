@@ -5,9 +5,8 @@ use mathlib.Core.Bool.{true, false}
 use native.Mathlib.Omega.{arith}
 use native.Mathlib.Numerals.{add-one}
 use native.Mathlib.Nat.{mul-le-mul}
-use Rattle.std.specs.Prelude.{cond, Option, Some, None, Result, Ok, Err}
-use Rattle.reads.specs.Outcome.{Outcome, value, absent, refused, optional}
-use Rattle.reads.specs.Answer.{answered}
+use Rattle.std.specs.Prelude.{cond}
+use Rattle.reads.specs.Outcome.{Outcome, value, absent, refused}
 use Rattle.reads.specs.declared.answer.Question.{Question}
 use Rattle.reads.specs.declared.answer.Reason.{Reason}
 use Rattle.reads.specs.Table.{records}
@@ -24,34 +23,6 @@ use Rattle.ancestry.specs.Ancestry.{super_at, up_in, limit_of, limit}
 use Rattle.ancestry.proofs.Chain.{above_more, climb_ends, climb_refused, climb_loops}
 use Rattle.ancestry.proofs.Meaning.{comes_back, loops_told}
 use Rattle.ancestry.proofs.Loops.{up_of, super_class}
-
--- What a lookup gave, by what is there.
-module _ {A : Type 0} where
-  is_some : (o : Outcome A) {a : A} → optional o ≡ value (Some a) → o ≡ value a
-  is_some (value b) {a} e = let f : b ≡ a = cc in ap (λ (x : A). value x) f
-  is_some (absent why) e = let z : ◌≡◌ {A = ℕ} 0 1 = cc in absurd (omega arith)
-  is_some (refused k) e = let z : ◌≡◌ {A = ℕ} 0 1 = cc in absurd (omega arith)
-
-  is_none : (o : Outcome A) → optional o ≡ value None → (why : Reason) × (o ≡ absent why)
-  is_none (value b) e = let z : ◌≡◌ {A = ℕ} 0 1 = cc in absurd (omega arith)
-  is_none (absent why) e = (why, refl)
-  is_none (refused k) e = let z : ◌≡◌ {A = ℕ} 0 1 = cc in absurd (omega arith)
-
-  is_refused : (o : Outcome A) {k : Question} → optional o ≡ refused k → o ≡ refused k
-  is_refused (value b) e = let z : ◌≡◌ {A = ℕ} 0 1 = cc in absurd (omega arith)
-  is_refused (absent why) e = let z : ◌≡◌ {A = ℕ} 0 1 = cc in absurd (omega arith)
-  is_refused (refused j) {k} e = let f : j ≡ k = cc in ap (λ (x : Question). refused x) f
-
-  -- The same, as the code asks.
-  module _ {o : Outcome A} {r : Result (Option A) Question} (e : answered r ≡ optional o) where
-    pub there_is : {f : Option A} {a : A} → r ≡ Ok f → f ≡ Some a → o ≡ value a
-    there_is was is = is_some o (sym e ∙ ap answered (was ∙ ap Ok is))
-
-    pub none_is : {f : Option A} → r ≡ Ok f → f ≡ None → (why : Reason) × (o ≡ absent why)
-    none_is was is = is_none o (sym e ∙ ap answered (was ∙ ap Ok is))
-
-    pub refused_is : {k : Question} → r ≡ Err k → o ≡ refused k
-    refused_is was = is_refused o (sym e ∙ ap answered was)
 
 -- From the class at `a` the climb has come to `at`, `count` classes up, and passed the class at `held` no later.
 pub record Climbing (t : Tables) (a : ℕ) (at : ObjcClass) (count held : ℕ) : Type 0 where

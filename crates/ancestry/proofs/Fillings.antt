@@ -17,6 +17,7 @@ use Rattle.reads.specs.Answer.{outcome}
 use Rattle.reads.specs.declared.answer.Missing.{Missing}
 use Rattle.reads.specs.declared.answer.Missing.TheVariants.{Absent, Refused}
 use Rattle.reads.proofs.Outcomes.{then_came}
+use Rattle.reads.proofs.Parts.{sets_append}
 use Rattle.walks.specs.Gather.{gather, present}
 use Rattle.ancestry.specs.Ancestry.{row_words}
 use Rattle.ancestry.specs.Filling.{through, found, put, rows_left, Fits}
@@ -94,12 +95,6 @@ found_all one addresses = filter_map (λ a. found (one a)) addresses
 
 abbrev pub written_to : (ℕ → Outcome Row) → List ℕ → List ℕ → ℕ → List ℕ
 written_to one addresses out₀ n = sets out₀ 0 (records (take n (found_all one addresses)))
-
-sets_append : (l a b : List ℕ) (i : ℕ) → sets l i (a ++ b) ≡ sets (sets l i a) (i + length a) b
-sets_append l [] b i = let same : i + 0 ≡ i = omega arith in rw same
-sets_append l (x ∷ a) b i =
-    let same : i + suc (length a) ≡ suc i + length a = omega arith in
-    rw same (sets_append (set l i x) a b (suc i))
 
 pub filled_none : (one : ℕ → Outcome Row) (addresses out₀ : List ℕ) → out₀ ≡ written_to one addresses out₀ 0
 unfolding flat_map

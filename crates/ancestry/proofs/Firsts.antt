@@ -14,7 +14,7 @@ use Rattle.pointers.specs.Tables.{Tables}
 use Rattle.records.specs.declared.class.ObjcClass.{ObjcClass}
 use Rattle.ancestry.specs.Chain.{above}
 use Rattle.ancestry.specs.Ancestry.{super_at, up_in, limit}
-use Rattle.ancestry.specs.Doubling.{node_at, ended_state, Ground, Row}
+use Rattle.ancestry.specs.Doubling.{node_at, ended_state, Ground, KnownRow}
 use Rattle.ancestry.specs.Following.{ground_of}
 use Rattle.ancestry.specs.Rebases.{chains_fall}
 use Rattle.records.specs.Class.{class_at}
@@ -45,21 +45,21 @@ module _ (t : Tables) (out : List ℕ) (listed i : ℕ) (c : ObjcClass) (d : cla
       let start : above (up_in t) 0 a ≡ value c.address = ap value same in
       record { leads = start; decoded = at_address t a false c refl d; passed = 0; behind = omega arith; holds = start }
 
-  pub first_far : (at : ObjcClass) (count held : ℕ) → Climbing t a at count held → limit t ≤ count → Row g 1 i state.Looping
+  pub first_far : (at : ObjcClass) (count held : ℕ) → Climbing t a at count held → limit t ≤ count → KnownRow g 1 i state.Looping
   first_far at count held w far = record { known = far_endless g i count at.address w.leads far }
 
   module _ (at : ObjcClass) (count held : ℕ) (w : Climbing t a at count held) where
-    first_stops : {r : Reason} → super_at t at ≡ absent r → count < limit t → Row g 1 i (ended_state count at.address)
+    first_stops : {r : Reason} → super_at t at ≡ absent r → count < limit t → KnownRow g 1 i (ended_state count at.address)
     first_stops {r} e h =
         let s : up_in t at.address ≡ absent r = up_of t at.address at w.decoded ∙ rw e in
         record { known = (h, record { top = at.address; ends = record { leads = w.leads; why = r; stops = s }; last = refl }) }
 
     -- By what the code found above.
     module _ {r : Result ObjcClass Missing} (o : outcome r ≡ super_at t at) where
-      pub first_ended : chains_fall t.rebases t.index ≡ true → {m : Missing} → r ≡ Err m → count < limit t → {s : State} → s ≡ ended_state count at.address → Row g 1 i s
+      pub first_ended : chains_fall t.rebases t.index ≡ true → {m : Missing} → r ≡ Err m → count < limit t → {s : State} → s ≡ ended_state count at.address → KnownRow g 1 i s
       first_ended falls {m} q h {s} n = go m (sym o ∙ ap outcome q)
         where
-          go : (m : Missing) → super_at t at ≡ missed m → Row g 1 i s
+          go : (m : Missing) → super_at t at ≡ missed m → KnownRow g 1 i s
           go (Absent why) e = rw n (first_stops e h)
           go (Refused k) e = absurd (number_refused (rw e at (super_falls t falls at)))
 
@@ -68,9 +68,9 @@ module _ (t : Tables) (out : List ℕ) (listed i : ℕ) (c : ObjcClass) (d : cla
         v = climbing_next t a at count held w (sym o ∙ ap outcome q) refl
 
         pub first_listed : (row : ℕ) → row < listed → node_at out row ≡ up.address → count + 1 < limit t
-            → Row g 1 i (state.Followed (count + 1) row)
+            → KnownRow g 1 i (state.Followed (count + 1) row)
         first_listed row h n less = walk_listed g i (count + 1) row (omega arith) less h (v.leads ∙ ap value (sym n))
 
-        pub first_back : up.address ≡ held → Row g 1 i state.Looping
+        pub first_back : up.address ≡ held → KnownRow g 1 i state.Looping
         first_back same =
             record { known = loops_endless g i (comes_back (up_in t) a w.passed (count + 1) held (omega (arith, w.behind)) w.holds (v.leads ∙ ap value same)) }

@@ -141,7 +141,7 @@ of_came of_absent e = absent_value e
 of_came of_number e = number_value e
 
 -- A class has the address and the kind that were asked for.
-pub record Asked (a : ℕ) (m : Bool) (c : ObjcClass) : Type 0 where
+pub record AskedClass (a : ℕ) (m : Bool) (c : ObjcClass) : Type 0 where
   pub address : c.address ≡ a
   pub kind : c.is_meta ≡ m
 
@@ -153,10 +153,10 @@ module _ (t : Tables) (a : ℕ) (m : Bool) (c : ObjcClass) (e : class_at t a m �
       let r = then_came (readable (image_in t) a class_size) _ c e in
       readable_reach (image_in t) a class_size r.0 (omega arith) r.1
 
-  pub class_of : Asked a m c
+  pub class_of : AskedClass a m c
   unfolding decode_class
   class_of =
-      of_came {P = Asked a m}
+      of_came {P = AskedClass a m}
       (of_then (readable (image_in t) a class_size) _ (λ p.
       of_then (sum64 a class_superclass) _ (λ super.
       of_then (sum64 a class_bits) _ (λ bits.

@@ -13,7 +13,7 @@ use Rattle.reads.specs.Outcome.{Outcome, value, absent, refused, and_then, optio
 use Rattle.reads.specs.Answer.{answered}
 use Rattle.walks.specs.Gather.{gather, present}
 use Rattle.ancestry.specs.Filling.{through, tally}
-use Rattle.ancestry.proofs.Climbs.{there_is, none_is}
+use Rattle.reads.proofs.Outcomes.{there_is, none_is}
 use Rattle.reads.specs.declared.answer.Question.{Question}
 use Rattle.reads.specs.declared.answer.Reason.{Reason}
 

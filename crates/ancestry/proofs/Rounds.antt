@@ -10,7 +10,7 @@ use lib.ListN.{length, get_or, set, drop, length-set}
 use lib.Seq.{get_or-set_same, get_or-set_other, drop-set-lt}
 use borrow.Author.Tests.{lt-ltb, le-ltb, leb-false}
 use Rattle.reads.proofs.Tests.{by_choose, choose_true, choose_false}
-use Rattle.ancestry.specs.Doubling.{state_of, count_of, place_of, mark_of, state_at, node_at, put_at, joined_of, jumped_by, jumped_at, jumped_to, told_by, finished_at, finished_to, Ground, Followed, Row, Rows, Nodes, Following}
+use Rattle.ancestry.specs.Doubling.{state_of, count_of, place_of, mark_of, state_at, node_at, put_at, joined_of, jumped_by, jumped_at, jumped_to, told_by, finished_at, finished_to, Ground, Followed, KnownRow, Rows, Nodes, Following}
 use Rattle.ancestry.specs.Ancestry.{row_of}
 use Rattle.ancestry.specs.declared.doubling.State.{State}
 use Rattle.ancestry.specs.declared.doubling.State.TheVariants as state
@@ -66,7 +66,7 @@ module _ (out : List ℕ) (i : ℕ) (s : State) where
 module _ (g : Ground) where
   -- A row written beside rows that are not touched.
   pub rows_put : (reach from to i : ℕ) (out : List ℕ) (s : State) → i * 3 + 2 < length out
-      → ((j : ℕ) → from ≤ j → j < to → (j ≡ i → ⊥) → Row g reach j (state_at out j)) → Row g reach i s
+      → ((j : ℕ) → from ≤ j → j < to → (j ≡ i → ⊥) → KnownRow g reach j (state_at out j)) → KnownRow g reach i s
       → Rows g reach from to (put_at out i s)
   rows_put reach from to i out s room others r j low high =
       elim (ℕ_discrete j i) [
@@ -74,7 +74,7 @@ module _ (g : Ground) where
         | no different ↦ rw (put_other out i s j different) (others j low high different)
       ]
 
-  pub rows_more : (reach i : ℕ) (out : List ℕ) (s : State) → i * 3 + 2 < length out → Rows g reach 0 i out → Row g reach i s
+  pub rows_more : (reach i : ℕ) (out : List ℕ) (s : State) → i * 3 + 2 < length out → Rows g reach 0 i out → KnownRow g reach i s
       → Rows g reach 0 (i + 1) (put_at out i s)
   rows_more reach i out s room rows r =
       rows_put reach 0 (i + 1) i out s room (λ j low high different. rows j low (omega arith)) r
@@ -94,7 +94,7 @@ module _ (g : Ground) where
   -- A jump of row i takes the round one row further.
   module _ (reach i : ℕ) (out : List ℕ) (some-reach : 0 < reach) (row : i < g.listed) (room : g.listed * 3 ≤ length out) (nodes : Nodes g out)
       (h : Halfway reach i out) where
-    stays : Row g (reach * 2) i (state_at out i) → Halfway reach (i + 1) out
+    stays : KnownRow g (reach * 2) i (state_at out i) → Halfway reach (i + 1) out
     stays r =
         record {
           done = λ j low high.
@@ -112,7 +112,7 @@ module _ (g : Ground) where
       jumps : Halfway reach (i + 1) (put_at out i new)
       jumps =
           let next = all_rows reach i out h place (omega arith) f.row in
-          let r : Row g (reach * 2) i new = rw (nodes place f.row) (row_joined g reach i count place some-reach fewer f (state_at out place) next) in
+          let r : KnownRow g (reach * 2) i new = rw (nodes place f.row) (row_joined g reach i count place some-reach fewer f (state_at out place) next) in
           record {
             done = rows_put (reach * 2) 0 (i + 1) i out new (omega arith) (λ j low high different. h.done j low (omega arith)) r;
             left =
@@ -124,7 +124,7 @@ module _ (g : Ground) where
     unfolding jumped_at
     jumped_halfway = go (state_at out i) (h.left i (omega arith) row) stays
       where
-        go : (s : State) → Row g reach i s → (Row g (reach * 2) i s → Halfway reach (i + 1) out) → Halfway reach (i + 1) (jumped_by g.listed g.limit out i s)
+        go : (s : State) → KnownRow g reach i s → (KnownRow g (reach * 2) i s → Halfway reach (i + 1) out) → Halfway reach (i + 1) (jumped_by g.listed g.limit out i s)
         go (state.Ended count last) r f = f (record { known = r.known })
         go state.Looping r f = f (record { known = r.known })
         go (state.Followed count place) r f =

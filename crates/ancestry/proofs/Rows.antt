@@ -6,7 +6,7 @@ use borrow.Author.Tests.{leb-true, leb-false, eqb-true, eqb-false}
 use Rattle.reads.specs.Outcome.{value}
 use Rattle.reads.proofs.Tests.{by_choose}
 use Rattle.ancestry.specs.Chain.{above, Loops, ended, last_at, climb}
-use Rattle.ancestry.specs.Doubling.{Ground, Ended, Endless, Followed, Row, joined_of, told_by}
+use Rattle.ancestry.specs.Doubling.{Ground, Ended, Endless, Followed, KnownRow, joined_of, told_by}
 use Rattle.ancestry.specs.declared.doubling.State.{State}
 use Rattle.ancestry.specs.declared.doubling.State.TheVariants as state
 use Rattle.ancestry.proofs.Chain.{last_some, above_then, above_before, Way, ends, refusing, goes, way, ends_halts, refused_halts, climb_ends, climb_loops}
@@ -31,10 +31,10 @@ module _ (g : Ground) where
 
   -- What a class knows after a walk up from it to one that has a row.
   pub walk_listed : (i count j : ℕ) → 0 < count → count < g.limit → j < g.listed → above g.up count (g.node i) ≡ value (g.node j)
-      → Row g 1 i (state.Followed count j)
+      → KnownRow g 1 i (state.Followed count j)
   walk_listed i count j some-count fewer row leads = record { known = (fewer, record { leads = leads; far = some-count; row = row }) }
 
-  pub row_less : (less reach i : ℕ) (s : State) → less ≤ reach → Row g reach i s → Row g less i s
+  pub row_less : (less reach i : ℕ) (s : State) → less ≤ reach → KnownRow g reach i s → KnownRow g less i s
   row_less less reach i (state.Ended count last) h r = record { known = r.known }
   row_less less reach i state.Looping h r = record { known = r.known }
   row_less less reach i (state.Followed count row) h r =
@@ -47,7 +47,7 @@ module _ (g : Ground) where
   -- A class followed to another, which is not known to loop, goes on from what is known of that one.
   module _ (reach i count place : ℕ) (some-reach : 0 < reach) (fewer : count < g.limit) (f : Followed g reach i count place) where
     abbrev Joined : State → Type 0
-    Joined s = Row g (reach * 2) i s
+    Joined s = KnownRow g (reach * 2) i s
 
     joined_endless : Endless g place → Joined state.Looping
     joined_endless e = record {
@@ -92,7 +92,7 @@ module _ (g : Ground) where
     }
 
     -- It is then followed at least twice as far.
-    pub row_joined : (next : State) → Row g reach place next → Joined (joined_of g.limit count (g.node place) next)
+    pub row_joined : (next : State) → KnownRow g reach place next → Joined (joined_of g.limit count (g.node place) next)
     unfolding joined_of
     row_joined state.Looping r = joined_endless r.known
     row_joined (state.Ended more last) r =
@@ -109,7 +109,7 @@ module _ (g : Ground) where
         (λ some. joined_followed more row e (leb-false g.limit (count + more) near)))
 
   -- Followed as far as can be, a row tells what the class alone is told.
-  pub row_told : (reach i : ℕ) (s : State) → g.limit ≤ reach → Row g reach i s → climb g.up g.limit (g.node i) 0 0 ≡ value (told_by s)
+  pub row_told : (reach i : ℕ) (s : State) → g.limit ≤ reach → KnownRow g reach i s → climb g.up g.limit (g.node i) 0 0 ≡ value (told_by s)
   row_told reach i (state.Ended count last) far r =
       let e = r.known.1 in
       let nought : 0 + count ≡ count = omega arith in

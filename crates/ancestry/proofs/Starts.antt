@@ -8,7 +8,7 @@ use lib.ListN.{length, drop}
 use Rattle.ancestry.specs.Asked.{passes}
 use Rattle.pointers.specs.Tables.{Tables}
 use Rattle.pointers.specs.Question.{asked}
-use Rattle.ancestry.specs.Doubling.{count_of, node_at, put_at, Row, Rows}
+use Rattle.ancestry.specs.Doubling.{count_of, node_at, put_at, KnownRow, Rows}
 use Rattle.ancestry.specs.Following.{ground_of, Ready, Unfollowed}
 use Rattle.ancestry.specs.declared.doubling.State.{State}
 use Rattle.ancestry.specs.declared.doubling.State.TheVariants as state
@@ -24,7 +24,7 @@ pub record Starting (t : Tables) (listed : ℕ) (out₀ : List ℕ) (i : ℕ) (o
 
 -- A row is told of the same classes by any buffer that has their addresses.
 row_same : (t : Tables) (listed i : ℕ) (out out₀ : List ℕ) (s : State) → ((j : ℕ) → node_at out j ≡ node_at out₀ j)
-    → Row (ground_of t out listed) 1 i s → Row (ground_of t out₀ listed) 1 i s
+    → KnownRow (ground_of t out listed) 1 i s → KnownRow (ground_of t out₀ listed) 1 i s
 row_same t listed i out out₀ (state.Ended count last) same r =
     let e = r.known.1 in
     record { known = (r.known.0, record { top = e.top; ends = record { leads = rw (← same i) e.ends.leads; why = e.ends.why; stops = e.ends.stops }; last = e.last }) }
@@ -39,13 +39,13 @@ module _ (t : Tables) (listed : ℕ) (out₀ : List ℕ) where
       let c = s.class i h in
       record { row = h; class = c.0; decoded = rw (w.nodes i) c.1 }
 
-  pub starting_small : passes (asked t) ≡ true → (i : ℕ) (out : List ℕ) (s : State) → Row (ground_of t out listed) 1 i s → count_of s < 2 ^ 60
+  pub starting_small : passes (asked t) ≡ true → (i : ℕ) (out : List ℕ) (s : State) → KnownRow (ground_of t out listed) 1 i s → count_of s < 2 ^ 60
   starting_small passes i out (state.Ended count last) r = omega (arith, limit_small t passes, r.known.0)
   starting_small passes i out state.Looping r = omega arith
   starting_small passes i out (state.Followed count row) r = omega (arith, limit_small t passes, r.known.0)
 
   pub starting_more : Unfollowed t listed out₀ → (i : ℕ) (out : List ℕ) → Starting t listed out₀ i out → i < listed → (s : State)
-      → Row (ground_of t out listed) 1 i s → Starting t listed out₀ (i + 1) (put_at out i s)
+      → KnownRow (ground_of t out listed) 1 i s → Starting t listed out₀ (i + 1) (put_at out i s)
   starting_more together i out w h s r =
       record {
         rows = rows_more (ground_of t out₀ listed) 1 i out s (omega (arith, together.room, w.size)) w.rows (row_same t listed i out out₀ s w.nodes r);

@@ -111,11 +111,11 @@ Known g reach i (state.Ended count last) = (count < g.limit) × Ended g i count 
 Known g reach i state.Looping = Endless g i
 Known g reach i (state.Followed count row) = (count < g.limit) × Followed g reach i count row
 
-pub record Row (g : Ground) (reach i : ℕ) (s : State) : Type 0 where
+pub record KnownRow (g : Ground) (reach i : ℕ) (s : State) : Type 0 where
   pub known : Known g reach i s
 
 abbrev pub Rows : Ground → ℕ → ℕ → ℕ → List ℕ → Type 0
-Rows g reach from to out = (i : ℕ) → from ≤ i → i < to → Row g reach i (state_at out i)
+Rows g reach from to out = (i : ℕ) → from ≤ i → i < to → KnownRow g reach i (state_at out i)
 
 -- The addresses stand in their rows.
 abbrev pub Nodes : Ground → List ℕ → Type 0

@@ -1,10 +1,10 @@
 // The chains of all classes followed together, in the result buffer.
-ghost use Rattle.std.specs.Prelude.{◌≡◌, true, false, ◌+◌, ◌*◌, ◌/◌, ◌<◌, ◌≤◌, length, drop, IfSome};
+ghost use Rattle.std.specs.Prelude.{◌≡◌, false, ◌*◌, ◌/◌, ◌<◌, length, drop, IfSome};
 ghost use Rattle.std.specs.Simd.{first_chunks};
 ghost use mathlib.Core.List.{◌++◌, flat_map};
 ghost use Rattle.reads.specs.Reference.{before};
 ghost use Rattle.ancestry.specs.Ancestry.{words_of};
-ghost use Rattle.ancestry.specs.Doubling.{node_at, ended_state, Row, Following};
+ghost use Rattle.ancestry.specs.Doubling.{node_at, ended_state, KnownRow, Following};
 ghost use Rattle.ancestry.specs.Following.{ground_of, Ready, Unfollowed};
 ghost use Rattle.reads.specs.Outcome.{value};
 ghost use Rattle.records.specs.Class.{class_at};
@@ -54,7 +54,7 @@ fn first_from(falling: &Falling, res: &[u64], sorted: bool, class: ObjcClass, i:
     requires { let t = falling.now.asked.now.tables.now in
         class_at t (node_at res.now i) false ≡ value class }
     ensures { let t = falling.now.asked.now.tables.now in let listed = length (before res) / 3 in
-        Row (ground_of t (before res) listed) 1 i result }
+        KnownRow (ground_of t (before res) listed) 1 i result }
 {
     let tables = falling.asked.tables;
     let most = limit_of(falling.asked);
@@ -92,10 +92,12 @@ fn first(falling: &Falling, res: &[u64], sorted: bool, i: usize) -> State
     requires { let t = falling.now.asked.now.tables.now in let listed = length res.now / 3 in
         Ready t res.now listed i }
     ensures { let t = falling.now.asked.now.tables.now in let listed = length (before res) / 3 in
-        Row (ground_of t (before res) listed) 1 i result }
+        KnownRow (ground_of t (before res) listed) 1 i result }
 {
     match class_at(falling.asked.tables, res[i * 3 + 2], false) {
         Ok(class) => first_from(falling, res, sorted, class, i),
+        // Not met: the class of a row decoded when the row was written (`Ready`). Without this arm the classes themselves would have to be kept
+        // beside their rows, and nothing is lent for them.
         Err(_) => State::Looping,
     }
 }

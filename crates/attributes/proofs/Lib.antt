@@ -15,4 +15,3 @@ pub mod DecodedAgain
 pub mod AttributeAnswers
 pub mod AttributeCases
 pub mod PropertyCases
-pub mod Letters

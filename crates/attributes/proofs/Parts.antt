@@ -42,9 +42,9 @@ parts_from_lem text (suc n) at (key ∷ s) e =
     ap (drop (value_length s + 1)) value ∙ drop-drop (value_length s + 1) (at + 1) text ∙ ap (λ (k : ℕ). drop k text) sum in
     rw (item_part text (at + 1) key (value_length s) s value, parts_from_lem text n (at + 1 + value_length s + 1) (drop (value_length s + 1) s) rest)
 
-pub parts_of : (text : List ℕ) → map (part_of text) (items text) ≡ parts_from (length text) text
+pub items_parts : (text : List ℕ) → map (part_of text) (items text) ≡ parts_from (length text) text
 unfolding items
-parts_of text = parts_from_lem text (length text) 0 text refl
+items_parts text = parts_from_lem text (length text) 0 text refl
 
 -- The first of n numbers that passes a test, if it is k.
 first_is : (test : ℕ → Bool) (n i k : ℕ) → i ≤ k → k ≤ i + n → ((p : ℕ) → i ≤ p → p < k → test p ≡ false) → (k < i + n → test k ≡ true)

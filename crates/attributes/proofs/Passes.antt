@@ -8,7 +8,8 @@ use lib.Seq.{sets, sets-eq, length-sets}
 use borrow.Rule.Slice.PartMut.{put_mid}
 use Rattle.attributes.specs.Attributes.{words, filled}
 use Rattle.attributes.specs.declared.items.Item.{Item}
-use Rattle.attributes.proofs.Puts.{sets_append, part_put}
+use Rattle.reads.proofs.Parts.{sets_append}
+use Rattle.attributes.proofs.Puts.{part_put}
 
 pub length_words : (is : List Item) → length (words is) ≡ 3 * length is
 unfolding words

@@ -3,9 +3,10 @@ use Prim.Native.Nat.{ℕ, zero, suc, ◌+◌, ◌-◌, ◌≤◌, ◌<◌, ◌^�
 use mathlib.Core.Path.{◌≡◌, refl, ap, sym, ◌∙◌}
 use mathlib.Core.List.{List, [], ◌∷◌, ◌++◌, append_assoc, append-nil}
 use native.Mathlib.Omega.{arith}
-use lib.ListN.{length, set, length-append}
+use lib.ListN.{length, length-append}
 use borrow.Rule.Slice.PartMut.{put_mid, Post-is}
 use lib.Seq.{sets-eq, sets, length-sets}
+use Rattle.reads.proofs.Parts.{sets_append}
 use Rattle.attributes.specs.Written.{Part, following, joined}
 use Rattle.attributes.specs.Puts.{Put, comma_at, behind}
 
@@ -27,12 +28,6 @@ module _ {bytes : List ℕ} {at : ℕ} {out : List ℕ} {to : ℕ} (e : to ≡ m
 
 pub put_nothing : (at : ℕ) (out : List ℕ) → Put [] at out at out
 put_nothing at out = record { ends = omega arith; holds = λ f. refl; same = refl }
-
-pub sets_append : (l a b : List ℕ) (i : ℕ) → sets l i (a ++ b) ≡ sets (sets l i a) (i + length a) b
-sets_append l [] b i = let same : i + 0 ≡ i = omega arith in rw same
-sets_append l (x ∷ a) b i =
-    let same : i + suc (length a) ≡ suc i + length a = omega arith in
-    rw same (sets_append (set l i x) a b (suc i))
 
 -- Bytes, and then others behind them.
 pub put_then : {xs ys : List ℕ} {at mid to : ℕ} {out between left : List ℕ} → length out < 2 ^ 63

@@ -12,7 +12,7 @@ use Rattle.reads.proofs.Tests.{both_true}
 use Rattle.attributes.specs.Attributes.{items}
 use Rattle.attributes.specs.Written.{Part, Declaration, front_letters, back_letters, part_of, declaration, given, in_order, written}
 use Rattle.attributes.specs.RoundTrip.{Each, Writable, Shaped}
-use Rattle.attributes.proofs.Parts.{parts_of, parts_joined}
+use Rattle.attributes.proofs.Parts.{items_parts, parts_joined}
 use Rattle.attributes.proofs.Gathers.{gathered, declaration_gathered, gathered_in_order, gathered_shaped}
 use Rattle.std.specs.Prelude.{Option, None, Some}
 
@@ -42,7 +42,7 @@ unfolding written
 round_trip d s w =
     declaration_gathered (written d)
     ∙ ap gathered
-    (parts_of (written d) ∙ parts_joined (length (written d)) (in_order d) (omega arith) (ascii_in_order d w.ascii) w.closed)
+    (items_parts (written d) ∙ parts_joined (length (written d)) (in_order d) (omega arith) (ascii_in_order d w.ascii) w.closed)
     ∙ gathered_in_order d s
 
 -- Every decoded property has the shape.

@@ -13,7 +13,7 @@ use Rattle.reads.proofs.Tests.{by_choose}
 use Rattle.reads.proofs.Grammar.{accepts, utf8_accepts}
 use Rattle.attributes.specs.Written.{Part, Declaration, front_letters, back_letters, declaration, given, in_order, following, joined, written}
 use Rattle.attributes.specs.RoundTrip.{Each}
-use Rattle.attributes.proofs.Parts.{parts_from, parts_of}
+use Rattle.attributes.proofs.Parts.{parts_from, items_parts}
 use Rattle.attributes.proofs.Gathers.{first_part, first_parts, unknown_parts, gathered, declaration_gathered}
 use Rattle.attributes.proofs.RoundTrip.{each_both, ascii_in_order}
 use Rattle.attributes.proofs.Utf8Cuts.{accepts_ascii, accepts_both, parts_utf8}
@@ -94,7 +94,7 @@ unfolding written
 written_utf8 text g a =
     let d = declaration text in
     let ps = parts_from (length text) text in
-    let from : d ≡ gathered ps = declaration_gathered text ∙ ap gathered (parts_of text) in
+    let from : d ≡ gathered ps = declaration_gathered text ∙ ap gathered (items_parts text) in
     let values : Utf8Values (in_order d) =
     subst (λ (x : Declaration). Utf8Values (in_order x)) (sym from) (each_in_order _ ps (parts_utf8 (length text) text (good_accepts text g))) in
     accepts_good (joined (in_order d)) (accepts_joined (in_order d) (ascii_in_order d a) values)

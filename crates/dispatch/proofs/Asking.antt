@@ -19,12 +19,10 @@ use Rattle.walks.specs.PlainSections.{addresses_in, unless, without, once, liste
 use Rattle.walks.proofs.Gathers.{gather_none, gather_parts, Held, held_one, held_none, present_held}
 use Rattle.walks.proofs.PlainWalks.{slots_from_lem}
 use Rattle.dispatch.specs.Asking.{each_settled}
-use Rattle.reads.specs.Outcome.{optional}
 use Rattle.dispatch.specs.SlotSources.{category_slots, settled, records_in}
-use Rattle.std.specs.Prelude.{None, Some, Result, Ok, Err}
+use Rattle.std.specs.Prelude.{Result, Ok, Err}
 use Rattle.reads.specs.Answer.{answered}
 use Rattle.reads.specs.declared.answer.Question.{Question}
-use Rattle.reads.specs.declared.answer.Reason.{Reason}
 
 -- A value is settled; what is joined to a value settles as the rest does.
 pub settled_value : {A : Type 0} (o : Outcome A) → settled o ≡ value tt → (a : A) × (o ≡ value a)
@@ -41,23 +39,6 @@ settled_number (refused j) e = ap (λ (o : Outcome (Unit {0})). refused (asked o
     asked (value a) = j
     asked (absent why) = j
     asked (refused i) = i
-
--- What a lookup gave, by what is there.
-module _ {A : Type 0} where
-  pub there_is : (o : Outcome A) {a : A} → optional o ≡ value (Some a) → o ≡ value a
-  there_is (value b) {a} e = let f : b ≡ a = cc in ap (λ (x : A). value x) f
-  there_is (absent why) e = let z : ◌≡◌ {A = ℕ} 0 1 = cc in absurd (omega arith)
-  there_is (refused k) e = let z : ◌≡◌ {A = ℕ} 0 1 = cc in absurd (omega arith)
-
-  pub none_is : (o : Outcome A) → optional o ≡ value None → (why : Reason) × (o ≡ absent why)
-  none_is (value b) e = let z : ◌≡◌ {A = ℕ} 0 1 = cc in absurd (omega arith)
-  none_is (absent why) e = (why, refl)
-  none_is (refused k) e = let z : ◌≡◌ {A = ℕ} 0 1 = cc in absurd (omega arith)
-
-  pub refused_is : (o : Outcome A) {k : Question} → optional o ≡ refused k → o ≡ refused k
-  refused_is (value b) e = let z : ◌≡◌ {A = ℕ} 0 1 = cc in absurd (omega arith)
-  refused_is (absent why) e = let z : ◌≡◌ {A = ℕ} 0 1 = cc in absurd (omega arith)
-  refused_is (refused j) {k} e = let f : j ≡ k = cc in ap (λ (x : Question). refused x) f
 
 module _ {A : Type 0} where
   settled_second : (xs : List A) (p : Outcome (List A)) → settled (joined (value xs) p) ≡ settled p

@@ -15,12 +15,12 @@ use Rattle.reads.specs.declared.text.Text.{Text}
 use Rattle.dispatch.specs.Dispatch.{selector_bytes, same_bytes, same_selector, comes_before}
 
 -- What `==` says of two slices of bytes.
-pub bytes_same : (a b : List ℕ) → pointwise eqb a b ≡ same_bytes a b
+pub pointwise_same : (a b : List ℕ) → pointwise eqb a b ≡ same_bytes a b
 unfolding same_bytes
-bytes_same [] [] = refl
-bytes_same [] (y ∷ b) = refl
-bytes_same (x ∷ a) [] = refl
-bytes_same (x ∷ a) (y ∷ b) = ap (λ t. eqb x y && t) (bytes_same a b)
+pointwise_same [] [] = refl
+pointwise_same [] (y ∷ b) = refl
+pointwise_same (x ∷ a) [] = refl
+pointwise_same (x ∷ a) (y ∷ b) = ap (λ t. eqb x y && t) (pointwise_same a b)
 
 -- What `<` says of the places of two rows.
 pub places_ordered : (b a : Appearance)

@@ -1,5 +1,5 @@
 -- Worked cases: an image over two files, with two classes and three categories, of which one is listed twice; and rows alone.
-use Prim.Native.Nat.{ℕ, ◌+◌}
+use Prim.Native.Nat.{ℕ, ◌+◌, ◌*◌}
 use mathlib.Core.Path.{◌≡◌, refl}
 use mathlib.Core.List.{List, [], ◌∷◌, ◌++◌, map}
 use lib.ListN.{replicate}
@@ -18,7 +18,7 @@ use Rattle.pointers.specs.ImageInfo.{image_info, bit}
 use Rattle.pointers.specs.Question.{question, image_fits, whole_rows, segment_files, section_fits, every, section_table, info_whole, index_fits, asked_tables, asked_index, asked_lent}
 use Rattle.pointers.specs.Section.{section_at}
 use Rattle.pointers.specs.Slot.{rebase_at, stored, resolve, pointer_at, pointer_or0_at}
-use Rattle.pointers.specs.Tables.{Tables, tables_of}
+use Rattle.pointers.specs.Tables.{Tables, chains, tables_of}
 use Rattle.records.specs.Ask.{even_list, entry_size}
 use Rattle.records.specs.Category.{decode_category_lists, decode_category_properties, decode_category_of, decode_category}
 use Rattle.records.specs.Class.{bits_of, decode_data, decode_class, decode_ro_lists, decode_class_ro, decode_ro_of}
@@ -137,7 +137,7 @@ files = (classes_bytes ++ ro_bytes ++ categories_bytes ++ lists_bytes ++ slots_b
 abbrev pub example : Tables
 example =
     tables_of files (0x1000 ∷ 0x1F8 ∷ 0 ∷ 0x1F8 ∷ 0 ∷ 0x2000 ∷ 8 ∷ 0 ∷ 8 ∷ 1 ∷ [])
-    (0 ∷ 0 ∷ 0 ∷ 0 ∷ 0 ∷ 0 ∷ 1 ∷ 0x11A8 ∷ 16 ∷ 1 ∷ 0x11B8 ∷ 16 ∷ 0 ∷ 0 ∷ 0 ∷ []) (replicate 8 0) [] [] (replicate 8192 0)
+    (0 ∷ 0 ∷ 0 ∷ 0 ∷ 0 ∷ 0 ∷ 1 ∷ 0x11A8 ∷ 16 ∷ 1 ∷ 0x11B8 ∷ 16 ∷ 0 ∷ 0 ∷ 0 ∷ []) (replicate 8 0) [] [] (replicate (2 * chains) 0)
 
 -- A call: the class, the side, the result buffer, and what it leaves.
 pub record Case : Type 0 where

@@ -4,8 +4,8 @@ use mathlib.Core.Path.{◌≡◌, refl, ap, sym, subst, ◌∙◌}
 use mathlib.Core.List.Memᴰ
 use mathlib.Core.List.{List, [], ◌∷◌}
 use native.Mathlib.Omega.{arith}
+use Rattle.std.specs.Prelude.{Option, Some, None}
 use Rattle.reads.specs.Outcome.{Outcome, value, absent, refused, and_then, choose}
-use Rattle.reads.specs.declared.answer.Reason.{Reason}
 use Rattle.reads.proofs.Outcomes.{then_came}
 use Rattle.reads.proofs.Tests.{by_choose}
 use Rattle.pointers.specs.Tables.{Tables, image_in}
@@ -27,7 +27,7 @@ use Rattle.dispatch.specs.declared.rows.Appearance.{Appearance}
 use Rattle.dispatch.specs.declared.rows.Position.{Position}
 use Rattle.reads.specs.Text.{or_none}
 use Rattle.dispatch.specs.SlotSources.{listed_at, taking, slot_source, slot_rows, slot_total}
-use Rattle.dispatch.specs.Appearances.{Rows, adding, appearing, appearance, entry_rows, list_rows, source_rows}
+use Rattle.dispatch.specs.Appearances.{Rows, adding, appearing, appearance, entry_rows, list_rows, source_rows, part_rows}
 use Rattle.dispatch.specs.Claims.{In}
 use Rattle.dispatch.specs.Position.{in_list, ahead}
 use Rattle.dispatch.specs.Table.{origin_of, Origins}
@@ -94,32 +94,41 @@ module _ (t : Tables) (s : Side) (class own : ℕ) where
   source_every n (absent why) rest g f = f
   source_every n (refused k) rest g f = λ a m. absurd (Memᴰ.not-nil m)
 
-  taken_origin : (k va : ℕ) (c : ObjcCategory) (x : Source) → taking t s class k va c ≡ value x → x.origin ≡ c.address
+  part_every : (n : ℕ) (o : Outcome (Option Source)) (rest : Rows) → ((x : Source) → o ≡ value (Some x) → x.origin ≡ origin_of own t n) → Every Right rest
+      → Every Right (part_rows t n o rest)
+  unfolding Every Right
+  part_every n (value (Some x)) rest g f = source_every n (value x) rest (λ y q. g y (ap (λ o. and_then o (λ z. value (Some z))) q)) f
+  part_every n (value None) rest g f = f
+  part_every n (absent why) rest g f = f
+  part_every n (refused k) rest g f = λ a m. absurd (Memᴰ.not-nil m)
+
+  taken_origin : (k va : ℕ) (c : ObjcCategory) (x : Source) → taking t s class k va c ≡ Some x → x.origin ≡ c.address
   unfolding taking
   taken_origin k va c x =
-      by_choose (λ (o : Outcome Source). o ≡ value x → x.origin ≡ c.address)
-      (λ _. by_choose (λ (o : Outcome Source). o ≡ value x → x.origin ≡ c.address) (λ _ q. no_source q) (λ _ q. ap (λ (y : Source). y.origin) (sym (same_source q))))
+      by_choose (λ (o : Option Source). o ≡ Some x → x.origin ≡ c.address)
+      (λ _. by_choose (λ (o : Option Source). o ≡ Some x → x.origin ≡ c.address) (λ _ q. no_source q) (λ _ q. ap (λ (y : Source). y.origin) (sym (same_source q))))
       (λ _ q. no_source q)
     where
-      same_source : {y : Source} → ◌≡◌ {A = Outcome Source} (value y) (value x) → y ≡ x
+      same_source : {y : Source} → ◌≡◌ {A = Option Source} (Some y) (Some x) → y ≡ x
       same_source q = cc
 
-      no_source : {X : Type 0} {why : Reason} → ◌≡◌ {A = Outcome Source} (absent why) (value x) → X
+      no_source : {X : Type 0} → ◌≡◌ {A = Option Source} None (Some x) → X
       no_source q = let z : ◌≡◌ {A = ℕ} 0 1 = cc in absurd (omega arith)
 
-  slot_origin : (k : ℕ) (x : Source) → slot_source t s class k ≡ value x → x.origin ≡ or_none (listed_at t k)
+  slot_origin : (k : ℕ) (x : Source) → slot_source t s class k ≡ value (Some x) → x.origin ≡ or_none (listed_at t k)
   unfolding slot_source
   slot_origin k x e =
-      let a = then_came (listed_at t k) _ x e in
-      let b = then_came (category_at t a.0) _ x a.2 in
-      taken_origin k a.0 b.0 x b.2 ∙ category_address t a.0 b.0 b.1 ∙ sym (ap or_none a.1)
+      let a = then_came (listed_at t k) _ (Some x) e in
+      let b = then_came (category_at t a.0) _ (Some x) a.2 in
+      let taken : taking t s class k a.0 b.0 ≡ Some x = cc in
+      taken_origin k a.0 b.0 x taken ∙ category_address t a.0 b.0 b.1 ∙ sym (ap or_none a.1)
 
   slots_every : (n k : ℕ) → Every Right (slot_rows t s class k n)
   unfolding slot_rows Every
   slots_every zero k = λ a m. absurd (Memᴰ.not-nil m)
   slots_every (suc n) k =
       let e : suc k - 1 ≡ k = omega arith in
-      source_every (suc k) (slot_source t s class k) (slot_rows t s class (suc k) n)
+      part_every (suc k) (slot_source t s class k) (slot_rows t s class (suc k) n)
       (λ x z. slot_origin k x z ∙ ap (λ (i : ℕ). or_none (listed_at t i)) (sym e) ∙ origin_slot own t (suc k) (λ q. omega arith))
       (slots_every n (suc k))
 

@@ -29,7 +29,7 @@ use Rattle.dispatch.specs.Position.{in_list, ahead}
 use Rattle.dispatch.specs.RowsLeft.{from_place, rows_ahead}
 use Rattle.dispatch.specs.Sources.{own_source, category_source, of_class}
 use Rattle.dispatch.specs.SlotSources.{slot_source, slot_rows, slot_total, slot_appearances}
-use Rattle.dispatch.specs.Appearances.{Rows, adding, appearing, appearance, entry_rows, list_rows, source_rows, category_rows, appearances}
+use Rattle.dispatch.specs.Appearances.{Rows, adding, appearing, appearance, entry_rows, list_rows, source_rows, part_rows, category_rows, appearances}
 use Rattle.dispatch.specs.Dispatch.{comes_before}
 use Rattle.dispatch.specs.Claims.{In, Ordered, ordered_none, ordered_next}
 
@@ -136,6 +136,12 @@ module _ (t : Tables) (n : ℕ) where
   source_along (absent why) rest w = let g : n < suc n = omega arith in along_later (suc n) g w
   source_along (refused k) rest w = along_none
 
+  part_along : (o : Outcome (Option Source)) (rest : Rows) → Along (suc n) 0 rest.rows → Along n 0 (part_rows t n o rest).rows
+  part_along (value (Some s)) rest w = source_along (value s) rest w
+  part_along (value None) rest w = let g : n < suc n = omega arith in along_later (suc n) g w
+  part_along (absent why) rest w = let g : n < suc n = omega arith in along_later (suc n) g w
+  part_along (refused k) rest w = along_none
+
 pub categories_along : (t : Tables) (s : Side) (i : ℕ) (categories : List ObjcCategory) → Along (suc i) 0 (category_rows t s i categories).rows
 unfolding category_rows
 categories_along t s i [] = along_none
@@ -146,7 +152,7 @@ pub slots_along : (t : Tables) (s : Side) (class k n : ℕ) → Along (suc k) 0 
 unfolding slot_rows
 slots_along t s class k zero = along_none
 slots_along t s class k (suc n) =
-    source_along t (suc k) (slot_source t s class k) (slot_rows t s class (suc k) n) (slots_along t s class (suc k) n)
+    part_along t (suc k) (slot_source t s class k) (slot_rows t s class (suc k) n) (slots_along t s class (suc k) n)
 
 pub appearances_ordered : (t : Tables) (s : Side) (categories : List ObjcCategory) (c : ObjcClass) → Ordered (appearances t s categories c).rows
 unfolding appearances

@@ -11,7 +11,7 @@ use lib.Seq.{take-suc}
 use borrow.Author.Tests.{ne_eqb, eqb-true}
 use Rattle.reads.specs.Outcome.{Outcome, value, absent}
 use Rattle.reads.specs.declared.answer.Reason.{Reason}
-use Rattle.reads.specs.declared.answer.Reason.TheVariants.{NoRecord}
+use Rattle.std.specs.Prelude.{Option, Some, None}
 use Rattle.reads.proofs.Tests.{by_choose, choose_true, choose_false}
 use Rattle.pointers.specs.Tables.{Tables}
 use Rattle.records.specs.Category.{category_at}
@@ -26,7 +26,7 @@ use Rattle.walks.proofs.PlainWalks.{unseen, unseen_none, once_none, once_met, on
 use Rattle.dispatch.specs.declared.sources.Side.{Side}
 use Rattle.dispatch.specs.declared.sources.Source.{Source}
 use Rattle.dispatch.specs.Sources.{own_source, category_source, of_class}
-use Rattle.dispatch.specs.Appearances.{ended, source_rows, category_rows, appearances}
+use Rattle.dispatch.specs.Appearances.{Rows, ended, source_rows, part_rows, category_rows, appearances}
 use Rattle.reads.specs.Text.{or_none}
 use Rattle.dispatch.specs.SlotSources.{category_slots, listed_at, held, held_before, taking, slot_source, slot_rows, slot_total, slot_appearances, settled, records_in}
 use Rattle.dispatch.proofs.Held.{address_nonzero, held_total, held_listed}
@@ -37,38 +37,49 @@ module _ (t : Tables) (s : Side) (class : ℕ) where
   abbrev slots : List ℕ
   slots = category_slots t.sections
 
+  -- No row comes of it.
+  abbrev Idle : Outcome (Option Source) → Type 0
+  Idle o = (n : ℕ) (rest : Rows) → part_rows t n o rest ≡ rest
+
   -- One slot.
   module _ (k n : ℕ) where
-    step_none : {why : Reason} → slot_source t s class k ≡ absent why → slot_rows t s class k (suc n) ≡ slot_rows t s class (suc k) n
-    unfolding slot_rows source_rows
-    step_none e = rw e
-
-    step_one : {x : Source} → slot_source t s class k ≡ value x → slot_rows t s class k (suc n) ≡ source_rows t (suc k) (value x) (slot_rows t s class (suc k) n)
+    slot_none : Idle (slot_source t s class k) → slot_rows t s class k (suc n) ≡ slot_rows t s class (suc k) n
     unfolding slot_rows
-    step_one e = rw e
+    slot_none e = e (suc k) (slot_rows t s class (suc k) n)
+
+    slot_one : {x : Source} → slot_source t s class k ≡ value (Some x) → slot_rows t s class k (suc n) ≡ source_rows t (suc k) (value x) (slot_rows t s class (suc k) n)
+    unfolding slot_rows
+    slot_one e = rw e
 
   module _ (k : ℕ) where
-    source_unlisted : {why : Reason} → listed_at t k ≡ absent why → slot_source t s class k ≡ absent why
+    source_unlisted : {why : Reason} → listed_at t k ≡ absent why → Idle (slot_source t s class k)
     unfolding slot_source
-    source_unlisted e = rw e
+    source_unlisted e n rest = rw e
 
     module _ (va : ℕ) (e : listed_at t k ≡ value va) where
-      source_undecoded : {why : Reason} → category_at t va ≡ absent why → slot_source t s class k ≡ absent why
+      source_undecoded : {why : Reason} → category_at t va ≡ absent why → Idle (slot_source t s class k)
       unfolding slot_source
-      source_undecoded g = rw (e, g)
+      source_undecoded g n rest = rw (e, g)
 
       module _ (c : ObjcCategory) (g : category_at t va ≡ value c) where
-        source_met : held_before t k va ≡ true → slot_source t s class k ≡ absent NoRecord
-        unfolding slot_source taking
-        source_met h = rw (e, g, h) (by_choose (λ (o : Outcome Source). o ≡ absent NoRecord) (λ _. choose_true _ _ refl) (λ _. refl))
+        slot_taken : slot_source t s class k ≡ value (taking t s class k va c)
+        unfolding slot_source
+        slot_taken = rw (e, g)
 
-        source_other : eqb c.class_address class ≡ false → slot_source t s class k ≡ absent NoRecord
-        unfolding slot_source taking
-        source_other h = rw (e, g) (choose_false _ _ h)
+        source_met : held_before t k va ≡ true → Idle (slot_source t s class k)
+        source_met h n rest =
+            let none : taking t s class k va c ≡ None =
+            unfold taking in rw h (by_choose (λ (o : Option Source). o ≡ None) (λ _. choose_true _ _ refl) (λ _. refl)) in
+            rw (slot_taken, none)
 
-        source_new : held_before t k va ≡ false → eqb c.class_address class ≡ true → slot_source t s class k ≡ value (category_source s c)
-        unfolding slot_source taking
-        source_new h q = rw (e, g) (choose_true _ _ q ∙ choose_false _ _ h)
+        source_other : eqb c.class_address class ≡ false → Idle (slot_source t s class k)
+        source_other h n rest =
+            let none : taking t s class k va c ≡ None = unfold taking in choose_false _ _ h in
+            rw (slot_taken, none)
+
+        source_new : held_before t k va ≡ false → eqb c.class_address class ≡ true → slot_source t s class k ≡ value (Some (category_source s c))
+        unfolding taking
+        source_new h q = rw slot_taken (ap (λ (o : Option Source). value o) (choose_true _ _ q ∙ choose_false _ _ h))
 
   -- What was seen, by one slot more.
   abbrev Seen : ℕ → List ℕ → Type 0
@@ -124,20 +135,20 @@ module _ (t : Tables) (s : Side) (class : ℕ) where
     there = omega arith
 
     -- The slot gives no source, and the plain definition nothing.
-    skip : {why : Reason} → slot_source t s class k ≡ absent why → (next : List ℕ) (cs : List ObjcCategory) → records (unseen next (once bs)) ≡ value cs → Seen (suc k) next
+    skip : Idle (slot_source t s class k) → (next : List ℕ) (cs : List ObjcCategory) → records (unseen next (once bs)) ≡ value cs → Seen (suc k) next
         → MatchedRows m i (slot_rows t s class k (suc n)) (category_rows t s i (of_class class cs))
     unfolding Goes
-    skip e next cs r g = rw (step_none k n e) (go_on (suc k) i m next bs ds cs (omega arith) (omega arith) later decoded r g)
+    skip e next cs r g = rw (slot_none k n e) (go_on (suc k) i m next bs ds cs (omega arith) (omega arith) later decoded r g)
 
     -- It gives one, and so does the plain definition.
-    take_part : (c : ObjcCategory) → slot_source t s class k ≡ value (category_source s c) → eqb c.class_address class ≡ true → (next : List ℕ) (cs : List ObjcCategory)
+    take_part : (c : ObjcCategory) → slot_source t s class k ≡ value (Some (category_source s c)) → eqb c.class_address class ≡ true → (next : List ℕ) (cs : List ObjcCategory)
         → records (unseen next (once bs)) ≡ value cs → Seen (suc k) next
         → MatchedRows m i (slot_rows t s class k (suc n)) (category_rows t s i (of_class class (c ∷ cs)))
     unfolding Goes
     take_part c e q next cs r g =
         let u : m < suc k = omega arith in
         let v : i < suc i = omega arith in
-        rw (step_one k n e, in_front i c cs q)
+        rw (slot_one k n e, in_front i c cs q)
         (matches_later u v (source_matched t (suc k) (suc i) (value (category_source s c)) (go_on (suc k) (suc i) (suc k) next bs ds cs (omega arith) (omega arith) later decoded r g)))
 
     -- A new address, by what is there.

@@ -5,6 +5,8 @@ use native.Mathlib.Numerals.{add-one}
 use native.Mathlib.Omega.{arith}
 use Rattle.reads.specs.Outcome.{Outcome, value, absent}
 use Rattle.reads.specs.declared.answer.Missing.{Missing}
+use Rattle.reads.specs.declared.answer.Missing.TheVariants.{Absent}
+use Rattle.reads.specs.declared.answer.Reason.{Reason}
 use Rattle.pointers.specs.Tables.{Tables, image_in}
 use Rattle.records.specs.List.{list_at}
 use Rattle.records.specs.Search.{all_from, first_readable}
@@ -17,18 +19,18 @@ use Rattle.dispatch.specs.declared.rows.Appearance.{Appearance}
 use Rattle.dispatch.specs.declared.rows.Position.{Position}
 use Rattle.dispatch.specs.declared.rows.Step.{Step}
 use Rattle.dispatch.specs.SlotSources.{slot_source, slot_rows, slot_total}
-use Rattle.dispatch.specs.Appearances.{Rows, also, adding, appearance, entry_rows, list_rows, source_rows}
+use Rattle.dispatch.specs.Appearances.{Rows, also, adding, appearance, entry_rows, list_rows, source_rows, part_rows}
 use Rattle.reads.specs.Outcome.{optional}
-use Rattle.dispatch.proofs.Asking.{there_is, none_is, refused_is}
-use Rattle.dispatch.specs.Position.{moved_to, nowhere, in_list, ahead, weight, perhaps, EnteredAt, SteppedFrom}
+use Rattle.reads.proofs.Outcomes.{some_value, none_absent, there_is, none_is, refused_is}
+use Rattle.dispatch.specs.Position.{moved_to, nowhere, in_list, ahead, weight, perhaps, EnteredAt, EnteredPart, SteppedFrom}
 use Rattle.std.specs.Prelude.{Option, None, Some, Result, Ok, Err}
 use Rattle.reads.specs.Answer.{outcome, answered}
 use Rattle.reads.specs.declared.answer.Question.{Question}
 
 -- A row that was found, in front.
 adding_found : (o : Outcome Appearance) (row : Option Appearance) → optional o ≡ value row → (rest : Rows) → adding o rest ≡ perhaps row rest
-adding_found o (Some a) e rest = ap (λ q. adding q rest) (there_is o e)
-adding_found o None e rest = ap (λ q. adding q rest) (none_is o e).1
+adding_found o (Some a) e rest = ap (λ q. adding q rest) (some_value o e)
+adding_found o None e rest = ap (λ q. adding q rest) (none_absent o e).1
 
 -- Entering source n.
 module _ (t : Tables) (n : ℕ) where
@@ -42,28 +44,39 @@ module _ (t : Tables) (n : ℕ) where
   module _ (s : Source) {a : Result (Option Layout) Question} (e : answered a ≡ optional (list_at t Methods s.list)) where
     pub enter_there : {h : Layout} → a ≡ Ok (Some h) → EnteredAt t n (value s) (Ok (record { source = n; origin = s.origin; list = h; entry = 0 }))
     unfolding source_rows list_rows in_list
-    enter_there {h} g = record { came = (refl, λ rest. rw (there_is (list_at t Methods s.list) (sym e ∙ ap answered g), rest_from_0 (image_in t) h)) }
+    enter_there {h} g = record { came = (refl, λ rest. rw (there_is e g refl, rest_from_0 (image_in t) h)) }
 
     pub enter_no_list : {p : Position} → a ≡ Ok None → p ≡ nowhere n → EnteredAt t n (value s) (Ok p)
     unfolding source_rows list_rows
-    enter_no_list g h = let q = none_is (list_at t Methods s.list) (sym e ∙ ap answered g) in empty (value s) (λ rest. rw q.1) h
+    enter_no_list g h = let q = none_is e g refl in empty (value s) (λ rest. rw q.1) h
 
     pub enter_list_refused : {k : Question} → a ≡ Err k → EnteredAt t n (value s) (Err k)
     unfolding source_rows list_rows
-    enter_list_refused g = record { came = λ rest. rw (refused_is (list_at t Methods s.list) (sym e ∙ ap answered g)) }
+    enter_list_refused g = record { came = λ rest. rw (refused_is e g) }
 
   module _ (o : Outcome Source) {a : Result (Option Source) Question} (e : answered a ≡ optional o) where
     pub enter_absent : {p : Position} → a ≡ Ok None → p ≡ nowhere n → EnteredAt t n o (Ok p)
     unfolding source_rows
-    enter_absent g h = let q = none_is o (sym e ∙ ap answered g) in rw q.1 (empty (absent q.0) (λ rest. refl) h)
+    enter_absent g h = let q = none_is e g refl in rw q.1 (empty (absent q.0) (λ rest. refl) h)
 
     pub enter_refused : {k : Question} → a ≡ Err k → EnteredAt t n o (Err k)
     unfolding source_rows
-    enter_refused g = rw (refused_is o (sym e ∙ ap answered g)) (record { came = λ rest. refl })
+    enter_refused g = rw (refused_is e g) (record { came = λ rest. refl })
 
 -- What was entered, and what a step gave, by the case that the code found.
 pub was_entered : {t : Tables} {n : ℕ} {o : Outcome Source} {r q : (Result Position Question)} → EnteredAt t n o r → r ≡ q → EnteredAt t n o q
 was_entered {t} {n} {o} h e = subst (λ (x : Result Position Question). EnteredAt t n o x) e h
+
+part_entered : {t : Tables} {n : ℕ} {o : Outcome (Option Source)} {r q : (Result Position Question)} → EnteredPart t n o r → r ≡ q → EnteredPart t n o q
+part_entered {t} {n} {o} h e = subst (λ (x : Result Position Question). EnteredPart t n o x) e h
+
+-- Entering a source that may take no part, by what is there of it.
+module _ (t : Tables) (n : ℕ) (a : Result (Option Source) Missing) where
+  pub part_none : a ≡ Ok None → {p : Position} → p ≡ nowhere n → EnteredPart t n (outcome a) (Ok p)
+  part_none e g = rw (e, g) (record { came = (refl, λ rest. sym (nothing_in t n rest)) })
+
+  pub part_absent : {why : Reason} → a ≡ Err (Absent why) → {p : Position} → p ≡ nowhere n → EnteredPart t n (outcome a) (Ok p)
+  part_absent e g = rw (e, g) (record { came = (refl, λ rest. sym (nothing_in t n rest)) })
 
 module _ (t : Tables) (s : Side) (class : ℕ) (p : Position) where
   -- The next readable entry is j.
@@ -91,7 +104,7 @@ module _ (t : Tables) (s : Side) (class : ℕ) (p : Position) where
 
     pub settle_refused : {a : Result (Option Appearance) Question} → answered a ≡ optional (appearance t p.source p.origin p.list j) → {k : Question} → a ≡ Err k
         → SteppedFrom t s class p (Err k)
-    settle_refused r g = record { went = rw (next_entry, refused_is (appearance t p.source p.origin p.list j) (sym r ∙ ap answered g)) }
+    settle_refused r g = record { went = rw (next_entry, refused_is r g) }
 
   -- No entry is left.
   module _ (e : first_readable (image_in t) p.list p.entry ≡ None) where
@@ -105,21 +118,21 @@ module _ (t : Tables) (s : Side) (class : ℕ) (p : Position) where
 
     module _ (h : p.source < slot_total t) where
       next_slot : ahead t s class p
-          ≡ source_rows t (p.source + 1) (slot_source t s class p.source) (slot_rows t s class (p.source + 1) (slot_total t - (p.source + 1)))
+          ≡ part_rows t (p.source + 1) (slot_source t s class p.source) (slot_rows t s class (p.source + 1) (slot_total t - (p.source + 1)))
       unfolding slot_rows
       next_slot = let z : slot_total t - p.source ≡ suc (slot_total t - (p.source + 1)) = omega arith in next_list ∙ rw (z, add-one p.source)
 
-      module _ (a : Result Source Missing) (o : outcome a ≡ slot_source t s class p.source) {r : (Result Position Question)}
-          (f : EnteredAt t (p.source + 1) (outcome a) r) where
+      module _ (a : Result (Option Source) Missing) (o : outcome a ≡ slot_source t s class p.source) {r : (Result Position Question)}
+          (f : EnteredPart t (p.source + 1) (outcome a) r) where
         pub next_entered : p.entry < 2 ^ 32 → {q : Position} → r ≡ Ok q → SteppedFrom t s class p (Ok (Some (record { row = None; next = q })))
         unfolding ahead weight
         next_entered b {q} g =
-            let d = (was_entered f g).came in
+            let d = (part_entered f g).came in
             record { went = (rw (next_slot, ← o) (d.1 _ ∙ rw d.0), omega (arith, d.0)) }
 
         pub next_refused : {k : Question} → r ≡ Err k → SteppedFrom t s class p (Err k)
         next_refused {k} g =
-            let d = (was_entered f g).came in
+            let d = (part_entered f g).came in
             record { went = rw (next_slot, ← o) (d _) }
 
 -- What comes next, by the steps.

@@ -1,6 +1,6 @@
 -- The rows of the lists that take part (document 02, note 10), in the order in which they appear: those of the class's list, then those of
 -- its categories' as listed.
-use Rattle.std.specs.Prelude.{ℕ, suc, List, [], ◌∷◌}
+use Rattle.std.specs.Prelude.{ℕ, suc, List, [], ◌∷◌, Option, None, Some}
 use Rattle.reads.specs.Outcome.{Outcome, value, absent, refused, and_then}
 use Rattle.reads.specs.declared.answer.Question.{Question}
 use Rattle.reads.specs.declared.answer.Reason.TheVariants.{NoRecord}
@@ -64,6 +64,13 @@ unfoldable pub source_rows : Tables → ℕ → Outcome Source → Rows → Rows
 source_rows t source (value s) rest = list_rows t source s.origin (list_at t Methods s.list) rest
 source_rows t source (absent why) rest = rest
 source_rows t source (refused k) rest = refusing k
+
+-- The same of a source that may take no part.
+abbrev pub part_rows : Tables → ℕ → Outcome (Option Source) → Rows → Rows
+part_rows t source (value (Some s)) rest = source_rows t source (value s) rest
+part_rows t source (value None) rest = rest
+part_rows t source (absent why) rest = rest
+part_rows t source (refused k) rest = refusing k
 
 -- The rows of categories, of which i came before.
 unfoldable pub category_rows : Tables → Side → ℕ → List ObjcCategory → Rows

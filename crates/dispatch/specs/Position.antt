@@ -10,7 +10,7 @@ use Rattle.dispatch.specs.declared.sources.Source.{Source}
 use Rattle.dispatch.specs.declared.rows.Appearance.{Appearance}
 use Rattle.dispatch.specs.declared.rows.Position.{Position}
 use Rattle.dispatch.specs.declared.rows.Step.{Step}
-use Rattle.dispatch.specs.Appearances.{Rows, ended, refusing, also, entry_rows, source_rows}
+use Rattle.dispatch.specs.Appearances.{Rows, ended, refusing, also, entry_rows, source_rows, part_rows}
 use Rattle.dispatch.specs.SlotSources.{slot_rows, slot_total}
 use Rattle.reads.specs.declared.answer.Question.{Question}
 
@@ -35,12 +35,16 @@ unfoldable pub weight : Tables → Position → ℕ
 weight t p = (slot_total t - p.source) * 2 ^ 33 + (2 ^ 32 - p.entry)
 
 -- What entering source n gives: the position of its first entry, or the question that refuses.
-abbrev pub Came : Tables → ℕ → Outcome Source → Result Position Question → Type 0
-Came t n o (Ok p) = (p.source ≡ n) × ((rest : Rows) → source_rows t n o rest ≡ in_list t p rest)
-Came t n o (Err k) = (rest : Rows) → source_rows t n o rest ≡ refusing k
+abbrev pub Came : Tables → ℕ → (Rows → Rows) → Result Position Question → Type 0
+Came t n f (Ok p) = (p.source ≡ n) × ((rest : Rows) → f rest ≡ in_list t p rest)
+Came t n f (Err k) = (rest : Rows) → f rest ≡ refusing k
 
 pub record EnteredAt (t : Tables) (n : ℕ) (o : Outcome Source) (r : Result Position Question) : Type 0 where
-  pub came : Came t n o r
+  pub came : Came t n (source_rows t n o) r
+
+-- The same of a source that may take no part.
+pub record EnteredPart (t : Tables) (n : ℕ) (o : Outcome (Option Source)) (r : Result Position Question) : Type 0 where
+  pub came : Came t n (part_rows t n o) r
 
 -- A row in front, if there is one.
 abbrev pub perhaps : Option Appearance → Rows → Rows

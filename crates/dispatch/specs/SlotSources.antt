@@ -1,9 +1,8 @@
 -- The categories by their slots, as the code goes over them: it keeps no ledger, and looks again at the earlier slots of a category of the
 -- class. Where the categories are listed these are the sources of the categories of the class (proofs/Plain.antt).
-use Rattle.std.specs.Prelude.{ℕ, zero, suc, Bool, List, [], ◌∷◌, eqb, length, get_or, take}
-use Rattle.reads.specs.Outcome.{Outcome, value, absent, and_then, choose}
+use Rattle.std.specs.Prelude.{ℕ, zero, suc, Bool, Option, None, Some, List, [], ◌∷◌, eqb, length, get_or, take}
+use Rattle.reads.specs.Outcome.{Outcome, value, and_then, choose}
 use Rattle.reads.specs.Text.{or_none}
-use Rattle.reads.specs.declared.answer.Reason.TheVariants.{NoRecord}
 use Rattle.pointers.specs.Tables.{Tables}
 use Rattle.records.specs.Category.{category_at}
 use Rattle.records.specs.declared.category.ObjcCategory.{ObjcCategory}
@@ -14,7 +13,7 @@ use Rattle.walks.specs.declared.slots.Lists.TheVariants.{Categories}
 use Rattle.dispatch.specs.declared.sources.Side.{Side}
 use Rattle.dispatch.specs.declared.sources.Source.{Source}
 use Rattle.dispatch.specs.Sources.{own_source, category_source}
-use Rattle.dispatch.specs.Appearances.{Rows, ended, source_rows}
+use Rattle.dispatch.specs.Appearances.{Rows, ended, source_rows, part_rows}
 
 -- The slots of cat_list, then of nlcat_list.
 abbrev pub category_slots : List ℕ → List ℕ
@@ -36,18 +35,17 @@ held t = held_in t (category_slots t.sections)
 unfoldable pub held_before : Tables → ℕ → ℕ → Bool
 held_before t k va = among va (take k (held t))
 
--- The list of a category of the class that no slot before k holds.
-unfoldable pub taking : Tables → Side → ℕ → ℕ → ℕ → ObjcCategory → Outcome Source
-taking t s class k va c =
-    choose (eqb c.class_address class) (choose (held_before t k va) (absent NoRecord) (value (category_source s c))) (absent NoRecord)
+-- The list of a category of the class that no slot before k holds; another takes no part.
+unfoldable pub taking : Tables → Side → ℕ → ℕ → ℕ → ObjcCategory → Option Source
+taking t s class k va c = choose (eqb c.class_address class) (choose (held_before t k va) None (Some (category_source s c))) None
 
-unfoldable pub slot_source : Tables → Side → ℕ → ℕ → Outcome Source
-slot_source t s class k = and_then (listed_at t k) (λ va. and_then (category_at t va) (taking t s class k va))
+unfoldable pub slot_source : Tables → Side → ℕ → ℕ → Outcome (Option Source)
+slot_source t s class k = and_then (listed_at t k) (λ va. and_then (category_at t va) (λ c. value (taking t s class k va c)))
 
 -- The rows of the categories in n slots from slot k on.
 unfoldable pub slot_rows : Tables → Side → ℕ → ℕ → ℕ → Rows
 slot_rows t s class k zero = ended
-slot_rows t s class k (suc n) = source_rows t (suc k) (slot_source t s class k) (slot_rows t s class (suc k) n)
+slot_rows t s class k (suc n) = part_rows t (suc k) (slot_source t s class k) (slot_rows t s class (suc k) n)
 
 abbrev pub slot_total : Tables → ℕ
 slot_total t = length (category_slots t.sections)

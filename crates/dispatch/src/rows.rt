@@ -6,7 +6,7 @@ ghost use Rattle.pointers.specs.Tables.{image_in};
 ghost use Rattle.records.specs.Search.{first_readable};
 ghost use Rattle.records.specs.List.{entry_address};
 ghost use Rattle.dispatch.specs.Appearances.{appearance};
-ghost use Rattle.dispatch.specs.Position.{EnteredAt, SteppedFrom, NextFrom, moved_to, nowhere};
+ghost use Rattle.dispatch.specs.Position.{EnteredAt, EnteredPart, SteppedFrom, NextFrom, moved_to, nowhere};
 ghost use Rattle.dispatch.specs.RowsLeft.{GivesNext, count_ahead, reached_left};
 ghost use Rattle.reads.specs.Answer.{outcome};
 
@@ -116,7 +116,25 @@ pub(crate) fn enter(
     }
 }
 
-// The row of entry j; a method list has no other rows.
+// The first entry of the source of this number, if it takes part; one that does not, or that is absent, has no rows.
+fn enter_part(
+    tables: &Tables,
+    number: u64,
+    source: Result<Option<Source>, Missing>,
+) -> Result<Position, Question>
+    ensures { let t = tables.now in
+        EnteredPart t number (outcome source) result }
+{
+    match source {
+        Ok(Some(source)) => enter_list(tables, number, source),
+        Ok(None) => Ok(no_rows(number)),
+        Err(Missing::Absent(_)) => Ok(no_rows(number)),
+        Err(Missing::Refused(k)) => Err(k),
+    }
+}
+
+// The row of entry j; a method list has no other rows. The arm for them stands because a layout says its kind as a value, whatever list it is of:
+// without it records would have a second layout and search, of method lists alone.
 #[tactic(auto, using(reads::proofs::Outcomes::missed_then), unfolding(crate::specs::Appearances::appearance))]
 fn appearance_at(tables: &Tables, p: Position, j: u64) -> Result<Appearance, Missing>
     requires { entry_address p.list j < 2 ^ 64 }
@@ -158,7 +176,7 @@ impl MethodsOf<'_> {
             return Ok(None);
         }
         let source = self.slot_source(k);
-        let next = enter(self.tables, k + 1, source)?;
+        let next = enter_part(self.tables, k + 1, source)?;
         Ok(Some(Step { row: None, next }))
     }
 

@@ -8,7 +8,7 @@ use pointers::name::name_bytes;
 use reads::text::Text;
 
 // Equal byte strings, wherever they stand.
-#[tactic(auto, using(crate::proofs::Bytes::bytes_same), unfolding(crate::specs::Dispatch::same_selector))]
+#[tactic(auto, using(crate::proofs::Bytes::pointwise_same), unfolding(crate::specs::Dispatch::same_selector))]
 pub(crate) fn same_selector(files: &[&[u8]], s: Text, u: Text) -> bool
     ensures { result ≡ same_selector (files_of files) s u }
 {

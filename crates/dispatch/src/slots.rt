@@ -1,6 +1,5 @@
 // The slots of cat_list and nlcat_list, with no ledger.
 ghost use Rattle.std.specs.Prelude.{◌≡◌, ◌≤◌, length};
-ghost use Rattle.reads.specs.Text.{or_none};
 ghost use Rattle.dispatch.specs.SlotSources.{category_slots, listed_at, held_before};
 ghost use Rattle.reads.specs.Answer.{outcome};
 

@@ -6,7 +6,7 @@ ghost use Rattle.reads.specs.Answer.{outcome};
 
 use crate::slots::{held_before, listed_at};
 use pointers::tables::Tables;
-use reads::answer::{Missing, Reason, nonzero};
+use reads::answer::{Missing, nonzero};
 use records::category::{ObjcCategory, category_at};
 use records::class::{ObjcClass, class_at, ro_of};
 use walks::section_slots::meta_of;
@@ -90,18 +90,18 @@ impl MethodsOf<'_> {
 
     // The list of a category, if its class address is the class and no slot before k holds it.
     #[tactic(auto, using(std::proofs::lemmas::Bool::Decides::nat_tests), unfolding(crate::specs::SlotSources::taking, reads::specs::Outcome::choose))]
-    fn taking(&self, k: u64, va: u64, category: ObjcCategory) -> Result<Source, Missing>
+    fn taking(&self, k: u64, va: u64, category: ObjcCategory) -> Option<Source>
         requires { (k ≤ length (category_slots self.now.tables.now.sections)) × (va ≡ 0 → ⊥) }
         ensures { let t = self.now.tables.now in
-            outcome result ≡ taking t self.now.side self.now.class k va category }
+            result ≡ taking t self.now.side self.now.class k va category }
     {
         if category.class_address != self.class {
-            return Err(Missing::Absent(Reason::NoRecord));
+            return None;
         }
         if held_before(self.tables, k, va) {
-            return Err(Missing::Absent(Reason::NoRecord));
+            return None;
         }
-        Ok(Source {
+        Some(Source {
             origin: category.address,
             list: methods_on(self.side, category),
         })
@@ -109,13 +109,13 @@ impl MethodsOf<'_> {
 
     // The list of the category in slot k, if it takes part.
     #[tactic(auto, using(reads::proofs::Outcomes::missed_then), unfolding(crate::specs::SlotSources::slot_source))]
-    pub(crate) fn slot_source(&self, k: u64) -> Result<Source, Missing>
+    pub(crate) fn slot_source(&self, k: u64) -> Result<Option<Source>, Missing>
         requires { k ≤ length (category_slots self.now.tables.now.sections) }
         ensures { let t = self.now.tables.now in
             outcome result ≡ slot_source t self.now.side self.now.class k }
     {
         let va = listed_at(self.tables, k)?;
         let category = category_at(self.tables, va)?;
-        self.taking(k, va, category)
+        Ok(self.taking(k, va, category))
     }
 }

@@ -1,7 +1,6 @@
 // The table of selectors that is kept in the result buffer while rows are gone over: four words a selector.
 ghost use Rattle.std.specs.Prelude.{◌≡◌, ◌∷◌, [], ◌+◌, ◌*◌, ◌≤◌, length};
 ghost use Rattle.std.proofs.lemmas.List.Edits.{sets};
-ghost use Rattle.reads.specs.Reference.{before};
 ghost use Rattle.reads.specs.Files.{files_of};
 ghost use Rattle.dispatch.specs.Table.{marks, FoundIn, SameWords, Noted, origin_of, Named};
 

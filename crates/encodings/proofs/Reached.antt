@@ -103,16 +103,16 @@ module _ {text w₀ w : List ℕ} {p : Parser} {types i : ℕ} (z : Reached text
     abbrev b : ℕ
     b = get_or text i 0
 
-    abbrev stepped : Outcome State
-    stepped = step 32 x b (class_of b)
+    abbrev next_state : Outcome State
+    next_state = step 32 x b (class_of b)
 
-    steps_as : step_as p.mode p b i ≡ shown stepped
+    steps_as : step_as p.mode p b i ≡ shown next_state
     steps_as = ap (λ (k : Kept). step_kept k b i) z.shows ∙ sym (step_shows x z.good b i z.place)
 
-    goes_on : and_then stepped (λ y. run 32 (drop (i + 1) text) y) ≡ parse 32 text
+    goes_on : and_then next_state (λ y. run 32 (drop (i + 1) text) y) ≡ parse 32 text
     unfolding run
     goes_on =
-        ap (λ (n : ℕ). and_then stepped (λ y. run 32 (drop n text) y)) (add-one i)
+        ap (λ (n : ℕ). and_then next_state (λ y. run 32 (drop n text) y)) (add-one i)
         ∙ ap (λ (l : List ℕ). run 32 l x) (sym (drop-cons text i 0 h)) ∙ z.goes
 
     -- The type goes on, or with the byte the next one begins.
@@ -124,7 +124,7 @@ module _ {text w₀ w : List ℕ} {p : Parser} {types i : ℕ} (z : Reached text
     reached_next : (q : Parser) {n : ℕ} {left : List ℕ} → value (kept_in q) ≡ step_as p.mode p b i → Turned q n left
         → Reached text w₀ left q n (i + 1)
     reached_next q {n} {left} e t =
-        go stepped (e ∙ steps_as) goes_on (step_keeps 32 x z.good b (class_of b) refl) (step_turns x z.good b (class_of b) i z.place)
+        go next_state (e ∙ steps_as) goes_on (step_keeps 32 x z.good b (class_of b) refl) (step_turns x z.good b (class_of b) i z.place)
       where
         go : (o : Outcome State) → value (kept_in q) ≡ shown o → and_then o (λ y. run 32 (drop (i + 1) text) y) ≡ parse 32 text
             → Keeps 32 (λ s. spell_state x (b ∷ s)) o → Turns (types_at x) (offset_at x) i o → Reached text w₀ left q n (i + 1)
@@ -184,8 +184,8 @@ module _ {text w₀ w : List ℕ} {p : Parser} {types i : ℕ} (z : Reached text
       where
         ends : missed m ≡ counted_types (parse 32 text)
         ends =
-            missing_then m stepped show (λ y. counted_types (run 32 (drop (i + 1) text) y)) (e ∙ steps_as)
-            ∙ assoc stepped ∙ ap counted_types goes_on
+            missing_then m next_state show (λ y. counted_types (run 32 (drop (i + 1) text) y)) (e ∙ steps_as)
+            ∙ assoc next_state ∙ ap counted_types goes_on
           where
             assoc : (o : Outcome State)
                 → and_then o (λ y. counted_types (run 32 (drop (i + 1) text) y)) ≡ counted_types (and_then o (λ y. run 32 (drop (i + 1) text) y))

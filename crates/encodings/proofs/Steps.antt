@@ -55,8 +55,8 @@ pub stays : (p : Parser) {k : Mode} → p.mode ≡ k → value (kept_in p) ≡ v
 stays p e = ap (λ (m : Mode). value (kept m (levels_of p) p.start)) e
 
 -- What a function promises in one mode, or for one class of byte, is what `step`, `finish` and `begin` promise in it.
-pub step_in : (p : Parser) (b i : ℕ) {m k : Mode} {o : Outcome Kept} → m ≡ k → o ≡ step_as k p b i → o ≡ step_as m p b i
-step_in p b i e h = h ∙ ap (λ (m : Mode). step_as m p b i) (sym e)
+pub in_mode : (p : Parser) (b i : ℕ) {m k : Mode} {o : Outcome Kept} → m ≡ k → o ≡ step_as k p b i → o ≡ step_as m p b i
+in_mode p b i e h = h ∙ ap (λ (m : Mode). step_as m p b i) (sym e)
 
 pub finish_in_lem : (p : Parser) {m k : Mode} {o : Outcome (Unit {0})} → m ≡ k → o ≡ finish_as k p → o ≡ finish_as m p
 finish_in_lem p e h = h ∙ ap (λ (m : Mode). finish_as m p) (sym e)

@@ -191,7 +191,7 @@ impl Parser {
     }
 
     // The byte at `at` is read.
-    #[tactic(auto, using(crate::proofs::Steps::step_in, crate::proofs::Steps::stays, crate::proofs::Choices::choices, crate::proofs::Levels::closes_open))]
+    #[tactic(auto, using(crate::proofs::Steps::in_mode, crate::proofs::Steps::stays, crate::proofs::Choices::choices, crate::proofs::Levels::closes_open))]
     pub fn step(&mut self, byte: u8, at: usize) -> Result<(), Missing>
         ensures { stepped self.new result ≡ step_as self.old.mode self.old byte at }
     {

@@ -1,5 +1,4 @@
 // A text read to its end, and the words of its outermost types.
-ghost use Rattle.std.specs.Prelude.{◌≡◌};
 ghost use Rattle.reads.specs.Reference.{before};
 ghost use Rattle.encodings.specs.Parser.{offset_of, Ordered, RowPut, Read};
 ghost use Rattle.reads.specs.Answer.{outcome};

@@ -5,12 +5,12 @@ use mathlib.Core.Bool.{Bool, true, false}
 use mathlib.Core.List.{List, [], ◌++◌}
 use native.Mathlib.Nat.{le_of_lt}
 use native.Mathlib.Omega.{arith}
-use lib.Dec.{leb, eqb}
-use lib.ListN.{length, take, drop, drop_of_length-le, take-append-drop}
+use lib.Dec.{leb}
+use lib.ListN.{length, take, drop, drop_of_length-le}
 use lib.Seq.{drop-length}
-use borrow.Author.Tests.{leb-true, leb-false, ne_eqb}
+use borrow.Author.Tests.{leb-true, leb-false}
 use Rattle.reads.specs.Answer.{missed, outcome}
-use Rattle.reads.specs.Outcome.{Outcome, value, absent, refused, and_then, choose}
+use Rattle.reads.specs.Outcome.{Outcome, value, absent, refused, and_then}
 use Rattle.reads.specs.Place.{part}
 use Rattle.reads.proofs.Tests.{by_choose}
 use Rattle.reads.specs.Segment.{segment_words}
@@ -19,27 +19,21 @@ use Rattle.reads.specs.declared.answer.Missing.TheVariants.{Absent, Refused}
 use Rattle.pointers.specs.Index.{index_length}
 use Rattle.pointers.specs.declared.imageinfo.ImageInfo.{ImageInfo}
 use Rattle.pointers.specs.ImageInfo.{image_info}
-use Rattle.pointers.specs.Open.{asked_opening, opening}
-use Rattle.pointers.specs.Tables.{Tables}
-use Rattle.macho.specs.Commands.{asked_commands}
+use Rattle.pointers.specs.Open.{asked_opening, opening, opening_unless, left_by}
 use Rattle.macho.specs.FileTables.{over_file, file_tables}
-use Rattle.macho.specs.OpenFile.{asked_lent, asked_file, opened_file, opening_file, segments_left, sections_left, index_left, Buffers}
+use Rattle.macho.specs.OpenFile.{asked_file, opened_file, opening_file, opening_file_unless, segments_left, sections_left, index_left, Buffers}
 use Rattle.macho.specs.declared.open.OpenedFile.{OpenedFile}
-use Rattle.macho.proofs.FileOpened.{number_keeps}
 use Rattle.frames.specs.Marks.{frames_of}
 use Rattle.frames.specs.declared.frames.Frames.{Frames}
 use Rattle.frames.specs.declared.frames.Ranges.{Ranges}
-use Rattle.marking.specs.Framed.{with_frames, last_refusal, framed_opening}
-use Rattle.marking.specs.declared.framed.Framed.{Framed}
-use Rattle.marking.proofs.Framing.{framed_accepted, framed_refused, Not8, passes, refuses, question_not8, then_not8, fits8, unindexed, missed_is, opening_short, refused_then}
+use Rattle.marking.specs.Framed.{with_frames, framed_opening}
+use Rattle.marking.proofs.Framing.{unless_accepted, framed_refused}
 use Rattle.printing.specs.Pieces.{listable}
 use Rattle.printing.proofs.BundleAnswers.{first_bytes}
-use Rattle.filelist.specs.FileText.{info_in, framed_file, opened_by, refused_file}
+use Rattle.filelist.specs.FileText.{info_in, framed_file, opened_by}
 use Rattle.filelist.specs.FileLent.{index_used, segments_after, sections_after, index_after, tables_by}
-use Rattle.std.specs.Prelude.{Result, Ok, Err, Option}
+use Rattle.std.specs.Prelude.{Result, Ok, Err, Option, None}
 use Rattle.reads.specs.declared.answer.Question.{Question}
-use Rattle.reads.specs.declared.answer.Question.TheVariants.{FileLength, SegmentTable, SectionTable, Header, LoadCommands, IndexLength}
-use Rattle.reads.specs.Question.{number_of}
 
 -- What is left of the index past the words that are used.
 rest_words : (index : List ℕ) (k n : ℕ) → n ≡ min k (length index) → drop n index ≡ drop k index
@@ -52,13 +46,12 @@ rest_words index k n e = go (leb k (length index)) refl
         let h : n ≡ length index = omega arith in
         rw (h, drop-length index) (sym (drop_of_length-le index {i = k} (le_of_lt less)))
 
--- Ranges that 23 takes: what opening the file gives, with the frames.
-module _ (x : Option Ranges) (w : Option Frames) (e : frames_of x ≡ value w) (file segments sections rebases binds index : List ℕ) where
-  pub frames_taken : opening_file file segments sections rebases binds index ≡ opened_by file (framed_file x file segments sections rebases binds index)
-  unfolding opening_file framed_file
-  frames_taken =
-      rw (← framed_accepted x (file_tables file rebases binds index) w e)
-      (go (asked_file file (length segments) (length sections)) (opening (file_tables file rebases binds index)))
+-- What opening the file gives, with the frames, by what opening its tables gives.
+module _ (x : Option Ranges) (w : Option Frames) (last : Outcome (Unit {0})) (file segments sections rebases binds index : List ℕ)
+    (e : with_frames w (opening_unless last (file_tables file rebases binds index)) ≡ framed_opening x (file_tables file rebases binds index)) where
+  taken_by : opening_file_unless last file segments sections rebases binds index ≡ opened_by file (framed_file x file segments sections rebases binds index)
+  unfolding framed_file
+  taken_by = rw (← e) (go (asked_file file (length segments) (length sections)) (opening_unless last (file_tables file rebases binds index)))
     where
       go : (a : Outcome (Unit {0})) (o : Outcome ImageInfo)
           → and_then a (λ _. and_then o (λ info. value (opened_file file info))) ≡ opened_by file (and_then a (λ _. with_frames w o))
@@ -68,11 +61,9 @@ module _ (x : Option Ranges) (w : Option Frames) (e : frames_of x ≡ value w) (
       go (absent r) o = refl
       go (refused k) o = refl
 
-  pub frames_begun : with_frames w (info_in (opening_file file segments sections rebases binds index)) ≡ framed_file x file segments sections rebases binds index
-  unfolding opening_file framed_file
-  frames_begun =
-      rw (← framed_accepted x (file_tables file rebases binds index) w e)
-      (go (asked_file file (length segments) (length sections)) (opening (file_tables file rebases binds index)))
+  begun_by : with_frames w (info_in (opening_file_unless last file segments sections rebases binds index)) ≡ framed_file x file segments sections rebases binds index
+  unfolding framed_file
+  begun_by = rw (← e) (go (asked_file file (length segments) (length sections)) (opening_unless last (file_tables file rebases binds index)))
     where
       go : (a : Outcome (Unit {0})) (o : Outcome ImageInfo)
           → with_frames w (info_in (and_then a (λ _. and_then o (λ info. value (opened_file file info))))) ≡ and_then a (λ _. with_frames w o)
@@ -82,12 +73,12 @@ module _ (x : Option Ranges) (w : Option Frames) (e : frames_of x ≡ value w) (
       go (absent r) o = refl
       go (refused k) o = refl
 
--- Ranges that number k refuses.
-pub frames_refused : (x : Option Ranges) (k : Question) → frames_of x ≡ refused k → (file segments sections rebases binds index : List ℕ)
-    → refused_file k file segments sections rebases binds index ≡ framed_file x file segments sections rebases binds index
-unfolding refused_file framed_file
-frames_refused x k e file segments sections rebases binds index =
-    ap (λ (o : Outcome Framed). and_then (asked_file file (length segments) (length sections)) (λ _. o)) (framed_refused x (file_tables file rebases binds index) k e)
+-- Ranges that 23 takes: what opening the file gives.
+pub frames_taken : (x : Option Ranges) (w : Option Frames) → frames_of x ≡ value w → (file segments sections rebases binds index : List ℕ)
+    → opening_file file segments sections rebases binds index ≡ opened_by file (framed_file x file segments sections rebases binds index)
+unfolding opening_file opening
+frames_taken x w e file segments sections rebases binds index =
+    taken_by x w (value tt) file segments sections rebases binds index (unless_accepted x (file_tables file rebases binds index) w e)
 
 -- A number of opening the file goes before 23.
 info_unrefused : (body : List ℕ) (f : ImageInfo → OpenedFile) (k : Question) → and_then (image_info body) (λ i. value (f i)) ≡ refused k → ⊥
@@ -113,59 +104,6 @@ number_first x file segments sections rebases binds index k e =
     first_number x file (file_tables file rebases binds index).info k (asked_file file (length segments) (length sections))
     (asked_opening (file_tables file rebases binds index)) e
 
-asked_not8 : (file : List ℕ) (segments sections : ℕ) → Not8 (asked_file file segments sections)
-unfolding asked_file asked_commands asked_lent
-asked_not8 file segments sections =
-    then_not8 (then_not8 (question_not8 Header (λ e. omega arith) _) (question_not8 LoadCommands (λ e. omega arith) _))
-    (then_not8 (question_not8 FileLength (λ e. omega arith) _)
-    (then_not8 (question_not8 SegmentTable (λ e. omega arith) _) (question_not8 SectionTable (λ e. omega arith) _)))
-
--- Opening over no index: what it says, and what then refuses.
-module _ (file segments sections rebases binds index : List ℕ) where
-  abbrev lent_tables : Tables
-  lent_tables = file_tables file rebases binds index
-
-  record Unopened : Type 0 where
-    refusal : Question
-    unopened : opening_file file segments sections rebases binds [] ≡ refused refusal
-    refuses_then : (fits : Bool) (k : Question) → fits ≡ fits8 lent_tables
-        → refused (choose (eqb (number_of refusal) 8) (choose fits k IndexLength) refusal) ≡ refused_file k file segments sections rebases binds index
-
-  over_none : Unopened
-  unfolding opening_file refused_file file_tables
-  over_none = go (asked_not8 file (length segments) (length sections)) refl
-    where
-      go : {o : Outcome (Unit {0})} → Not8 o → asked_file file (length segments) (length sections) ≡ o → Unopened
-      go passes e =
-          record {
-            refusal = (unindexed lent_tables).refusal;
-            unopened = rw (e, opening_short lent_tables);
-            refuses_then = λ fits k g. rw e (refused_then lent_tables fits k g);
-          }
-      go (refuses n h) e =
-          record {
-            refusal = n;
-            unopened = rw e;
-            refuses_then = λ fits k g. rw (e, ne_eqb (number_of n) 8 h) (unfold choose in refl);
-          }
-
-  pub refused_file_lem : (m : Missing) (fits : Bool) (k : Question) → missed m ≡ opening_file file segments sections rebases binds [] → fits ≡ fits8 lent_tables
-      → missed (last_refusal fits k m) ≡ refused_file k file segments sections rebases binds index
-  refused_file_lem m fits k e g = rw (missed_is m (e ∙ over_none.unopened)) (over_none.refuses_then fits k g)
-
-  pub not_opened : {A : Type 0} (o : OpenedFile) → value o ≡ opening_file file segments sections rebases binds [] → A
-  not_opened o e = let g = over_none.unopened in let z : ◌≡◌ {A = ℕ} 0 1 = cc in absurd (omega arith)
-
-  pub none_written : (segments_left file segments sections rebases binds [] ≡ segments)
-      × (sections_left file segments sections rebases binds [] ≡ sections)
-      × (index_left file segments sections rebases binds [] ≡ [])
-  none_written = number_keeps file segments sections rebases binds [] over_none.refusal over_none.unopened
-
--- A missing answer, as what is begun and as what is handed out.
-pub missed_opened : (file : List ℕ) (m : Missing) → opened_by file (missed m) ≡ missed m
-missed_opened file (Absent r) = refl
-missed_opened file (Refused k) = refl
-
 -- Opening for ranges over the first words of the index.
 module _ (x : Option Ranges) (file segments sections rebases binds index : List ℕ) (n : ℕ) (e : n ≡ min (index_length rebases binds) (length index)) where
   abbrev used : List ℕ
@@ -185,31 +123,56 @@ module _ (x : Option Ranges) (file segments sections rebases binds index : List 
         index = index_after x file segments sections rebases binds index;
       }
 
-  module _ (w : Option Frames) (g : frames_of x ≡ value w) where
-    pub first_framed : (o : Outcome OpenedFile) → o ≡ opening_file file segments sections rebases binds (take n index)
+  -- The listing that is begun, and what is left of what is lent.
+  pub record Begins (w : Option Frames) (last : Outcome (Unit {0})) (o : Outcome OpenedFile) : Type 0 where
+    pub answer : o ≡ opened_by file (framed_file x file segments sections rebases binds used)
+    pub framed : with_frames w (info_in o) ≡ framed_file x file segments sections rebases binds used
+    pub left : ◌≡◌ {A = Buffers}
+        (record {
+          segments = left_by last (segments_left file segments sections rebases binds (take n index)) segments;
+          sections = left_by last (sections_left file segments sections rebases binds (take n index)) sections;
+          index = left_by last (index_left file segments sections rebases binds (take n index)) (take n index) ++ drop n index;
+        })
+        After
+
+  -- With what 23 says of the ranges asked last, and the frames that it gives.
+  module _ (w : Option Frames) (last : Outcome (Unit {0}))
+      (opens : with_frames w (opening_unless last (file_tables file rebases binds used)) ≡ framed_opening x (file_tables file rebases binds used))
+      (leaves : (new old : List ℕ) → left_by last new old ≡ left_by (frames_of x) new old) where
+    first_framed : (o : Outcome OpenedFile) → o ≡ opening_file_unless last file segments sections rebases binds (take n index)
         → (o ≡ opened_by file (framed_file x file segments sections rebases binds used))
         × (with_frames w (info_in o) ≡ framed_file x file segments sections rebases binds used)
     first_framed o h =
-        let opens = h ∙ ap (opening_file file segments sections rebases binds) used_part in (
-          opens ∙ frames_taken x w g file segments sections rebases binds used,
-          ap (λ (a : Outcome OpenedFile). with_frames w (info_in a)) opens ∙ frames_begun x w g file segments sections rebases binds used,
+        let all = h ∙ ap (opening_file_unless last file segments sections rebases binds) used_part in (
+          all ∙ taken_by x w last file segments sections rebases binds used opens,
+          ap (λ (a : Outcome OpenedFile). with_frames w (info_in a)) all ∙ begun_by x w last file segments sections rebases binds used opens,
         )
 
-    pub left_framed : ◌≡◌ {A = Buffers}
+    left_framed : ◌≡◌ {A = Buffers}
         (record {
-          segments = segments_left file segments sections rebases binds (take n index);
-          sections = sections_left file segments sections rebases binds (take n index);
-          index = index_left file segments sections rebases binds (take n index) ++ drop n index;
+          segments = left_by last (segments_left file segments sections rebases binds (take n index)) segments;
+          sections = left_by last (sections_left file segments sections rebases binds (take n index)) sections;
+          index = left_by last (index_left file segments sections rebases binds (take n index)) (take n index) ++ drop n index;
         })
         After
-    left_framed = rw (g, used_part, rest_part)
+    left_framed =
+        rw (used_part, rest_part)
+        (rw (
+          leaves (segments_left file segments sections rebases binds used) segments,
+          leaves (sections_left file segments sections rebases binds used) sections,
+          leaves (index_left file segments sections rebases binds used) used,
+        ))
 
-  module _ (k : Question) (g : frames_of x ≡ refused k) where
-    pub first_refused : refused_file k file segments sections rebases binds (take n index) ≡ framed_file x file segments sections rebases binds used
-    first_refused = ap (refused_file k file segments sections rebases binds) used_part ∙ frames_refused x k g file segments sections rebases binds used
+    begins : (o : Outcome OpenedFile) → o ≡ opening_file_unless last file segments sections rebases binds (take n index) → Begins w last o
+    begins o h = let first = first_framed o h in record { answer = first.0; framed = first.1; left = left_framed }
 
-    pub left_refused : ◌≡◌ {A = Buffers} (record { segments = segments; sections = sections; index = index }) After
-    left_refused = rw (g, take-append-drop (index_length rebases binds) index)
+  pub begins_framed : (w : Option Frames) → frames_of x ≡ value w
+      → (o : Outcome OpenedFile) → o ≡ opening_file_unless (value tt) file segments sections rebases binds (take n index) → Begins w (value tt) o
+  begins_framed w g = begins w (value tt) (unless_accepted x (file_tables file rebases binds used) w g) (λ new old. rw g)
+
+  pub begins_refused : (k : Question) → frames_of x ≡ refused k
+      → (o : Outcome OpenedFile) → o ≡ opening_file_unless (refused k) file segments sections rebases binds (take n index) → Begins None (refused k) o
+  begins_refused k g = begins None (refused k) (framed_refused x (file_tables file rebases binds used) k g) (λ new old. rw g)
 
 -- The tables over the first words of the segments and of the index.
 pub parts_same : (file segments sections info rebases binds index : List ℕ) (count w n : ℕ)

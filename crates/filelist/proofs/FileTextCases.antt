@@ -21,7 +21,7 @@ use Rattle.pointers.specs.Question.{question, image_fits, whole_rows, every, sec
 use Rattle.pointers.specs.Section.{section_at}
 use Rattle.pointers.specs.Slot.{rebase_at, bind_name, bind_at, symbol_of, stored, resolve, pointer_at, pointer_or0_at}
 use Rattle.pointers.specs.Symbol.{ascii, starts}
-use Rattle.records.specs.Ask.{picked_in, even_list, entry_size}
+use Rattle.records.specs.Ask.{even_list, entry_size}
 use Rattle.records.specs.Class.{bits_of, decode_data, decode_class, decode_ro_lists, decode_class_ro, decode_ro_of, decode_ro_data, decode_class_name, decode_nonzero_class_name, decode_bound_name, decode_class_name_of}
 use Rattle.records.specs.List.{method_rows, decode_list}
 use Rattle.frames.specs.Marks.{addresses, in_order, frames_of}
@@ -69,7 +69,7 @@ line text = text ++ (10 ∷ [])
 
 pub listed_case : file_text reading_new None one [] []
     ≡ line (ascii "I 0 40 1") ++ line (ascii "C 1110 0 0 1138 -") ++ line (ascii "R 1138 0 8 8 1:A") ++ line (ascii "E 1 0")
-unfolding file_text file_opening framed_file framed_opening frames_of in_order addresses marked_lines marked flat_map one u32 u64 header command section stripped data_arm64e data64 mapped picked_wide picked file_of longest choose sum64 nonzero le readable_at readable word le_in word_in slot_address rows ends holds placed lookup tabulate text text_from text_in judge utf8 follow_from follow image_info latest indexed asked_opening opening opened_index question image_fits whole_rows every section_fits section_table info_whole segment_files index_fits asked_tables asked_index bind_files names_inside names_utf8 section_at rebase_at bind_name bind_at symbol_of stored resolve pointer_at pointer_or0_at starts picked_in even_list entry_size bits_of decode_data decode_class decode_ro_lists decode_class_ro decode_ro_of decode_ro_data decode_class_name decode_nonzero_class_name decode_bound_name decode_class_name_of method_rows decode_list gather addresses_in without once listed with_meta plain_classes plain_categories plain_protocols decode_protocol_list has_slot slot_names protocol_names meta_of slots_from section_slots decode_address plain_records own_lines record_fields field_lines fields_lines lines_of entries_in field_events record_events events_from plain_listing places hex_text hex_word decimal_text none_field number_field string_field part_field text_field text_fields info_text class_text ro_text end_text line_text refused_text headed sectioned fits all_fit asked_commands of_kind file_tables asked_lent asked_file headers_from sections_of named first_named section_row section_rows segment_rows
+unfolding file_text file_opening framed_file framed_opening frames_of in_order addresses marked_lines marked flat_map one u32 u64 header command section stripped data_arm64e data64 mapped picked_wide picked file_of longest choose sum64 nonzero le readable_at readable word le_in word_in slot_address rows ends holds placed lookup tabulate text text_from text_in judge utf8 follow_from follow image_info latest indexed asked_opening opening opened_index question image_fits whole_rows every section_fits section_table info_whole segment_files index_fits asked_tables asked_index bind_files names_inside names_utf8 section_at rebase_at bind_name bind_at symbol_of stored resolve pointer_at pointer_or0_at starts even_list entry_size bits_of decode_data decode_class decode_ro_lists decode_class_ro decode_ro_of decode_ro_data decode_class_name decode_nonzero_class_name decode_bound_name decode_class_name_of method_rows decode_list gather addresses_in without once listed with_meta plain_classes plain_categories plain_protocols decode_protocol_list has_slot slot_names protocol_names meta_of slots_from section_slots decode_address plain_records own_lines record_fields field_lines fields_lines lines_of entries_in field_events record_events events_from plain_listing places hex_text hex_word decimal_text none_field number_field string_field part_field text_field text_fields info_text class_text ro_text end_text line_text refused_text headed sectioned fits all_fit asked_commands of_kind file_tables asked_lent asked_file headers_from sections_of named first_named section_row section_rows segment_rows
 listed_case = refl
 
 -- 15: 31 bytes. 16: a command of 7 bytes.

@@ -9,15 +9,14 @@ use Rattle.pointers.specs.Tables.{Tables}
 use Rattle.frames.specs.Marks.{frames_of}
 use Rattle.frames.specs.declared.frames.Ranges.{Ranges}
 use Rattle.macho.specs.FileTables.{over_file}
-use Rattle.macho.specs.OpenFile.{opening_file, segments_left, sections_left, index_left, Buffers}
+use Rattle.macho.specs.OpenFile.{opening_file_unless, segments_left, sections_left, index_left, Buffers}
 use Rattle.macho.specs.declared.open.OpenedFile.{OpenedFile}
 use Rattle.macho.specs.declared.open.Lent.{Lent}
 use Rattle.marking.specs.declared.framed.Framed.{Framed}
 use Rattle.printing.specs.Pieces.{listable}
-use Rattle.filelist.specs.FileText.{framed_file, refused_file}
+use Rattle.filelist.specs.FileText.{framed_file}
 use Rattle.filelist.specs.declared.file.Opened.{Opened}
 use Rattle.reads.specs.Answer.{outcome}
-use Rattle.reads.specs.declared.answer.Question.{Question}
 
 -- The words of the index that are used: as many as question IndexLength asks.
 abbrev pub index_used : List ℕ → List ℕ → List ℕ → List ℕ
@@ -60,19 +59,16 @@ buffers_after x file l =
       index = index_after x file l.segments.now l.sections.now l.rebases.now l.binds.now l.index.now;
     }
 
--- The same of opening over the first n words of the index.
-abbrev pub opening_first : ℕ → List ℕ → Lent → Outcome OpenedFile
-opening_first n file l = opening_file file l.segments.now l.sections.now l.rebases.now l.binds.now (take n l.index.now)
+-- The same of opening over the first n words of the index, where `last` is asked last.
+abbrev pub opening_first : Outcome (Unit {0}) → ℕ → List ℕ → Lent → Outcome OpenedFile
+opening_first last n file l = opening_file_unless last file l.segments.now l.sections.now l.rebases.now l.binds.now (take n l.index.now)
 
-abbrev pub refused_first : Question → ℕ → List ℕ → Lent → Outcome Framed
-refused_first k n file l = refused_file k file l.segments.now l.sections.now l.rebases.now l.binds.now (take n l.index.now)
-
-abbrev pub buffers_first : ℕ → List ℕ → Lent → Buffers
-buffers_first n file l =
+abbrev pub buffers_first : Outcome (Unit {0}) → ℕ → List ℕ → Lent → Buffers
+buffers_first last n file l =
     record {
-      segments = segments_left file l.segments.now l.sections.now l.rebases.now l.binds.now (take n l.index.now);
-      sections = sections_left file l.segments.now l.sections.now l.rebases.now l.binds.now (take n l.index.now);
-      index = index_left file l.segments.now l.sections.now l.rebases.now l.binds.now (take n l.index.now) ++ drop n l.index.now;
+      segments = left_by last (segments_left file l.segments.now l.sections.now l.rebases.now l.binds.now (take n l.index.now)) l.segments.now;
+      sections = left_by last (sections_left file l.segments.now l.sections.now l.rebases.now l.binds.now (take n l.index.now)) l.sections.now;
+      index = left_by last (index_left file l.segments.now l.sections.now l.rebases.now l.binds.now (take n l.index.now)) (take n l.index.now) ++ drop n l.index.now;
     }
 
 -- Of what pieces are read from as one: over the rows of so many segments and the bytes of an image info, and by what opening gave.

@@ -2,10 +2,10 @@
 -- the plain listing over the tables that loader.h defines for the file, under a setting, which holds the reading, each m row with its mark for
 -- the ranges given (note 11).
 use Rattle.std.specs.Prelude.{ℕ, Bool, true, false, List, length, replicate, Option}
-use Rattle.reads.specs.Outcome.{Outcome, value, refused, and_then}
+use Rattle.reads.specs.Outcome.{Outcome, value, and_then}
 use Rattle.reads.specs.declared.text.Reading.{Reading}
 use Rattle.pointers.specs.Index.{index_length}
-use Rattle.pointers.specs.Open.{asked_opening, opened_index}
+use Rattle.pointers.specs.Open.{opened_index}
 use Rattle.pointers.specs.Sorted.{ascending}
 use Rattle.pointers.specs.Tables.{Tables, under, with_index, section_table_words}
 use Rattle.pointers.specs.declared.imageinfo.ImageInfo.{ImageInfo}
@@ -19,7 +19,6 @@ use Rattle.frames.specs.declared.frames.Ranges.{Ranges}
 use Rattle.marking.specs.Framed.{framed_opening}
 use Rattle.marking.specs.declared.framed.Framed.{Framed}
 use Rattle.printing.specs.BundleText.{opened_text}
-use Rattle.reads.specs.declared.answer.Question.{Question}
 
 -- The setting of a file's listing: rebases by halves where their slots ascend, which lists the same (`file_printed`, proofs/FilePrinted.antt).
 abbrev pub lookup_by : Bool → Lookup
@@ -49,11 +48,6 @@ framed_file x file segments sections rebases binds index =
 -- What is handed out of an opened file.
 abbrev pub opened_by : List ℕ → Outcome Framed → Outcome OpenedFile
 opened_by file o = and_then o (λ f. value (opened_file file f.info))
-
--- What refuses where number k refuses the ranges: a question of opening, or k.
-unfoldable pub refused_file : Question → List ℕ → List ℕ → List ℕ → List ℕ → List ℕ → List ℕ → Outcome Framed
-refused_file k file segments sections rebases binds index =
-    and_then (asked_file file (length segments) (length sections)) (λ _. and_then (asked_opening (file_tables file rebases binds index)) (λ _. refused k))
 
 -- Opening over words of zeros, as many as are to be lent.
 unfoldable pub file_opening : Option Ranges → List ℕ → List ℕ → List ℕ → Outcome Framed

@@ -2,23 +2,23 @@
 // index as many words are used as question 8 asks. With a number, 23 of the ranges last, nothing lent is written, and the text is `refused` and
 // that number.
 ghost use Rattle.std.specs.Prelude.{◌*◌, ◌≤◌, min, ◌≡◌, None, length, drop};
-ghost use Rattle.reads.specs.Answer.{missed, outcome};
+ghost use Rattle.reads.specs.Answer.{answered, outcome};
 ghost use Rattle.reads.specs.Reference.{before};
 ghost use Rattle.reads.specs.Segment.{segment_words};
 ghost use Rattle.reads.specs.declared.text.Reading.TheVariants.{New};
 ghost use Rattle.pointers.specs.Index.{index_length};
-ghost use Rattle.macho.specs.OpenFile.{Kept, opening_file, segments_left, sections_left, index_left, buffers};
+ghost use Rattle.pointers.specs.Open.{left_by};
+ghost use Rattle.macho.specs.OpenFile.{Kept, opening_file_unless, segments_left, sections_left, index_left, buffers};
 ghost use Rattle.marking.specs.Framed.{with_frames};
 ghost use Rattle.printing.specs.Pieces.{standing_of, begun, listable, to_come, handed_of, piece_of};
 ghost use Rattle.filelist.specs.FileText.{file_setting, info_in, opened_by};
-ghost use Rattle.filelist.specs.FileLent.{framed_lent, opening_first, refused_first, buffers_first, buffers_after, tables_over, tables_opened};
+ghost use Rattle.filelist.specs.FileLent.{framed_lent, opening_first, buffers_first, buffers_after, tables_over, tables_opened};
 
 use frames::frames::{Frames, Ranges};
-use macho::open::{Lent, OpenedFile, open_file};
-use marking::framed::{refused_last, with_frames};
+use macho::open::{Lent, OpenedFile, open_file_unless};
+use marking::framed::with_frames;
 use pointers::imageinfo::ImageInfo;
 use pointers::index::HEADS;
-use pointers::question::index_fits;
 use pointers::setting::{Lookup, Setting};
 use pointers::sorted::ascends;
 use pointers::table::{Bind, Rebase};
@@ -75,7 +75,7 @@ fn info_of(answer: Result<OpenedFile, Missing>) -> Result<ImageInfo, Missing>
     Ok(info)
 }
 
-// Opens the file over slices.
+// Opens the file over slices; `last`, here and below, is what 23 says of the ranges, which is asked last.
 // Not a `Lent`: one made from the fields of another has no proof.
 fn open_over(
     file: &[u8],
@@ -84,11 +84,12 @@ fn open_over(
     index: &mut [u32],
     rebases: &[u64],
     binds: &[u64],
+    last: Result<(), Question>,
 ) -> Result<OpenedFile, Missing>
-    ensures outcome { outcome result ≡ opening_file (before file) segments.old sections.old (before rebases) (before binds) index.old }
-    ensures segments { segments.new ≡ segments_left (before file) segments.old sections.old (before rebases) (before binds) index.old }
-    ensures sections { sections.new ≡ sections_left (before file) segments.old sections.old (before rebases) (before binds) index.old }
-    ensures index { index.new ≡ index_left (before file) segments.old sections.old (before rebases) (before binds) index.old }
+    ensures outcome { outcome result ≡ opening_file_unless (answered last) (before file) segments.old sections.old (before rebases) (before binds) index.old }
+    ensures segments { segments.new ≡ left_by (answered last) (segments_left (before file) segments.old sections.old (before rebases) (before binds) index.old) segments.old }
+    ensures sections { sections.new ≡ left_by (answered last) (sections_left (before file) segments.old sections.old (before rebases) (before binds) index.old) sections.old }
+    ensures index { index.new ≡ left_by (answered last) (index_left (before file) segments.old sections.old (before rebases) (before binds) index.old) index.old }
 {
     let mut lent = Lent {
         segments,
@@ -97,7 +98,7 @@ fn open_over(
         rebases,
         binds,
     };
-    open_file(file, &mut lent)
+    open_file_unless(file, &mut lent, last)
 }
 
 // Opens the file over the first words of the index.
@@ -106,11 +107,16 @@ fn open_over(
 // together, so that only that struct could hold it. `file` comes beside `lent`, here and below, as in `open_file` of macho: of a `&[u8]`
 // the type says that it stays, of a field of the `&mut Lent` `Kept` would have to; and header, load commands and image info are read of it alone
 // (macho::open), beside nothing lent.
-fn open_first(file: &[u8], lent: &mut Lent, words: usize) -> Result<OpenedFile, Missing>
+fn open_first(
+    file: &[u8],
+    lent: &mut Lent,
+    words: usize,
+    last: Result<(), Question>,
+) -> Result<OpenedFile, Missing>
     requires { words ≤ length lent.old.index.now }
     ensures kept { Kept lent.old lent.new }
-    ensures outcome { outcome result ≡ opening_first words (before file) lent.old }
-    ensures left { buffers lent.new ≡ buffers_first words (before file) lent.old }
+    ensures outcome { outcome result ≡ opening_first (answered last) words (before file) lent.old }
+    ensures left { buffers lent.new ≡ buffers_first (answered last) words (before file) lent.old }
 {
     let rebases = lent.rebases;
     let binds = lent.binds;
@@ -124,6 +130,7 @@ fn open_first(file: &[u8], lent: &mut Lent, words: usize) -> Result<OpenedFile, 
         &mut index[0..words],
         rebases,
         binds,
+        last,
     )
 }
 
@@ -131,39 +138,21 @@ fn open_first(file: &[u8], lent: &mut Lent, words: usize) -> Result<OpenedFile, 
 fn begin(
     setting: Setting,
     frames: Option<Frames>,
+    last: Result<(), Question>,
     file: &[u8],
     lent: &mut Lent,
     words: usize,
 ) -> FileListing
     requires { words ≤ length lent.old.index.now }
     ensures kept { Kept lent.old lent.new }
-    ensures answer { outcome result.answer ≡ opening_first words (before file) lent.old }
+    ensures answer { outcome result.answer ≡ opening_first (answered last) words (before file) lent.old }
     ensures progress { standing_of result.progress ≡ begun setting (with_frames frames (info_in (outcome result.answer))) }
-    ensures left { buffers lent.new ≡ buffers_first words (before file) lent.old }
+    ensures left { buffers lent.new ≡ buffers_first (answered last) words (before file) lent.old }
 {
-    let answer = open_first(file, lent, words);
+    let answer = open_first(file, lent, words, last);
     FileListing {
         answer,
         progress: Progress::starting(setting, with_frames(info_of(answer), frames)),
-    }
-}
-
-// What refuses where number k refuses the ranges: opened over no index the file is refused at the latest by 8, and nothing is written. Not one function
-// with `ranges_refused` of marking: a line there.
-fn ranges_refused(file: &[u8], lent: &mut Lent, words: usize, k: Question) -> Missing
-    requires { words ≤ length lent.old.index.now }
-    ensures kept { Kept lent.old lent.new }
-    ensures outcome { missed result ≡ refused_first k words (before file) lent.old }
-    ensures left { buffers lent.new ≡ buffers lent.old }
-{
-    let fits = index_fits(
-        lent.rebases.len() / Rebase::WORDS,
-        lent.binds.len() / Bind::WORDS,
-        words,
-    );
-    match open_first(file, lent, 0) {
-        Ok(_) => Missing::Refused(k),
-        Err(m) => refused_last(m, fits, k),
     }
 }
 
@@ -188,15 +177,10 @@ fn list_by(setting: Setting, ranges: Option<Ranges>, file: &[u8], lent: &mut Len
     ensures left { buffers lent.new ≡ buffers_after ranges (before file) lent.old }
 {
     let words = index_words(lent.rebases, lent.binds, lent.index.len());
+    // With a number of 23 nothing is opened, so that the listing begins without frames.
     match Frames::new(ranges) {
-        Ok(frames) => begin(setting, frames, file, lent, words),
-        Err(k) => {
-            let m = ranges_refused(file, lent, words, k);
-            FileListing {
-                answer: Err(m),
-                progress: Progress::starting(setting, Err(m)),
-            }
-        }
+        Ok(frames) => begin(setting, frames, Ok(()), file, lent, words),
+        Err(k) => begin(setting, None, Err(k), file, lent, words),
     }
 }
 

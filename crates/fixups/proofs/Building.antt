@@ -146,20 +146,20 @@ module _ (rs bs : List ℕ) (hr : length rs < 2 ^ 64) (hb : length bs < 2 ^ 64) 
     xs : List Fixup
     xs = walked.0
 
-    rebased : Counted r rebase_words (rows_of rebase_row walked.0)
-    rebased = rebases_counted walked.0 r b [] [] walked.2
+    rebases_count : Counted r rebase_words (rows_of rebase_row walked.0)
+    rebases_count = rebases_counted walked.0 r b [] [] walked.2
 
-    bound : Counted b bind_words (rows_of bind_row walked.0)
-    bound = binds_counted walked.0 r b [] [] walked.2
+    binds_count : Counted b bind_words (rows_of bind_row walked.0)
+    binds_count = binds_counted walked.0 r b [] [] walked.2
 
     pub is_5 : length rs / rebase_words < r → leaves (refused RebaseTable) rs bs ≡ settled x rs bs
     unfolding settled
-    is_5 h = rw walked.1 (sym (choose_false _ _ (lt-leb _ _ (rebased.short rs hr h))))
+    is_5 h = rw walked.1 (sym (choose_false _ _ (lt-leb _ _ (rebases_count.short rs hr h))))
 
     module _ (p : r ≤ length rs / rebase_words) where
       pub is_6 : length bs / bind_words < b → leaves (refused BindTable) rs bs ≡ settled x rs bs
       unfolding settled
-      is_6 h = rw walked.1 (sym (choose_true _ _ (le-leb _ _ (rebased.fits rs hr p)) ∙ choose_false _ _ (lt-leb _ _ (bound.short bs hb h))))
+      is_6 h = rw walked.1 (sym (choose_true _ _ (le-leb _ _ (rebases_count.fits rs hr p)) ∙ choose_false _ _ (lt-leb _ _ (binds_count.short bs hb h))))
 
       pub is_filled : b ≤ length bs / bind_words → (v : Result (Unit {0}) Question) (s : State) → reached v s ≡ told x (state 0 0 rs bs)
           → leaves (value (pair r b)) s.rebases.words s.binds.words ≡ settled x rs bs
@@ -172,9 +172,9 @@ module _ (rs bs : List ℕ) (hr : length rs < 2 ^ 64) (hb : length bs < 2 ^ 64) 
               let n = s.rebases.count in let m = s.binds.count in let rs' = s.rebases.words in let bs' = s.binds.words in
               let y : s ≡ puts walked.0 (state 0 0 rs bs) = cc in
               let z : state n m rs' bs' ≡ puts walked.0 (state 0 0 rs bs) = y in
-              let er = rebases_filled walked.0 n m rs' bs' rs bs z (rebased.fits rs hr p) hr in
-              let eb = binds_filled walked.0 n m rs' bs' rs bs z (bound.fits bs hb q) hb in
-              ap₂ (λ (i j : ℕ). leaves (value (pair i j)) rs' bs') (rebased.exact rs hr p) (bound.exact bs hb q)
+              let er = rebases_filled walked.0 n m rs' bs' rs bs z (rebases_count.fits rs hr p) hr in
+              let eb = binds_filled walked.0 n m rs' bs' rs bs z (binds_count.fits bs hb q) hb in
+              ap₂ (λ (i j : ℕ). leaves (value (pair i j)) rs' bs') (rebases_count.exact rs hr p) (binds_count.exact bs hb q)
               ∙ rw (er, eb)
-              (sym (choose_true _ _ (le-leb _ _ (rebased.fits rs hr p)) ∙ choose_true _ _ (le-leb _ _ (bound.fits bs hb q))))
+              (sym (choose_true _ _ (le-leb _ _ (rebases_count.fits rs hr p)) ∙ choose_true _ _ (le-leb _ _ (binds_count.fits bs hb q))))
           go (Err k) h = let z : ◌≡◌ {A = ℕ} 0 1 = cc in absurd (omega arith)

@@ -7,7 +7,7 @@ use Rattle.pointers.specs.Symbol.{starts}
 use Rattle.macho.specs.Commands.{headed, sectioned, fits, all_fit, asked_commands, of_kind}
 use Rattle.macho.specs.Segments.{written}
 use Rattle.macho.specs.Sections.{named}
-use Rattle.fixups.specs.Imports.{name_of, bound, zero_from, text_at, import_at}
+use Rattle.fixups.specs.Imports.{name_of, bound_slot, zero_from, text_at, import_at}
 use Rattle.fixups.specs.Chain.{step_of, origin_of, target_of, slot_of, rebase, entry_of, visit_of, chain}
 use Rattle.fixups.specs.Starts.{joined, page_at, pages_from, known, segment_starts, first_starts, info_of, infos_from, image_starts, fixups_of, walk_of}
 use Rattle.fixups.specs.Tables.{rows_of}
@@ -33,7 +33,7 @@ small =
     ∷ 0 ∷ 95 ∷ 97 ∷ 0 ∷ []
 
 -- 0xAB000000_00001010, since the target counts from the image base.
-pub found : fixups_found small ≡ value (Rebase (rebase 0x1000 0xAB00000000001010) ∷ Bind (bound 0x1008 (name_of 209 2)) ∷ Rebase (rebase 0x1010 0x1020) ∷ [])
+pub found : fixups_found small ≡ value (Rebase (rebase 0x1000 0xAB00000000001010) ∷ Bind (bound_slot 0x1008 (name_of 209 2)) ∷ Rebase (rebase 0x1010 0x1020) ∷ [])
 unfolding le_in le choose zero_from text_at import_at step_of origin_of target_of slot_of entry_of visit_of chain joined page_at pages_from known segment_starts first_starts info_of infos_from image_starts fixups_of walk_of headed sectioned fits all_fit asked_commands question of_kind named starts base_of fixups_from fixups_in fixups_found
 found = refl
 

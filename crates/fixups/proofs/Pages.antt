@@ -101,10 +101,10 @@ module _ (file body cmds : List ℕ) (f : Fixups) where
   unfolding image_starts choose
   starts_out segs st h = simp (lt-leb (f.starts + 4) (length body) h) (sym (told_number FixupData st))
 
-  pub starts_in : (segs : List ℕ) (total : ℕ) → f.starts + 4 ≤ length body → total ≡ u32_at body (f.starts + 0)
+  pub starts_there : (segs : List ℕ) (total : ℕ) → f.starts + 4 ≤ length body → total ≡ u32_at body (f.starts + 0)
       → image_starts file body cmds f segs ≡ infos_from file body cmds f (total - 0) 0 segs
   unfolding image_starts choose
-  starts_in segs total h e = rw (whole total, e) (simp (le-leb (f.starts + 4) (length body) h))
+  starts_there segs total h e = rw (whole total, e) (simp (le-leb (f.starts + 4) (length body) h))
 
   pub infos_done : (total i : ℕ) (segs : List ℕ) (st : State) → total ≤ i → told (infos_from file body cmds f (total - i) i segs) st ≡ value st
   unfolding infos_from choose
@@ -136,13 +136,13 @@ module _ (body : List ℕ) (at base : ℕ) where
   header_out h = simp (lt-leb (0 + 28) (length body) h)
 
   module _ (h : 28 ≤ length body) where
-    pub other_imports : (u32_at body 20 ≡ 1 → ⊥) → refused FixupData ≡ fixups_of body at base
+    pub imports_unread : (u32_at body 20 ≡ 1 → ⊥) → refused FixupData ≡ fixups_of body at base
     unfolding fixups_of choose
-    other_imports n = simp (le-leb (0 + 28) (length body) h, ne_eqb (u32_at body 20) 1 n)
+    imports_unread n = simp (le-leb (0 + 28) (length body) h, ne_eqb (u32_at body 20) 1 n)
 
-    pub packed_symbols : u32_at body 20 ≡ 1 → (u32_at body 24 ≡ 0 → ⊥) → refused FixupData ≡ fixups_of body at base
+    pub symbols_unread : u32_at body 20 ≡ 1 → (u32_at body 24 ≡ 0 → ⊥) → refused FixupData ≡ fixups_of body at base
     unfolding fixups_of choose
-    packed_symbols e n = simp (le-leb (0 + 28) (length body) h, eq-eqb (u32_at body 20) 1 e, ne_eqb (u32_at body 24) 0 n)
+    symbols_unread e n = simp (le-leb (0 + 28) (length body) h, eq-eqb (u32_at body 20) 1 e, ne_eqb (u32_at body 24) 0 n)
 
     pub header_in : u32_at body 20 ≡ 1 → u32_at body 24 ≡ 0 → (f : Fixups) → f ≡ header_of body at base → value f ≡ fixups_of body at base
     unfolding fixups_of choose

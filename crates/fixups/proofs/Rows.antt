@@ -8,22 +8,22 @@ use Rattle.reads.proofs.Tests.{choose_true, choose_false}
 use Rattle.pointers.specs.Tables.{rebase_words, bind_words}
 use Rattle.macho.specs.Segments.{written}
 use Rattle.macho.proofs.Tables.{put_whole}
-use Rattle.fixups.specs.Tables.{rebase_row, bind_row, rows_of, Part, part, up, put_row, put_rows, State, state, put, puts}
+use Rattle.fixups.specs.Tables.{rebase_row, bind_row, rows_of, Part, part, one_up, put_row, put_rows, State, state, put, puts}
 use Rattle.fixups.specs.declared.chain.Fixup.{Fixup}
 use Rattle.fixups.specs.declared.chain.Fixup.TheVariants.{Rebase, Bind}
 
-pub up_one : (n : ℕ) → n < 2 ^ 64 - 1 → n + 1 ≡ up n
-unfolding up choose
+pub up_one : (n : ℕ) → n < 2 ^ 64 - 1 → n + 1 ≡ one_up n
+unfolding one_up choose
 up_one n h = simp (lt-ltb _ _ h)
 
-pub up_full : (n : ℕ) → 2 ^ 64 - 1 ≤ n → n ≡ up n
-unfolding up choose
+pub up_full : (n : ℕ) → 2 ^ 64 - 1 ≤ n → n ≡ one_up n
+unfolding one_up choose
 up_full n h = simp (le-ltb _ _ h)
 
-up_min : (n : ℕ) → n ≤ 2 ^ 64 - 1 → up n ≡ min (n + 1) (2 ^ 64 - 1)
+up_min : (n : ℕ) → n ≤ 2 ^ 64 - 1 → one_up n ≡ min (n + 1) (2 ^ 64 - 1)
 up_min n h = go (ltb n (2 ^ 64 - 1)) refl
   where
-    go : (t : Bool) → ltb n (2 ^ 64 - 1) ≡ t → up n ≡ min (n + 1) (2 ^ 64 - 1)
+    go : (t : Bool) → ltb n (2 ^ 64 - 1) ≡ t → one_up n ≡ min (n + 1) (2 ^ 64 - 1)
     go true e = let l = ltb-true n (2 ^ 64 - 1) e in omega (arith, up_one n l)
     go false e = let l = ltb-false n (2 ^ 64 - 1) e in omega (arith, up_full n l)
 
@@ -110,7 +110,7 @@ module _ {A : Type 0} (row : A → List ℕ) (width : ℕ) (times : Times width)
       → put_row (a ∷ as') p ≡ part (p.count + 1) (sets p.words (width * p.count) (a ∷ as'))
   unfolding put_row
   put_in p a as' e h l =
-      let u : up p.count ≡ p.count + 1 = sym (up_one p.count (omega (arith, times.least p.count))) in
+      let u : one_up p.count ≡ p.count + 1 = sym (up_one p.count (omega (arith, times.least p.count))) in
       rw (u, e, choose_true (sets p.words (width * p.count) (a ∷ as')) p.words (le-leb (width * p.count + width) (length p.words) h))
 
   writes : (xs : List A) (p : Part) → width * p.count + length (rows_of row xs) ≤ length p.words → length p.words < 2 ^ 64

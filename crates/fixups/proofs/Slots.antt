@@ -3,7 +3,7 @@ use Rattle.std.proofs.Common.{◌≡◌, ℕ, zero, suc, ◌+◌, ◌-◌, ◌%�
 use borrow.Author.Tests.{eqb-false}
 use Rattle.reads.specs.Outcome.{Outcome, value, absent, refused, and_then, choose}
 use Rattle.fixups.specs.FixupChains.{lies}
-use Rattle.fixups.specs.Imports.{bound, import_at}
+use Rattle.fixups.specs.Imports.{bound_slot, import_at}
 use Rattle.fixups.specs.declared.name.Name.{Name}
 use Rattle.fixups.specs.Chain.{Starts, rebase, slot_of, target_of, step_of, entry_of, visit_of, slot_word, Met, met, chain, chain_at}
 use Rattle.fixups.specs.Slots.{slot_address, slots, InPage, Once, onwards, visited, Climbs, addresses}
@@ -16,10 +16,10 @@ use Rattle.reads.specs.declared.answer.Question.TheVariants.{FixupSlot}
 
 -- A record's slot is the one that was visited.
 entry_by : (b : Bool) (i : Outcome Name) (a t : ℕ) (x : Fixup)
-    → choose b (value (Rebase (rebase a t))) (and_then i (λ n. value (Bind (bound a n)))) ≡ value x → slot_address x ≡ a
+    → choose b (value (Rebase (rebase a t))) (and_then i (λ n. value (Bind (bound_slot a n)))) ≡ value x → slot_address x ≡ a
 unfolding choose
 entry_by true i a t x e = let q : Rebase (rebase a t) ≡ x = cc in sym (ap slot_address q)
-entry_by false (value n) a t x e = let q : Bind (bound a n) ≡ x = cc in sym (ap slot_address q)
+entry_by false (value n) a t x e = let q : Bind (bound_slot a n) ≡ x = cc in sym (ap slot_address q)
 entry_by false (absent r) a t x e = let z : ◌≡◌ {A = ℕ} 0 1 = cc in absurd (omega arith)
 entry_by false (refused k) a t x e = let z : ◌≡◌ {A = ℕ} 0 1 = cc in absurd (omega arith)
 

@@ -33,14 +33,14 @@ module _ (file body : List ℕ) (f : Fixups) (s : Starts) (at : ℕ) (st : State
   visit_out h = rw h
 
   module _ (w : ℕ) (e : Result Fixup Question) (h : nat_le (s.fileoff + at + 8) (length file) ≡ true) (ew : w ≡ u64_at file (s.fileoff + at)) (ee : answered e ≡ entry_of body f s at w) where
-    visit_in : visit_of file body f s at ≡ and_then (answered e) (λ x. value (met x (step_of w)))
+    visit_met : visit_of file body f s at ≡ and_then (answered e) (λ x. value (met x (step_of w)))
     unfolding visit_of choose
-    visit_in = rw (ee, ew, h)
+    visit_met = rw (ee, ew, h)
 
     pub visit_not : (k : Question) → e ≡ Err k → refused k ≡ and_then (visit_of file body f s at) (after st)
-    visit_not k q = rw (visit_in, q)
+    visit_not k q = rw (visit_met, q)
 
     pub visit_put : (x : Fixup) (p : State) → e ≡ Ok x → p ≡ put x st
         → value (stepped (w / 2 ^ 51 % 2 ^ 12 * 4) p) ≡ and_then (visit_of file body f s at) (after st)
     unfolding step_of
-    visit_put x p q g = rw (visit_in, q, g)
+    visit_put x p q g = rw (visit_met, q, g)

@@ -3,7 +3,7 @@ use Rattle.std.specs.Prelude.{ℕ, zero, suc, ◌+◌, ◌-◌, ◌*◌, ◌/◌
 use Rattle.reads.specs.Outcome.{Outcome, value, refused, and_then, choose}
 use Rattle.macho.specs.Number.{u64_at}
 use Rattle.fixups.specs.FixupChains.{lies}
-use Rattle.fixups.specs.Imports.{bound, import_at}
+use Rattle.fixups.specs.Imports.{bound_slot, import_at}
 use Rattle.fixups.specs.declared.chain.PointerFormat.{PointerFormat}
 use Rattle.fixups.specs.declared.chain.PointerFormat.TheVariants.{Ptr64, Ptr64Offset}
 use Rattle.pointers.specs.declared.table.Rebase as pointers
@@ -53,7 +53,7 @@ unfoldable pub entry_of : List ℕ → Fixups → Starts → ℕ → ℕ → Out
 entry_of body f s at word =
     choose (nat_lt word (2 ^ 63))
     (value (Rebase (rebase (slot_of s at) (target_of s.format f.base word))))
-    (and_then (import_at body f (word % 2 ^ 24)) (λ t. value (Bind (bound (slot_of s at) t))))
+    (and_then (import_at body f (word % 2 ^ 24)) (λ t. value (Bind (bound_slot (slot_of s at) t))))
 
 -- What a chain meets at a slot: the record, and the bytes to the next slot.
 pub record Met : Type 0 where

@@ -10,8 +10,8 @@ use Rattle.reads.specs.declared.answer.Question.TheVariants.{FixupData, FixupSlo
 abbrev pub name_of : ℕ → ℕ → Name
 name_of at len = record { at = at; len = len }
 
-abbrev pub bound : ℕ → Name → Bound
-bound slot name = record { slot = slot; name = name }
+abbrev pub bound_slot : ℕ → Name → Bound
+bound_slot slot name = record { slot = slot; name = name }
 
 -- The place of the first zero byte, of bytes whose first stands at i; 19 without one.
 unfoldable pub zero_from : ℕ → List ℕ → Outcome ℕ

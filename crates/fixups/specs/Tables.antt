@@ -35,14 +35,14 @@ pub record Part : Type 0 where
 abbrev pub part : ℕ → List ℕ → Part
 part n ws = record { count = n; words = ws }
 
-unfoldable pub up : ℕ → ℕ
-up n = choose (nat_lt n (2 ^ 64 - 1)) (n + 1) n
+unfoldable pub one_up : ℕ → ℕ
+one_up n = choose (nat_lt n (2 ^ 64 - 1)) (n + 1) n
 
 -- One row more, put if the table has room for it; an empty one is no record.
 unfoldable pub put_row : List ℕ → Part → Part
 put_row [] p = p
 put_row (w ∷ ws) p =
-    part (up p.count)
+    part (one_up p.count)
     (choose (nat_le (length (w ∷ ws) * p.count + length (w ∷ ws)) (length p.words)) (sets p.words (length (w ∷ ws) * p.count) (w ∷ ws)) p.words)
 
 -- The rows of records, one after the other.

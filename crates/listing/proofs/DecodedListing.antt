@@ -4,6 +4,7 @@ use Rattle.reads.specs.Breaks.{is_value, can_read}
 use Rattle.reads.specs.Outcome.{Outcome, value, absent, refused, Unrefused, a_value, an_absence, and_then, choose}
 use Rattle.reads.specs.declared.place.Place.{Place}
 use Rattle.reads.specs.declared.text.Text.{Text}
+use Rattle.reads.proofs.Outcomes.{then_alike}
 use Rattle.reads.proofs.Unrefused.{readable_unrefused}
 use Rattle.pointers.specs.Tables.{Tables, image_in}
 use Rattle.records.specs.Category.{decode_category, category_at}
@@ -31,12 +32,6 @@ use Rattle.listing.specs.declared.at.Record.{Record}
 use Rattle.listing.specs.declared.at.Record.TheVariants as a_record
 use Rattle.listing.specs.declared.line.Line.{Line}
 use Rattle.listing.specs.declared.line.Line.TheVariants as line
-
--- What comes after one outcome, in two forms that agree for each value.
-then_same : {A B : Type 0} (o : Outcome A) {f g : A → Outcome B} → ((a : A) → f a ≡ g a) → and_then o f ≡ and_then o g
-then_same (value a) h = h a
-then_same (absent r) h = refl
-then_same (refused k) h = refl
 
 module _ (t : Tables) where
   -- The words, each beside that of Gather.antt. (Of `joined` and `as_each` the run is the plain one by definition.)
@@ -75,7 +70,7 @@ module _ (t : Tables) where
   unfolding decode_classes plain_classes
   classes_run =
       rw (listed_runs Classes)
-      (then_same (listed t Classes)
+      (then_alike (listed t Classes)
       (gather_runs (λ a. of_value (decode_class a false) decode_with_meta) (λ a. gathers.of_value (class_at t a false) (with_meta t))
       (λ a. of_value_runs (decode_class a false) decode_with_meta (with_meta t) meta_runs)))
 
@@ -83,7 +78,7 @@ module _ (t : Tables) where
   unfolding decode_categories plain_categories
   categories_run =
       rw (listed_runs Categories)
-      (then_same (listed t Categories)
+      (then_alike (listed t Categories)
       (gather_runs (λ a. present (decode_category a)) (λ a. gathers.present (category_at t a)) (λ a. present_runs (decode_category a))))
 
   protocols_run : run t (decode_protocols t.sections) ≡ plain_protocols t
@@ -177,7 +172,7 @@ module _ (t : Tables) where
 
   lines_run : (x : Record) → run t (decode_lines_of x) ≡ lines_of t x
   unfolding decode_lines_of lines_of
-  lines_run x = rw (own_lines_run x, fields_run x, then_same (record_fields t x) (fields_lines_run 0))
+  lines_run x = rw (own_lines_run x, fields_run x, then_alike (record_fields t x) (fields_lines_run 0))
 
   -- The settling steps.
   entry_runs : (h : Layout) (j : ℕ) → run t (decode_entry h j) ≡ entry_in t h j
@@ -202,7 +197,7 @@ module _ (t : Tables) where
 
   record_events_run : (r : ℕ) (x : Record) → run t (decode_record_events r x) ≡ record_events t r x
   unfolding decode_record_events record_events
-  record_events_run r x = rw (fields_run x) (then_same (record_fields t x) (field_events_run r 0))
+  record_events_run r x = rw (fields_run x) (then_alike (record_fields t x) (field_events_run r 0))
 
   events_from_run : (r : ℕ) (xs : List Record) → run t (decode_events_from r xs) ≡ events_from t r xs
   unfolding decode_events_from events_from
@@ -211,7 +206,7 @@ module _ (t : Tables) where
 
   pub events_run : run t (decode_events t.sections) ≡ plain_events t
   unfolding decode_events
-  events_run = rw records_run (then_same (plain_records t) (events_from_run 0))
+  events_run = rw records_run (then_alike (plain_records t) (events_from_run 0))
 
   -- Behind line I the definition gives the plain listing.
   pub listing_runs : and_then (run t (decode_listing t.sections)) (λ lines. value (info_line (version_and_flags t.info) t.setting ∷ lines)) ≡ plain_listing t

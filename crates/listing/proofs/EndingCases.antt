@@ -1,7 +1,7 @@
 -- Two worked files for the two readings (document 02, note 12): one class with one method, whose selector stands behind everything else. In the
 -- first a byte that is not 0 follows the selector's zero byte: every string that is asked for ends, and both readings list alike. The second is
 -- cut off before that zero byte: the old reading shows the method, the new one skips it.
-use Rattle.std.proofs.Common.{◌≡◌, ℕ, ◌-◌, ◌≤◌, false, List, [], ◌∷◌, ◌++◌, length, get_or, replicate, sym, refl, ◌∙◌, subst, append-nil, arith, le-leb}
+use Rattle.std.proofs.Common.{◌≡◌, ℕ, ◌*◌, ◌-◌, ◌≤◌, false, List, [], ◌∷◌, ◌++◌, length, get_or, replicate, sym, refl, ◌∙◌, subst, append-nil, arith, le-leb}
 use Rattle.reads.specs.Breaks.{can_read}
 use Rattle.reads.specs.Endings.{ZeroFrom, StringEnds}
 use Rattle.reads.specs.Outcome.{Outcome, value, absent, choose, sum64, nonzero, text_of}
@@ -24,7 +24,7 @@ use Rattle.pointers.specs.Question.{question, image_fits, whole_rows, segment_fi
 use Rattle.pointers.specs.Section.{section_at}
 use Rattle.pointers.specs.Slot.{symbol_of, stored, resolve, pointer_at, pointer_or0_at}
 use Rattle.pointers.specs.Symbol.{ascii}
-use Rattle.pointers.specs.Tables.{Tables, tables_of, image_in, with_index, reading_under, under}
+use Rattle.pointers.specs.Tables.{Tables, chains, tables_of, image_in, with_index, reading_under, under}
 use Rattle.pointers.specs.declared.setting.Setting.{Setting}
 use Rattle.records.specs.Ask.{even_list, entry_size}
 use Rattle.records.specs.Asks.{asks}
@@ -306,11 +306,11 @@ module _ (before : List ℕ) where
       omega arith
 
   -- Opening accepts the tables of both, with an index of at least 8,192 words.
-  file_accepted : 8192 ≤ length before → (f : File) → asked_opening (with_index (file before f) before) ≡ value tt
+  file_accepted : 2 * chains ≤ length before → (f : File) → asked_opening (with_index (file before f) before) ≡ value tt
   unfolding asked_opening asked_tables asked_index question image_fits longest segment_files whole_rows every section_fits section_table info_whole bind_files names_inside names_utf8 index_fits choose bytes
-  file_accepted enough whole = rw (le-leb 8192 (length before) enough)
-  file_accepted enough cut = rw (le-leb 8192 (length before) enough)
+  file_accepted enough whole = rw (le-leb (2 * chains) (length before) enough)
+  file_accepted enough cut = rw (le-leb (2 * chains) (length before) enough)
 
-  pub file_opened : 8192 ≤ length before → (f : File) → Opened (file before f)
+  pub file_opened : 2 * chains ≤ length before → (f : File) → Opened (file before f)
   unfolding opening opened_index image_info le choose
   file_opened enough f = record { index_before = before; gave = info_of 0 0; accepted = rw (file_accepted enough f); left = rw (file_accepted enough f) }

@@ -1,6 +1,6 @@
 -- A second worked listing: a class with its metaclass, a protocol, and a category that names one method list from two fields. The list's
 -- second row has no selector, so it is skipped and settled each time. The records lie in file 0, the strings in file 1 (document 02, note 6).
-use Rattle.std.proofs.Common.{◌≡◌, ℕ, ◌≤◌, true, false, List, [], ◌∷◌, ◌++◌, map, length, replicate, sym, refl, arith, le-leb}
+use Rattle.std.proofs.Common.{◌≡◌, ℕ, ◌*◌, ◌≤◌, true, false, List, [], ◌∷◌, ◌++◌, map, length, replicate, sym, refl, arith, le-leb}
 use Rattle.reads.specs.Breaks.{can_read}
 use Rattle.reads.specs.Outcome.{value, absent, choose, sum64, nonzero, text_of}
 use Rattle.reads.specs.Files.{file_of, longest}
@@ -23,12 +23,12 @@ use Rattle.pointers.specs.declared.setting.Lookup.TheVariants.{Chained, Sorted}
 use Rattle.pointers.specs.declared.setting.Setting.{Setting}
 use Rattle.pointers.specs.Slot.{rebase_number, rebase_at, bind_at, symbol_of, stored, resolve, pointer_at, pointer_or0_at}
 use Rattle.pointers.specs.Symbol.{ascii}
-use Rattle.pointers.specs.Tables.{Tables, tables_of, image_in, with_index, reading_new}
+use Rattle.pointers.specs.Tables.{Tables, chains, tables_of, image_in, with_index, reading_new}
 use Rattle.pointers.proofs.Chains.{rebase_last_wins, bind_last_wins}
 use Rattle.pointers.proofs.SortedLookups.{sorted_past}
 use Rattle.records.specs.Category.{decode_category_lists, decode_category_properties, decode_category_of, decode_category, category_at, category_class_name}
 use Rattle.records.specs.Class.{bits_of, decode_data, decode_class, class_at, decode_ro_lists, decode_class_ro, decode_ro_of, ro_of, decode_ro_data, decode_class_name, decode_nonzero_class_name, decode_bound_name, decode_class_name_of, superclass_name}
-use Rattle.records.specs.Ask.{picked_in, even_list, entry_size}
+use Rattle.records.specs.Ask.{even_list, entry_size}
 use Rattle.records.specs.List.{method_rows, decode_list, list_at, entry}
 use Rattle.records.specs.Protocol.{decode_protocol_lists, decode_class_properties, decode_protocol, protocol_at}
 use Rattle.records.specs.Row.{method_of, legacy_imp, decode_legacy_method, decode_row, row_at}
@@ -288,7 +288,7 @@ module _ (before : List ℕ) where
   meta_superclass = rw (no_bind node_files 0x1030)
 
   category_class : category_class_name (node before) extra_category ≡ value (text_of 1 0 4)
-  unfolding file_of decode_class_name_of decode_nonzero_class_name decode_class_name decode_ro_data picked_in picked picked_wide mapped data_arm64e data64 pointer_at text_in text_from text utf8 judge resolve readable readable_at lookup rows ends holds placed sum64 stored word stripped le nonzero choose node_bytes
+  unfolding file_of decode_class_name_of decode_nonzero_class_name decode_class_name decode_ro_data picked picked_wide mapped data_arm64e data64 pointer_at text_in text_from text utf8 judge resolve readable readable_at lookup rows ends holds placed sum64 stored word stripped le nonzero choose node_bytes
   category_class = simp no_rebase_lem
 
   -- The lists.
@@ -391,10 +391,10 @@ module _ (before : List ℕ) where
   node_listing = rw (the_records, node_lines, meta_lines, protocol_lines, category_lines) (rw the_settling)
 
   -- Opening accepts the tables, with an index of at least 8,192 words.
-  module _ (enough : 8192 ≤ length before) where
+  module _ (enough : 2 * chains ≤ length before) where
     accepts : asked_opening (with_index (node before) before) ≡ value tt
     unfolding asked_opening asked_tables asked_index question image_fits longest segment_files whole_rows every section_fits section_table info_whole bind_files names_inside names_utf8 index_fits choose node_bytes
-    accepts = rw (le-leb 8192 (length before) enough)
+    accepts = rw (le-leb (2 * chains) (length before) enough)
 
     pub node_opened : Opened (node before)
     unfolding opening opened_index image_info le choose

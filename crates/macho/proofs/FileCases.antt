@@ -11,6 +11,7 @@ use Rattle.pointers.specs.ImageInfo.{info_of, image_info}
 use Rattle.pointers.specs.Open.{asked_opening, opening}
 use Rattle.pointers.specs.Question.{question, image_fits, whole_rows, section_fits, every, segment_files, section_table, info_whole, bind_files, names_inside, names_utf8, index_fits, asked_tables, asked_index}
 use Rattle.pointers.specs.Symbol.{ascii, starts}
+use Rattle.pointers.specs.Tables.{chains}
 use Rattle.macho.specs.Commands.{headed, sectioned, fits, all_fit, asked_commands, of_kind}
 use Rattle.macho.specs.Segments.{segment_rows, written}
 use Rattle.macho.specs.Sections.{headers_from, sections_of, named, first_named, section_row, section_rows}
@@ -127,18 +128,18 @@ unfolding good made header commands command sections section u32 u64 le_in le ch
 cut_info_case rebases binds index = refl
 
 -- The file itself: two segments, and image info at 576. Bytes that sizeofcmds counts after the last command are no matter.
-pub opened_case : opening_file good (replicate segment_table_words 7) (replicate 15 7) [] [] (replicate 8192 0)
+pub opened_case : opening_file good (replicate segment_table_words 7) (replicate 15 7) [] [] (replicate (2 * chains) 0)
     ≡ value (record { segments = 2; info = info_of 0 0x40; info_at = 576; info_len = 8 })
 unfolding good made header commands command sections section u32 u64 le_in le choose opening_file asked_file asked_commands asked_lent question headed all_fit fits sectioned image_fits of_kind file_tables segment_rows headers_from sections_of named starts first_named section_row section_rows opening asked_opening asked_tables whole_rows segment_files longest section_table every section_fits info_whole bind_files names_inside names_utf8 asked_index index_fits image_info
 opened_case = refl
 
-pub spare_case : opening_file (made 0xFEEDFACF 2 552 472 576 0) (replicate segment_table_words 7) (replicate 15 7) [] [] (replicate 8192 0)
+pub spare_case : opening_file (made 0xFEEDFACF 2 552 472 576 0) (replicate segment_table_words 7) (replicate 15 7) [] [] (replicate (2 * chains) 0)
     ≡ value (record { segments = 2; info = info_of 0 0x40; info_at = 576; info_len = 8 })
 unfolding good made header commands command sections section u32 u64 le_in le choose opening_file asked_file asked_commands asked_lent question headed all_fit fits sectioned image_fits of_kind file_tables segment_rows headers_from sections_of named starts first_named section_row section_rows opening asked_opening asked_tables whole_rows segment_files longest section_table every section_fits info_whole bind_files names_inside names_utf8 asked_index index_fits image_info
 spare_case = refl
 
 -- Its rows at the start of the segment table, and the words past them as they were; with 3 all words as they were.
-pub segments_left_case : segments_left good (replicate segment_table_words 7) (replicate 15 7) [] [] (replicate 8192 0)
+pub segments_left_case : segments_left good (replicate segment_table_words 7) (replicate 15 7) [] [] (replicate (2 * chains) 0)
     ≡ 0 ∷ 0x1000 ∷ 0 ∷ 0x240 ∷ 0 ∷ 0x1000 ∷ 0x2000 ∷ 0x240 ∷ 0x40 ∷ 0 ∷ replicate (segment_table_words - 2 * segment_words) 7
 unfolding segments_left written good made header commands command sections section u32 u64 le_in le choose opening_file asked_file asked_commands asked_lent question headed all_fit fits sectioned image_fits of_kind file_tables segment_rows headers_from sections_of named starts first_named section_row section_rows opening asked_opening asked_tables whole_rows segment_files longest section_table every section_fits info_whole bind_files names_inside names_utf8 asked_index index_fits image_info
 segments_left_case = refl

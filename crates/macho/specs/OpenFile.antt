@@ -7,7 +7,7 @@ use Rattle.reads.specs.Place.{part}
 use Rattle.pointers.specs.Tables.{Tables, section_table_words}
 use Rattle.pointers.specs.Question.{question, image_fits}
 use Rattle.pointers.specs.Index.{indexed}
-use Rattle.pointers.specs.Open.{opening, left_by}
+use Rattle.pointers.specs.Open.{opening, opening_unless, left_by}
 use Rattle.pointers.specs.declared.imageinfo.ImageInfo.{ImageInfo}
 use Rattle.macho.specs.Commands.{asked_commands}
 use Rattle.macho.specs.Segments.{segment_table_of, written}
@@ -42,6 +42,12 @@ unfoldable pub opening_file : List ℕ → List ℕ → List ℕ → List ℕ �
 opening_file file segments sections rebases binds index =
     and_then (asked_file file (length segments) (length sections)) (λ _.
     and_then (opening (file_tables file rebases binds index)) (λ info. value (opened_file file info)))
+
+-- The same for a caller that asks a question of its own last, before the first write: `last` is what that says.
+abbrev pub opening_file_unless : Outcome (Unit {0}) → List ℕ → List ℕ → List ℕ → List ℕ → List ℕ → List ℕ → Outcome OpenedFile
+opening_file_unless last file segments sections rebases binds index =
+    and_then (asked_file file (length segments) (length sections)) (λ _.
+    and_then (opening_unless last (file_tables file rebases binds index)) (λ info. value (opened_file file info)))
 
 -- What is left in each buffer; with a number it is as it was.
 unfoldable pub segments_left : List ℕ → List ℕ → List ℕ → List ℕ → List ℕ → List ℕ → List ℕ
@@ -93,6 +99,18 @@ buffers_left file l =
       segments = segments_left file l.segments.now l.sections.now l.rebases.now l.binds.now l.index.now;
       sections = sections_left file l.segments.now l.sections.now l.rebases.now l.binds.now l.index.now;
       index = index_left file l.segments.now l.sections.now l.rebases.now l.binds.now l.index.now;
+    }
+
+-- The same where a caller asks last.
+abbrev pub opening_lent_unless : Outcome (Unit {0}) → List ℕ → Lent → Outcome OpenedFile
+opening_lent_unless last file l = opening_file_unless last file l.segments.now l.sections.now l.rebases.now l.binds.now l.index.now
+
+abbrev pub buffers_unless : Outcome (Unit {0}) → List ℕ → Lent → Buffers
+buffers_unless last file l =
+    record {
+      segments = left_by last (buffers_left file l).segments l.segments.now;
+      sections = left_by last (buffers_left file l).sections l.sections.now;
+      index = left_by last (buffers_left file l).index l.index.now;
     }
 
 -- What is lent stays the same slices, and what is only read stays as it is.

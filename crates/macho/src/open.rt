@@ -1,21 +1,18 @@
 // Opening a file (document 02, note 3): asks 15, 16 and the questions of the tables that loader.h defines for it; then fills these
 // tables and writes the index.
-ghost use Rattle.std.specs.Prelude.{◌≡◌, ◌≤◌, length, take};
+ghost use Rattle.std.specs.Prelude.{◌≡◌, ◌≤◌, length};
 ghost use Rattle.reads.specs.Reference.{before};
 ghost use Rattle.reads.specs.Outcome.{value};
-ghost use Rattle.pointers.specs.Open.{opening, opened_index};
+ghost use Rattle.pointers.specs.Open.{opening_unless, left_by, opened_index};
 ghost use Rattle.macho.specs.Commands.{segments_of};
-ghost use Rattle.macho.specs.Segments.{segment_table_of};
-ghost use Rattle.macho.specs.Sections.{section_table_of};
-ghost use Rattle.macho.specs.FileTables.{over_file};
-ghost use Rattle.macho.specs.OpenFile.{Kept, asked_lent, asked_file, opening_lent, tables_over, buffers, indexed_by, buffers_left};
+ghost use Rattle.macho.specs.OpenFile.{Kept, asked_lent, asked_file, opening_lent, opening_lent_unless, tables_over, buffers, indexed_by, buffers_left, buffers_unless};
 ghost use Rattle.reads.specs.Answer.{outcome, answered};
 
 use crate::command::{Commands, ask_commands};
 use crate::section::{info_section, write_sections};
 use crate::segment::{segment_count, write_segments};
 use pointers::imageinfo::ImageInfo;
-use pointers::open::open;
+use pointers::open::open_unless;
 use pointers::question::image_fits;
 use pointers::section::ObjcSection;
 use pointers::setting::Setting;
@@ -85,13 +82,14 @@ fn open_tables(
     cmds: Commands,
     info: &[u8],
     lent: &mut Lent,
+    last: Result<(), Question>,
 ) -> Result<ImageInfo, Missing>
     requires { length (segments_of cmds.bytes.now cmds.count) ≤ 64 }
     ensures kept { Kept lent.old lent.new }
     ensures outcome { let t = tables_over (before file) cmds.entry.bytes.now cmds.entry.count (before info) lent.old in
-        outcome result ≡ opening t }
+        outcome result ≡ opening_unless (answered last) t }
     ensures left { let t = tables_over (before file) cmds.entry.bytes.now cmds.entry.count (before info) lent.old in
-        buffers lent.new ≡ indexed_by lent.old (opened_index t) }
+        buffers lent.new ≡ indexed_by lent.old (left_by (answered last) (opened_index t) t.index) }
 {
     let mut segments = [0u64; SEGMENT_TABLE_WORDS];
     write_segments(cmds, &mut segments);
@@ -111,20 +109,24 @@ fn open_tables(
         index: &[],
         setting: Setting::new(),
     };
-    open(&tables, lent.index)
+    open_unless(&tables, lent.index, last)
 }
 
 // Opens over the tables for the file; then fills them into what is lent.
-fn fill_file(file: &[u8], lent: &mut Lent) -> Result<OpenedFile, Missing>
+fn fill_file(
+    file: &[u8],
+    lent: &mut Lent,
+    last: Result<(), Question>,
+) -> Result<OpenedFile, Missing>
     requires { asked_file file.now (length lent.old.segments.now) (length lent.old.sections.now) ≡ value tt }
     ensures kept { Kept lent.old lent.new }
-    ensures outcome { outcome result ≡ opening_lent (before file) lent.old }
-    ensures left { buffers lent.new ≡ buffers_left (before file) lent.old }
+    ensures outcome { outcome result ≡ opening_lent_unless (answered last) (before file) lent.old }
+    ensures left { buffers lent.new ≡ buffers_unless (answered last) (before file) lent.old }
 {
     let cmds = Commands::of(file);
     let section = info_section(cmds);
     let info = part(file, section.offset, section.size);
-    let i = open_tables(file, cmds, info, lent)?;
+    let i = open_tables(file, cmds, info, lent, last)?;
     write_segments(cmds, lent.segments);
     write_sections(cmds, lent.sections);
     Ok(OpenedFile {
@@ -136,11 +138,25 @@ fn fill_file(file: &[u8], lent: &mut Lent) -> Result<OpenedFile, Missing>
 }
 
 // The file's tables filled, with the index written; or the number of the first question that says no, with nothing written.
+#[tactic(auto, unfolding(crate::specs::OpenFile::opening_file, pointers::specs::Open::opening))]
 pub fn open_file(file: &[u8], lent: &mut Lent) -> Result<OpenedFile, Missing>
     ensures kept { Kept lent.old lent.new }
     ensures outcome { outcome result ≡ opening_lent (before file) lent.old }
     ensures left { buffers lent.new ≡ buffers_left (before file) lent.old }
 {
+    open_file_unless(file, lent, Ok(()))
+}
+
+// The same for a caller that asks a question of its own, which is then the last to be asked before anything is written: `last` is what it says.
+pub fn open_file_unless(
+    file: &[u8],
+    lent: &mut Lent,
+    last: Result<(), Question>,
+) -> Result<OpenedFile, Missing>
+    ensures kept { Kept lent.old lent.new }
+    ensures outcome { outcome result ≡ opening_lent_unless (answered last) (before file) lent.old }
+    ensures left { buffers lent.new ≡ buffers_unless (answered last) (before file) lent.old }
+{
     ask_file(file, lent.segments.len(), lent.sections.len())?;
-    fill_file(file, lent)
+    fill_file(file, lent, last)
 }

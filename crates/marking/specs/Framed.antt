@@ -1,8 +1,6 @@
 -- Opening an image whose methods are to be marked (document 02, note 11): opening's questions, then 23 of the ranges; then the index is written.
-use Rattle.std.specs.Prelude.{ℕ, Bool, List, Option, eqb}
-use Rattle.reads.specs.Outcome.{Outcome, value, and_then, choose}
-use Rattle.reads.specs.declared.answer.Missing.{Missing}
-use Rattle.reads.specs.declared.answer.Missing.TheVariants.{Absent, Refused}
+use Rattle.std.specs.Prelude.{ℕ, List, Option}
+use Rattle.reads.specs.Outcome.{Outcome, value, and_then}
 use Rattle.pointers.specs.ImageInfo.{image_info}
 use Rattle.pointers.specs.Open.{asked_opening, left_by, opened_index}
 use Rattle.pointers.specs.Tables.{Tables}
@@ -11,9 +9,6 @@ use Rattle.frames.specs.Marks.{frames_of}
 use Rattle.frames.specs.declared.frames.Frames.{Frames}
 use Rattle.frames.specs.declared.frames.Ranges.{Ranges}
 use Rattle.marking.specs.declared.framed.Framed.{Framed}
-use Rattle.reads.specs.Question.{number_of}
-use Rattle.reads.specs.declared.answer.Question.{Question}
-use Rattle.reads.specs.declared.answer.Question.TheVariants.{IndexLength}
 
 -- Document 01's outcome of each case of the code's answer.
 -- The image info of what opening gave, with frames.
@@ -27,8 +22,3 @@ framed_opening x t = and_then (asked_opening t) (λ _. and_then (frames_of x) (�
 -- What is left of the index; with a number, 23 too, it is as it was.
 unfoldable pub framed_index : Option Ranges → Tables → List ℕ
 framed_index x t = left_by (frames_of x) (opened_index t) t.index
-
--- What refuses where k refuses the ranges, by what opening over no index missed; `fits` says whether question IndexLength takes the index that is lent.
-abbrev pub last_refusal : Bool → Question → Missing → Missing
-last_refusal fits k (Absent r) = Absent r
-last_refusal fits k (Refused j) = Refused (choose (eqb (number_of j) 8) (choose fits k IndexLength) j)

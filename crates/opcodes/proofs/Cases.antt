@@ -7,7 +7,7 @@ use Rattle.reads.specs.Leb128.{digit_count, unsigned_digits, negative, signed_di
 use Rattle.pointers.specs.Question.{question}
 use Rattle.macho.specs.Commands.{headed, sectioned, fits, all_fit, asked_commands, of_kind}
 use Rattle.macho.specs.Segments.{written}
-use Rattle.fixups.specs.Imports.{bound, name_of, zero_from}
+use Rattle.fixups.specs.Imports.{bound_slot, name_of, zero_from}
 use Rattle.fixups.specs.Tables.{rows_of}
 use Rattle.opcodes.specs.DyldInfo.{earlier}
 use Rattle.opcodes.specs.Opcodes.{opcode_of, with_number, typed, symbol_at, addend, skipping, times_skipping, by_opcode, decode}
@@ -40,7 +40,7 @@ from offset ops = 0x40 ∷ 95 ∷ 97 ∷ 0 ∷ 0x70 ∷ offset ∷ ops
 
 -- Its name in the strong stream.
 abbrev bind_at : ℕ → Bound
-bind_at slot = bound slot (name_of 177 2)
+bind_at slot = bound_slot slot (name_of 177 2)
 
 -- 2^64 - 16 and 2^64 - 8 in ULEB128.
 abbrev minus16 : List ℕ
@@ -52,14 +52,14 @@ minus8 = 0xF8 ∷ 0xFF ∷ 0xFF ∷ 0xFF ∷ 0xFF ∷ 0xFF ∷ 0xFF ∷ 0xFF ∷
 -- Each opcode.
 pub record Opcodes : Type 0 where
   pub do_bind : binds (from 0 (0x90 ∷ 0x90 ∷ [])) ≡ value (bind_at 0x1000 ∷ bind_at 0x1008 ∷ [])
-  pub passed_over : binds (0x11 ∷ 0x20 ∷ 0x85 ∷ 1 ∷ 0x3E ∷ 0x51 ∷ 0x60 ∷ 0x7F ∷ from 0 (0x90 ∷ [])) ≡ value (bound 0x1000 (name_of 185 2) ∷ [])
+  pub passed_over : binds (0x11 ∷ 0x20 ∷ 0x85 ∷ 1 ∷ 0x3E ∷ 0x51 ∷ 0x60 ∷ 0x7F ∷ from 0 (0x90 ∷ [])) ≡ value (bound_slot 0x1000 (name_of 185 2) ∷ [])
   pub add_addr : binds (from 0 (0x80 ∷ 16 ∷ 0x90 ∷ [])) ≡ value (bind_at 0x1010 ∷ [])
   pub add_addr_wraps : binds (from 16 (0x80 ∷ (minus16 ++ (0x90 ∷ [])))) ≡ value (bind_at 0x1000 ∷ [])
   pub bind_add_addr : binds (from 0 (0xA0 ∷ 8 ∷ 0x90 ∷ [])) ≡ value (bind_at 0x1000 ∷ bind_at 0x1010 ∷ [])
   pub bind_add_scaled : binds (from 0 (0xB1 ∷ 0x90 ∷ [])) ≡ value (bind_at 0x1000 ∷ bind_at 0x1010 ∷ [])
   pub times_skipping_lem : binds (from 0 (0xC0 ∷ 2 ∷ 8 ∷ [])) ≡ value (bind_at 0x1000 ∷ bind_at 0x1010 ∷ [])
   pub times_none : binds (0xC0 ∷ 0 ∷ 8 ∷ []) ≡ value []
-  pub name_set_again : binds (from 0 (0x90 ∷ 0x40 ∷ 98 ∷ 0 ∷ 0x90 ∷ [])) ≡ value (bind_at 0x1000 ∷ bound 0x1008 (name_of 184 1) ∷ [])
+  pub name_set_again : binds (from 0 (0x90 ∷ 0x40 ∷ 98 ∷ 0 ∷ 0x90 ∷ [])) ≡ value (bind_at 0x1000 ∷ bound_slot 0x1008 (name_of 184 1) ∷ [])
   pub last_slot : binds (from 16 (0x90 ∷ [])) ≡ value (bind_at 0x1010 ∷ [])
 
 -- The streams: DONE ends the strong and the weak one and parts the lazy one; their order; a stream cut at the file's end.
@@ -68,7 +68,7 @@ pub record Streams : Type 0 where
   pub done_ends_weak : binds_found (file [] (from 0 (0x90 ∷ 0 ∷ 0x90 ∷ [])) []) ≡ value (bind_at 0x1000 ∷ [])
   pub done_parts_lazy : binds_found (file [] [] (from 0 (0x90 ∷ 0 ∷ 0x90 ∷ []))) ≡ value (bind_at 0x1000 ∷ bind_at 0x1008 ∷ [])
   pub in_order : binds_found (file (from 0 (0x90 ∷ [])) (from 0 (0x90 ∷ [])) (from 8 (0x90 ∷ [])))
-      ≡ value (bound 0x1000 (name_of 177 2) ∷ bound 0x1000 (name_of 184 2) ∷ bound 0x1008 (name_of 191 2) ∷ [])
+      ≡ value (bound_slot 0x1000 (name_of 177 2) ∷ bound_slot 0x1000 (name_of 184 2) ∷ bound_slot 0x1008 (name_of 191 2) ∷ [])
   pub cut_at_end : binds_found (take 183 (file (from 0 (0x90 ∷ 0xE0 ∷ [])) [] [])) ≡ value (bind_at 0x1000 ∷ [])
   pub no_command : binds_found (set (file (0xE0 ∷ []) [] []) 104 35) ≡ value []
   pub dyld_info : binds_found (set (file (from 0 (0x90 ∷ [])) [] []) 107 0) ≡ value (bind_at 0x1000 ∷ [])

@@ -6,7 +6,7 @@ use Rattle.reads.specs.Leb128.{uleb128, sleb128}
 use Rattle.reads.proofs.Tests.{by_choose}
 use Rattle.macho.specs.Loader.{ncmds}
 use Rattle.macho.specs.Commands.{command_bytes, asked_commands, segments_of}
-use Rattle.fixups.specs.Imports.{bound, name_of, zero_from}
+use Rattle.fixups.specs.Imports.{bound_slot, name_of, zero_from}
 use Rattle.opcodes.specs.DyldInfo.{bind_off, weak_bind_off, lazy_bind_off, stream_off, stream_size, first_info}
 use Rattle.opcodes.specs.Opcodes.{Opcode, opcode, operand, opcode_of, with_number, typed, symbol_at, addend, skipping, times_skipping, by_opcode, decode}
 use Rattle.opcodes.specs.Binding.{unset, further, with_symbol, with_segment, bound_at, bound_by, Moved, moved, run, in_segment, perform}
@@ -21,9 +21,10 @@ use Rattle.opcodes.specs.declared.binding.Place.{Place}
 use Rattle.fixups.specs.declared.name.Name.{Name}
 use Rattle.opcodes.specs.declared.binding.State.{State}
 use Rattle.fixups.specs.declared.name.Bound.{Bound}
-use Rattle.opcodes.proofs.Sizes.{then_value, Below, zero_in, Each, each_value, each_number, each_then}
+use Rattle.opcodes.proofs.Sizes.{Below, zero_in, Each, each_value, each_number, each_then}
 use Rattle.reads.specs.declared.answer.Question.{Question}
 use Rattle.reads.specs.declared.answer.Question.TheVariants.{FixupData, FixupSlot}
+use Rattle.reads.proofs.Outcomes.{then_came}
 
 names_append : (n : ℕ) (xs ys : List Bound) → NamesIn n xs → NamesIn n ys → NamesIn n (xs ++ ys)
 names_append n [] ys none q = q
@@ -46,7 +47,7 @@ module _ (n end : ℕ) (s : State) (good : Good n s) where
       go (Some a) (Some t) h =
           by_choose Lies
           (λ _. λ x e.
-          let p : bound ((a.vmaddr + s.offset) % 2 ^ 64) t ≡ x = cc in
+          let p : bound_slot ((a.vmaddr + s.offset) % 2 ^ 64) t ≡ x = cc in
           let g = good t h in
           omega (arith, ap (λ (y : Bound). y.name.at) p, ap (λ (y : Bound). y.name.len) p))
           (λ _. λ x e. let z : ◌≡◌ {A = ℕ} 0 1 = cc in absurd (omega arith))
@@ -64,8 +65,8 @@ run_kept : (n end stride k : ℕ) (s : State) (m : Moved) → Good n s → run e
 unfolding run Lies
 run_kept n end stride zero s m g e = kept n [] s m e none g
 run_kept n end stride (suc k) s m g e =
-    let p = then_value (bound_by end s) _ m e in
-    let q = then_value (run end k stride (further stride s)) _ m p.2 in
+    let p = then_came (bound_by end s) _ m e in
+    let q = then_came (run end k stride (further stride s)) _ m p.2 in
     let r = run_kept n end stride k (further stride s) q.0 g q.1 in
     kept n (p.0 ∷ q.0.binds) q.0.state m q.2 (name (bound_lies n end s g p.0 p.1) r.0) r.1
 
@@ -88,7 +89,7 @@ perform_kept n end cmds segs (Symbol t) s m h g e = kept n [] (with_symbol t s) 
     let g = h t refl in
     omega (arith, ap (λ (y : Name). y.at) p, ap (λ (y : Name). y.len) p))
 perform_kept n end cmds segs (Segment index offset) s m h g e =
-    let p = then_value (in_segment cmds segs index offset s) (λ t. value (moved [] t)) m e in
+    let p = then_came (in_segment cmds segs index offset s) (λ t. value (moved [] t)) m e in
     kept n [] p.0 m p.2 none (segment_kept n cmds segs index offset s p.0 g p.1)
 perform_kept n end cmds segs (Add k) s m h g e = kept n [] (further k s) m e none g
 perform_kept n end cmds segs (Bind count stride) s m h g e = run_kept n end stride count s m g e
@@ -166,9 +167,9 @@ module _ (n end : ℕ) (cmds segs : List ℕ) (parts : Bool) where
   walk_named place [] skip s xs h g e = let p : ◌≡◌ {A = List Bound} [] xs = cc in subst (NamesIn n) p none
   walk_named place (b ∷ rest) (suc skip) s xs h g e = walk_named (place + 1) rest skip s xs (omega arith) g e
   walk_named place (b ∷ rest) zero s xs h g e =
-      let p = then_value (decode parts (place + 1) b rest) _ xs e in
-      let q = then_value (perform end cmds segs p.0.says s) _ xs p.2 in
-      let r = then_value (walk end cmds segs parts (place + 1) rest p.0.size q.0.state) _ xs q.2 in
+      let p = then_came (decode parts (place + 1) b rest) _ xs e in
+      let q = then_came (perform end cmds segs p.0.says s) _ xs p.2 in
+      let r = then_came (walk end cmds segs parts (place + 1) rest p.0.size q.0.state) _ xs q.2 in
       let k = perform_kept n end cmds segs p.0.says s q.0 (decode_named n parts (place + 1) b rest (omega arith) p.0 p.1) g q.1 in
       let l = walk_named (place + 1) rest p.0.size q.0.state r.0 (omega arith) k.1 r.1 in
       let z : (q.0.binds ++ r.0) ≡ xs = cc in
@@ -188,8 +189,8 @@ stream_named file cmds segs a field parts = λ xs e.
 joined_named : (n : ℕ) (x y : Outcome (List Bound)) → Held n x → Held n y → Held n (joined x y)
 unfolding joined
 joined_named n x y f g = λ xs e.
-    let p = then_value x _ xs e in
-    let q = then_value y _ xs p.2 in
+    let p = then_came x _ xs e in
+    let q = then_came y _ xs p.2 in
     let z : (p.0 ++ q.0) ≡ xs = cc in
     subst (NamesIn n) z (names_append n p.0 q.0 (f p.0 p.1) (g q.0 q.1))
 
@@ -210,5 +211,5 @@ from_named file cmds count None = λ xs e. let p : ◌≡◌ {A = List Bound} []
 pub names_in_file : (file : List ℕ) (xs : List Bound) → binds_found file ≡ value xs → NamesIn (length file) xs
 unfolding binds_found
 names_in_file file xs e =
-    let p = then_value (asked_commands file) _ xs e in
+    let p = then_came (asked_commands file) _ xs e in
     from_named file (command_bytes file) (ncmds file) (first_info (command_bytes file) (ncmds file)) xs p.2

@@ -15,9 +15,10 @@ use Rattle.opcodes.specs.declared.binding.Place.{Place}
 use Rattle.fixups.specs.declared.name.Name.{Name}
 use Rattle.opcodes.specs.declared.binding.State.{State}
 use Rattle.fixups.specs.declared.name.Bound.{Bound}
-use Rattle.opcodes.proofs.Sizes.{then_value, Each, each_value, each_number, each_then}
+use Rattle.opcodes.proofs.Sizes.{Each, each_value, each_number, each_then}
 use Rattle.reads.specs.declared.answer.Question.{Question}
 use Rattle.reads.specs.declared.answer.Question.TheVariants.{FixupData, FixupSlot}
+use Rattle.reads.proofs.Outcomes.{then_came}
 
 -- A bind's 8 bytes end in the file.
 module _ (end : ℕ) (s : State) where
@@ -42,13 +43,13 @@ module _ (end stride : ℕ) where
   -- The first bind of a run, and the run after it.
   run_first : (k : ℕ) (s : State) (m : Moved) → run end (suc k) stride s ≡ value m → s.offset + 8 ≤ end
   unfolding run Low
-  run_first k s m e = let p = then_value (bound_by end s) _ m e in bound_low end s p.0 p.1
+  run_first k s m e = let p = then_came (bound_by end s) _ m e in bound_low end s p.0 p.1
 
   run_rest : (k : ℕ) (s : State) (m : Moved) → run end (suc k) stride s ≡ value m → (n : Moved) × (run end k stride (further stride s) ≡ value n)
   unfolding run
   run_rest k s m e =
-      let p = then_value (bound_by end s) _ m e in
-      let q = then_value (run end k stride (further stride s)) _ m p.2 in
+      let p = then_came (bound_by end s) _ m e in
+      let q = then_came (run end k stride (further stride s)) _ m p.2 in
       (q.0, q.1)
 
   rises : 8 ≤ stride → stride + end ≤ 2 ^ 64 → (k : ℕ) (s : State) (m : Moved) → run end k stride s ≡ value m → k ≤ end - s.offset
@@ -153,8 +154,8 @@ run_count : (end stride k : ℕ) (s : State) (m : Moved) → run end k stride s 
 unfolding run
 run_count end stride zero s m e = let p : moved [] s ≡ m = cc in omega (arith, ap (λ (w : Moved). length w.binds) p)
 run_count end stride (suc k) s m e =
-    let p = then_value (bound_by end s) _ m e in
-    let q = then_value (run end k stride (further stride s)) _ m p.2 in
+    let p = then_came (bound_by end s) _ m e in
+    let q = then_came (run end k stride (further stride s)) _ m p.2 in
     let r : moved (p.0 ∷ q.0.binds) q.0.state ≡ m = cc in
     omega (arith, ap (λ (w : Moved). length w.binds) r, run_count end stride k (further stride s) q.0 q.1)
 
@@ -176,7 +177,7 @@ opcode_short end cmds segs parts place b rest d s m e g l = go d.says g (decode_
     go Pass q w = still s (unfold perform in q)
     go (Symbol name) q w = still (with_symbol name s) (unfold perform in q)
     go (Segment index offset) q w =
-        let p = then_value (in_segment cmds segs index offset s) (λ t. value (moved [] t)) m (unfold perform in q) in still p.0 p.2
+        let p = then_came (in_segment cmds segs index offset s) (λ t. value (moved [] t)) m (unfold perform in q) in still p.0 p.2
     go (Add n) q w = still (further n s) (unfold perform in q)
     go (Bind k n) q w =
         let q' : run end k n s ≡ value m = unfold perform in q in

@@ -1,5 +1,5 @@
 -- The operands of an opcode lie in the bytes after it.
-use Rattle.std.proofs.Common.{◌≡◌, ℕ, ℤ, ◌+◌, ◌-◌, ◌%◌, ◌^◌, ◌<◌, ◌≤◌, Bool, List, [], ◌∷◌, length, take, drop, refl, ap, subst, arith, length-drop, length-take}
+use Rattle.std.proofs.Common.{◌≡◌, ℕ, ℤ, ◌+◌, ◌-◌, ◌%◌, ◌^◌, ◌<◌, ◌≤◌, Bool, List, [], ◌∷◌, length, take, drop, ap, subst, arith, length-drop, length-take}
 use Rattle.reads.specs.Outcome.{Outcome, value, absent, refused, and_then, choose}
 use Rattle.reads.specs.Leb128.{uleb128, sleb128, digit_count, uleb_of, sleb_of, within64, within_signed64, unsigned_digits, signed_digits, leb}
 use Rattle.reads.specs.declared.leb128.Leb.{Leb}
@@ -12,11 +12,7 @@ use Rattle.opcodes.specs.declared.opcode.Instruction.{Instruction}
 use Rattle.opcodes.specs.declared.opcode.Instruction.TheVariants.{Pass, Segment, Add, Bind}
 use Rattle.reads.specs.declared.answer.Question.{Question}
 use Rattle.reads.specs.declared.answer.Question.TheVariants.{FixupData, FixupSlot}
-
-pub then_value : {A B : Type 0} (o : Outcome A) (f : A → Outcome B) (b : B) → and_then o f ≡ value b → (a : A) × (o ≡ value a) × (f a ≡ value b)
-then_value (value a) f b e = (a, refl, e)
-then_value (absent r) f b e = let z : ◌≡◌ {A = ℕ} 0 1 = cc in absurd (omega arith)
-then_value (refused k) f b e = let z : ◌≡◌ {A = ℕ} 0 1 = cc in absurd (omega arith)
+use Rattle.reads.proofs.Outcomes.{then_came}
 
 operand_value : {A : Type 0} (o : Outcome A) (a : A) → operand o ≡ value a → o ≡ value a
 operand_value (value a) b e = e
@@ -27,8 +23,8 @@ operand_value (refused k) b e = let z : ◌≡◌ {A = ℕ} 0 1 = cc in absurd (
 leb_in : {A : Type 0} (bytes : List ℕ) (g : List ℕ → Outcome A) (u : Leb A)
     → operand (and_then (digit_count bytes) (λ k. and_then (g (take k bytes)) (λ n. value (leb n (length (take k bytes)))))) ≡ value u → u.consumed ≤ length bytes
 leb_in {A} bytes g u e =
-    let p = then_value (digit_count bytes) (λ k. and_then (g (take k bytes)) (λ n. value (leb n (length (take k bytes))))) u (operand_value _ u e) in
-    let q = then_value (g (take p.0 bytes)) (λ n. value (leb n (length (take p.0 bytes)))) u p.2 in
+    let p = then_came (digit_count bytes) (λ k. and_then (g (take k bytes)) (λ n. value (leb n (length (take k bytes))))) u (operand_value _ u e) in
+    let q = then_came (g (take p.0 bytes)) (λ n. value (leb n (length (take p.0 bytes)))) u p.2 in
     let r : leb q.0 (length (take p.0 bytes)) ≡ u = cc in
     omega (arith, ap (λ (v : Leb A). v.consumed) r, length-take p.0 bytes)
 
@@ -66,7 +62,7 @@ module _ (Q : Opcode → Type 0) where
 
   pub each_then : {A : Type 0} (o : Outcome A) (f : A → Outcome Opcode) → ((a : A) → o ≡ value a → Each Q (f a)) → Each Q (and_then o f)
   unfolding Each
-  each_then o f h = λ d e. let p = then_value o f d e in h p.0 p.1 d p.2
+  each_then o f h = λ d e. let p = then_came o f d e in h p.0 p.1 d p.2
 
 -- Its operands lie in the bytes.
 module _ (rest : List ℕ) where

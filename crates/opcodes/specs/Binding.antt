@@ -2,7 +2,7 @@
 use Rattle.std.specs.Prelude.{ℕ, zero, suc, ◌+◌, ◌%◌, ◌^◌, Bool, ◌&&◌, List, [], ◌∷◌, nat_le, Option, None, Some}
 use Rattle.reads.specs.Outcome.{Outcome, value, refused, and_then, choose}
 use Rattle.macho.specs.Loader.{vmaddr, fileoff, filesize}
-use Rattle.fixups.specs.Imports.{bound}
+use Rattle.fixups.specs.Imports.{bound_slot}
 use Rattle.fixups.specs.declared.name.Name.{Name}
 use Rattle.opcodes.specs.declared.opcode.Instruction.{Instruction}
 use Rattle.opcodes.specs.declared.opcode.Instruction.TheVariants.{Pass, Symbol, Segment, Add, Bind}
@@ -39,7 +39,7 @@ inside end p offset = nat_le (offset + 8) p.filesize && nat_le (p.fileoff + offs
 -- The bind of the slot at an offset, by what is set.
 abbrev pub bound_at : ℕ → ℕ → Option Place → Option Name → Outcome Bound
 bound_at end offset (Some p) (Some n) =
-    choose (inside end p offset) (value (bound ((p.vmaddr + offset) % 2 ^ 64) n)) (refused FixupSlot)
+    choose (inside end p offset) (value (bound_slot ((p.vmaddr + offset) % 2 ^ 64) n)) (refused FixupSlot)
 bound_at end offset (Some p) None = refused FixupData
 bound_at end offset None n = refused FixupData
 

@@ -10,7 +10,7 @@ use Rattle.reads.proofs.Tests.{choose_true}
 use Rattle.pointers.specs.Tables.{Tables, rebase_words, bind_words}
 use Rattle.pointers.specs.ImageInfo.{info_of, image_info}
 use Rattle.pointers.specs.Index.{indexed, index_length}
-use Rattle.pointers.specs.Open.{asked_opening, opening, left_by, opened_index}
+use Rattle.pointers.specs.Open.{asked_opening, opening, opening_unless, left_by, opened_index}
 use Rattle.pointers.specs.declared.imageinfo.ImageInfo.{ImageInfo}
 use Rattle.pointers.proofs.Questions.{asked_on, asked_ends}
 use Rattle.pointers.proofs.Rooms.{tables_room, asked_index_lem, accepted_parts}
@@ -30,21 +30,32 @@ module _ (t : Tables) (w : Result (Unit {0}) Question) (e : answered w ≡ asked
       let r = tables_room t tt a.tables_pass in
       (r.rebase_count, r.bind_count, asked_index_lem t tt a.index_pass)
 
-  pub open_info : w ≡ (Ok tt) → (o : Outcome ImageInfo) → o ≡ image_info t.info → o ≡ opening t
-  unfolding opening
-  open_info g o h = asked_on w (asked_opening t) _ o e g h
+  -- With what a caller asks last.
+  module _ (last : Result (Unit {0}) Question) where
+    pub open_info : w ≡ (Ok tt) → last ≡ (Ok tt) → (o : Outcome ImageInfo) → o ≡ image_info t.info → o ≡ opening_unless (answered last) t
+    open_info g f o h = asked_on w (asked_opening t) _ o e g (rw f h)
 
-  pub open_index : w ≡ (Ok tt) → (l : List ℕ) → l ≡ indexed t.rebases t.binds t.index → l ≡ opened_index t
-  unfolding opened_index
-  open_index g l h = rw (yes g) h
+    pub open_index : w ≡ (Ok tt) → last ≡ (Ok tt) → (l : List ℕ) → l ≡ indexed t.rebases t.binds t.index
+        → l ≡ left_by (answered last) (opened_index t) t.index
+    unfolding opened_index
+    open_index g f l h = rw (f, yes g) h
 
-  pub open_refused : (k : Question) → w ≡ Err k → refused k ≡ opening t
-  unfolding opening
-  open_refused k g = asked_ends w (asked_opening t) _ k e g
+    pub last_refused : (k : Question) → w ≡ (Ok tt) → last ≡ Err k → refused k ≡ opening_unless (answered last) t
+    last_refused k g f = asked_on w (asked_opening t) _ (refused k) e g (rw f refl)
 
-  pub open_kept : (k : Question) → w ≡ Err k → t.index ≡ opened_index t
-  unfolding opened_index
-  open_kept k g = rw (← e, g)
+    pub last_kept : (k : Question) → last ≡ Err k → t.index ≡ left_by (answered last) (opened_index t) t.index
+    last_kept k f = rw f
+
+    pub open_refused : (k : Question) → w ≡ Err k → refused k ≡ opening_unless (answered last) t
+    open_refused k g = asked_ends w (asked_opening t) _ k e g
+
+    pub open_kept : (k : Question) → w ≡ Err k → t.index ≡ left_by (answered last) (opened_index t) t.index
+    unfolding opened_index
+    open_kept k g = rw (← e, g) (go last)
+      where
+        go : (l : Result (Unit {0}) Question) → t.index ≡ left_by (answered l) t.index t.index
+        go (Ok u) = refl
+        go (Err j) = refl
 
 -- Image info that question ImageInfoLength passes is there.
 info_there : (body : List ℕ) → 8 ≤ length body → (i : ImageInfo) × (image_info body ≡ value i)

@@ -1,7 +1,8 @@
 -- Texts and numbers of the image's files, of all that is lent.
 use Rattle.std.specs.Prelude.{ℕ, ℤ}
-use Rattle.reads.specs.Outcome.{Outcome}
-use Rattle.reads.specs.Place.{word_in}
+use Rattle.reads.specs.Address.{picked}
+use Rattle.reads.specs.Outcome.{Outcome, and_then}
+use Rattle.reads.specs.Place.{word, word_in}
 use Rattle.reads.specs.Text.{text_in}
 use Rattle.reads.specs.Relative.{signed_in}
 use Rattle.reads.specs.declared.place.Place.{Place}
@@ -21,3 +22,10 @@ u64_in t p i = word_in t.files 8 p i
 
 abbrev pub i32_in : Tables → Place → ℕ → ℤ
 i32_in t p i = signed_in t.files p i
+
+-- The number of the eight bytes at an address, and its pick; absent where they cannot be read.
+abbrev pub u64_at : Tables → ℕ → Outcome ℕ
+u64_at t va = word (image_in t) 8 va
+
+abbrev pub picked_at : Tables → ℕ → Outcome ℕ
+picked_at t va = and_then (u64_at t va) (picked t.segments)

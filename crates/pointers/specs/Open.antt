@@ -21,6 +21,10 @@ asked_opening t =
 unfoldable pub opening : Tables → Outcome ImageInfo
 opening t = and_then (asked_opening t) (λ _. image_info t.info)
 
+-- The same for a caller that asks a question of its own last, before the first write: `last` is what that says.
+abbrev pub opening_unless : Outcome (Unit {0}) → Tables → Outcome ImageInfo
+opening_unless last t = and_then (asked_opening t) (λ _. and_then last (λ _. image_info t.info))
+
 -- What opening leaves in the index, by what it asked: with a number it is as it was.
 abbrev pub left_by : {A : Type 0} → Outcome A → List ℕ → List ℕ → List ℕ
 left_by (value _) new old = new

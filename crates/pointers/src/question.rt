@@ -1,11 +1,10 @@
 // The questions of document 01 that are asked of tables, each a function of its own; `ask` puts 1 to 6, with 18 of the segments after 2, and 8 in order.
-ghost use Rattle.std.specs.Prelude.{[], ◌≡◌, length, ◌≤◌};
+ghost use Rattle.std.specs.Prelude.{◌≡◌, ◌≤◌};
 ghost use Rattle.reads.specs.Reference.{before};
-ghost use Rattle.reads.specs.Table.{records};
 ghost use Rattle.reads.specs.Files.{files_of};
 ghost use Rattle.reads.specs.Segment.{segment_words};
 ghost use Rattle.pointers.specs.Tables.{rebase_words, bind_words};
-ghost use Rattle.pointers.specs.Question.{question, image_fits, whole_rows, section_fits, section_table, info_whole, segment_files, name_inside, name_utf8, index_fits, asked_tables, asked_index, asked, bind_files, names_inside, names_utf8};
+ghost use Rattle.pointers.specs.Question.{image_fits, whole_rows, section_fits, section_table, info_whole, segment_files, name_inside, name_utf8, index_fits, asked_tables, asked_index, asked, bind_files, names_inside, names_utf8};
 ghost use Rattle.reads.specs.Answer.{answered};
 
 use crate::index::HEADS;

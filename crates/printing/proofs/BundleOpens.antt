@@ -1,6 +1,6 @@
 -- Opening a bundle: whatever its index held before, opening answers and leaves the same; and the questions that a bundle can meet.
 use Rattle.std.specs.Prelude.{Option, Some, None}
-use Prim.Native.Nat.{ℕ, ◌+◌, ◌*◌, ◌/◌, ◌≤◌}
+use Prim.Native.Nat.{ℕ, ◌*◌, ◌/◌, ◌≤◌}
 use mathlib.Core.Path.{◌≡◌, sym, ap, ◌∙◌}
 use mathlib.Core.Bool.{Bool, true, false}
 use mathlib.Core.List.{List, []}
@@ -14,7 +14,7 @@ use Rattle.reads.specs.Place.{part}
 use Rattle.reads.proofs.Outcomes.{then_came}
 use Rattle.reads.proofs.Tests.{by_choose, choose_true}
 use Rattle.pointers.specs.ImageInfo.{image_info}
-use Rattle.pointers.specs.Index.{indexed}
+use Rattle.pointers.specs.Index.{indexed, index_length}
 use Rattle.pointers.specs.Open.{asked_opening, opening, opened_index}
 use Rattle.pointers.specs.Question.{question, image_fits, whole_rows, segment_files, section_table, info_whole, bind_files, names_inside, names_utf8, index_fits, asked_tables, asked_index}
 use Rattle.reads.specs.Table.{records}
@@ -31,6 +31,7 @@ use Rattle.listing.proofs.BundleWords.{length_words}
 use Rattle.listing.proofs.Measured.{accepted}
 use Rattle.marking.specs.Framed.{with_frames, framed_opening}
 use Rattle.marking.specs.declared.framed.Framed.{Framed}
+use Rattle.printing.specs.BundleLent.{index_size}
 use Rattle.printing.specs.BundleText.{index_words, bundle_tables, bundle_opening, Met, opens, refused_13, refused_2, refused_18, refused_3, refused_7, refused_14, refused_23}
 use Rattle.reads.specs.declared.answer.Question.TheVariants.{SegmentTable, SectionTable, NameInside, BundleLength, NameUtf8, FileLent, FileLength, ImageInfoLength, RebaseTable, BindTable, IndexLength}
 
@@ -48,7 +49,7 @@ module _ (t : Tables) (i j : List ℕ) (same : length i ≡ length j) where
   unfolding opening
   opening_same = ap (λ (o : Outcome (Unit {0})). and_then o (λ u. image_info t.info)) asked_same
 
-module _ (t : Tables) (i : List ℕ) (long : length i ≡ 8192 + records 2 t.rebases + records 4 t.binds) (info : ImageInfo)
+module _ (t : Tables) (i : List ℕ) (long : length i ≡ index_length t.rebases t.binds) (info : ImageInfo)
     (e : opening (with_index t i) ≡ value info) where
   index_left_lem : opened_index (with_index t i) ≡ indexed t.rebases t.binds i
   unfolding opening opened_index
@@ -57,9 +58,9 @@ module _ (t : Tables) (i : List ℕ) (long : length i ≡ 8192 + records 2 t.reb
   pub index_whole : opened_index (with_index t i) ≡ indexed t.rebases t.binds []
   unfolding indexed
   index_whole =
-      let none : drop (8192 + records 2 t.rebases + records 4 t.binds) i ≡ [] =
-      drop_of_length-le i {i = 8192 + records 2 t.rebases + records 4 t.binds} (omega arith) in
-      index_left_lem ∙ rw (none, drop-nil (8192 + records 2 t.rebases + records 4 t.binds))
+      let none : drop (index_length t.rebases t.binds) i ≡ [] =
+      drop_of_length-le i {i = index_length t.rebases t.binds} (omega arith) in
+      index_left_lem ∙ rw (none, drop-nil (index_length t.rebases t.binds))
 
   pub index_long : length (opened_index (with_index t i)) ≡ length i
   index_long = ap length index_left_lem ∙ length_indexed t.rebases t.binds i (omega arith)
@@ -96,10 +97,10 @@ module _ (bytes : List ℕ) (c : Counts) (a : Accepted bytes c) where
   info_length : length (part bytes info_at 8) ≡ 8
   info_length = simp (length-take, length-drop) (omega (arith, a.exact))
 
-  pub index_most : index_words c ≤ 10240
+  pub index_most : index_words c ≤ index_size
   index_most = omega (arith, a.short, a.exact)
 
-  pub index_asks : 8192 + records 2 (words_from bytes (rebases_at c) (rebase_table_words c)) + records 4 (words_from bytes (binds_at c) (bind_table_words c)) ≡ index_words c
+  pub index_asks : index_length (words_from bytes (rebases_at c) (rebase_table_words c)) (words_from bytes (binds_at c) (bind_table_words c)) ≡ index_words c
   index_asks = rw (length_words bytes (rebases_at c) (rebase_table_words c), length_words bytes (binds_at c) (bind_table_words c)) (omega arith)
 
   -- Of opening's questions only 2, 18, 3, 7 and 14 can say no.
@@ -127,7 +128,7 @@ module _ (bytes : List ℕ) (c : Counts) (a : Accepted bytes c) where
 
     fits_8 : index_fits (records 2 t.rebases) (records 4 t.binds) (length t.index) ≡ true
     unfolding index_fits
-    fits_8 = le-leb (8192 + records 2 t.rebases + records 4 t.binds) (length i) (omega (arith, index_asks, long))
+    fits_8 = le-leb (index_length t.rebases t.binds) (length i) (omega (arith, index_asks, long))
 
     info_there : (w : Option Frames) → Met (with_frames w (image_info t.info))
     unfolding image_info

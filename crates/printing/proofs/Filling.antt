@@ -14,6 +14,7 @@ use Rattle.std.proofs.KnownBytes.{Consumes-trans}
 use Rattle.reads.specs.declared.answer.Question.TheVariants.{BundleLength}
 use Rattle.pointers.specs.declared.setting.Setting.{Setting}
 use Rattle.listing.proofs.Measured.{too_long}
+use Rattle.printing.specs.BundleLent.{input_size}
 use Rattle.printing.specs.BundleText.{bundle_opening, bundle_text}
 use Rattle.printing.specs.LineText.{refused_text}
 use Rattle.printing.specs.Filled.{Fills}
@@ -42,18 +43,18 @@ long_text u bytes h = rw (← too_long bytes h)
 
 -- The listing of what was read of an input whose bytes are known, where no read failed: that of all of them.
 pub whole_input : (u : Setting) (all : List ℕ) (after : Option (List ℕ)) (r : Filled) (to : List ℕ) → Fills (Some all) after r to → r.whole ≡ true
-    → length to ≡ 32769 → bundle_text u (take r.len to) ≡ bundle_text u all
+    → length to ≡ input_size → bundle_text u (take r.len to) ≡ bundle_text u all
 whole_input u all None r to f e long = absurd f.taken
-whole_input u all (Some left) r to f e long = go (nat_lt r.len 32769) refl
+whole_input u all (Some left) r to f e long = go (nat_lt r.len input_size) refl
   where
     got : length (take r.len to) ≡ r.len
     got = length-take-le r.len to f.inside
 
-    go : (t : Bool) → nat_lt r.len 32769 ≡ t → bundle_text u (take r.len to) ≡ bundle_text u all
+    go : (t : Bool) → nat_lt r.len input_size ≡ t → bundle_text u (take r.len to) ≡ bundle_text u all
     go true h =
         ap (bundle_text u)
-        (sym (f.taken ∙ ap (λ (rest : List ℕ). take r.len to ++ rest) (f.ends e (omega (arith, ltb-true r.len 32769 h))) ∙ append-nil (take r.len to)))
+        (sym (f.taken ∙ ap (λ (rest : List ℕ). take r.len to ++ rest) (f.ends e (omega (arith, ltb-true r.len input_size h))) ∙ append-nil (take r.len to)))
     go false h =
-        let full = ltb-false r.len 32769 h in
+        let full = ltb-false r.len input_size h in
         long_text u (take r.len to) (omega (arith, got, full))
         ∙ sym (long_text u all (rw f.taken (simp length-append (omega (arith, got, full)))))

@@ -1,6 +1,6 @@
 -- Under either reading the text that is to come after a bundle was decoded and opened is the bundle's text, marks included, whatever the words, the index and the ledger held.
 use Rattle.std.specs.Prelude.{Option, Some}
-use Prim.Native.Nat.{ℕ, ◌+◌, ◌*◌, ◌≤◌, ◌<◌}
+use Prim.Native.Nat.{ℕ, ◌*◌, ◌≤◌, ◌<◌}
 use mathlib.Core.Path.{◌≡◌, refl, sym, ap, ◌∙◌, subst}
 use mathlib.Core.Bool.{true, false}
 use mathlib.Core.List.{List, ◌++◌, flat_map, append-nil}
@@ -10,7 +10,6 @@ use lib.Seq.{length-take-le, take_at}
 use Rattle.reads.specs.Files.{longest}
 use Rattle.reads.specs.Outcome.{Outcome, value, absent, refused, and_then}
 use Rattle.pointers.specs.Open.{Opened, opening, opened_index}
-use Rattle.reads.specs.Table.{records}
 use Rattle.pointers.specs.Tables.{Tables, under, with_index}
 use Rattle.pointers.specs.declared.setting.Setting.{Setting}
 use Rattle.pointers.proofs.OpenedTables.{opened_under}
@@ -33,7 +32,8 @@ use Rattle.marking.specs.declared.framed.Framed.{Framed}
 use Rattle.marking.proofs.Framing.{framed_given, index_accepted}
 use Rattle.marking.proofs.StepsLeft.{start_words, marked_words_kept}
 use Rattle.marking.proofs.WholeMarked.{whole_marked}
-use Rattle.printing.specs.BundleLent.{table_words, words_by, words_after, tables_in, opening_by, opening_in, index_by, index_after, tables_by, tables_lent}
+use Rattle.pointers.specs.Index.{index_length}
+use Rattle.printing.specs.BundleLent.{index_size, ledger_size, piece_size, table_words, words_by, words_after, tables_in, opening_by, opening_in, index_by, index_after, tables_by, tables_lent}
 use Rattle.printing.specs.BundleText.{index_words, bundle_tables, bundle_opening, listing_text, opened_text, bundle_text}
 use Rattle.printing.specs.LineText.{line_text, refused_text}
 use Rattle.printing.specs.Pieces.{Standing, standing, to_come, begun, pieces}
@@ -80,7 +80,7 @@ listing_comes t o f l classes categories =
     ∙ ap (λ (x : Outcome (List Line)). listing_text t.files (and_then x (λ ls. value (marked_lines f.frames ls)))) (sym lines.is)
 
 -- A ledger of 8,192 words is always enough for files of at most 32,768 bytes.
-ledger_room : (t : Tables) → Opened t → longest t.files ≤ 32768 → (l : List ℕ) → length l ≡ 8192
+ledger_room : (t : Tables) → Opened t → longest t.files ≤ 32768 → (l : List ℕ) → length l ≡ ledger_size
     → (first second : ℕ) → first < 5 → second < 5 → slot_count t.sections first second ≤ length l
 ledger_room t o short l long first second a b = omega (arith, pair_slots t o first second a b)
 
@@ -90,7 +90,7 @@ over_comes u t v (value f) l e = let z : ◌≡◌ {A = ℕ} 0 1 = cc in absurd 
 over_comes u t v (absent r) l e = come_step t (begun u (absent r) l) (begun_sound u (absent r) l)
 over_comes u t v (refused k) l e = come_step t (begun u (refused k) l) (begun_sound u (refused k) l) ∙ append-nil (refused_text k)
 
-module _ (u : Setting) (bytes : List ℕ) (c : Counts) (a : Accepted bytes c) (more index l : List ℕ) (room : 10240 ≤ length index) (long : length l ≡ 8192) where
+module _ (u : Setting) (bytes : List ℕ) (c : Counts) (a : Accepted bytes c) (more index l : List ℕ) (room : index_size ≤ length index) (long : length l ≡ ledger_size) where
   abbrev words_read : List ℕ
   words_read = words_from bytes segments_at (table_words c) ++ more
 
@@ -130,7 +130,7 @@ module _ (u : Setting) (bytes : List ℕ) (c : Counts) (a : Accepted bytes c) (m
     index_opened =
         sym (index_accepted given (tables_in bytes c words_read index) f.frames (framed_given given (bundled bytes c zeros) f accepts).frames)
 
-    asks : (i : List ℕ) → length i ≡ index_words c → length i ≡ 8192 + records 2 (bundled bytes c i).rebases + records 4 (bundled bytes c i).binds
+    asks : (i : List ℕ) → length i ≡ index_words c → length i ≡ index_length (bundled bytes c i).rebases (bundled bytes c i).binds
     asks i h = h ∙ sym (index_asks bytes c a)
 
     old_opens : opening (bundled bytes c old) ≡ value info
@@ -177,7 +177,7 @@ module _ (u : Setting) (bytes words index l : List ℕ) where
   abbrev opened : List ℕ
   opened = index_after bytes words_decoded index
 
-  module _ (room : 10240 ≤ length index) (long : length l ≡ 8192) where
+  module _ (room : index_size ≤ length index) (long : length l ≡ ledger_size) where
     pub printed : to_come (tables_lent bytes words_decoded opened) (begun u (opening_in bytes words_decoded index) l) ≡ bundle_text u bytes
     unfolding bundle_text bundle_opening
     printed =
@@ -189,10 +189,10 @@ module _ (u : Setting) (bytes words index l : List ℕ) where
         (over_comes u _ (under u (with_index (bundle_tables bytes) (opened_index (bundle_tables bytes)))) (refused BundleLength) l refl)
 
     -- The pieces that are handed out, one after the other, are the bundle's text.
-    pub printed_pieces : (k : ℕ) → pieces (tables_lent bytes words_decoded opened) 4096 k (begun u (opening_in bytes words_decoded index) l) ≡ take (k * 4096) (bundle_text u bytes)
+    pub printed_pieces : (k : ℕ) → pieces (tables_lent bytes words_decoded opened) piece_size k (begun u (opening_in bytes words_decoded index) l) ≡ take (k * piece_size) (bundle_text u bytes)
     printed_pieces k =
-        pieces_text (tables_lent bytes words_decoded opened) 4096 k (begun u (opening_in bytes words_decoded index) l) (begun_sound u (opening_in bytes words_decoded index) l)
-        ∙ ap (take (k * 4096)) printed
+        pieces_text (tables_lent bytes words_decoded opened) piece_size k (begun u (opening_in bytes words_decoded index) l) (begun_sound u (opening_in bytes words_decoded index) l)
+        ∙ ap (take (k * piece_size)) printed
 
     -- The same, of what the code decoded and opened.
     pub printed_by : (w i : List ℕ) (o : Outcome Framed) (q : List ℕ → Standing) → w ≡ words_decoded → i ≡ index_after bytes w index → o ≡ opening_in bytes w index

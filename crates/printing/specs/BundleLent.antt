@@ -11,9 +11,26 @@ use Rattle.marking.specs.declared.framed.Framed.{Framed}
 use Rattle.printing.specs.BundleText.{index_words}
 use Rattle.printing.specs.declared.bundle.Buffers.{Buffers}
 
+-- The buffers' sizes, for a bundle of at most 32,768 bytes: words of the tables, of which there are at most 4,084; of the index, at most 8,192 +
+-- 2,034; of the ledger, at most 8,138; bytes of a piece of the text; bytes of the input, one more than the longest bundle has.
+abbrev pub words_size : ℕ
+words_size = 4096
+
+abbrev pub index_size : ℕ
+index_size = 10240
+
+abbrev pub ledger_size : ℕ
+ledger_size = 8192
+
+abbrev pub piece_size : ℕ
+piece_size = 4096
+
+abbrev pub input_size : ℕ
+input_size = 32769
+
 -- The buffers of a whole listing, all zeros.
 abbrev pub cleared : Buffers
-cleared = record { words = replicate 4096 0; index = replicate 10240 0; ledger = replicate 8192 0; out = replicate 4096 0 }
+cleared = record { words = replicate words_size 0; index = replicate index_size 0; ledger = replicate ledger_size 0; out = replicate piece_size 0 }
 
 -- The words of a bundle's four tables.
 abbrev pub table_words : Counts → ℕ

@@ -1,5 +1,5 @@
 // Text into a buffer that the caller lends, which takes a part of it.
-ghost use Rattle.std.specs.Prelude.{ℕ, min, max, ◌+◌, ◌*◌, ◌^◌, [], ◌∷◌};
+ghost use Rattle.std.specs.Prelude.{ℕ, min, max, [], ◌∷◌};
 ghost use Rattle.io.specs.Digits.{last_digits, IsDigitCount};
 ghost use Rattle.reads.specs.Reference.{before};
 ghost use Rattle.printing.specs.Buffer.{Puts, hex_text, hex_word, decimal_text};

@@ -1,6 +1,5 @@
 // The listing of a bundle: its tables are decoded, opened, and its text handed out piece by piece. Each call writes nothing with its own
-// number. The buffers' sizes are those of the longest bundle, 32,768 bytes: its tables have at most 4,084 words, its index at most 8,192 +
-// 2,034, and the two lists of a section walk at most 8,138 slots. One byte more of input tells a longer bundle.
+// number. The buffers' sizes are those of the longest bundle, 32,768 bytes.
 // The buffers come one by one where a call fills some and only reads others: what it reads is `&` and what it fills is `&mut`, so its type says what stays.
 // Were they one struct, each such call would promise of all its other buffers that they stay. A whole listing fills all: it is lent `Buffers`.
 ghost use Rattle.std.specs.Prelude.{◌≡◌, [], ◌∷◌, length, drop, MatchResult};
@@ -8,7 +7,7 @@ ghost use Rattle.reads.specs.Reference.{before};
 ghost use Rattle.reads.specs.Files.{files_lent, files_of};
 ghost use Rattle.listing.specs.Bundle.{Accepted, bundle_counts, bundled_files};
 ghost use Rattle.printing.specs.BundleText.{index_words};
-ghost use Rattle.printing.specs.BundleLent.{cleared, table_words, words_after, tables_over, opening_in, index_after, tables_lent};
+ghost use Rattle.printing.specs.BundleLent.{cleared, piece_size, table_words, words_after, tables_over, opening_in, index_after, tables_lent};
 ghost use Rattle.printing.specs.Pieces.{standing_of, to_come, handed_of, piece_of};
 ghost use Rattle.reads.specs.Answer.{answered, outcome};
 ghost use Rattle.reads.specs.Outcome.{refused, value};
@@ -24,14 +23,26 @@ use pointers::tables::Tables;
 use reads::answer::{Missing, Question};
 use reads::place::Image;
 
+// The words of the tables: at most 4,084.
+pub const WORDS: usize = 4096;
+
+// The words of the index: at most 8,192 + 2,034.
+pub const INDEX: usize = 10240;
+
+// The words of the ledger: the two lists of a section walk have at most 8,138 slots.
+pub const LEDGER: usize = 8192;
+
+// The bytes of a piece of the text.
+pub const PIECE: usize = 4096;
+
 // What a whole listing fills: the words of the tables, the index, the ledger, and the text on its way out. The input is no field: a part of it is lent
 // to be read while these are filled.
 #[derive(Drop)]
 pub struct Buffers {
-    pub words: [u64; 4096],
-    pub index: [u32; 10240],
-    pub ledger: [u64; 8192],
-    pub out: [u8; 4096],
+    pub words: [u64; WORDS],
+    pub index: [u32; INDEX],
+    pub ledger: [u64; LEDGER],
+    pub out: [u8; PIECE],
 }
 
 impl Buffers {
@@ -40,10 +51,10 @@ impl Buffers {
         ensures { result ≡ cleared }
     {
         Buffers {
-            words: [0; 4096],
-            index: [0; 10240],
-            ledger: [0; 8192],
-            out: [0; 4096],
+            words: [0; WORDS],
+            index: [0; INDEX],
+            ledger: [0; LEDGER],
+            out: [0; PIECE],
         }
     }
 }
@@ -103,7 +114,7 @@ impl<'a> Bundle<'a> {
     fn tables<'b>(
         &self,
         files: &'b [&'b [u8]],
-        words: &'b [u64; 4096],
+        words: &'b [u64; WORDS],
         index: &'b [u32],
     ) -> Tables<'b>
     where
@@ -131,7 +142,7 @@ impl<'a> Bundle<'a> {
 }
 
 // Question 13; then the words of the bundle's tables.
-pub fn decode(input: &[u8], words: &mut [u64; 4096]) -> Result<Counts, Question>
+pub fn decode(input: &[u8], words: &mut [u64; WORDS]) -> Result<Counts, Question>
     ensures outcome { answered result ≡ bundle_counts (before input) }
     ensures contents { words.new ≡ words_after (before input) words.old }
 {
@@ -142,7 +153,7 @@ pub fn decode(input: &[u8], words: &mut [u64; 4096]) -> Result<Counts, Question>
 }
 
 // Question 13; then opening, of the tables that the words hold; then 23.
-pub fn open(input: &[u8], words: &[u64; 4096], index: &mut [u32; 10240]) -> Result<Framed, Missing>
+pub fn open(input: &[u8], words: &[u64; WORDS], index: &mut [u32; INDEX]) -> Result<Framed, Missing>
     ensures outcome { outcome result ≡ opening_in (before input) (before words) index.old }
     ensures contents { index.new ≡ index_after (before input) (before words) index.old }
 {
@@ -181,15 +192,15 @@ fn piece_of_none(progress: Progress, ledger: &mut [u64], out: &mut [u8]) -> Piec
 pub fn next_piece(
     progress: Progress,
     input: &[u8],
-    words: &[u64; 4096],
-    index: &[u32; 10240],
-    ledger: &mut [u64; 8192],
-    out: &mut [u8; 4096],
+    words: &[u64; WORDS],
+    index: &[u32; INDEX],
+    ledger: &mut [u64; LEDGER],
+    out: &mut [u8; PIECE],
 ) -> Piece
     ensures piece { let t = tables_lent (before input) (before words) (before index) in
-        handed_of result ledger.new out.new ≡ piece_of t (standing_of progress ledger.old) 4096 out.old }
+        handed_of result ledger.new out.new ≡ piece_of t (standing_of progress ledger.old) piece_size out.old }
     ensures rest { let t = tables_lent (before input) (before words) (before index) in
-        to_come t (standing_of result.progress ledger.new) ≡ drop 4096 (to_come t (standing_of progress ledger.old)) }
+        to_come t (standing_of result.progress ledger.new) ≡ drop piece_size (to_come t (standing_of progress ledger.old)) }
 {
     match Bundle::of(input) {
         Ok(bundle) => {

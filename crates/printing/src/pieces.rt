@@ -2,7 +2,7 @@
 ghost use Rattle.std.specs.Prelude.{◌<◌, ◌^◌, ◌≡◌, length, drop};
 ghost use Rattle.std.proofs.Math.Seq.{paste};
 ghost use Rattle.reads.specs.Answer.{missed, outcome};
-ghost use Rattle.reads.specs.Files.{files_lent, files_of, longest};
+ghost use Rattle.reads.specs.Files.{files_of, longest};
 ghost use Rattle.pointers.specs.Tables.{reading_new, reading_under};
 ghost use Rattle.listing.specs.ListingAnswer.{said_of};
 ghost use Rattle.listing.proofs.Remaining.{goes_on};

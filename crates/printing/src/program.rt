@@ -12,6 +12,9 @@ use crate::write::{Written, write_under};
 use reads::text::Reading;
 use std::io::{Read, Write};
 
+// The bytes of the input: one more than the longest bundle has tells a longer one.
+pub const INPUT: usize = 32769;
+
 // The descriptor of standard error, which every program begins with.
 const STDERR: i32 = 2;
 
@@ -54,7 +57,7 @@ pub fn list_input<R: Read, W: Write>(
     reading: Reading,
     unwritten: &[u8],
     refused: &[u8],
-    input: &mut [u8; 32769],
+    input: &mut [u8; INPUT],
     buffers: &mut Buffers,
 ) -> Listed
     ensures read { Fills (R.remaining from.old) (R.remaining from.new) result.input input.new }
@@ -86,7 +89,7 @@ pub fn list_whole<R: Read, W: Write>(
 ) -> Listed
     ensures { Lists (R.remaining from.old) (R.remaining from.new) (W.contents to.old) (W.contents to.new) (reading_under reading) result }
 {
-    let mut input = [0u8; 32769];
+    let mut input = [0u8; INPUT];
     let mut buffers = Buffers::new();
     list_input(
         from,

@@ -3,12 +3,12 @@ ghost use Rattle.std.specs.Prelude.{◌≡◌, true, []};
 ghost use Rattle.std.specs.Io.KnownBytes.{Appends};
 ghost use Rattle.reads.specs.Reference.{before};
 ghost use Rattle.pointers.specs.Tables.{reading_under};
-ghost use Rattle.printing.specs.BundleLent.{tables_lent};
+ghost use Rattle.printing.specs.BundleLent.{piece_size, tables_lent};
 ghost use Rattle.printing.specs.BundleText.{bundle_text};
 ghost use Rattle.printing.specs.Pieces.{standing_of, to_come};
 ghost use Rattle.printing.specs.Written.{HandedOver};
 
-use crate::bundle::{Buffers, decode, next_piece, open};
+use crate::bundle::{Buffers, INDEX, LEDGER, PIECE, WORDS, decode, next_piece, open};
 use crate::pieces::Progress;
 use reads::text::Reading;
 use std::io::Write;
@@ -26,13 +26,13 @@ pub fn write_pieces<W: Write>(
     to: &mut W,
     start: Progress,
     input: &[u8],
-    words: &[u64; 4096],
-    index: &[u32; 10240],
-    ledger: &mut [u64; 8192],
-    out: &mut [u8; 4096],
+    words: &[u64; WORDS],
+    index: &[u32; INDEX],
+    ledger: &mut [u64; LEDGER],
+    out: &mut [u8; PIECE],
 ) -> Written
     ensures handed { let t = tables_lent (before input) (before words) (before index) in
-        HandedOver 4096 t (standing_of start ledger.old) out.old (standing_of result.progress ledger.new) out.new }
+        HandedOver piece_size t (standing_of start ledger.old) out.old (standing_of result.progress ledger.new) out.new }
     ensures written { let t = tables_lent (before input) (before words) (before index) in
         (result.whole ≡ true → Appends (W.contents to.old) (W.contents to.new) (to_come t (standing_of start ledger.old))) }
     ensures whole { let t = tables_lent (before input) (before words) (before index) in

@@ -1,5 +1,5 @@
 // A sheet: which bytes of a window of a file are used. The caller lends it: fixed memory, no heap.
-ghost use Rattle.std.specs.Prelude.{◌≡◌, ◌+◌, ◌-◌, ◌/◌, ◌<◌, ◌≤◌, ℕ, List, ◌∷◌};
+ghost use Rattle.std.specs.Prelude.{◌≡◌, ◌-◌, ◌<◌, ◌≤◌, ℕ, List, ◌∷◌};
 ghost use Rattle.ranges.specs.Range.{range};
 ghost use Rattle.ranges.specs.Sheet.{window, marked_at, with_bit, with_bits, lowered_to, noted_from, noted};
 

@@ -38,9 +38,9 @@ lowest_is_next_break va (b ∷ bs) = sym (lowest_lower va None b bs) ∙ ap (λ 
 
 module _ (s : Segment) where
   -- A file of fewer than 2^64 bytes has no offset past 64 bits.
-  pub part_by : (n k r : ℕ) → n < 2 ^ 64 → r ≡ min (min s.vmsize s.filesize) (n + 1 - k - s.fileoff) → r ≡ readable_part n k s
+  pub mapped_by : (n k r : ℕ) → n < 2 ^ 64 → r ≡ min (min s.vmsize s.filesize) (n + 1 - k - s.fileoff) → r ≡ readable_part n k s
   unfolding readable_part
-  part_by n k r h e = let p : min (2 ^ 64) (n + 1 - k) ≡ n + 1 - k = omega arith in rw p e
+  mapped_by n k r h e = let p : min (2 ^ 64) (n + 1 - k) ≡ n + 1 - k = omega arith in rw p e
 
   pub readable_part_size : (n k : ℕ) → readable_part n k s ≤ s.vmsize
   unfolding readable_part

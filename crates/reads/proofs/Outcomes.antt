@@ -1,14 +1,14 @@
 -- Laws of outcomes, in the form in which a proof of code uses them: w is an answer of the code whose outcome is x.
-use Rattle.std.proofs.Common.{◌≡◌, ℕ, ◌+◌, ◌^◌, ◌<◌, ◌≤◌, refl, ap, ◌∙◌, arith, le-ltb, lt-ltb, ne_eqb}
-use Rattle.reads.specs.Outcome.{Outcome, value, absent, refused, and_then, because, or_first, or_zero, or_empty, choose, sum64, nonzero}
-use Rattle.reads.specs.Answer.{missed, outcome}
+use Rattle.std.proofs.Common.{◌≡◌, ℕ, ◌+◌, ◌^◌, ◌<◌, ◌≤◌, refl, sym, ap, ◌∙◌, arith, le-ltb, lt-ltb, ne_eqb}
+use Rattle.reads.specs.Outcome.{Outcome, value, absent, refused, and_then, because, optional, or_first, or_zero, or_empty, choose, sum64, nonzero}
+use Rattle.reads.specs.Answer.{answered, missed, outcome}
 use Rattle.reads.specs.declared.answer.Reason.{Reason}
 use Rattle.reads.specs.declared.answer.Reason.TheVariants.{NullAddress, FieldOverflow}
 use Rattle.reads.specs.declared.answer.Missing.{Missing}
 use Rattle.reads.specs.declared.answer.Missing.TheVariants.{Absent, Refused}
 use Rattle.reads.specs.declared.place.Place.{Place}
 use Rattle.reads.specs.declared.text.Text.{Text}
-use Rattle.std.specs.Prelude.{Result, Ok, Err}
+use Rattle.std.specs.Prelude.{Option, Some, None, Result, Ok, Err}
 use Rattle.reads.specs.declared.answer.Question.{Question}
 
 pub sum_fits : (a b : ℕ) → a + b < 2 ^ 64 → sum64 a b ≡ value (a + b)
@@ -44,6 +44,40 @@ pub then_came : {A B : Type 0} (o : Outcome A) (f : A → Outcome B) (b : B) →
 then_came (value a) f b e = (a, refl, e)
 then_came (absent r) f b e = let z : ◌≡◌ {A = ℕ} 0 1 = cc in absurd (omega arith)
 then_came (refused k) f b e = let z : ◌≡◌ {A = ℕ} 0 1 = cc in absurd (omega arith)
+
+-- Chains that go on alike are alike.
+pub then_alike : {A B : Type 0} (o : Outcome A) {f g : A → Outcome B} → ((a : A) → f a ≡ g a) → and_then o f ≡ and_then o g
+then_alike (value a) h = h a
+then_alike (absent r) h = refl
+then_alike (refused k) h = refl
+
+-- What a lookup gave, by what is there.
+module _ {A : Type 0} where
+  pub some_value : (o : Outcome A) {a : A} → optional o ≡ value (Some a) → o ≡ value a
+  some_value (value b) {a} e = let f : b ≡ a = cc in ap (λ (x : A). value x) f
+  some_value (absent why) e = let z : ◌≡◌ {A = ℕ} 0 1 = cc in absurd (omega arith)
+  some_value (refused k) e = let z : ◌≡◌ {A = ℕ} 0 1 = cc in absurd (omega arith)
+
+  pub none_absent : (o : Outcome A) → optional o ≡ value None → (why : Reason) × (o ≡ absent why)
+  none_absent (value b) e = let z : ◌≡◌ {A = ℕ} 0 1 = cc in absurd (omega arith)
+  none_absent (absent why) e = (why, refl)
+  none_absent (refused k) e = let z : ◌≡◌ {A = ℕ} 0 1 = cc in absurd (omega arith)
+
+  pub same_refused : (o : Outcome A) {k : Question} → optional o ≡ refused k → o ≡ refused k
+  same_refused (value b) e = let z : ◌≡◌ {A = ℕ} 0 1 = cc in absurd (omega arith)
+  same_refused (absent why) e = let z : ◌≡◌ {A = ℕ} 0 1 = cc in absurd (omega arith)
+  same_refused (refused j) {k} e = let f : j ≡ k = cc in ap (λ (x : Question). refused x) f
+
+  -- As the code asks.
+  module _ {o : Outcome A} {r : Result (Option A) Question} (e : answered r ≡ optional o) where
+    pub there_is : {f : Option A} {a : A} → r ≡ Ok f → f ≡ Some a → o ≡ value a
+    there_is was is = some_value o (sym e ∙ ap answered (was ∙ ap Ok is))
+
+    pub none_is : {f : Option A} → r ≡ Ok f → f ≡ None → (why : Reason) × (o ≡ absent why)
+    none_is was is = none_absent o (sym e ∙ ap answered (was ∙ ap Ok is))
+
+    pub refused_is : {k : Question} → r ≡ Err k → o ≡ refused k
+    refused_is was = same_refused o (sym e ∙ ap answered was)
 
 -- What is missing stays so.
 pub missed_then : {A B : Type 0} (m : Missing) (f : A → Outcome B) → missed m ≡ and_then (missed m) f

@@ -1,11 +1,11 @@
--- The bytes of a part that are there, as the code cuts them.
-use Prim.Native.Nat.{ℕ, ◌-◌, min}
+-- The bytes of a part that are there, as the code cuts them; and parts written one behind the other.
+use Prim.Native.Nat.{ℕ, suc, ◌+◌, ◌-◌, min}
 use mathlib.Core.Path.{◌≡◌, sym, ap, ◌∙◌}
-use mathlib.Core.List.{List}
+use mathlib.Core.List.{List, [], ◌∷◌, ◌++◌}
 use native.Mathlib.Omega.{arith}
 use native.Mathlib.Decide.{dec_le}
-use lib.ListN.{length, take, drop, drop_of_length-le, length-take, length-drop}
-use lib.Seq.{take_all, take-take}
+use lib.ListN.{length, set, take, drop, drop_of_length-le, length-take, length-drop}
+use lib.Seq.{sets, take_all, take-take}
 use Rattle.reads.specs.Place.{part}
 
 pub take_there : (k n : ℕ) (l : List ℕ) → k ≡ min n (length l) → take k l ≡ take n l
@@ -23,3 +23,9 @@ pub part_by : (bytes : List ℕ) (offset len from k : ℕ) → from ≡ min offs
     → part bytes offset len ≡ take k (drop from bytes)
 part_by bytes offset len from k e h =
     sym (take_there k len (drop from bytes) (simp length-drop h) ∙ ap (take len) (drop_there from offset bytes e))
+
+pub sets_append : (l a b : List ℕ) (i : ℕ) → sets l i (a ++ b) ≡ sets (sets l i a) (i + length a) b
+sets_append l [] b i = let same : i + 0 ≡ i = omega arith in rw same
+sets_append l (x ∷ a) b i =
+    let same : i + suc (length a) ≡ suc i + length a = omega arith in
+    rw same (sets_append (set l i x) a b (suc i))

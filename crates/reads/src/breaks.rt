@@ -8,7 +8,7 @@ use crate::segment::Segment;
 
 // How many addresses of the segment, from its first on, lie in its file part and have `least` bytes from there on in a
 // file of n bytes.
-#[tactic(auto, using(crate::proofs::BreakSteps::part_by), unfolding(crate::specs::Segment::mapped_size))]
+#[tactic(auto, using(crate::proofs::BreakSteps::mapped_by), unfolding(crate::specs::Segment::mapped_size))]
 fn readable_part(s: Segment, n: u64, least: u64) -> u64
     ensures { result ≡ readable_part n least s }
 {

@@ -1,5 +1,5 @@
 // Spots: the place of an address together with its room, so that what lies near it is read without another lookup.
-ghost use Rattle.std.specs.Prelude.{◌≡◌, ◌<◌, true, false};
+ghost use Rattle.std.specs.Prelude.{◌≡◌, true, false};
 ghost use Rattle.reads.specs.Reference.{before};
 ghost use Rattle.reads.specs.Segment.{ends, holds};
 ghost use Rattle.reads.specs.Spot.{distance, spot_at, spot_in, readable_spot};

@@ -11,7 +11,7 @@ use Rattle.pointers.specs.Slot.{LookupOutcome}
 use Rattle.pointers.proofs.OpenedTables.{opened_info, rebase_unrefused, symbol_unrefused, slot_unrefused, pointer_unrefused, pointer_or_0_unrefused}
 use Rattle.pointers.proofs.LookupNumbers.{numbers_then, numbers_else, numbers_first, numbers_choose, info_unrefused, rebase_numbers, symbol_numbers, slot_numbers, pointer_numbers, pointer_or_0_numbers}
 use Rattle.records.proofs.Headers.{even_unrefused, size_unrefused}
-use Rattle.records.specs.Ask.{picked_in, Ask, sum64, nonzero, even, at_least, readable, u32_in, u64_in, i32_in, u64_at, picked, picked_at, slot, rebase, pointer, pointer_or0, string, symbol, info, answer}
+use Rattle.records.specs.Ask.{Ask, sum64, nonzero, even, at_least, readable, u32_in, u64_in, i32_in, u64_at, picked, picked_at, slot, rebase, pointer, pointer_or0, string, symbol, info, answer}
 use Rattle.records.specs.Decode.{Decode, made, asked, after, either, either_first, chosen, trial, given, lacking, tried_of, run}
 use Rattle.records.specs.Class.{class_at, ro_of, class_name_of, decode_class, decode_ro_of, decode_class_name_of}
 use Rattle.records.specs.Protocol.{protocol_at, decode_protocol}
@@ -34,7 +34,6 @@ numbers_tried lookups.is_14 = lookups.is_14
 
 module _ (t : Tables) (o : Opened t) where
   answer_unrefused : (q : Ask) → Unrefused (answer t q)
-  unfolding picked_in
   answer_unrefused (sum64 va k) = sum_unrefused va k
   answer_unrefused (nonzero x) = nonzero_unrefused x
   answer_unrefused (even va) = even_unrefused va
@@ -85,7 +84,6 @@ module _ (t : Tables) (o : Opened t) where
 -- Over any tables a definition gives no number but 9, 7 and 14.
 module _ (t : Tables) where
   answer_numbers : (q : Ask) → LookupOutcome (answer t q)
-  unfolding picked_in
   answer_numbers (sum64 va k) = lookups.unrefused (sum_unrefused va k)
   answer_numbers (nonzero x) = lookups.unrefused (nonzero_unrefused x)
   answer_numbers (even va) = lookups.unrefused (even_unrefused va)

@@ -4,7 +4,6 @@ pub mod Headers
 pub mod Jumps
 pub mod Windows
 pub mod Readables
-pub mod Stages
 pub mod NearFields
 pub mod Decodes
 pub mod Asks

@@ -5,22 +5,18 @@ use mathlib.Core.Path.{◌≡◌, refl, sym, ap, ◌∙◌}
 use mathlib.Core.Bool.{true}
 use mathlib.Core.List.{List, [], ◌∷◌}
 use Rattle.reads.specs.Outcome as outcomes
-use Rattle.reads.specs.Outcome.{Outcome, value, absent, refused, and_then, or_zero}
+use Rattle.reads.specs.Outcome.{or_zero}
 use Rattle.pointers.specs.Open.{Opened}
 use Rattle.pointers.specs.Slot.{rebase_at, resolve, pointer_at, pointer_or0_at}
 use Rattle.pointers.specs.Sorted.{ascending}
 use Rattle.pointers.specs.Tables.{Tables, image_in, under}
 use Rattle.pointers.specs.declared.setting.Setting.{Setting}
+use Rattle.reads.proofs.Outcomes.{then_alike}
 use Rattle.pointers.proofs.OpenedTables.{rebase_by_either}
 use Rattle.records.specs.Ask.{Ask, sum64, nonzero, even, at_least, readable, u32_in, u64_in, i32_in, u64_at, picked, picked_at, slot, rebase, pointer, pointer_or0, string, symbol, info}
 use Rattle.records.specs.Asks.{asks, Each}
 use Rattle.records.specs.Decode.{Decode, run}
 use Rattle.records.proofs.Asks.{AnswerAlike, asks_decide}
-
-then_alike : {A B : Type 0} (o : Outcome A) {f g : A → Outcome B} → ((a : A) → f a ≡ g a) → and_then o f ≡ and_then o g
-then_alike (value a) h = h a
-then_alike (absent r) h = refl
-then_alike (refused k) h = refl
 
 module _ (t : Tables) (o : Opened t) (e : ascending t.rebases ≡ true) (u v : Setting) (same : u.reading ≡ v.reading) where
   rebase_alike : (a : ℕ) → rebase_at t.rebases t.index u a ≡ rebase_at t.rebases t.index v a

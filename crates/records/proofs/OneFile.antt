@@ -5,13 +5,13 @@ use mathlib.Core.Path.{◌≡◌, refl, ap}
 use mathlib.Core.List.{List, [], ◌∷◌}
 use lib.ListN.{get_or, replicate}
 use Rattle.reads.specs.Outcome as outcomes
-use Rattle.reads.specs.Outcome.{Outcome, value, absent, refused, and_then, or_else, or_first, choose}
-use Rattle.reads.specs.Address as address
+use Rattle.reads.specs.Outcome.{Outcome, value, and_then, or_else, or_first, choose}
 use Rattle.reads.specs.Files.{file_of}
 use Rattle.reads.specs.Place.{le_in, word_in}
 use Rattle.reads.specs.Relative.{signed32, signed_in}
 use Rattle.reads.specs.declared.place.Place.{Place}
 use Rattle.reads.proofs.OneImage as image
+use Rattle.reads.proofs.Outcomes.{then_alike}
 use Rattle.reads.proofs.OneFile.{Widened, in_file, texts_in_file, readable_one, word_one, picked_one, text_one}
 use Rattle.pointers.specs.ImageInfo.{image_info}
 use Rattle.pointers.specs.Slot.{rebase_at}
@@ -19,7 +19,7 @@ use Rattle.pointers.specs.Tables.{Tables, under, tables_of}
 use Rattle.pointers.specs.declared.setting.Setting.{Setting}
 use Rattle.pointers.proofs.OneImage as one
 use Rattle.pointers.proofs.OneFile.{resolve_one, pointer_one, pointer_or_0_one, symbol_one}
-use Rattle.records.specs.Ask.{picked_in, even_list, entry_size, Ask, Answer, answer, sum64, nonzero, even, at_least, readable, u32_in, u64_in, i32_in, u64_at, picked, picked_at, slot, rebase, pointer, pointer_or0, string, symbol, info}
+use Rattle.records.specs.Ask.{even_list, entry_size, Ask, Answer, answer, sum64, nonzero, even, at_least, readable, u32_in, u64_in, i32_in, u64_at, picked, picked_at, slot, rebase, pointer, pointer_or0, string, symbol, info}
 use Rattle.records.specs.Decode.{Decode, made, asked, after, either, either_first, chosen, trial, tried_of, run}
 
 -- What a caller lent: the image, and tables with four words a segment and three a bind.
@@ -93,7 +93,7 @@ module _ (b : Lent) (segments binds : List ℕ) (n : ℕ) (s : Widened 4 b.segme
   empties = replicate n []
 
   answer_one : (q : Ask) → answer over q ≡ answer_before b q
-  unfolding word_in signed_in picked_in
+  unfolding word_in signed_in
   answer_one (sum64 va k) = refl
   answer_one (nonzero x) = refl
   answer_one (even va) = refl
@@ -104,12 +104,7 @@ module _ (b : Lent) (segments binds : List ℕ) (n : ℕ) (s : Widened 4 b.segme
   answer_one (i32_in p i) = rw (file_same b.image n p.file)
   answer_one (u64_at va) = word_one s b.image empties 8 va
   answer_one (picked x) = picked_one s x
-  answer_one (picked_at a) = rw (word_one s b.image empties 8 a) (go (image.word (image_of_lent b) 8 a))
-    where
-      go : (o : Outcome ℕ) → and_then o (address.picked segments) ≡ and_then o (image.picked b.segments)
-      go (value x) = picked_one s x
-      go (absent r) = refl
-      go (refused k) = refl
+  answer_one (picked_at a) = rw (word_one s b.image empties 8 a) (then_alike (image.word (image_of_lent b) 8 a) (picked_one s))
   answer_one (slot a) = resolve_one s b.image empties b.rebases b.index b.setting a
   answer_one (rebase a) = refl
   answer_one (pointer va k) = pointer_one s b.image empties b.rebases b.index b.setting va k
@@ -118,16 +113,11 @@ module _ (b : Lent) (segments binds : List ℕ) (n : ℕ) (s : Widened 4 b.segme
   answer_one (symbol a) = symbol_one w b.image empties b.rebases b.index a
   answer_one info = refl
 
-  then_one : {A B : Type 0} (o : Outcome A) {f g : A → Outcome B} → ((a : A) → f a ≡ g a) → and_then o f ≡ and_then o g
-  then_one (value a) h = h a
-  then_one (absent r) h = refl
-  then_one (refused k) h = refl
-
   -- Every definition of a record, a row or a name gives what it gave.
   pub one_file_decodes : {A : Type 0} (d : Decode A) → run over d ≡ run_before b d
   one_file_decodes (made a) = refl
   one_file_decodes (asked q) = answer_one q
-  one_file_decodes (after d f) = rw (one_file_decodes d) (then_one (run_before b d) (λ a. one_file_decodes (f a)))
+  one_file_decodes (after d f) = rw (one_file_decodes d) (then_alike (run_before b d) (λ a. one_file_decodes (f a)))
   one_file_decodes (either d e) = rw (one_file_decodes d, one_file_decodes e)
   one_file_decodes (either_first d e) = rw (one_file_decodes d, one_file_decodes e)
   one_file_decodes (chosen c d e) = rw (one_file_decodes d, one_file_decodes e)

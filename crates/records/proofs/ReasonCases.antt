@@ -20,7 +20,7 @@ use Rattle.pointers.specs.Chain.{follow_from, follow}
 use Rattle.pointers.specs.ImageInfo.{image_info, bit}
 use Rattle.pointers.specs.Slot.{rebase_at, bind_at, symbol_of, stored, resolve, pointer_at, pointer_or0_at}
 use Rattle.pointers.specs.Tables.{Tables, tables_of}
-use Rattle.records.specs.Ask.{picked_in, even_list, entry_size}
+use Rattle.records.specs.Ask.{even_list, entry_size}
 use Rattle.records.specs.Class.{class_at, class_ro_at, ro_of, class_name_at, class_name_of, bits_of, decode_data, decode_class, decode_ro_lists, decode_class_ro, decode_ro_of, decode_ro_data, decode_class_name, decode_nonzero_class_name, decode_bound_name, decode_class_name_of}
 use Rattle.records.specs.Category.{category_at, decode_category_properties, decode_category_lists, decode_category_of, decode_category}
 use Rattle.records.specs.List.{method_rows, list_at, decode_list}
@@ -81,7 +81,7 @@ class_name_reasons : class_name_at (zeros 39 0x1000 39) 0x1000
     ∷ class_name_at (rebased 0x7FE0) 0x7FE0
     ∷ []
     ≡ absent Unreadable ∷ absent FieldOverflow ∷ absent Unreadable ∷ absent NoData ∷ absent FieldOverflow ∷ absent Unresolved ∷ absent NullAddress ∷ []
-unfolding file_of decode_class_name decode_ro_data picked_in picked picked_wide mapped data_arm64e data64 pointer_at readable readable_at lookup rows tabulate ends holds placed sum64 resolve rebase_at follow follow_from stored stripped word le text_in nonzero choose
+unfolding file_of decode_class_name decode_ro_data picked picked_wide mapped data_arm64e data64 pointer_at readable readable_at lookup rows tabulate ends holds placed sum64 resolve rebase_at follow follow_from stored stripped word le text_in nonzero choose
 class_name_reasons = refl
 
 -- A superclass's or host class's name that no bind gives either: the reason is why the class's own is missing. A class at 0; one that is not
@@ -91,7 +91,7 @@ host_name_reasons : class_name_of (zeros 40 0x1000 40) 0x1000 0
     ∷ class_name_of (zeros 40 0x1000 40) 0x1000 0x1000
     ∷ []
     ≡ absent NullAddress ∷ absent Unreadable ∷ absent NoData ∷ []
-unfolding file_of decode_class_name_of decode_nonzero_class_name decode_bound_name decode_class_name decode_ro_data picked_in picked picked_wide mapped data_arm64e data64 symbol_of bind_at readable readable_at lookup rows tabulate ends holds placed sum64 rebase_at follow follow_from word le nonzero choose
+unfolding file_of decode_class_name_of decode_nonzero_class_name decode_bound_name decode_class_name decode_ro_data picked picked_wide mapped data_arm64e data64 symbol_of bind_at readable readable_at lookup rows tabulate ends holds placed sum64 rebase_at follow follow_from word le nonzero choose
 host_name_reasons = refl
 
 -- A protocol of size 96 with the name `P` at 0x100, the name's segment after its own.

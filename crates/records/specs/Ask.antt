@@ -15,7 +15,7 @@ use Rattle.pointers.specs.Bytes as bytes
 use Rattle.pointers.specs.Tables.{Tables, image_in}
 use Rattle.pointers.specs.declared.imageinfo.ImageInfo.{ImageInfo}
 
--- The pick of the word in a slot.
+-- The same as `picked_at` of pointers, over an image alone.
 unfoldable pub picked_in : Image → ℕ → Outcome ℕ
 picked_in m a = and_then (places.word m 8 a) (addresses.picked m.words)
 
@@ -82,9 +82,9 @@ answer t (readable va k) = places.readable (image_in t) va k
 answer t (u32_in p i) = value (bytes.u32_in t p i)
 answer t (u64_in p i) = value (bytes.u64_in t p i)
 answer t (i32_in p i) = value (bytes.i32_in t p i)
-answer t (u64_at va) = places.word (image_in t) 8 va
+answer t (u64_at va) = bytes.u64_at t va
 answer t (picked w) = addresses.picked t.segments w
-answer t (picked_at a) = picked_in (image_in t) a
+answer t (picked_at a) = bytes.picked_at t a
 answer t (slot a) = slots.slot t a
 answer t (rebase a) = slots.rebase t a
 answer t (pointer va k) = slots.pointer t va k

@@ -1,10 +1,9 @@
 // Classes and their read-only records (objc-runtime-new.h, class_t and class_ro_t).
 ghost use Rattle.std.specs.Prelude.{◌≡◌, ◌≤◌};
-ghost use Rattle.reads.specs.Outcome.{or_zero};
 ghost use Rattle.pointers.specs.ImageInfo.{bit};
-ghost use Rattle.pointers.specs.Tables.{image_in};
+ghost use Rattle.pointers.specs.Bytes.{picked_at};
 ghost use Rattle.records.specs.Class.{bits_of, data_at, class_at, ro_lists_at, class_ro_at, ro_of, ro_data_at, class_name_at, bound_name, decoded_name, class_name_of, fast_flags, is_swift};
-ghost use Rattle.records.specs.Ask.{picked_in};
+ghost use Rattle.records.specs.Header.{ro_size};
 ghost use Rattle.reads.specs.Answer.{outcome};
 
 use crate::near::Near;
@@ -13,7 +12,7 @@ use pointers::slot::{pointer, rebase_at, slot_or_0, symbol_at};
 use pointers::tables::Tables;
 use reads::address::Address;
 use reads::answer::{Missing, because, checked_add, nonzero, or_zero};
-use reads::place::{Image, read_u64, readable, u32_in};
+use reads::place::{read_u64, readable, u32_in};
 use reads::text::Text;
 
 // A class or metaclass.
@@ -96,7 +95,7 @@ pub fn class_at(tables: &Tables, va: u64, is_meta: bool) -> Result<ObjcClass, Mi
 // What stands behind the name of a class_ro_t: its lists, and the weak ivar layout among them; each or 0.
 #[tactic(auto, using(reads::proofs::Outcomes::missed_then), unfolding(crate::specs::Class::decode_ro_lists))]
 fn ro_lists_at(ro: &Near) -> Result<RoLists, Missing>
-    requires { 72 ≤ ro.now.size }
+    requires { ro_size ≤ ro.now.size }
     ensures { outcome result ≡ ro_lists_at ro.now.tables.now ro.now.va }
 {
     let methods = ro.field_or_0(ClassRo::BASE_METHODS)?;
@@ -157,18 +156,19 @@ fn ro_data_at(tables: &Tables, slot: u64) -> Result<u64, Missing>
         outcome result ≡ ro_data_at t slot }
 {
     match rebase_at(tables, slot) {
-        Err(Missing::Absent(_)) => picked_at(tables.image(), slot),
+        Err(Missing::Absent(_)) => picked_at(tables, slot),
         target => target,
     }
 }
 
 // The pick of the word in a slot.
-#[tactic(auto, using(reads::proofs::Outcomes::missed_then), unfolding(crate::specs::Ask::picked_in))]
-fn picked_at(image: &Image, slot: u64) -> Result<u64, Missing>
-    ensures { outcome result ≡ picked_in image.now slot }
+#[tactic(auto, using(reads::proofs::Outcomes::missed_then))]
+fn picked_at(tables: &Tables, slot: u64) -> Result<u64, Missing>
+    ensures { let t = tables.now in
+        outcome result ≡ picked_at t slot }
 {
-    let raw = read_u64(image, slot)?;
-    Address::pick(image.segments, raw)
+    let raw = read_u64(tables.image(), slot)?;
+    Address::pick(tables.segments(), raw)
 }
 
 // The name of the class at an address, by its class_ro_t's name slot alone.

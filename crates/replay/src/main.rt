@@ -8,6 +8,7 @@ ghost use Rattle.std.specs.Result.{IfOk};
 
 use printing::bundle::Buffers;
 use printing::descriptor::Descriptor;
+use printing::program::INPUT;
 use printing::write::write_under;
 use reads::text::Reading;
 use std::fs::File;
@@ -68,7 +69,7 @@ fn write_listings(to: &mut Descriptor, input: &[u8], buffers: &mut Buffers) -> R
 fn replay_bundle(
     file: &mut File,
     to: &mut Descriptor,
-    input: &mut [u8; 32769],
+    input: &mut [u8; INPUT],
     buffers: &mut Buffers,
 ) -> Result<(), Failure> {
     let n = read_part(file, input)?;
@@ -86,7 +87,7 @@ fn replay_all(
     file: &mut File,
     to: &mut Descriptor,
     count: u64,
-    input: &mut [u8; 32769],
+    input: &mut [u8; INPUT],
     buffers: &mut Buffers,
 ) -> Result<(), Failure> {
     for _ in 0..count {
@@ -99,7 +100,7 @@ fn replay_all(
 // The whole file.
 fn replay_file(file: &mut File, to: &mut Descriptor) -> Result<(), Failure> {
     let count = read_word(file)?;
-    let mut input = [0u8; 32769];
+    let mut input = [0u8; INPUT];
     let mut buffers = Buffers::new();
     replay_all(file, to, count, &mut input, &mut buffers)
 }

@@ -24,7 +24,7 @@ use Rattle.pointers.specs.Slot as slots
 use Rattle.pointers.specs.Slot.{bind_at, symbol_of, stored, resolve, pointer_at, pointer_or0_at}
 use Rattle.pointers.specs.Symbol.{stripped_in, stripped_name}
 use Rattle.pointers.specs.Tables.{Tables, image_in}
-use Rattle.records.specs.Ask.{picked_in, Ask, sum64, nonzero, even, at_least, readable, u32_in, u64_in, i32_in, u64_at, picked, picked_at, slot, rebase, pointer, pointer_or0, string, symbol, info, answer}
+use Rattle.records.specs.Ask.{Ask, sum64, nonzero, even, at_least, readable, u32_in, u64_in, i32_in, u64_at, picked, picked_at, slot, rebase, pointer, pointer_or0, string, symbol, info, answer}
 use Rattle.records.specs.Asks.{if_value, if_absent, Each, asks}
 use Rattle.records.specs.Decode.{Decode, run}
 use Rattle.records.proofs.Asks.{each_left, each_right, asks_decide}
@@ -171,7 +171,7 @@ module _ (t : Tables) (files : List (List ℕ)) (index : List ℕ)
       (λ name g. record { outcome = rw g.0 refl; ranges = refl }))
 
   answer_alike : (q : Ask) → Each Common (uses t q) → AlikeOver q
-  unfolding signed_in picked_in
+  unfolding signed_in
   answer_alike (sum64 va k) h = record { outcome = refl; ranges = refl }
   answer_alike (nonzero x) h = record { outcome = refl; ranges = refl }
   answer_alike (even va) h = record { outcome = refl; ranges = refl }

@@ -2,7 +2,6 @@
 -- would meet them too).
 use Prim.Native.Nat.{ℕ, ◌^◌, ◌-◌}
 use mathlib.Core.Path.{◌≡◌, refl}
-use mathlib.Core.Bool.{true}
 use mathlib.Core.List.{List, [], ◌∷◌, ◌++◌, flat_map}
 use lib.ListN.{replicate}
 use Rattle.reads.specs.Outcome.{value, choose, sum64, nonzero}

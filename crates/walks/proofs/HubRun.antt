@@ -28,7 +28,7 @@ use Rattle.pointers.specs.Symbol.{starts, fitting, stripped_in}
 use Rattle.pointers.proofs.OpenedTables.{opened_follow_rebase, opened_follow_bind}
 use Rattle.pointers.proofs.Questions.{question_yes}
 use Rattle.records.specs.Class.{bits_of, decode_data, class_at, decode_class, class_ro_at, decode_ro_lists, decode_class_ro, ro_of, decode_ro_of, decode_ro_data, decode_class_name, decode_nonzero_class_name, decode_bound_name, decode_class_name_of, class_name_of, superclass_name}
-use Rattle.records.specs.Ask.{picked_in, even_list, entry_size}
+use Rattle.records.specs.Ask.{even_list, entry_size}
 use Rattle.records.specs.List.{method_rows, list_at, decode_list, entry}
 use Rattle.walks.specs.PlainWalk.{told, refusal, steps, plain_step, plain_walk, shown_all, Loans, loans_end, loan_opened, loan_refused, handed_out}
 use Rattle.records.specs.Row.{method_of, legacy_imp, decode_legacy_method, row_at, decode_row}
@@ -301,5 +301,5 @@ hub_superclass = rw (opened_follow_bind hub hub_opened 0x1008, question_yes File
 
 -- Where a class decodes, its name goes before the bind: here were the class its own superclass.
 pub decoded_before_bind : class_name_of hub 0x1000 0x1000 ≡ value (text_of 0 0x90 3)
-unfolding file_of decode_class_name_of decode_nonzero_class_name decode_class_name decode_ro_data picked_in picked picked_wide mapped data_arm64e readable readable_at lookup rows ends holds placed sum64 stored word stripped le text_in text_from text utf8 judge nonzero choose counted
+unfolding file_of decode_class_name_of decode_nonzero_class_name decode_class_name decode_ro_data picked picked_wide mapped data_arm64e readable readable_at lookup rows ends holds placed sum64 stored word stripped le text_in text_from text utf8 judge nonzero choose counted
 decoded_before_bind = rw (no_rebase_lem 0x1020, pointer_stored 0x1028 24 0x1040 0x1090 refl refl)

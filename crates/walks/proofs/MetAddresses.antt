@@ -72,14 +72,14 @@ module _ {A : Type 0} (k : Kind A) (t : Tables) where
     refusing : (n : Question) → Keeps w l (stays w l n)
     refusing n = unfinished (λ h. let z : ◌≡◌ {A = ℕ} 0 1 = cc in omega arith) refl
 
-    by_record_lem : (after : A → ℕ) (on : ℕ → Walk) (new : List ℕ) → ((n : ℕ) → ahead (on n) new ≡ ahead w l) → (o : Outcome A) → Keeps w l (by_record w l after on new o)
-    by_record_lem after on new e (value c) = unfinished (λ h. let z : ◌≡◌ {A = ℕ} 0 1 = cc in omega arith) (e (after c))
-    by_record_lem after on new e (absent r) = unfinished (λ h. let z : ◌≡◌ {A = ℕ} 0 1 = cc in omega arith) (e 0)
-    by_record_lem after on new e (refused n) = refusing n
+    record_keeps : (after : A → ℕ) (on : ℕ → Walk) (new : List ℕ) → ((n : ℕ) → ahead (on n) new ≡ ahead w l) → (o : Outcome A) → Keeps w l (by_record w l after on new o)
+    record_keeps after on new e (value c) = unfinished (λ h. let z : ◌≡◌ {A = ℕ} 0 1 = cc in omega arith) (e (after c))
+    record_keeps after on new e (absent r) = unfinished (λ h. let z : ◌≡◌ {A = ℕ} 0 1 = cc in omega arith) (e 0)
+    record_keeps after on new e (refused n) = refusing n
 
     waiting_keeps : Keeps w l (take_waiting k t w l)
     unfolding take_waiting
-    waiting_keeps = by_record_lem (λ c. 0) (walk w.slot w.used w.highest) l (λ n. refl) (k.waited t w.waiting)
+    waiting_keeps = record_keeps (λ c. 0) (walk w.slot w.used w.highest) l (λ n. refl) (k.waited t w.waiting)
 
     end_keeps : w.slot ≡ length slots → Keeps w l (leaves (value finished) w l)
     unfolding addresses_in gather
@@ -100,7 +100,7 @@ module _ {A : Type 0} (k : Kind A) (t : Tables) where
       new_keeps : (a : ℕ) → w.used < length l → address_in t (get_or slots w.slot 0) ≡ value a → among a (met_in w l) ≡ false → Keeps w l (take_new k t w l a)
       unfolding take_new
       new_keeps a r e m =
-          by_record_lem k.after (walk (w.slot + 1) (w.used + 1) (max w.highest a)) (set l w.used a)
+          record_keeps k.after (walk (w.slot + 1) (w.used + 1) (max w.highest a)) (set l w.used a)
           (λ n. rw (add-one, take-suc-set l w.used a r) (rw (← add-one, slot_more e) (end_new (met_in w l) a m later)))
           (k.decoded t a)
 

@@ -1,5 +1,5 @@
 -- A worked example: five slots in class_list and nlclslist, of which two repeat an address, one is 0 and one does not decode.
-use Prim.Native.Nat.{ℕ}
+use Prim.Native.Nat.{ℕ, ◌*◌}
 use mathlib.Core.Path.{◌≡◌, refl}
 use mathlib.Core.Bool.{true, false}
 use mathlib.Core.List.{List, [], ◌∷◌, ◌++◌, map}
@@ -11,7 +11,7 @@ use Rattle.reads.specs.Segment.{rows, ends, holds, placed, lookup}
 use Rattle.reads.specs.Address.{stripped, data_arm64e, data64, mapped, picked_wide, picked}
 use Rattle.reads.specs.Relative.{slot_address}
 use Rattle.reads.specs.declared.answer.Reason.TheVariants.{Unreadable}
-use Rattle.pointers.specs.Tables.{Tables, tables_of, with_index}
+use Rattle.pointers.specs.Tables.{Tables, chains, tables_of, with_index}
 use Rattle.pointers.specs.Question.{question, image_fits, whole_rows, segment_files, section_fits, every, section_table, info_whole, index_fits, asked_tables, asked_index, asked_lent}
 use Rattle.pointers.specs.Section.{section_at}
 use Rattle.pointers.specs.Chain.{follow_from, follow}
@@ -41,7 +41,7 @@ bytes =
 -- class_list has the first three, nlclslist the last two.
 abbrev pub example : Tables
 example =
-    tables_of (bytes ∷ []) (4096 ∷ 72 ∷ 0 ∷ 72 ∷ 0 ∷ []) (1 ∷ 4136 ∷ 24 ∷ 1 ∷ 4152 ∷ 16 ∷ 0 ∷ 0 ∷ 0 ∷ 0 ∷ 0 ∷ 0 ∷ 0 ∷ 0 ∷ 0 ∷ []) (replicate 8 0) [] [] (replicate 8192 0)
+    tables_of (bytes ∷ []) (4096 ∷ 72 ∷ 0 ∷ 72 ∷ 0 ∷ []) (1 ∷ 4136 ∷ 24 ∷ 1 ∷ 4152 ∷ 16 ∷ 0 ∷ 0 ∷ 0 ∷ 0 ∷ 0 ∷ 0 ∷ 0 ∷ 0 ∷ 0 ∷ []) (replicate 8 0) [] [] (replicate (2 * chains) 0)
 
 abbrev pub listed_class : ObjcClass
 listed_class = record { address = 4096; isa = 4104; superclass_address = 0; bits = 0; is_meta = false }
@@ -100,6 +100,6 @@ unfolding file_of plain_classes listed with_meta addresses_in gather section_slo
 plain_case = refl
 
 -- With an index of which each word is 7 every chain begins above the record count: 9, which is not left out.
-pub plain_number : plain_classes (with_index example (replicate 8192 7)) ≡ refused ChainOrder
+pub plain_number : plain_classes (with_index example (replicate (2 * chains) 7)) ≡ refused ChainOrder
 unfolding plain_classes listed addresses_in gather section_slots slots_from section_at slot_address decode_address resolve rebase_at follow follow_from choose
 plain_number = refl

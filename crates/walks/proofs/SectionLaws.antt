@@ -20,11 +20,11 @@ use Rattle.walks.proofs.SlotLaws.{met_by_greatest}
 use Rattle.reads.specs.declared.answer.Question.{Question}
 
 -- A question that refuses the slot refuses the step.
-slot_step : {A : Type 0} (w : Walk) (l : List ℕ) (f : ℕ → Left A) (o : Outcome (Unit {0})) (x : TakenSlot)
+slot_refuses : {A : Type 0} (w : Walk) (l : List ℕ) (f : ℕ → Left A) (o : Outcome (Unit {0})) (x : TakenSlot)
     → by_slot w l f (unless_refused o slot_refused x) ≡ unless_refused o (stays w l) (by_slot w l f x)
-slot_step w l f (value u) x = refl
-slot_step w l f (absent r) x = refl
-slot_step w l f (refused k) x = refl
+slot_refuses w l f (value u) x = refl
+slot_refuses w l f (absent r) x = refl
+slot_refuses w l f (refused k) x = refl
 
 module _ {A : Type 0} (k : Kind A) (t : Tables) (w : Walk) (l : List ℕ) where
   pub waiting_on : {x : Left A} → asked_ledger t (slots_in k t) w.slot w.used (length l) ≡ value tt → x ≡ take_waiting k t w l → x ≡ next_waiting k t w l
@@ -45,7 +45,7 @@ module _ {A : Type 0} (k : Kind A) (t : Tables) (w : Walk) (l : List ℕ) where
   step_slot lists i h n e =
       rw (choose_true (take_slot (met_below w.highest (met_in w l)) k t w l) (take_waiting k t w l) (eq-eqb w.waiting 0 h))
       (e ∙ ap (by_slot w l (take_new k t w l)) (rw i at n)
-      ∙ slot_step w l (take_new k t w l) (asked_ledger t (slots_in k t) w.slot w.used (length l)) (first_met (met_below w.highest (met_in w l)) (slot_taken t (slots_in k t) w.slot)))
+      ∙ slot_refuses w l (take_new k t w l) (asked_ledger t (slots_in k t) w.slot w.used (length l)) (first_met (met_below w.highest (met_in w l)) (slot_taken t (slots_in k t) w.slot)))
 
 -- A record is taken by the step that its decoding is.
 module _ {A : Type 0} (w : Walk) (l : List ℕ) (after : A → ℕ) (on : ℕ → Walk) (new : List ℕ) (x : Step A) where
@@ -109,4 +109,4 @@ pub protocol_step_lem : (t : Tables) (slot : ℕ) (l : List ℕ) {x : Left ObjcP
     → x ≡ protocol_step_of t (walk slot 0 0 0) l
 unfolding protocol_step_of next_slot
 protocol_step_lem t slot l e =
-    e ∙ slot_step (walk slot 0 0 0) l (take_protocol t (walk slot 0 0 0) l) (asked_slot t (slots_of Protocols t.sections) slot 0) (slot_taken t (slots_of Protocols t.sections) slot)
+    e ∙ slot_refuses (walk slot 0 0 0) l (take_protocol t (walk slot 0 0 0) l) (asked_slot t (slots_of Protocols t.sections) slot 0) (slot_taken t (slots_of Protocols t.sections) slot)

@@ -108,14 +108,14 @@ module _ (t : Tables) (opened : Opened t) (k : ListKind) (list : ℕ) where
   opened_unrefused p l =
       rw (opened_asked t opened, question_yes WalkState (leb p (count_of (list_at t k list))) (le-leb p (count_of (list_at t k list)) l)) (list_unrefusing p (list_unrefused t k list))
 
-  row_step : (p j : ℕ) {o : Outcome Row} → Unrefused o → settles (walk_of t.setting list k p) j o ≡ shown t.setting k list (settling j o)
-  row_step p j (a_value r) = refl
-  row_step p j (an_absence r) = refl
+  row_settles : (p j : ℕ) {o : Outcome Row} → Unrefused o → settles (walk_of t.setting list k p) j o ≡ shown t.setting k list (settling j o)
+  row_settles p j (a_value r) = refl
+  row_settles p j (an_absence r) = refl
 
   search_step : (p : ℕ) (h : Layout) (o : Option ℕ) → first_readable (image_in t) h p ≡ o
       → searched t (walk_of t.setting list k p) h o ≡ shown t.setting k list (go_on t h (left_from t h p))
   search_step p h (Some j) e =
-      rw (rest_of_some (image_in t) h p j e) (row_step p j (row_unrefused t opened h.kind (entry_address h j)))
+      rw (rest_of_some (image_in t) h p j e) (row_settles p j (row_unrefused t opened h.kind (entry_address h j)))
   search_step p h None e = rw (rest_of_none (image_in t) h p e)
 
   list_step : (p : ℕ) {o : Outcome Layout} → Unrefused o → p ≤ count_of o → over_rows t (walk_of t.setting list k p) o ≡ shown t.setting k list (plain_over t p o)

@@ -3,7 +3,7 @@
 ghost use Rattle.std.specs.Prelude.{◌≡◌, List, ℕ, ◌+◌, ◌^◌, ◌<◌, length};
 ghost use Rattle.reads.specs.Answer.{outcome};
 ghost use Rattle.reads.specs.Outcome.{refused};
-ghost use Rattle.pointers.specs.Tables.{Tables, under};
+ghost use Rattle.pointers.specs.Tables.{Tables};
 ghost use Rattle.walks.specs.Slots.{Room};
 ghost use Rattle.walks.specs.Sections.{meta_of, Walk, walk, at_start, Left, Kind, classes, categories, take_waiting, next_waiting, take_new, step_of, take_protocol, protocol_step_of, class_slots, category_slots, protocol_slots, record_taken, record_answer, record_step, decoded_step, waits_after, by_record};
 

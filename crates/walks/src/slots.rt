@@ -162,7 +162,7 @@ fn ledger_fits(sections: &[u64], lists: Lists, words: usize) -> bool
 
 // Takes slot k, or there is none.
 #[tactic(auto, using(crate::proofs::SlotLaws::taken_none, crate::proofs::SlotLaws::taken_by_lem))]
-fn take_slot(tables: &Tables, lists: Lists, k: u64) -> Result<SlotStep, Question>
+fn slot_taken(tables: &Tables, lists: Lists, k: u64) -> Result<SlotStep, Question>
     requires { k ≤ length (slots_of lists tables.now.sections) }
     ensures { let t = tables.now in
         slot_outcome result ≡ slot_taken t (slots_of lists tables.now.sections) k }
@@ -193,7 +193,7 @@ pub(crate) fn next_slot(tables: &Tables, lists: Lists, slot: u64) -> Result<Slot
     if !slot_fits(sections, lists, slot, 0) {
         return Err(Question::WalkState);
     }
-    take_slot(tables, lists, slot)
+    slot_taken(tables, lists, slot)
 }
 
 impl SlotWalk {
@@ -233,7 +233,7 @@ impl SlotWalk {
         ensures few { length (slots_of lists tables.now.sections) < 2 ^ 62 }
     {
         self.ask_ledger(tables, lists, ledger.len())?;
-        let step = take_slot(tables, lists, self.slot)?;
+        let step = slot_taken(tables, lists, self.slot)?;
         Ok(first_met(step, &ledger[..self.used as usize], self.highest))
     }
 

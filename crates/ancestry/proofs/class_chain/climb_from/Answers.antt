@@ -1,6 +1,7 @@
 use native.Mathlib.Omega.{arith}
 use Rattle.std.proofs.lemmas.Result.{err_from_is_err_and}
-use Rattle.ancestry.proofs.Climbs.{climbing_starts, climbing_next, climbing_hold, climbing_back, climbing_far, climbing_ended, climbing_refused, there_is, none_is, refused_is, limit_small}
+use Rattle.ancestry.proofs.Climbs.{climbing_starts, climbing_next, climbing_hold, climbing_back, climbing_far, climbing_ended, climbing_refused, limit_small}
+use Rattle.reads.proofs.Outcomes.{there_is, none_is, refused_is}
 use Rattle.ancestry.proofs.class_chain.climb_from.Goals.{then-count-hold, else-count-hold}
 use Rattle.ancestry.proofs.class_chain.climb_from.Goals as goal
 

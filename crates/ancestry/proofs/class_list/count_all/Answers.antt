@@ -1,6 +1,6 @@
 use native.Mathlib.Omega.{arith}
 use Rattle.std.proofs.lemmas.Result.{err_from_is_err_and}
-use Rattle.ancestry.proofs.Climbs.{refused_is}
+use Rattle.reads.proofs.Outcomes.{refused_is}
 use Rattle.ancestry.proofs.Lists.{count_more, count_same, count_refused, count_end}
 use Rattle.ancestry.proofs.class_list.count_all.Goals.{then-is_some, else-is_some}
 use Rattle.ancestry.proofs.class_list.count_all.Goals as goal

@@ -8,12 +8,12 @@ returns-then-body-lt-SIZEOF_CHAINED_FIXUPS_HEADER c = let a = c.args in laws.hea
 pub returns-then-u32_from-ne-DYLD_CHAINED_IMPORT : goal.returns-then-u32_from-ne-DYLD_CHAINED_IMPORT
 returns-then-u32_from-ne-DYLD_CHAINED_IMPORT c =
     let a = c.args in
-    laws.other_imports a.body.now a.at a.base (omega arith) (λ e. c.if-u32_from-ne-DYLD_CHAINED_IMPORT.true (c.u32_from.ensures ∙ e))
+    laws.imports_unread a.body.now a.at a.base (omega arith) (λ e. c.if-u32_from-ne-DYLD_CHAINED_IMPORT.true (c.u32_from.ensures ∙ e))
 
 pub returns-then-u32_from-ne-SYMBOLS_UNCOMPRESSED : goal.returns-then-u32_from-ne-SYMBOLS_UNCOMPRESSED
 returns-then-u32_from-ne-SYMBOLS_UNCOMPRESSED c =
     let a = c.args in
-    laws.packed_symbols a.body.now a.at a.base (omega arith)
+    laws.symbols_unread a.body.now a.at a.base (omega arith)
     (sym c.u32_from.ensures ∙ c.if-u32_from-ne-DYLD_CHAINED_IMPORT.false) (λ e. c.if-u32_from-ne-SYMBOLS_UNCOMPRESSED.true (c.u32_from-2.ensures ∙ e))
 
 pub returns : goal.returns

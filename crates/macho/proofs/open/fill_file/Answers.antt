@@ -30,7 +30,7 @@ pub returns : goal.returns
 returns c =
     let a = c.args in let kept = c.open_tables.ensures.kept in
     let r =
-    laws.filled a.file.now a.lent.now.segments.now a.lent.now.sections.now a.lent.now.rebases.now a.lent.now.binds.now a.lent.now.index.now c.requires _ _ _ _
+    laws.filled a.file.now a.lent.now.segments.now a.lent.now.sections.now a.lent.now.rebases.now a.lent.now.binds.now a.lent.now.index.now c.requires _ _ _ _ _
     c.of-cmds.ensures.bytes c.of-cmds.ensures.count.0 c.info_section-section.ensures c.part-info.ensures.bytes c.open_tables.result c.open_tables.ensures.outcome _ c.in_ok-i.was
     _ _ _ _ c.segment_count.ensures (c.write_segments.ensures ∙ ap (λ (b : Buffers). written (segment_table_of c.of-cmds.result.bytes.now c.of-cmds.result.count) b.segments) c.open_tables.ensures.left)
     c.write_sections.ensures (ap (λ (b : Buffers). b.index) c.open_tables.ensures.left) in
@@ -45,7 +45,7 @@ returns-in_err-i c =
     let a = c.args in
     let p = err_from_is_err_and c.from_residual.result c.from_residual.ensures.1 in
     let r =
-    laws.refusing a.file.now a.lent.now.segments.now a.lent.now.sections.now a.lent.now.rebases.now a.lent.now.binds.now a.lent.now.index.now c.requires _ _ _ _
+    laws.refusing a.file.now a.lent.now.segments.now a.lent.now.sections.now a.lent.now.rebases.now a.lent.now.binds.now a.lent.now.index.now c.requires _ _ _ _ _
     c.of-cmds.ensures.bytes c.of-cmds.ensures.count.0 c.info_section-section.ensures c.part-info.ensures.bytes c.open_tables.result c.open_tables.ensures.outcome _ c.in_err-i.was
     _ refl in
     record {

@@ -19,9 +19,9 @@ returns c =
     laws.segments_back _ (segments_of a.cmds.bytes.now a.cmds.count) _ _ _ c.segment_count.ensures c.write_segments.ensures in
     let ec : c.write_sections.new.table ≡ section_table_of a.cmds.bytes.now a.cmds.count = c.write_sections.ensures in
     let e : segment_words * c.segment_count.result - 0 ≡ segment_words * c.segment_count.result = omega arith in
-    let index = rw (e, es, ec, c.new.ensures) at c.«open».ensures.contents in
+    let index = rw (e, es, ec, c.new.ensures) at c.open_unless.ensures.contents in
     record {
       kept = record { segments = refl; sections = refl; index = refl; rebases = refl; binds = refl };
-      outcome = rw (e, es, ec, c.new.ensures) at c.«open».ensures.outcome;
+      outcome = rw (e, es, ec, c.new.ensures) at c.open_unless.ensures.outcome;
       left = ap (indexed_by a.lent.now) index;
     }

@@ -11,6 +11,6 @@ returns-in-Ok c =
 
 pub returns-in-Err : goal.returns-in-Err
 returns-in-Err c =
-    let said = c.ranges_refused.ensures in
-    let refusing = opens_refused _ _ _ (sym c.new.ensures ∙ ap answered c.in-Err.is) _ _ (said.outcome, said.contents) in
-    record { outcome = refusing.0; contents = refusing.1 }
+    let refused = c.open_unless.ensures in
+    let framed = opens_refused _ _ _ (sym c.new.ensures ∙ ap answered c.in-Err.is) _ _ _ c.with_frames-in-Err.ensures (refused.outcome, refused.contents) in
+    record { outcome = framed.0; contents = framed.1 }

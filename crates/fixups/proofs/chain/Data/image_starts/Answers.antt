@@ -20,7 +20,7 @@ loop-i-init c =
     let a = c.args in
     let e : c.from-starts.result ≡ a.self.fixups.starts = c.from-starts.ensures in (
       rw c.of_kind-segments.ensures (ap (λ x. told x (state_in a.lists.now))
-          (laws.starts_in a.self.file.now a.self.body.now a.self.cmds.bytes.now a.self.fixups (segments_of a.self.cmds.bytes.now a.self.cmds.count) c.u32_from-total.result (omega arith) (rw e at c.u32_from-total.ensures))),
+          (laws.starts_there a.self.file.now a.self.body.now a.self.cmds.bytes.now a.self.fixups (segments_of a.self.cmds.bytes.now a.self.cmds.count) c.u32_from-total.result (omega arith) (rw e at c.u32_from-total.ensures))),
       kept _,
     )
 
