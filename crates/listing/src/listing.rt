@@ -467,7 +467,8 @@ impl Listing {
         self.if_asked(tables, listed)
     }
 
-    // One step.
+    // One step. Inlined into the loop that takes the steps: a call would copy the whole state in and out at each (docs/PERFORMANCE.md).
+    #[inline(always)]
     pub fn next(self, tables: &Tables, ledger: &mut [u64]) -> Listed
         ensures { let t = tables.now in
             left_of result ledger.new ≡ listing_step t (state_of self) ledger.old }

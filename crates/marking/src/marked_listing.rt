@@ -105,7 +105,8 @@ impl MarkedListing {
         }
     }
 
-    // The next step.
+    // The next step; inlined as the listing's is.
+    #[inline(always)]
     pub fn next(self, tables: &Tables, ledger: &mut [u64]) -> MarkedListed
         ensures { let t = tables.now in
             marked_left_of result ledger.new ≡ marked_step t (marking_of self) ledger.old }

@@ -115,7 +115,8 @@ impl Progress {
         self.said.is_err()
     }
 
-    // The next step of the listing.
+    // The next step of the listing; inlined as that is.
+    #[inline(always)]
     fn step(self, tables: &Tables, ledger: &mut [u64]) -> Progress
         ensures { let t = tables.now in
             standing_of result ledger.new ≡ stepped t (standing_of self ledger.old) }

@@ -6,18 +6,25 @@ use native.Mathlib.Nat.{mul-zero, mul-le-mul, le_dest, mul-le-mul_right, div-mul
 use native.Mathlib.Omega.{arith}
 use borrow.Author.Tests.{lt-ltb, le-ltb}
 use Rattle.reads.specs.Breaks.{can_read, breaks_of, next_break}
+use Rattle.reads.specs.Answer.{outcome}
 use Rattle.reads.specs.Place.{Image}
+use Rattle.reads.specs.Spot.{readable_spot}
+use Rattle.reads.specs.declared.answer.Missing.{Missing}
+use Rattle.reads.specs.declared.spot.Spot.{Spot}
+use Rattle.reads.proofs.CanRead.{can_read_value, can_read_missing}
 use Rattle.reads.proofs.Breakpoints.{can_read_until_break, unreadable_past_breaks, above_few}
 use Rattle.reads.proofs.LeastAbove.{next_break_above, above_falls}
 use Rattle.records.specs.List.{least, entry_address, entry}
 use Rattle.records.specs.Search.{first_readable, search_budget}
-use Rattle.records.specs.Tries.{ahead, Leads}
+use Rattle.records.specs.Tries.{Finds, ahead, Leads}
+use Rattle.records.specs.declared.list.Found.{Found}
 use Rattle.records.specs.declared.list.Layout.{Layout}
 use Rattle.std.specs.Prelude.{Option}
 use Rattle.std.specs.declared.ops.ControlFlow.{ControlFlow}
 use Rattle.std.specs.declared.ops.ControlFlow.TheVariants.{Break, Continue}
+use Rattle.records.proofs.NearFields.{place_found, place_unreadable}
 use Rattle.records.proofs.Firsts.{first_skip, first_past, first_here, first_none}
-use Rattle.std.specs.Prelude.{Option, Some, None}
+use Rattle.std.specs.Prelude.{Some, None, Result, Ok, Err}
 
 -- An index times an entry size fits 64 bits.
 pub product_fits : (a b : ℕ) → a < 2 ^ 32 → b < 2 ^ 32 → a * b < 2 ^ 64
@@ -111,10 +118,23 @@ module _ (m : Image) (h : Layout) (i : ℕ) where
   unfolding ahead
   ahead_few = omega (arith, above_few m (least h.kind) (entry_address h i))
 
+-- Whether bytes can be read, by what the lookup of their spot gave.
+module _ (m : Image) (k va : ℕ) (w : va < 2 ^ 64) (r : Result Spot Missing) (e : outcome r ≡ readable_spot m va k) where
+  pub can_read_found : (s : Spot) → r ≡ Ok s → can_read m k va ≡ true
+  can_read_found s o = can_read_value m k va s.place (sym (place_found m va k w r e s o))
+
+  pub can_read_not : (x : Missing) → r ≡ Err x → can_read m k va ≡ false
+  can_read_not x o = can_read_missing m k va x (place_unreadable m va k w r e x o)
+
+-- What is found from one index on is found from another with the same answer.
+pub finds_from : (m : Image) (h : Layout) (i j : ℕ) (o : Option Found) → first_readable m h i ≡ first_readable m h j → Finds m h i o → Finds m h j o
+finds_from m h i j None e f = f ∙ e
+finds_from m h i j (Some x) e f = record { first = f.first ∙ e; address = f.address; spot = f.spot }
+
 -- What trying an index leaves, by the case that came.
-module _ (m : Image) (h : Layout) (i : ℕ) (r : ControlFlow (Option ℕ) ℕ) (tried : Leads m h i r) where
-  pub stopped : (entry : Option ℕ) → r ≡ Break entry → entry ≡ first_readable m h i
-  stopped entry e = rw e at tried
+module _ (m : Image) (h : Layout) (i : ℕ) (r : ControlFlow (Option Found) ℕ) (tried : Leads m h i r) where
+  pub stopped : (from : ℕ) → first_readable m h i ≡ first_readable m h from → (entry : Option Found) → r ≡ Break entry → Finds m h from entry
+  stopped from same entry e = finds_from m h i from entry same (rw e at tried)
 
   pub went : (j : ℕ) → r ≡ Continue j → (first_readable m h j ≡ first_readable m h i) × (ahead m h j < ahead m h i)
   went j e = rw e at tried

@@ -5,6 +5,7 @@ pub mod Jumps
 pub mod Windows
 pub mod Readables
 pub mod NearFields
+pub mod Unreadables
 pub mod Decodes
 pub mod Asks
 pub mod Readings

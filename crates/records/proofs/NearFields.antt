@@ -28,6 +28,11 @@ module _ (m : Image) (va size : ℕ) (w : va < 2 ^ 64) (r : Result Spot Missing)
       missed_then x (λ (s : Spot). value s.place)
       ∙ ap (λ (x : Outcome Spot). and_then x (λ (s : Spot). value s.place)) (sym (ap outcome o) ∙ e) ∙ spot_place_readable m va size w
 
+-- The bytes at a spot can be read.
+pub near_readable : (m : Image) (va size : ℕ) (s : Spot) → va < 2 ^ 64 → readable_spot m va size ≡ value s → value s.place ≡ readable m va size
+near_readable m va size s w found =
+    ap (λ (x : Outcome Spot). and_then x (λ (s : Spot). value s.place)) (sym found) ∙ spot_place_readable m va size w
+
 -- The address of a field.
 pub sum_is : (a b c : ℕ) → value c ≡ sum64 a b → c ≡ a + b
 unfolding sum64

@@ -4,6 +4,8 @@ ghost use Rattle.reads.specs.Outcome.{value, and_then};
 ghost use Rattle.reads.specs.Answer.{outcome};
 ghost use Rattle.records.specs.Row.{alignment_of, aligned_of, decode_offset_there, offset_at, ivar_at};
 ghost use Rattle.records.specs.Decode.{run};
+ghost use Rattle.records.specs.Near.{OfSize};
+ghost use Rattle.records.specs.Header.{ivar_size};
 
 use crate::near::Near;
 use crate::text::{string, string_or_empty};
@@ -82,11 +84,11 @@ fn offset_at(tables: &Tables, place: u64) -> Result<Option<u32>, Missing>
 
 // ivar_t; the offset's place is read last.
 #[tactic(auto, using(reads::proofs::Outcomes::missed_then), unfolding(crate::specs::Row::decode_ivar))]
-pub(crate) fn ivar_at(tables: &Tables, va: u64) -> Result<Ivar, Missing>
-    ensures { let t = tables.now in
-        outcome result ≡ ivar_at t va }
+pub(crate) fn ivar_near(row: &Near) -> Result<Ivar, Missing>
+    requires { OfSize row.now ivar_size }
+    ensures { outcome result ≡ ivar_at row.now.tables.now row.now.va }
 {
-    let row = Near::at(tables, va, Ivar::SIZE)?;
+    let tables = row.tables();
     let offset_va = or_zero(row.first_slot())?;
     let name_va = row.field(Ivar::NAME)?;
     let type_va = row.field_or_0(Ivar::TYPE)?;

@@ -1,12 +1,11 @@
 // Headers of method, ivar and property lists, and the search for the next entry that can be read.
 ghost use Rattle.std.specs.Prelude.{◌≡◌, ◌<◌, ◌%◌, ◌^◌};
 ghost use Rattle.reads.specs.Reference.{before};
-ghost use Rattle.reads.specs.Breaks.{can_read};
 ghost use Rattle.reads.specs.Outcome.{value, choose};
 ghost use Rattle.records.specs.Ask.{even_list, entry_size};
 ghost use Rattle.records.specs.List.{least, method_rows, rows_of, size_of, must_be_even, list_at, entry_address};
 ghost use Rattle.records.specs.Search.{first_readable, search_budget};
-ghost use Rattle.records.specs.Tries.{ahead, Leads};
+ghost use Rattle.records.specs.Tries.{Finds, ahead, Leads};
 ghost use Rattle.reads.specs.Answer.{outcome};
 
 use crate::ivar::Ivar;
@@ -17,6 +16,7 @@ use reads::answer::{Missing, Reason, checked_add, nonzero};
 use reads::breaks::next_break;
 use reads::place::{Image, readable, u32_in};
 use reads::segment::Segment;
+use reads::spot::{Spot, readable_spot};
 use std::ops::ControlFlow;
 
 // Bits of a method list's first word that are not its entry size (objc-runtime-new.h, entsize_list_tt<method_t, ..>).
@@ -173,16 +173,17 @@ pub fn list_at(tables: &Tables, kind: ListKind, va: u64) -> Result<Layout, Missi
     })
 }
 
-// Whether k bytes can be read at an address.
-fn can_read(image: &Image, k: u64, va: u64) -> bool
-    ensures { result ≡ can_read image.now k va }
-{
-    readable(image, va, k).is_ok()
+// An entry that can be read: its index, its address, and the spot of its bytes.
+#[derive(Clone, Copy)]
+pub(crate) struct Found {
+    pub(crate) index: u64,
+    pub(crate) va: u64,
+    pub(crate) spot: Spot,
 }
 
 // Tries index i: the entry there is the answer, or none from there on is, or the search goes on at the first entry whose
 // address reaches the next breakpoint.
-fn try_at(image: &Image, h: Layout, i: u64) -> ControlFlow<Option<u64>, u64>
+fn try_at(image: &Image, h: Layout, i: u64) -> ControlFlow<Option<Found>, u64>
     ensures { Leads image.now h i result }
 {
     let count = h.count as u64;
@@ -197,8 +198,8 @@ fn try_at(image: &Image, h: Layout, i: u64) -> ControlFlow<Option<u64>, u64>
     };
     let rows = h.kind;
     let k = least(rows);
-    if can_read(image, k, va) {
-        return ControlFlow::Break(Some(i));
+    if let Ok(spot) = readable_spot(image, va, k) {
+        return ControlFlow::Break(Some(Found { index: i, va, spot }));
     }
     let Some(b) = next_break(image, k, va) else {
         return ControlFlow::Break(None);
@@ -217,9 +218,9 @@ fn try_at(image: &Image, h: Layout, i: u64) -> ControlFlow<Option<u64>, u64>
 
 // Tries at most `budget` indices. Each try leaves fewer breakpoints ahead, so one of them has the answer.
 #[tactic(auto, using(crate::proofs::Jumps::stopped, crate::proofs::Jumps::went))]
-fn search(image: &Image, h: Layout, from: u64, budget: u64) -> Option<u64>
+fn search(image: &Image, h: Layout, from: u64, budget: u64) -> Option<Found>
     requires { ahead image.now h from < budget }
-    ensures { result ≡ first_readable image.now h from }
+    ensures { Finds image.now h from result }
 {
     // Not `try_fold` over the range: its end would be a last index still to go on from, so the arm that cannot come would stay.
     let mut i = from;
@@ -240,9 +241,17 @@ fn search_budget(segments: &[u64]) -> u64
 }
 
 // The first entry from an index on, below the count, that can be read.
-pub fn first_readable(image: &Image, h: Layout, from: u32) -> Option<u64>
-    ensures { result ≡ first_readable image.now h from }
+pub(crate) fn first_found(image: &Image, h: Layout, from: u32) -> Option<Found>
+    ensures { Finds image.now h from result }
 {
     let budget = search_budget(image.segments);
     search(image, h, from as u64, budget)
+}
+
+// The index of the first entry from an index on, below the count, that can be read.
+pub fn first_readable(image: &Image, h: Layout, from: u32) -> Option<u64>
+    ensures { result ≡ first_readable image.now h from }
+{
+    let found = first_found(image, h, from)?;
+    Some(found.index)
 }

@@ -3,6 +3,8 @@ ghost use Rattle.std.specs.Prelude.{◌≡◌};
 ghost use Rattle.reads.specs.Relative.{relative, signed_in};
 ghost use Rattle.reads.specs.Files.{files_of};
 ghost use Rattle.records.specs.Row.{legacy_imp, legacy_method_at, small_imp, selector_at, types_at, small_kind, small_method_at, is_small};
+ghost use Rattle.records.specs.Near.{OfSize};
+ghost use Rattle.records.specs.Header.{method_size, small_method_size};
 ghost use Rattle.reads.specs.Answer.{outcome};
 
 use crate::near::Near;
@@ -11,7 +13,7 @@ use pointers::slot::resolve_pointer;
 use pointers::tables::Tables;
 use reads::address::Address;
 use reads::answer::{Missing, checked_add};
-use reads::place::{Place, readable, u32_in};
+use reads::place::{Place, u32_in};
 use reads::relative::{i32_in, relative_pointer, signed};
 use reads::text::Text;
 
@@ -77,11 +79,11 @@ fn legacy_imp(va: u64) -> Option<u64>
 
 // method_t::big.
 #[tactic(auto, using(reads::proofs::Outcomes::missed_then), unfolding(crate::specs::Row::decode_legacy_method))]
-pub(crate) fn legacy_method_at(tables: &Tables, va: u64) -> Result<Method, Missing>
-    ensures { let t = tables.now in
-        outcome result ≡ legacy_method_at t va }
+pub(crate) fn legacy_method_near(row: &Near) -> Result<Method, Missing>
+    requires { OfSize row.now method_size }
+    ensures { outcome result ≡ legacy_method_at row.now.tables.now row.now.va }
 {
-    let row = Near::at(tables, va, Method::SIZE)?;
+    let tables = row.tables();
     let name_va = row.first_slot()?;
     let types_va = row.field(Method::TYPES)?;
     let imp_va = row.field_or_0(Method::IMP)?;
@@ -149,15 +151,13 @@ fn types_at(tables: &Tables, field: u64, p: Place) -> Result<Text, Missing>
 
 // method_t::small: both field addresses are tested before the first lookup.
 #[tactic(auto, using(reads::proofs::Outcomes::missed_then), unfolding(crate::specs::Row::decode_small_method))]
-pub(crate) fn small_method_at(
-    tables: &Tables,
-    va: u64,
-    selectors: Selectors,
-) -> Result<Method, Missing>
-    ensures { let t = tables.now in
-        outcome result ≡ small_method_at t va selectors }
+pub(crate) fn small_method_near(row: &Near, selectors: Selectors) -> Result<Method, Missing>
+    requires { OfSize row.now small_method_size }
+    ensures { outcome result ≡ small_method_at row.now.tables.now row.now.va selectors }
 {
-    let p = readable(tables.image(), va, Method::SMALL_SIZE)?;
+    let tables = row.tables();
+    let va = row.va();
+    let p = row.place();
     let types_field = checked_add(va, Method::SMALL_TYPES)?;
     let imp_field = checked_add(va, Method::SMALL_IMP)?;
     let name_va = selector_at(tables, selectors, va, p)?;

@@ -29,18 +29,41 @@ impl<'a> Near<'a> {
     ghost use Rattle.records.specs.Near.{place_of};
 
     // The record or row at an address, if so many bytes can be read there.
-    #[tactic(auto, using(crate::proofs::NearFields::place_found, crate::proofs::NearFields::place_unreadable))]
+    #[tactic(auto, using(crate::proofs::NearFields::place_unreadable))]
     pub(crate) fn at(tables: &'a Tables<'a>, va: u64, size: u64) -> Result<Near<'a>, Missing>
         ensures place { place_of result ≡ readable (image_in tables.now) va size }
         ensures record { IfOk result (λ n. (n.tables.now ≡ tables.now) × (n.va ≡ va) × (n.size ≡ size)) }
     {
         let spot = readable_spot(tables.image(), va, size)?;
-        Ok(Near {
+        Ok(Near::of(tables, va, size, spot))
+    }
+
+    // The record or row at an address whose spot is known.
+    #[tactic(auto, using(crate::proofs::NearFields::near_readable))]
+    pub(crate) fn of(tables: &'a Tables<'a>, va: u64, size: u64, spot: Spot) -> Near<'a>
+        requires { readable_spot (image_in tables.now) va size ≡ value spot }
+        ensures place { value result.spot.place ≡ readable (image_in tables.now) va size }
+        ensures record { (result.tables.now ≡ tables.now) × (result.va ≡ va) × (result.size ≡ size) }
+    {
+        Near {
             tables,
             va,
             size,
             spot,
-        })
+        }
+    }
+
+    // The tables, and its address.
+    pub(crate) fn tables(&self) -> &'a Tables<'a>
+        ensures { result.now ≡ self.now.tables.now }
+    {
+        self.tables
+    }
+
+    pub(crate) fn va(&self) -> u64
+        ensures { result ≡ self.now.va }
+    {
+        self.va
     }
 
     // Where its bytes stand.

@@ -1,11 +1,12 @@
 // Rows of property lists (objc-runtime-new.h, property_t).
 ghost use Rattle.std.specs.Prelude.{◌≡◌};
 ghost use Rattle.records.specs.Row.{property_at};
+ghost use Rattle.records.specs.Near.{OfSize};
+ghost use Rattle.records.specs.Header.{property_size};
 ghost use Rattle.reads.specs.Answer.{outcome};
 
 use crate::near::Near;
 use crate::text::{string, string_or_empty};
-use pointers::tables::Tables;
 use reads::answer::Missing;
 use reads::text::Text;
 
@@ -25,11 +26,11 @@ impl Property {
 
 // property_t, 16 bytes.
 #[tactic(auto, using(reads::proofs::Outcomes::missed_then), unfolding(crate::specs::Row::decode_property))]
-pub(crate) fn property_at(tables: &Tables, va: u64) -> Result<Property, Missing>
-    ensures { let t = tables.now in
-        outcome result ≡ property_at t va }
+pub(crate) fn property_near(row: &Near) -> Result<Property, Missing>
+    requires { OfSize row.now property_size }
+    ensures { outcome result ≡ property_at row.now.tables.now row.now.va }
 {
-    let row = Near::at(tables, va, Property::SIZE)?;
+    let tables = row.tables();
     let name_va = row.first_slot()?;
     let attributes_va = row.field_or_0(Property::ATTRIBUTES)?;
     let name = string(tables, name_va)?;

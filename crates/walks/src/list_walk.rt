@@ -1,10 +1,10 @@
 // Walks over method, ivar and property lists: each step settles the next entry that can be read.
-ghost use Rattle.std.specs.Prelude.{◌≡◌, ◌<◌, ◌^◌};
+ghost use Rattle.std.specs.Prelude.{◌≡◌, ◌+◌, ◌<◌, ◌^◌};
 ghost use Rattle.pointers.specs.Tables.{under, reading_new, reading_under};
 ghost use Rattle.reads.specs.Outcome.{value};
 ghost use Rattle.walks.specs.Handed.{hands};
 ghost use Rattle.walks.specs.Walk.{walk_of, moved, settles, over_rows, next_of, row_step, row_left};
-ghost use Rattle.records.specs.List.{list_at, entry_address};
+ghost use Rattle.records.specs.List.{list_at};
 ghost use Rattle.records.specs.Row.{row_at};
 
 use crate::stepped::Stepped;
@@ -13,8 +13,8 @@ use pointers::setting::Setting;
 use pointers::tables::Tables;
 use reads::answer::{Missing, Question, Reason};
 use reads::text::Reading;
-use records::list::{Layout, ListKind, first_readable, list_at};
-use records::row::{Row, row_at};
+use records::list::{Layout, ListKind, list_at};
+use records::row::{Entry, Row};
 
 // A walk: list address, kind and cursor, and the setting that it began with.
 #[derive(Clone, Copy)]
@@ -76,14 +76,14 @@ impl ListWalk {
         }
     }
 
-    // Settles entry j, which can be read.
-    fn settle(self, tables: &Tables, h: Layout, j: u64) -> ListStepped
-        requires { (j < h.count) × (entry_address h j < 2 ^ 64) }
-        ensures { let t = tables.now in
-            row_left result ≡ settles self j (row_at t h.kind (entry_address h j)) }
+    // Settles an entry.
+    fn settle(self, entry: &Entry) -> ListStepped
+        requires { entry.now.index + 1 < 2 ^ 32 }
+        ensures { let e = entry.now in
+            row_left result ≡ settles self e.index (row_at e.near.tables.now e.kind e.near.va) }
     {
-        let kind = h.kind;
-        match row_at(tables, kind, h.entry_address(j)) {
+        let j = entry.index();
+        match entry.row() {
             Ok(row) => self.at(ListStep::Row(row), j as u32 + 1),
             Err(Missing::Absent(why)) => { self.at(ListStep::Skipped(j as u32, why), j as u32 + 1) }
             Err(m) => Stepped::missing(self, m),
@@ -100,8 +100,8 @@ impl ListWalk {
             return Stepped::refused(self, Question::WalkState);
         }
         let cursor = self.cursor;
-        match first_readable(tables.image(), h, cursor) {
-            Some(j) => self.settle(tables, h, j),
+        match Entry::first(tables, h, cursor) {
+            Some(entry) => self.settle(&entry),
             None => self.at(ListStep::Finished, h.count),
         }
     }

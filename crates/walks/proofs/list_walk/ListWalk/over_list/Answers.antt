@@ -1,18 +1,20 @@
 use Rattle.records.proofs.Readables.{found_below_count}
-use mathlib.Core.Path.{refl}
+use mathlib.Core.Path.{refl, sym}
+use native.Mathlib.Omega.{arith}
 use Rattle.walks.specs.Walk.{over_rows}
-use Rattle.walks.proofs.Steps.{found_fits, list_on}
+use Rattle.walks.proofs.Steps.{list_on}
 use borrow.Author.Rules.{rules}
 use Rattle.walks.proofs.list_walk.ListWalk.over_list.Goals as goal
-use mathlib.Core.Path.{sym, ◌∙◌}
 
 pub settle-requires : goal.settle-requires
-settle-requires c = let e = sym c.first_readable.ensures ∙ c.in-Some.is in (found_below_count _ _ _ _ e, found_fits _ _ _ _ e)
+settle-requires c = omega (arith, found_below_count _ _ _ _ (sym c.in-Some.ensures.search))
 
 pub returns-in-Some : goal.returns-in-Some
 unfolding over_rows
-returns-in-Some c = list_on _ _ _ _ _ refl (search rules) (rw (← c.image.ensures, ← c.first_readable.ensures, c.in-Some.is) c.settle.ensures)
+returns-in-Some c =
+    let e = c.in-Some.ensures.entry in
+    list_on _ _ _ _ _ refl (search rules) (rw (← c.in-Some.ensures.search, ← e.0, ← e.1, ← e.2) c.settle.ensures)
 
 pub returns-in-None : goal.returns-in-None
 unfolding over_rows
-returns-in-None c = list_on _ _ _ _ _ refl (search rules) (rw (← c.image.ensures, ← c.first_readable.ensures, c.in-None.is) c.at.ensures)
+returns-in-None c = list_on _ _ _ _ _ refl (search rules) (rw (← c.in-None.ensures.search) c.at.ensures)

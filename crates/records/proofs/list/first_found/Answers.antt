@@ -1,7 +1,7 @@
 use mathlib.Core.Path.{◌≡◌, ap}
 use Rattle.reads.specs.Place.{Image}
 use Rattle.records.proofs.Jumps as laws
-use Rattle.records.proofs.list.first_readable.Goals as goal
+use Rattle.records.proofs.list.first_found.Goals as goal
 
 pub search-requires : goal.search-requires
 search-requires c =
