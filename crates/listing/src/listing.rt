@@ -2,7 +2,7 @@
 // state back.
 ghost use Rattle.std.specs.Prelude.{◌≡◌, ℕ, suc, List};
 ghost use Rattle.reads.specs.Outcome.{value, refused};
-ghost use Rattle.reads.specs.Reference.{before, after};
+ghost use Rattle.reads.specs.Reference.{before};
 ghost use Rattle.pointers.specs.Question.{asked};
 ghost use Rattle.pointers.specs.Tables.{under, reading_new, reading_under};
 ghost use Rattle.walks.specs.ProtocolNames.{name_left};
@@ -11,7 +11,7 @@ ghost use Rattle.listing.specs.PlainListing.{version_and_flags, name_or_none, en
 ghost use Rattle.listing.specs.declared.at.At.TheVariants as place;
 ghost use Rattle.listing.specs.Listing.{enter, start, go_to, in_section, with_record, with_entry, says, lacks, nothing, leaves, onward, after_section, on_section, record_said, class_said, category_said, record_step, by_ro, after_row, after_name, list_step, step_at, listing_step};
 ghost use Rattle.listing.specs.ListingAnswer.{section_walk_of, section_left_of, state_of, left_of};
-ghost use Rattle.reads.specs.Answer.{outcome, answered};
+ghost use Rattle.reads.specs.Answer.{outcome};
 
 use crate::absence::{Absence, SkippedEntry, UnnamedSlot};
 use crate::at::{At, FieldWalk, ListAt, Owner, Record};

@@ -1,6 +1,5 @@
 // The section walks one after the other: classes, protocols, categories.
 ghost use Rattle.std.specs.Prelude.{◌≡◌, ℕ, List};
-ghost use Rattle.reads.specs.Reference.{after};
 ghost use Rattle.walks.specs.Sections.{record_answer};
 ghost use Rattle.listing.specs.declared.at.Record.{Record as SpecRecord};
 ghost use Rattle.listing.specs.Listing.{stage_start, with_classes, with_protocols, with_categories, as_record, classes_step, protocols_step, categories_step, section_step};

@@ -12,7 +12,7 @@ use lib.Seq.{get_or-set_same, get_or-set_other}
 use borrow.Author.Tests.{lt-ltb, le-ltb, eq-eqb, ne_eqb, eqb-true, eqb-false}
 use Rattle.reads.specs.Outcome.{choose}
 use Rattle.ranges.specs.Range.{Range, range, lies}
-use Rattle.ranges.specs.Sheet.{window, sheet_file, sheet_from, marked_at, with_bit, with_bits, lowered_to, noted_from, noted, noted_all}
+use Rattle.ranges.specs.Sheet.{window, sheet_words, sheet_file, sheet_from, marked_at, with_bit, with_bits, lowered_to, noted_from, noted, noted_all}
 use Rattle.ranges.proofs.BitLaws.{bit_set}
 use Rattle.ranges.proofs.Covers.{tests_same, not_true, or_true, or_assoc, lies_in, lies_true}
 
@@ -41,7 +41,7 @@ noted_append [] ss m = refl
 noted_append (r ∷ rs) ss m = noted_append rs ss (noted r m)
 
 -- The bits of a sheet with one bit more, and with n more.
-marked_bit : (m : List ℕ) (k j : ℕ) → length m ≡ 32771 → k < window → marked_at (with_bit m k) j ≡ (eqb j k || marked_at m j)
+marked_bit : (m : List ℕ) (k j : ℕ) → length m ≡ sheet_words → k < window → marked_at (with_bit m k) j ≡ (eqb j k || marked_at m j)
 unfolding marked_at with_bit
 marked_bit m k j l h = go (eqb (j / 64) (k / 64)) refl
   where
@@ -82,7 +82,7 @@ one_more k n j = tests_same (eqb j (k + n) || lies (range 0 k n) 0 j) (lies (ran
     go a b true e = refl
     go a b false e = let d = eqb-false j (k + n) e in lies_in (range 0 k n) 0 j refl a (omega arith)
 
-pub marked_bits : (m : List ℕ) (k n j : ℕ) → length m ≡ 32771 → n ≤ window - k → marked_at (with_bits m k n) j ≡ (lies (range 0 k n) 0 j || marked_at m j)
+pub marked_bits : (m : List ℕ) (k n j : ℕ) → length m ≡ sheet_words → n ≤ window - k → marked_at (with_bits m k n) j ≡ (lies (range 0 k n) 0 j || marked_at m j)
 unfolding with_bits
 marked_bits m k zero j l h =
     rw (not_true (lies (range 0 k 0) 0 j) (λ e. let f = lies_true (range 0 k 0) 0 j e in let a = f.1 in let b = f.2 in omega arith)) refl

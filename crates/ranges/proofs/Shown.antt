@@ -11,13 +11,13 @@ use lib.Seq.{get_or-set_same, get_or-set_other}
 use borrow.Author.Tests.{ltb-true, ltb-false, eqb-true, eqb-false}
 use Rattle.reads.specs.Outcome.{choose}
 use Rattle.ranges.specs.Range.{Range, range, lies, covers}
-use Rattle.ranges.specs.Sheet.{window, sheet_file, sheet_from, sheet_next, bit_of, marked_at, headed, blank, with_bits, lowered_to, noted_from, noted, noted_all}
+use Rattle.ranges.specs.Sheet.{window, sheet_words, sheet_file, sheet_from, sheet_next, bit_of, marked_at, headed, blank, with_bits, lowered_to, noted_from, noted, noted_all}
 use Rattle.ranges.proofs.Covers.{tests_same, not_true, or_assoc, or_comm, or_false, lies_in, lies_true, lies_elsewhere}
 use Rattle.ranges.proofs.SheetLaws.{long_bits, word_kept, marked_bits}
 
 -- A sheet whose window begins at byte `from` of a file and whose word 2 was `least`, after the bytes that u has were noted.
 pub record Shows (file from least : ℕ) (m : List ℕ) (u : ℕ → Bool) : Type 0 where
-  pub long : length m ≡ 32771
+  pub long : length m ≡ sheet_words
   pub holds : sheet_file m ≡ file
   pub begins : sheet_from m ≡ from
   pub bits : (k : ℕ) → k < window → marked_at m k ≡ u (from + k)
@@ -42,7 +42,7 @@ lowered_kept : (m : List ℕ) (x i : ℕ) → i < 2 → get_or (lowered_to m x) 
 unfolding lowered_to
 lowered_kept m x i h = get_or-set_other m 2 i (min x (sheet_next m)) 0 (λ e. omega arith)
 
-lowered_next : (m : List ℕ) (x : ℕ) → length m ≡ 32771 → sheet_next (lowered_to m x) ≡ min x (sheet_next m)
+lowered_next : (m : List ℕ) (x : ℕ) → length m ≡ sheet_words → sheet_next (lowered_to m x) ≡ min x (sheet_next m)
 unfolding lowered_to
 lowered_next m x l = get_or-set_same m 2 (min x (sheet_next m)) 0 (omega arith)
 
@@ -175,13 +175,13 @@ zeros (suc n) zero = refl
 zeros (suc n) (suc i) = zeros n i
 
 -- A blank sheet shows nothing: of the zero words only their number and that they are 0 is used.
-shows_headed : (file from least : ℕ) (z : List ℕ) → length z ≡ 32771 → ((i : ℕ) → get_or z i 0 ≡ 0) → Shows file from least (headed file from least z) (λ b. false)
+shows_headed : (file from least : ℕ) (z : List ℕ) → length z ≡ sheet_words → ((i : ℕ) → get_or z i 0 ≡ 0) → Shows file from least (headed file from least z) (λ b. false)
 unfolding headed marked_at bit_of
 shows_headed file from least z l e =
     let a = set z 0 file in
     let b = set a 1 from in
-    let la : length a ≡ 32771 = simp length-set l in
-    let lb : length b ≡ 32771 = simp length-set l in
+    let la : length a ≡ sheet_words = simp length-set l in
+    let lb : length b ≡ sheet_words = simp length-set l in
     let next : sheet_next (set b 2 least) ≡ least = get_or-set_same b 2 least 0 (omega arith) in
     record {
       long = simp length-set l;
@@ -197,5 +197,5 @@ shows_headed file from least z l e =
 pub shows_ranges : (rs : List Range) (file from least : ℕ) → Shows file from least (noted_all rs (blank file from least)) (covers rs file)
 unfolding blank
 shows_ranges rs file from least =
-    shows_all rs file from least (headed file from least (replicate 32771 0)) (λ b. false)
-    (shows_headed file from least (replicate 32771 0) (length-replicate {A = ℕ} 32771 0) (zeros 32771))
+    shows_all rs file from least (headed file from least (replicate sheet_words 0)) (λ b. false)
+    (shows_headed file from least (replicate sheet_words 0) (length-replicate {A = ℕ} sheet_words 0) (zeros sheet_words))

@@ -12,7 +12,7 @@ use Rattle.reads.specs.Outcome.{choose}
 use Rattle.reads.proofs.Tests.{by_choose}
 use Rattle.ranges.specs.Range.{Range, covers}
 use Rattle.ranges.specs.Runs.{ended, begun, runs, runs_from, merged}
-use Rattle.ranges.specs.Sheet.{window, sheet_next, shown, headed, blank, noted_all}
+use Rattle.ranges.specs.Sheet.{window, sheet_words, sheet_next, shown, headed, blank, noted_all}
 use Rattle.ranges.specs.Sweep.{more, Output, tell, Progress, progress_of, closed_at, passed, swept, leapt, Reached, reached_at, over_window, over_end, stepped, finished}
 use Rattle.ranges.proofs.RunLaws.{run_none}
 use Rattle.ranges.proofs.Shown.{Shows, shows_ranges}
@@ -182,7 +182,7 @@ module _ (lengths : List ℕ) (rs : List Range) (s r : Reached) (size : ℕ) (is
   unfolding stepped choose
   step_end h e = rw (← is-size, le-leb size s.at h) e
 
-  pub step_window : (m m' : List ℕ) → s.at < size → m ≡ headed s.file s.at (size - s.at) (replicate 32771 0) → m' ≡ noted_all rs m → r ≡ over_window size m' s
+  pub step_window : (m m' : List ℕ) → s.at < size → m ≡ headed s.file s.at (size - s.at) (replicate sheet_words 0) → m' ≡ noted_all rs m → r ≡ over_window size m' s
       → r ≡ stepped lengths rs s
   unfolding stepped choose blank
   step_window m m' h e d i = rw (← is-size, lt-leb size s.at h, ← e, ← d) i

@@ -7,6 +7,10 @@ use Rattle.ranges.specs.Range.{Range}
 abbrev pub window : ℕ
 window = 2097152
 
+-- The words of a sheet: three, and a bit for each byte of the window.
+abbrev pub sheet_words : ℕ
+sheet_words = 32771
+
 -- The first three words: the file, the window's first byte, and from there to the least byte past the window that is known to be used.
 abbrev pub sheet_file : List ℕ → ℕ
 sheet_file m = get_or m 0 0
@@ -34,7 +38,7 @@ headed file from next m = set (set (set m 0 file) 1 from) 2 next
 
 -- A sheet on which nothing is noted.
 unfoldable pub blank : ℕ → ℕ → ℕ → List ℕ
-blank file from next = headed file from next (replicate 32771 0)
+blank file from next = headed file from next (replicate sheet_words 0)
 
 unfoldable pub with_bit : List ℕ → ℕ → List ℕ
 with_bit m k = set m (k / 64 + 3) (bit_or (get_or m (k / 64 + 3) 0) (2 ^ (k % 64)))

@@ -5,7 +5,9 @@ ghost use Rattle.ranges.specs.Sheet.{window, marked_at, with_bit, with_bits, low
 
 use std::marker::Model;
 
-// The bytes of a window: 64 for each word of the bits.
+// The words of a sheet's bits, and the bytes of its window: 64 for each of them.
+pub const WORDS: usize = 32768;
+
 pub const WINDOW: u64 = 2097152;
 
 #[derive(Drop)]
@@ -15,7 +17,7 @@ pub struct Sheet {
     pub from: u64,
     pub next: u64,
     // a bit for each byte of the window
-    pub bits: [u64; 32768],
+    pub bits: [u64; WORDS],
 }
 
 // A sheet is its words.

@@ -2,9 +2,8 @@
 -- reason.
 use Rattle.std.specs.Prelude.{ℕ, ◌%◌, eqb, leb, ℤ}
 use Rattle.reads.specs.Outcome as outcomes
-use Rattle.reads.specs.Outcome.{Outcome, value, absent, and_then, choose}
+use Rattle.reads.specs.Outcome.{Outcome, value, absent, choose}
 use Rattle.reads.specs.Place as places
-use Rattle.reads.specs.Place.{Image}
 use Rattle.reads.specs.Address as addresses
 use Rattle.reads.specs.declared.answer.Reason.TheVariants.{OddList, ShortEntry}
 use Rattle.reads.specs.declared.place.Place.{Place}
@@ -14,10 +13,6 @@ use Rattle.pointers.specs.Slot as slots
 use Rattle.pointers.specs.Bytes as bytes
 use Rattle.pointers.specs.Tables.{Tables, image_in}
 use Rattle.pointers.specs.declared.imageinfo.ImageInfo.{ImageInfo}
-
--- The same as `picked_at` of pointers, over an image alone.
-unfoldable pub picked_in : Image → ℕ → Outcome ℕ
-picked_in m a = and_then (places.word m 8 a) (addresses.picked m.words)
 
 -- The address of a list that must not be odd.
 unfoldable pub even_list : ℕ → Outcome ℕ

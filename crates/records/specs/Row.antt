@@ -1,11 +1,10 @@
 -- Rows of method, ivar and property lists (objc-runtime-new.h, method_t, ivar_t, property_t; document 01, Rows; method.rs, ivar.rs,
 -- property.rs; alignments: note 8).
-use Rattle.std.specs.Prelude.{ℕ, Bool, true, false, ◌||◌, eqb, leb, Option, Some, None}
+use Rattle.std.specs.Prelude.{ℕ, Bool, true, false, ◌||◌, eqb, leb, Option, Some, None, ℤ}
 use Rattle.std.specs.Int.Count.{count_trailing_zeros}
 use Rattle.reads.specs.Outcome.{Outcome, choose}
 use Rattle.reads.specs.Address.{stripped}
 use Rattle.reads.specs.Relative.{signed32, relative}
-use Rattle.reads.specs.declared.place.Place.{Place}
 use Rattle.reads.specs.declared.text.Text.{Text}
 use Rattle.pointers.specs.Tables.{Tables}
 use Rattle.records.specs.Decode.{Decode, run, done, then, else, or0, or_empty, sum64, nonzero, readable, u32_in, i32_in, slot, pointer, pointer_or0, string}
@@ -47,23 +46,24 @@ legacy_method_at t va = run t (decode_legacy_method va)
 unfoldable pub small_imp : ℕ → ℕ → Option ℕ
 small_imp raw va = choose (eqb raw 0) None (Some (stripped (relative va (signed32 raw))))
 
--- A small method's selector: its offset's target itself, or indirect, through one slot.
+-- The address of a small method's selector: its offset's target itself, or indirect, through one slot.
 abbrev pub selector_from : Selectors → ℕ → Decode ℕ
 selector_from Indirect target = slot target
 selector_from Direct target = done target
 
-unfoldable pub decode_selector : Selectors → ℕ → Place → Decode ℕ
-decode_selector selectors va p = then (i32_in p small_method_name) (λ offset. selector_from selectors (relative va offset))
+-- The selector: the text there.
+unfoldable pub decode_selector : Selectors → ℕ → ℤ → Decode Text
+decode_selector selectors va offset = then (selector_from selectors (relative va offset)) string
 
-abbrev pub selector_at : Tables → Selectors → ℕ → Place → Outcome ℕ
-selector_at t selectors va p = run t (decode_selector selectors va p)
+abbrev pub selector_at : Tables → Selectors → ℕ → ℤ → Outcome Text
+selector_at t selectors va offset = run t (decode_selector selectors va offset)
 
 -- Its types: the text at its offset's target.
-unfoldable pub decode_types : ℕ → Place → Decode Text
-decode_types va p = then (i32_in p small_method_types) (λ offset. or_empty (string (relative va offset)))
+unfoldable pub decode_types : ℕ → ℤ → Decode Text
+decode_types va offset = or_empty (string (relative va offset))
 
-abbrev pub types_at : Tables → ℕ → Place → Outcome Text
-types_at t va p = run t (decode_types va p)
+abbrev pub types_at : Tables → ℕ → ℤ → Outcome Text
+types_at t va offset = run t (decode_types va offset)
 
 abbrev pub small_kind : Selectors → MethodKind
 small_kind Indirect = kind.SmallIndirect
@@ -74,19 +74,18 @@ is_small kind.Legacy = false
 is_small kind.SmallIndirect = true
 is_small kind.SmallDirect = true
 
--- method_t::small: three offsets, each counted from its own field. The Rust reads all three first.
+-- method_t::small: three offsets, each counted from its own field, which the Rust reads first; the selector, and the types' text.
 unfoldable pub decode_small_method : ℕ → Selectors → Decode Method
 decode_small_method va selectors =
     then (readable va small_method_size) (λ p.
-    then (i32_in p small_method_name) (λ _.
-    then (i32_in p small_method_types) (λ _.
+    then (i32_in p small_method_name) (λ name_offset.
+    then (i32_in p small_method_types) (λ types_offset.
     then (u32_in p small_method_imp) (λ raw.
     then (sum64 va small_method_types) (λ types_field.
     then (sum64 va small_method_imp) (λ imp_field.
-    then (decode_selector selectors va p) (λ name.
-    then (string name) (λ selector.
-    then (decode_types types_field p) (λ types.
-    done (method_of selector types (small_imp raw imp_field) (small_kind selectors)))))))))))
+    then (decode_selector selectors va name_offset) (λ selector.
+    then (decode_types types_field types_offset) (λ types.
+    done (method_of selector types (small_imp raw imp_field) (small_kind selectors))))))))))
 
 abbrev pub small_method_at : Tables → ℕ → Selectors → Outcome Method
 small_method_at t va selectors = run t (decode_small_method va selectors)

@@ -1,8 +1,5 @@
 // Categories (objc-runtime-new.h, category_t).
 ghost use Rattle.std.specs.Prelude.{◌≡◌};
-ghost use Rattle.reads.specs.Outcome.{choose};
-ghost use Rattle.reads.specs.Place.{readable};
-ghost use Rattle.records.specs.Header.{category_size, category_size_with_class_properties};
 ghost use Rattle.records.specs.Category.{category_lists_at, category_properties_at, category_of, category_at};
 ghost use Rattle.reads.specs.Answer.{outcome};
 
@@ -11,7 +8,7 @@ use pointers::imageinfo::ImageInfo;
 use pointers::slot::{pointer_or_0, resolve_pointer};
 use pointers::tables::Tables;
 use reads::answer::Missing;
-use reads::place::{Image, Place, readable};
+use reads::place::readable;
 use reads::text::Text;
 
 // A category: name, host class, and the addresses of its lists; class_properties is 0, the field's own word for no
@@ -56,16 +53,6 @@ struct CategoryLists {
     instance_properties: u64,
 }
 
-// category_t is wider where it has the field for class properties.
-fn whole_category(image: &Image, va: u64, wide: bool) -> Result<Place, Missing>
-    ensures { outcome result ≡ readable image.now va (choose wide category_size_with_class_properties category_size) }
-{
-    if wide {
-        return readable(image, va, ObjcCategory::SIZE_WITH_CLASS_PROPERTIES);
-    }
-    readable(image, va, ObjcCategory::SIZE)
-}
-
 // _classProperties where the image has the field; or 0.
 fn category_properties_at(tables: &Tables, va: u64, wide: bool) -> Result<u64, Missing>
     ensures { let t = tables.now in
@@ -95,13 +82,18 @@ fn category_lists_at(tables: &Tables, va: u64) -> Result<CategoryLists, Missing>
     })
 }
 
-// category_t, its fields in the order of category.rs, the name's text last.
-#[tactic(auto, using(reads::proofs::Outcomes::missed_then), unfolding(crate::specs::Category::decode_category_of))]
+// category_t, wider where it has the field for class properties: its fields in the order of category.rs, the name's text last.
+#[tactic(auto, using(reads::proofs::Outcomes::missed_then), unfolding(crate::specs::Category::decode_category_of, reads::specs::Outcome::choose))]
 fn category_of(tables: &Tables, va: u64, wide: bool) -> Result<ObjcCategory, Missing>
     ensures { let t = tables.now in
         outcome result ≡ category_of t va wide }
 {
-    whole_category(tables.image(), va, wide)?;
+    let size = if wide {
+        ObjcCategory::SIZE_WITH_CLASS_PROPERTIES
+    } else {
+        ObjcCategory::SIZE
+    };
+    readable(tables.image(), va, size)?;
     let name_va = resolve_pointer(tables, va)?;
     let class_address = pointer_or_0(tables, va, ObjcCategory::CLS)?;
     let lists = category_lists_at(tables, va)?;

@@ -1,8 +1,8 @@
 // Classes and their read-only records (objc-runtime-new.h, class_t and class_ro_t).
 ghost use Rattle.std.specs.Prelude.{◌≡◌, ◌≤◌};
 ghost use Rattle.pointers.specs.ImageInfo.{bit};
-ghost use Rattle.pointers.specs.Bytes.{picked_at};
 ghost use Rattle.records.specs.Class.{bits_of, data_at, class_at, ro_lists_at, class_ro_at, ro_of, ro_data_at, class_name_at, bound_name, decoded_name, class_name_of, fast_flags, is_swift};
+ghost use Rattle.records.specs.Decode.{run, picked_at};
 ghost use Rattle.records.specs.Header.{ro_size};
 ghost use Rattle.reads.specs.Answer.{outcome};
 
@@ -112,23 +112,26 @@ fn ro_lists_at(ro: &Near) -> Result<RoLists, Missing>
     })
 }
 
-// class_ro_t: the pointers in the order of class.rs, the name's text last.
+// class_ro_t: flags, start and size, the pointers in the order of class.rs, the name's text last.
 #[tactic(auto, using(reads::proofs::Outcomes::missed_then), unfolding(crate::specs::Class::decode_class_ro))]
 pub fn class_ro_at(tables: &Tables, va: u64) -> Result<ClassRo, Missing>
     ensures { let t = tables.now in
         outcome result ≡ class_ro_at t va }
 {
     let ro = Near::at(tables, va, ClassRo::SIZE)?;
+    let p = ro.place();
+    let flags = u32_in(tables.files(), p, ClassRo::FLAGS);
+    let instance_start = u32_in(tables.files(), p, ClassRo::INSTANCE_START);
+    let instance_size = u32_in(tables.files(), p, ClassRo::INSTANCE_SIZE);
     let ivar_layout = ro.field_or_0(ClassRo::IVAR_LAYOUT)?;
     let name_va = ro.field(ClassRo::NAME)?;
     let lists = ro_lists_at(&ro)?;
     let name = string(tables, name_va)?;
-    let p = ro.place();
     Ok(ClassRo {
         address: va,
-        flags: u32_in(tables.files(), p, ClassRo::FLAGS),
-        instance_start: u32_in(tables.files(), p, ClassRo::INSTANCE_START),
-        instance_size: u32_in(tables.files(), p, ClassRo::INSTANCE_SIZE),
+        flags,
+        instance_start,
+        instance_size,
         name,
         ivar_layout_address: ivar_layout,
         methods: lists.methods,
@@ -165,7 +168,7 @@ fn ro_data_at(tables: &Tables, slot: u64) -> Result<u64, Missing>
 #[tactic(auto, using(reads::proofs::Outcomes::missed_then))]
 fn picked_at(tables: &Tables, slot: u64) -> Result<u64, Missing>
     ensures { let t = tables.now in
-        outcome result ≡ picked_at t slot }
+        outcome result ≡ run t (picked_at slot) }
 {
     let raw = read_u64(tables.image(), slot)?;
     Address::pick(tables.segments(), raw)

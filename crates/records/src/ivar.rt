@@ -89,19 +89,21 @@ pub(crate) fn ivar_near(row: &Near) -> Result<Ivar, Missing>
     ensures { outcome result ≡ ivar_at row.now.tables.now row.now.va }
 {
     let tables = row.tables();
+    let p = row.place();
     let offset_va = or_zero(row.first_slot())?;
     let name_va = row.field(Ivar::NAME)?;
     let type_va = row.field_or_0(Ivar::TYPE)?;
+    let raw_alignment = u32_in(tables.files(), p, Ivar::ALIGNMENT_RAW);
+    let size = u32_in(tables.files(), p, Ivar::OWN_SIZE);
     let name = string(tables, name_va)?;
     let type_encoding = string_or_empty(tables, type_va)?;
     let offset = offset_at(tables, offset_va)?;
-    let p = row.place();
-    let log2_alignment = alignment_of(u32_in(tables.files(), p, Ivar::ALIGNMENT_RAW));
+    let log2_alignment = alignment_of(raw_alignment);
     Ok(Ivar {
         name,
         type_encoding,
         offset,
-        size: u32_in(tables.files(), p, Ivar::OWN_SIZE),
+        size,
         log2_alignment,
         aligned: aligned_of(offset, log2_alignment),
     })

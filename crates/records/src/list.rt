@@ -161,6 +161,7 @@ pub fn list_at(tables: &Tables, kind: ListKind, va: u64) -> Result<Layout, Missi
     list_address(kind, va)?;
     let p = readable(tables.image(), va, Layout::HEADER_SIZE)?;
     let w = u32_in(tables.files(), p, Layout::ENTSIZE_AND_FLAGS);
+    let count = u32_in(tables.files(), p, Layout::COUNT);
     let rows = rows_of(kind, w);
     let size = size_of(kind, w);
     entry_size(least(rows), size)?;
@@ -168,7 +169,7 @@ pub fn list_at(tables: &Tables, kind: ListKind, va: u64) -> Result<Layout, Missi
     Ok(Layout {
         base,
         size,
-        count: u32_in(tables.files(), p, Layout::COUNT),
+        count,
         kind: rows,
     })
 }

@@ -1,8 +1,7 @@
 // Rows of method lists (objc-runtime-new.h, method_t and method_t::small).
 ghost use Rattle.std.specs.Prelude.{◌≡◌};
-ghost use Rattle.reads.specs.Relative.{relative, signed_in};
-ghost use Rattle.reads.specs.Files.{files_of};
-ghost use Rattle.records.specs.Row.{legacy_imp, legacy_method_at, small_imp, selector_at, types_at, small_kind, small_method_at, is_small};
+ghost use Rattle.records.specs.Row.{legacy_imp, legacy_method_at, small_imp, selector_from, selector_at, types_at, small_kind, small_method_at, is_small};
+ghost use Rattle.records.specs.Decode.{run};
 ghost use Rattle.records.specs.Near.{OfSize};
 ghost use Rattle.records.specs.Header.{method_size, small_method_size};
 ghost use Rattle.reads.specs.Answer.{outcome};
@@ -13,7 +12,7 @@ use pointers::slot::resolve_pointer;
 use pointers::tables::Tables;
 use reads::address::Address;
 use reads::answer::{Missing, checked_add};
-use reads::place::{Place, u32_in};
+use reads::place::u32_in;
 use reads::relative::{i32_in, relative_pointer, signed};
 use reads::text::Text;
 
@@ -117,39 +116,42 @@ fn small_kind(selectors: Selectors) -> MethodKind
     }
 }
 
-// The target of the offset at i bytes from a place, counted from the offset's own field.
-fn target_of(files: &[&[u8]], p: Place, i: u64, field: u64) -> u64
-    ensures { result ≡ relative field (signed_in (files_of files) p i) }
-{
-    relative_pointer(field, i32_in(files, p, i))
-}
-
-// A small method's selector: its offset's target itself, or indirect, through one slot.
-#[tactic(auto, unfolding(crate::specs::Row::decode_selector))]
-fn selector_at(tables: &Tables, selectors: Selectors, field: u64, p: Place) -> Result<u64, Missing>
+// The address of a small method's selector: its offset's target itself, or indirect, through one slot.
+fn selector_from(tables: &Tables, selectors: Selectors, target: u64) -> Result<u64, Missing>
     ensures { let t = tables.now in
-        outcome result ≡ selector_at t selectors field p }
+        outcome result ≡ run t (selector_from selectors target) }
 {
-    let target = target_of(tables.files(), p, Method::SMALL_NAME, field);
     match selectors {
         Selectors::Indirect => resolve_pointer(tables, target),
         Selectors::Direct => Ok(target),
     }
 }
 
-// A small method's types: the text at its offset's target.
-#[tactic(auto, unfolding(crate::specs::Row::decode_types))]
-fn types_at(tables: &Tables, field: u64, p: Place) -> Result<Text, Missing>
+// The selector: the text there.
+#[tactic(auto, using(reads::proofs::Outcomes::missed_then), unfolding(crate::specs::Row::decode_selector))]
+fn selector_at(
+    tables: &Tables,
+    selectors: Selectors,
+    field: u64,
+    offset: i32,
+) -> Result<Text, Missing>
     ensures { let t = tables.now in
-        outcome result ≡ types_at t field p }
+        outcome result ≡ selector_at t selectors field offset }
 {
-    string_or_empty(
-        tables,
-        target_of(tables.files(), p, Method::SMALL_TYPES, field),
-    )
+    let name_va = selector_from(tables, selectors, relative_pointer(field, offset))?;
+    string(tables, name_va)
 }
 
-// method_t::small: both field addresses are tested before the first lookup.
+// A small method's types: the text at its offset's target.
+#[tactic(auto, unfolding(crate::specs::Row::decode_types))]
+fn types_at(tables: &Tables, field: u64, offset: i32) -> Result<Text, Missing>
+    ensures { let t = tables.now in
+        outcome result ≡ types_at t field offset }
+{
+    string_or_empty(tables, relative_pointer(field, offset))
+}
+
+// method_t::small: the three offsets, each counted from its own field; both field addresses are tested before the first lookup.
 #[tactic(auto, using(reads::proofs::Outcomes::missed_then), unfolding(crate::specs::Row::decode_small_method))]
 pub(crate) fn small_method_near(row: &Near, selectors: Selectors) -> Result<Method, Missing>
     requires { OfSize row.now small_method_size }
@@ -158,15 +160,17 @@ pub(crate) fn small_method_near(row: &Near, selectors: Selectors) -> Result<Meth
     let tables = row.tables();
     let va = row.va();
     let p = row.place();
+    let name_offset = i32_in(tables.files(), p, Method::SMALL_NAME);
+    let types_offset = i32_in(tables.files(), p, Method::SMALL_TYPES);
+    let raw = u32_in(tables.files(), p, Method::SMALL_IMP);
     let types_field = checked_add(va, Method::SMALL_TYPES)?;
     let imp_field = checked_add(va, Method::SMALL_IMP)?;
-    let name_va = selector_at(tables, selectors, va, p)?;
-    let selector = string(tables, name_va)?;
-    let types = types_at(tables, types_field, p)?;
+    let selector = selector_at(tables, selectors, va, name_offset)?;
+    let types = types_at(tables, types_field, types_offset)?;
     Ok(Method {
         selector,
         types,
-        implementation: small_imp(u32_in(tables.files(), p, Method::SMALL_IMP), imp_field),
+        implementation: small_imp(raw, imp_field),
         kind: small_kind(selectors),
     })
 }

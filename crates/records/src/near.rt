@@ -22,7 +22,6 @@ pub(crate) struct Near<'a> {
 
 impl<'a> Near<'a> {
     ghost use Rattle.std.specs.Prelude.{IfOk};
-    ghost use Rattle.reads.specs.Outcome.{or_zero};
     ghost use Rattle.reads.specs.Place.{readable};
     ghost use Rattle.reads.specs.Answer.{outcome};
     ghost use Rattle.pointers.specs.Slot.{slot, pointer, pointer_or0};

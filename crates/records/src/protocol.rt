@@ -81,9 +81,8 @@ fn class_properties_at(tables: &Tables, va: u64, p: Place) -> Result<u64, Missin
     ensures { let t = tables.now in
         outcome result ≡ class_properties_at t va p }
 {
-    if ObjcProtocol::SIZE_WITH_CLASS_PROPERTIES
-        <= u32_in(tables.files(), p, ObjcProtocol::OWN_SIZE)
-    {
+    let size = u32_in(tables.files(), p, ObjcProtocol::OWN_SIZE);
+    if ObjcProtocol::SIZE_WITH_CLASS_PROPERTIES <= size {
         return trailing_at(tables, va);
     }
     Ok(0)
@@ -124,6 +123,8 @@ pub fn protocol_at(tables: &Tables, va: u64) -> Result<ObjcProtocol, Missing>
     let p = readable(tables.image(), va, ObjcProtocol::SIZE)?;
     let name_va = pointer(tables, va, ObjcProtocol::MANGLED_NAME)?;
     let lists = protocol_lists_at(tables, va)?;
+    let size = u32_in(tables.files(), p, ObjcProtocol::OWN_SIZE);
+    let flags = u32_in(tables.files(), p, ObjcProtocol::FLAGS);
     let name = string(tables, name_va)?;
     let class_properties = class_properties_at(tables, va, p)?;
     Ok(ObjcProtocol {
@@ -136,7 +137,7 @@ pub fn protocol_at(tables: &Tables, va: u64) -> Result<ObjcProtocol, Missing>
         optional_class_methods: lists.optional_class_methods,
         instance_properties: lists.instance_properties,
         class_properties,
-        size: u32_in(tables.files(), p, ObjcProtocol::OWN_SIZE),
-        flags: u32_in(tables.files(), p, ObjcProtocol::FLAGS),
+        size,
+        flags,
     })
 }

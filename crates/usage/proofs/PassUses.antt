@@ -8,11 +8,13 @@ use lib.Dec.{eqb}
 use lib.ListN.{length}
 use borrow.Author.Tests.{eqb-true}
 use Rattle.reads.specs.Outcome.{Outcome, value, absent, refused, Unrefused, a_value, an_absence, and_then, choose}
+use Rattle.reads.specs.declared.answer.Reason.{Reason}
 use Rattle.reads.specs.declared.text.Text.{Text}
+use Rattle.std.specs.Prelude.{Option}
 use Rattle.pointers.specs.Open.{Opened}
 use Rattle.pointers.specs.Tables.{Tables, image_in}
 use Rattle.records.specs.Asks.{if_value}
-use Rattle.records.specs.Decode.{Decode, given, lacking, tried_of, run, done, then, tried, nonzero}
+use Rattle.records.specs.Decode.{Decode, Tried, given, lacking, tried_of, run, done, then, tried, nonzero}
 use Rattle.records.specs.Category.{decode_category}
 use Rattle.records.specs.Class.{decode_class, decode_ro_of, decode_class_name_of}
 use Rattle.records.specs.List.{decode_list, entry_address}
@@ -20,6 +22,7 @@ use Rattle.records.specs.Protocol.{decode_protocol}
 use Rattle.records.specs.Row.{decode_row}
 use Rattle.records.specs.Search.{readables}
 use Rattle.records.specs.declared.category.ObjcCategory.{ObjcCategory}
+use Rattle.records.specs.declared.class.ClassRo.{ClassRo}
 use Rattle.records.specs.declared.class.ObjcClass.{ObjcClass}
 use Rattle.records.specs.declared.list.Layout.{Layout}
 use Rattle.records.specs.declared.list.ListKind.{ListKind}
@@ -47,9 +50,9 @@ use Rattle.ranges.specs.Runs.{merged}
 use Rattle.ranges.proofs.MergedLaws.{merged_same}
 use Rattle.used.specs.Used.{used, file_lengths}
 use Rattle.used.specs.UsedBy.{used_by, ranges_used}
-use Rattle.usage.specs.Pass.{pass_meta, pass_class, pass_protocol, pass_category, pass_slots, decode_pass}
+use Rattle.usage.specs.Pass.{both, or_end, if_there, only, each, each_row, pass_rows, list_slots, each_name, pass_names, pass_field, pass_lines, pass_with_meta, pass_class, pass_protocol, pass_category, pass_record, pass_slots, decode_pass}
 use Rattle.used.proofs.ReadableUses.{readables_use}
-use Rattle.used.proofs.UsedParts.{used_done, used_then, used_tried}
+use Rattle.used.proofs.UsedParts.{used_done, used_then, used_when, used_tried}
 
 -- One of a list passes a test; a value does; one of a value's list does.
 unfoldable any : {A : Type 0} → (A → Bool) → List A → Bool
@@ -129,16 +132,23 @@ module _ (t : Tables) (f b : ℕ) where
       go (absent r) = unfold covers in refl
       go (refused k) = unfold covers in refl
 
-  has_of : {A B : Type 0} (d : Decode A) (g : A → Decode (List B)) → has (of_value d g) ≡ (has d || hit (run t d) (λ a. has (g a)))
-  has_of {A} {B} d g =
-      has_then (tried d) (or_nothing g)
-      ∙ ap (λ (x : Bool). x || hit (run t (tried d)) (λ y. has (or_nothing g y))) (ap (λ rs. covers rs f b) (used_tried t d))
+  -- After a trial, where an absence uses nothing more.
+  has_tried : {A B : Type 0} (d : Decode A) (g : Tried A → Decode B) → ((r : Reason) → has (g (lacking r)) ≡ false) → has (then (tried d) g) ≡ (has d || hit (run t d) (λ a. has (g (given a))))
+  has_tried {A} d g none =
+      has_then (tried d) g
+      ∙ ap (λ (x : Bool). x || hit (run t (tried d)) (λ y. has (g y))) (ap (λ rs. covers rs f b) (used_tried t d))
       ∙ ap (λ x. has d || x) (go (run t d))
     where
-      go : (o : Outcome A) → hit (tried_of o) (λ x. has (or_nothing g x)) ≡ hit o (λ a. has (g a))
+      go : (o : Outcome A) → hit (tried_of o) (λ x. has (g x)) ≡ hit o (λ a. has (g (given a)))
       go (value a) = refl
-      go (absent r) = has_done {A = List B} []
+      go (absent r) = none r
       go (refused k) = refl
+
+  has_of : {A B : Type 0} (d : Decode A) (g : A → Decode (List B)) → has (of_value d g) ≡ (has d || hit (run t d) (λ a. has (g a)))
+  has_of {B = B} d g = has_tried d (or_nothing g) (λ r. has_done {A = List B} [])
+
+  has_if : {A : Type 0} (d : Decode A) (g : A → Decode (Unit {0})) → has (if_there d g) ≡ (has d || hit (run t d) (λ a. has (g a)))
+  has_if d g = has_tried d (or_end g) (λ r. has_done tt)
 
   -- What is made of a value at the end uses nothing.
   has_last : {A B : Type 0} (d : Decode A) (g : A → B) → has (then d (λ a. done (g a))) ≡ has d
@@ -149,8 +159,8 @@ module _ (t : Tables) (f b : ℕ) where
       go (absent r) = refl
       go (refused k) = refl
 
-  has_each : {A B : Type 0} (g : A → B) (d : Decode (List A)) → has (as_each g d) ≡ has d
-  has_each g d = has_last d (map g)
+  has_mapped : {A B : Type 0} (g : A → B) (d : Decode (List A)) → has (as_each g d) ≡ has d
+  has_mapped g d = has_last d (map g)
 
   has_present : {A : Type 0} (d : Decode A) → has (present d) ≡ has d
   has_present {A} d = has_of d (λ a. done (a ∷ [])) ∙ ap (λ x. has d || x) (go (run t d)) ∙ or_false (has d)
@@ -172,14 +182,48 @@ module _ (t : Tables) (f b : ℕ) where
   has_gather {B = B} g h [] = has_done {A = List B} []
   has_gather g h (x ∷ xs) = has_joined (g x) (gather g xs) (h x) ∙ ap (λ y. has (g x) || y) (has_gather g h xs)
 
+  hit_none : {A : Type 0} (o : Outcome A) (p : A → Bool) → ((a : A) → p a ≡ false) → hit o p ≡ false
+  hit_none (value a) p h = h a
+  hit_none (absent r) p h = refl
+  hit_none (refused k) p h = refl
+
+  has_only : {A : Type 0} (d : Decode A) → has (only d) ≡ has d
+  has_only d = has_if d (λ a. done tt) ∙ ap (λ x. has d || x) (hit_none (run t d) (λ a. has (done tt)) (λ a. has_done tt)) ∙ or_false (has d)
+
+  has_both : (d e : Decode (Unit {0})) → There (run t d) → has (both d e) ≡ (has d || has e)
+  has_both d e h =
+      has_then d (λ _. e) ∙ ap (λ (o : Outcome (Unit {0})). has d || hit o (λ _. has e)) (there_known h).is
+
+  has_each : {A : Type 0} (g : A → Decode (Unit {0})) → ((a : A) → There (run t (g a))) → (xs : List A) → has (each g xs) ≡ any (λ a. has (g a)) xs
+  unfolding each any
+  has_each g h [] = has_done tt
+  has_each g h (x ∷ xs) = has_both (g x) (each g xs) (h x) ∙ ap (λ y. has (g x) || y) (has_each g h xs)
+
 -- Over what opening accepted, lists are there.
 module _ (t : Tables) (o : Opened t) where
-  of_there : {A B : Type 0} (d : Decode A) (g : A → Decode (List B)) → ((a : A) → There (run t (g a))) → There (run t (of_value d g))
-  of_there {A} {B} d g h = go (unrefused t o d)
+  tried_there : {A B : Type 0} (d : Decode A) (g : Tried A → Decode B) → ((a : A) → There (run t (g (given a)))) → ((r : Reason) → There (run t (g (lacking r)))) → There (run t (then (tried d) g))
+  tried_there {A} d g h none = go (unrefused t o d)
     where
-      go : {x : Outcome A} → Unrefused x → There (and_then (tried_of x) (λ y. run t (or_nothing g y)))
+      go : {x : Outcome A} → Unrefused x → There (and_then (tried_of x) (λ y. run t (g y)))
       go (a_value a) = h a
-      go (an_absence r) = is_there []
+      go (an_absence r) = none r
+
+  of_there : {A B : Type 0} (d : Decode A) (g : A → Decode (List B)) → ((a : A) → There (run t (g a))) → There (run t (of_value d g))
+  of_there d g h = tried_there d (or_nothing g) h (λ r. is_there [])
+
+  if_there_there : {A : Type 0} (d : Decode A) (g : A → Decode (Unit {0})) → ((a : A) → There (run t (g a))) → There (run t (if_there d g))
+  if_there_there d g h = tried_there d (or_end g) h (λ r. is_there tt)
+
+  only_there : {A : Type 0} (d : Decode A) → There (run t (only d))
+  only_there d = if_there_there d (λ a. done tt) (λ a. is_there tt)
+
+  both_there : (d e : Decode (Unit {0})) → There (run t d) → There (run t e) → There (run t (both d e))
+  both_there d e h g = there_then _ h (λ _. g)
+
+  each_there : {A : Type 0} (g : A → Decode (Unit {0})) → ((a : A) → There (run t (g a))) → (xs : List A) → There (run t (each g xs))
+  unfolding each
+  each_there g h [] = is_there tt
+  each_there g h (x ∷ xs) = both_there (g x) (each g xs) (h x) (each_there g h xs)
 
   present_there : {A : Type 0} (d : Decode A) → There (run t (present d))
   present_there d = of_there d (λ a. done (a ∷ [])) (λ a. is_there (a ∷ []))
@@ -243,6 +287,38 @@ module _ (t : Tables) (o : Opened t) where
   lines_there : (x : Record) → There (run t (decode_lines_of x))
   unfolding decode_lines_of
   lines_there x = joined_there (decode_own_lines x) (then (decode_fields x) (decode_fields_lines 0)) (own_there x) (there_then _ (fields_there x) (fields_lines_there 0))
+
+  -- A pass is there.
+  rows_passed : (k : ListKind) (va : ℕ) → There (run t (pass_rows k va))
+  unfolding pass_rows
+  rows_passed k va =
+      if_there_there (decode_list k va) (λ h. then (decode_readables h) (λ js. each_row h.kind (map (entry_address h) js))) (λ h.
+      there_then _ (readables_there h) (λ js. each_there (λ a. only (decode_row h.kind a)) (λ a. only_there (decode_row h.kind a)) (map (entry_address h) js)))
+
+  names_passed : (va : ℕ) → There (run t (pass_names va))
+  unfolding pass_names
+  names_passed va =
+      if_there_there (decode_protocol_list va) (λ l. each_name (list_slots l 0 l.count)) (λ l.
+      each_there (λ a. only (decode_name_in a)) (λ a. only_there (decode_name_in a)) (list_slots l 0 l.count))
+
+  field_passed : (x : Field) → There (run t (pass_field x))
+  unfolding pass_field
+  field_passed (row_list k va) = rows_passed k va
+  field_passed (name_list va) = names_passed va
+
+  fields_passed : (xs : List Field) → There (run t (each pass_field xs))
+  fields_passed xs = each_there pass_field field_passed xs
+
+  lines_passed : (x : Record) → There (run t (pass_lines x))
+  unfolding pass_lines
+  lines_passed (a_record.Class c) =
+      both_there (only (decode_class_name_of c.address c.superclass_address)) (if_there (decode_ro_of c) (λ r. each pass_field (ro_fields r)))
+      (only_there (decode_class_name_of c.address c.superclass_address))
+      (if_there_there (decode_ro_of c) (λ r. each pass_field (ro_fields r)) (λ r. fields_passed (ro_fields r)))
+  lines_passed (a_record.Protocol p) = fields_passed (protocol_fields p)
+  lines_passed (a_record.Category c) =
+      both_there (only (decode_class_name_of c.address c.class_address)) (each pass_field (category_fields c))
+      (only_there (decode_class_name_of c.address c.class_address)) (fields_passed (category_fields c))
 
   joined_is : {A : Type 0} (d e : Decode (List A)) {xs ys : List A} → run t d ≡ value xs → run t e ≡ value ys → run t (joined d e) ≡ value (xs ++ ys)
   joined_is d e h g = rw (h, g) refl
@@ -328,9 +404,9 @@ module _ (t : Tables) (o : Opened t) where
     field_within : (r n : ℕ) (x : Field) → (uses (decode_field_lines n x) || uses (as_each (event r n) (decode_entries x))) ≡ uses (decode_field_lines n x)
     field_within r n (row_list k va) =
         within (uses (as_each (event r n) (decode_entries (row_list k va)))) (uses (decode_field_lines n (row_list k va)))
-        (has_each t f b (event r n) (decode_entries (row_list k va)) ∙ rows_have n k va)
+        (has_mapped t f b (event r n) (decode_entries (row_list k va)) ∙ rows_have n k va)
     field_within r n (name_list va) =
-        ap (λ (y : Bool). uses (decode_field_lines n (name_list va)) || y) (has_each t f b (event r n) (decode_entries (name_list va)) ∙ none) ∙ or_false _
+        ap (λ (y : Bool). uses (decode_field_lines n (name_list va)) || y) (has_mapped t f b (event r n) (decode_entries (name_list va)) ∙ none) ∙ or_false _
       where
         none : uses (decode_entries (name_list va)) ≡ false
         none = unfold decode_entries in has_done t f b {A = List Entry} []
@@ -391,6 +467,142 @@ module _ (t : Tables) (o : Opened t) where
         ∙ ap (λ (y : Bool). y || (any lined xs || uses (decode_events_from (suc r) xs))) (record_within r x)
         ∙ ap (λ (y : Bool). lined x || y) (events_within (suc r) xs)
 
+    -- What a pass over a list, over lists, over a record's lines uses.
+    row_uses : (n : ℕ) (h : Layout) (j : ℕ) → uses (decode_entry_lines n h j) ≡ uses (only (decode_row h.kind (entry_address h j)))
+    row_uses n h j =
+        has_of t f b (decode_row h.kind (entry_address h j)) (λ r. done (row_line n r ∷ []))
+        ∙ ap (λ (x : Bool). uses (decode_row h.kind (entry_address h j)) || x)
+        (hit_none t f b (run t (decode_row h.kind (entry_address h j))) (λ r. uses (done (row_line n r ∷ []))) (λ r. has_done t f b (row_line n r ∷ [])))
+        ∙ or_false _ ∙ sym (has_only t f b (decode_row h.kind (entry_address h j)))
+
+    rows_uses : (n : ℕ) (h : Layout) → uses (then (decode_readables h) (gather (decode_entry_lines n h))) ≡ uses (then (decode_readables h) (λ js. each_row h.kind (map (entry_address h) js)))
+    rows_uses n h =
+        let js = readables (image_in t) h in
+        readables_have h (gather (decode_entry_lines n h)) ∙ has_gather t f b (decode_entry_lines n h) (line_there n h) js
+        ∙ any_same (λ j. uses (decode_entry_lines n h j)) (λ j. uses (only (decode_row h.kind (entry_address h j)))) (row_uses n h) js
+        ∙ sym (any_map (λ a. uses (only (decode_row h.kind a))) (entry_address h) js)
+        ∙ sym (readables_have h (λ js. each_row h.kind (map (entry_address h) js))
+        ∙ has_each t f b (λ a. only (decode_row h.kind a)) (λ a. only_there (decode_row h.kind a)) (map (entry_address h) js))
+
+    name_uses : (l : ProtocolList) (i k : ℕ) → uses (decode_slot_names l i k) ≡ any (λ a. uses (only (decode_name_in a))) (list_slots l i k)
+    unfolding decode_slot_names list_slots
+    name_uses l i zero = has_done t f b {A = List Text} [] ∙ unfold any in refl
+    name_uses l i (suc k) =
+        ap (λ rs. covers rs f b) (used_when t (has_slot l i) (joined (present (decode_name_in (slot_in l i))) (decode_slot_names l (i + 1) k)) (done []))
+        ∙ go (has_slot l i)
+        (has_joined t f b (present (decode_name_in (slot_in l i))) (decode_slot_names l (i + 1) k) (present_there (decode_name_in (slot_in l i)))
+        ∙ ap (λ (x : Bool). x || uses (decode_slot_names l (i + 1) k)) (has_present t f b (decode_name_in (slot_in l i)) ∙ sym (has_only t f b (decode_name_in (slot_in l i))))
+        ∙ ap (λ (x : Bool). uses (only (decode_name_in (slot_in l i))) || x) (name_uses l (i + 1) k))
+      where
+        go : (c : Bool)
+            → uses (joined (present (decode_name_in (slot_in l i))) (decode_slot_names l (i + 1) k)) ≡ (uses (only (decode_name_in (slot_in l i))) || any (λ a. uses (only (decode_name_in a))) (list_slots l (i + 1) k))
+            → covers (choose c (used t (joined (present (decode_name_in (slot_in l i))) (decode_slot_names l (i + 1) k))) (used t (done {A = List Text} []))) f b ≡ any (λ a. uses (only (decode_name_in a))) (choose c (slot_in l i ∷ list_slots l (i + 1) k) [])
+        go true more = unfold choose in (more ∙ unfold any in refl)
+        go false more = unfold choose in (has_done t f b {A = List Text} [] ∙ unfold any in refl)
+
+    names_uses : (va : ℕ) → uses (decode_protocol_names va) ≡ uses (pass_names va)
+    unfolding decode_protocol_names pass_names
+    names_uses va =
+        has_of t f b (decode_protocol_list va) (λ l. decode_slot_names l 0 l.count)
+        ∙ ap (λ (x : Bool). uses (decode_protocol_list va) || x)
+        (hit_same (run t (decode_protocol_list va)) (λ l. name_uses l 0 l.count ∙ sym (has_each t f b (λ a. only (decode_name_in a)) (λ a. only_there (decode_name_in a)) (list_slots l 0 l.count))))
+        ∙ sym (has_if t f b (decode_protocol_list va) (λ l. each_name (list_slots l 0 l.count)))
+
+    field_uses : (n : ℕ) (x : Field) → uses (decode_field_lines n x) ≡ uses (pass_field x)
+    unfolding decode_field_lines pass_field pass_rows
+    field_uses n (row_list k va) =
+        has_of t f b (decode_list k va) (λ h. then (decode_readables h) (gather (decode_entry_lines n h)))
+        ∙ ap (λ (x : Bool). uses (decode_list k va) || x) (hit_same (run t (decode_list k va)) (rows_uses n))
+        ∙ sym (has_if t f b (decode_list k va) (λ h. then (decode_readables h) (λ js. each_row h.kind (map (entry_address h) js))))
+    field_uses n (name_list va) = has_mapped t f b (name_line n) (decode_protocol_names va) ∙ names_uses va
+
+    fields_uses : (n : ℕ) (xs : List Field) → uses (decode_fields_lines n xs) ≡ uses (each pass_field xs)
+    unfolding decode_fields_lines any
+    fields_uses n xs = by n xs ∙ sym (has_each t f b pass_field field_passed xs)
+      where
+        by : (n : ℕ) (xs : List Field) → uses (decode_fields_lines n xs) ≡ any (λ x. uses (pass_field x)) xs
+        by n [] = has_done t f b {A = List Line} []
+        by n (x ∷ xs) =
+            has_joined t f b (decode_field_lines n x) (decode_fields_lines (suc n) xs) (field_lines_there n x)
+            ∙ ap (λ (y : Bool). y || uses (decode_fields_lines (suc n) xs)) (field_uses n x) ∙ ap (λ (y : Bool). uses (pass_field x) || y) (by (suc n) xs)
+
+    named_uses : (d : Decode Text) → uses (decode_named d) ≡ uses (only d)
+    named_uses d = has_last t f b (tried d) named_by ∙ ap (λ rs. covers rs f b) (used_tried t d) ∙ sym (has_only t f b d)
+
+    -- (n or r) or (r or h).
+    again : (n r h : Bool) → ((n || r) || (r || h)) ≡ (n || (r || h))
+    again true r h = refl
+    again false true h = refl
+    again false false h = refl
+
+    -- A record's lines: of a class the class_ro is read for its own line and for its lists.
+    own_uses : (c : ObjcClass) → uses (decode_own_lines (a_record.Class c)) ≡ (uses (only (decode_class_name_of c.address c.superclass_address)) || uses (decode_ro_of c))
+    unfolding decode_own_lines
+    own_uses c =
+        let named = decode_named (decode_class_name_of c.address c.superclass_address) in
+        let k = there_known (named_there (decode_class_name_of c.address c.superclass_address)) in
+        has_then t f b named _
+        ∙ ap (λ (z : Outcome (Option Text)). uses named || hit z (λ name. uses (joined (done (class_line c name ∷ [])) (of_value (decode_ro_of c) (λ r. done (line.Ro r ∷ [])))))) k.is
+        ∙ ap (λ (y : Bool). uses named || y)
+        (has_joined t f b (done (class_line c k.known ∷ [])) (of_value (decode_ro_of c) (λ r. done (line.Ro r ∷ []))) (is_there (class_line c k.known ∷ []))
+        ∙ ap (λ (y : Bool). y || uses (of_value (decode_ro_of c) (λ r. done (line.Ro r ∷ [])))) (has_done t f b (class_line c k.known ∷ []))
+        ∙ has_of t f b (decode_ro_of c) (λ r. done (line.Ro r ∷ []))
+        ∙ ap (λ (y : Bool). uses (decode_ro_of c) || y) (hit_none t f b (run t (decode_ro_of c)) (λ r. uses (done (line.Ro r ∷ []))) (λ r. has_done t f b (line.Ro r ∷ [])))
+        ∙ or_false _)
+        ∙ ap (λ (y : Bool). y || uses (decode_ro_of c)) (named_uses (decode_class_name_of c.address c.superclass_address))
+
+    lists_uses : (c : ObjcClass) → uses (then (decode_fields (a_record.Class c)) (decode_fields_lines 0)) ≡ uses (if_there (decode_ro_of c) (λ r. each pass_field (ro_fields r)))
+    unfolding decode_fields
+    lists_uses c =
+        has_then t f b (of_value (decode_ro_of c) (λ r. done (ro_fields r))) (decode_fields_lines 0)
+        ∙ ap (λ (y : Bool). y || hit (run t (of_value (decode_ro_of c) (λ r. done (ro_fields r)))) (λ fs. uses (decode_fields_lines 0 fs)))
+        (has_of t f b (decode_ro_of c) (λ r. done (ro_fields r))
+        ∙ ap (λ (y : Bool). uses (decode_ro_of c) || y) (hit_none t f b (run t (decode_ro_of c)) (λ r. uses (done (ro_fields r))) (λ r. has_done t f b (ro_fields r))) ∙ or_false _)
+        ∙ ap (λ (y : Bool). uses (decode_ro_of c) || y) (go (run t (decode_ro_of c)))
+        ∙ sym (has_if t f b (decode_ro_of c) (λ r. each pass_field (ro_fields r)))
+      where
+        none : uses (decode_fields_lines 0 []) ≡ false
+        none = unfold decode_fields_lines in has_done t f b {A = List Line} []
+
+        go : (z : Outcome ClassRo) → hit (and_then (tried_of z) (λ y. run t (or_nothing (λ r. done (ro_fields r)) y))) (λ fs. uses (decode_fields_lines 0 fs)) ≡ hit z (λ r. uses (each pass_field (ro_fields r)))
+        go (value r) = fields_uses 0 (ro_fields r)
+        go (absent r) = none
+        go (refused k) = refl
+
+    lists_of : (x : Record) (fs : List Field) → decode_fields x ≡ done fs → uses (then (decode_fields x) (decode_fields_lines 0)) ≡ uses (each pass_field fs)
+    lists_of x fs e =
+        ap (λ (d : Decode (List Field)). uses (then d (decode_fields_lines 0))) e
+        ∙ has_then t f b (done fs) (decode_fields_lines 0) ∙ ap (λ (y : Bool). y || uses (decode_fields_lines 0 fs)) (has_done t f b fs) ∙ fields_uses 0 fs
+
+    lines_uses : (x : Record) → lined x ≡ uses (pass_lines x)
+    unfolding decode_lines_of pass_lines
+    lines_uses (a_record.Class c) =
+        let name = only (decode_class_name_of c.address c.superclass_address) in
+        let lists = if_there (decode_ro_of c) (λ r. each pass_field (ro_fields r)) in
+        has_joined t f b (decode_own_lines (a_record.Class c)) (then (decode_fields (a_record.Class c)) (decode_fields_lines 0)) (own_there (a_record.Class c))
+        ∙ ap (λ (y : Bool). y || uses (then (decode_fields (a_record.Class c)) (decode_fields_lines 0))) (own_uses c)
+        ∙ ap (λ (y : Bool). (uses name || uses (decode_ro_of c)) || y) (lists_uses c)
+        ∙ ap (λ (y : Bool). (uses name || uses (decode_ro_of c)) || y) (has_if t f b (decode_ro_of c) (λ r. each pass_field (ro_fields r)))
+        ∙ again (uses name) (uses (decode_ro_of c)) (hit (run t (decode_ro_of c)) (λ r. uses (each pass_field (ro_fields r))))
+        ∙ ap (λ (y : Bool). uses name || y) (sym (has_if t f b (decode_ro_of c) (λ r. each pass_field (ro_fields r))))
+        ∙ sym (has_both t f b name lists (only_there (decode_class_name_of c.address c.superclass_address)))
+    lines_uses (a_record.Protocol p) =
+        has_joined t f b (decode_own_lines (a_record.Protocol p)) (then (decode_fields (a_record.Protocol p)) (decode_fields_lines 0)) (own_there (a_record.Protocol p))
+        ∙ ap (λ (y : Bool). y || uses (then (decode_fields (a_record.Protocol p)) (decode_fields_lines 0))) own
+        ∙ lists_of (a_record.Protocol p) (protocol_fields p) (unfold decode_fields in refl)
+      where
+        own : uses (decode_own_lines (a_record.Protocol p)) ≡ false
+        own = unfold decode_own_lines in has_done t f b (line.Protocol p ∷ [])
+    lines_uses (a_record.Category c) =
+        let d = decode_class_name_of c.address c.class_address in
+        has_joined t f b (decode_own_lines (a_record.Category c)) (then (decode_fields (a_record.Category c)) (decode_fields_lines 0)) (own_there (a_record.Category c))
+        ∙ ap (λ (y : Bool). y || uses (then (decode_fields (a_record.Category c)) (decode_fields_lines 0))) own
+        ∙ ap (λ (y : Bool). uses (only d) || y) (lists_of (a_record.Category c) (category_fields c) (unfold decode_fields in refl))
+        ∙ sym (has_both t f b (only d) (each pass_field (category_fields c)) (only_there d))
+      where
+        own : uses (decode_own_lines (a_record.Category c)) ≡ uses (only (decode_class_name_of c.address c.class_address))
+        own = unfold decode_own_lines in (has_last t f b (decode_named (decode_class_name_of c.address c.class_address)) (λ name. category_line c name ∷ []) ∙ named_uses (decode_class_name_of c.address c.class_address))
+
     -- The addresses in slots, and what is done with each.
     slot_there : (a : ℕ) → There (run t (present (decode_address a)))
     slot_there a = present_there (decode_address a)
@@ -414,26 +626,53 @@ module _ (t : Tables) (o : Opened t) where
         ∙ has_gather t f b (λ a. present (decode_address a)) slot_there (slots_of lists ws)
         ∙ any_same (λ a. uses (present (decode_address a))) (λ a. uses (decode_address a)) (λ a. has_present t f b (decode_address a)) (slots_of lists ws)
 
+    -- A record's pass is there.
+    abbrev meta : ObjcClass → Decode ObjcClass
+    meta c = then (nonzero (meta_of c)) (λ a. decode_class a true)
+
+    meta_passed : (c : ObjcClass) → There (run t (if_there (meta c) (λ m. pass_lines (a_record.Class m))))
+    meta_passed c = if_there_there (meta c) (λ m. pass_lines (a_record.Class m)) (λ m. lines_passed (a_record.Class m))
+
+    with_meta_passed : (c : ObjcClass) → There (run t (pass_with_meta c))
+    unfolding pass_with_meta
+    with_meta_passed c =
+        both_there (pass_lines (a_record.Class c)) (if_there (meta c) (λ m. pass_lines (a_record.Class m))) (lines_passed (a_record.Class c)) (meta_passed c)
+
+    record_passed : (lists : Lists) (a : ℕ) → There (run t (pass_record lists a))
+    unfolding pass_class pass_category pass_protocol
+    record_passed Classes a = if_there_there (decode_class a false) pass_with_meta with_meta_passed
+    record_passed Categories a = if_there_there (decode_category a) (λ c. pass_lines (a_record.Category c)) (λ c. lines_passed (a_record.Category c))
+    record_passed Protocols a = if_there_there (decode_protocol a) (λ p. pass_lines (a_record.Protocol p)) (λ p. lines_passed (a_record.Protocol p))
+
     -- A pass over slots: the slots, and each address that they hold.
-    slots_have : (g : ℕ → Decode (List Line)) → ((a : ℕ) → There (run t (g a))) → (slots : List ℕ)
-        → uses (pass_slots g slots) ≡ (any (λ s. uses (decode_address s)) slots || any (λ s. hit (run t (decode_address s)) (λ a. uses (g a))) slots)
+    slot_passed : (lists : Lists) (s : ℕ) → There (run t (if_there (decode_address s) (pass_record lists)))
+    slot_passed lists s = if_there_there (decode_address s) (pass_record lists) (record_passed lists)
+
+    slots_passed : (lists : Lists) (ws : List ℕ) → There (run t (pass_slots lists ws))
     unfolding pass_slots
-    slots_have g h slots =
-        has_gather t f b (λ a. of_value (decode_address a) g) (λ a. of_there (decode_address a) g h) slots
-        ∙ any_same (λ s. uses (of_value (decode_address s) g)) (λ s. uses (decode_address s) || hit (run t (decode_address s)) (λ a. uses (g a))) (λ s. has_of t f b (decode_address s) g) slots
-        ∙ any_or (λ s. uses (decode_address s)) (λ s. hit (run t (decode_address s)) (λ a. uses (g a))) slots
+    slots_passed lists ws = each_there (λ s. if_there (decode_address s) (pass_record lists)) (slot_passed lists) (slots_of lists ws)
+
+    slots_uses : (lists : Lists) (ws : List ℕ) → uses (pass_slots lists ws) ≡ any (λ s. uses (if_there (decode_address s) (pass_record lists))) (slots_of lists ws)
+    unfolding pass_slots
+    slots_uses lists ws = has_each t f b (λ s. if_there (decode_address s) (pass_record lists)) (slot_passed lists) (slots_of lists ws)
+
+    slots_have : (lists : Lists) (ws : List ℕ)
+        → uses (pass_slots lists ws) ≡ (any (λ s. uses (decode_address s)) (slots_of lists ws) || any (λ s. hit (run t (decode_address s)) (λ a. uses (pass_record lists a))) (slots_of lists ws))
+    slots_have lists ws =
+        slots_uses lists ws
+        ∙ any_same (λ s. uses (if_there (decode_address s) (pass_record lists))) (λ s. uses (decode_address s) || hit (run t (decode_address s)) (λ a. uses (pass_record lists a))) (λ s. has_if t f b (decode_address s) (pass_record lists)) (slots_of lists ws)
+        ∙ any_or (λ s. uses (decode_address s)) (λ s. hit (run t (decode_address s)) (λ a. uses (pass_record lists a))) (slots_of lists ws)
 
     -- Records that are taken once: what is used of each address, and of the lines of what is there.
     module _ {A : Type 0} (ws : List ℕ) (lists : Lists) (taken : ℕ → Decode (List A)) (there : (a : ℕ) → There (run t (taken a))) (x : A → Record)
-        (g : ℕ → Decode (List Line)) (h : (a : ℕ) → There (run t (g a)))
-        (each : (a : ℕ) → uses (g a) ≡ (uses (taken a) || hit (run t (taken a)) (any (λ r. lined (x r))))) where
+        (each : (a : ℕ) → uses (pass_record lists a) ≡ (uses (taken a) || hit (run t (taken a)) (any (λ r. lined (x r))))) where
       abbrev found : List A
       found = all_of taken there (once (addresses (slots_of lists ws)))
 
       found_is : run t (then (decode_listed ws lists) (gather taken)) ≡ value found
       found_is = rw (listed_is ws lists) (gather_is taken there (once (addresses (slots_of lists ws))))
 
-      once_have : (uses (then (decode_listed ws lists) (gather taken)) || any (λ r. lined (x r)) found) ≡ uses (pass_slots g (slots_of lists ws))
+      once_have : (uses (then (decode_listed ws lists) (gather taken)) || any (λ r. lined (x r)) found) ≡ uses (pass_slots lists ws)
       once_have =
           let slots = slots_of lists ws in
           let all = addresses slots in
@@ -448,26 +687,15 @@ module _ (t : Tables) (o : Opened t) where
           ∙ sym (or_assoc s (any (λ a. uses (taken a)) (once all)) (any (λ a. hit (run t (taken a)) (any (λ r. lined (x r)))) (once all)))
           ∙ ap (λ (y : Bool). s || y)
           (sym (any_or (λ a. uses (taken a)) (λ a. hit (run t (taken a)) (any (λ r. lined (x r)))) (once all))
-          ∙ any_same (λ a. uses (taken a) || hit (run t (taken a)) (any (λ r. lined (x r)))) (λ a. uses (g a)) (λ a. sym (each a)) (once all)
-          ∙ once_any (λ a. uses (g a)) all
-          ∙ addressed (λ a. uses (g a)) slots)
-          ∙ sym (slots_have g h slots)
+          ∙ any_same (λ a. uses (taken a) || hit (run t (taken a)) (any (λ r. lined (x r)))) (λ a. uses (pass_record lists a)) (λ a. sym (each a)) (once all)
+          ∙ once_any (λ a. uses (pass_record lists a)) all
+          ∙ addressed (λ a. uses (pass_record lists a)) slots)
+          ∙ sym (slots_have lists ws)
 
     -- Classes with their metaclasses.
-    abbrev meta : ObjcClass → Decode ObjcClass
-    meta c = then (nonzero (meta_of c)) (λ a. decode_class a true)
-
     with_meta_there : (c : ObjcClass) → There (run t (decode_with_meta c))
     unfolding decode_with_meta
     with_meta_there c = joined_there (done (c ∷ [])) (present (meta c)) (is_there (c ∷ [])) (present_there (meta c))
-
-    meta_there : (c : ObjcClass) → There (run t (pass_meta c))
-    unfolding pass_meta
-    meta_there c = of_there (meta c) (λ m. decode_lines_of (a_record.Class m)) (λ m. lines_there (a_record.Class m))
-
-    class_there : (a : ℕ) → There (run t (pass_class a))
-    unfolding pass_class
-    class_there a = of_there (decode_class a false) (λ c. joined (decode_lines_of (a_record.Class c)) (pass_meta c)) (λ c. joined_there (decode_lines_of (a_record.Class c)) (pass_meta c) (lines_there (a_record.Class c)) (meta_there c))
 
     -- d or (q or (m or h)) in the other order.
     reorder : (d q m h : Bool) → (d || (q || (m || h))) ≡ ((d || m) || (q || h))
@@ -494,28 +722,27 @@ module _ (t : Tables) (o : Opened t) where
         has_joined t f b (done (c ∷ [])) (present (meta c)) (is_there (c ∷ []))
         ∙ ap (λ (y : Bool). y || uses (present (meta c))) (has_done t f b (c ∷ [])) ∙ has_present t f b (meta c)
 
-    meta_uses : (c : ObjcClass) → uses (pass_meta c) ≡ (uses (meta c) || hit (run t (meta c)) (λ m. lined (a_record.Class m)))
-    unfolding pass_meta
-    meta_uses c = has_of t f b (meta c) (λ m. decode_lines_of (a_record.Class m))
+    with_meta_has : (c : ObjcClass) → uses (pass_with_meta c) ≡ (lined (a_record.Class c) || (uses (meta c) || hit (run t (meta c)) (λ m. lined (a_record.Class m))))
+    unfolding pass_with_meta
+    with_meta_has c =
+        has_both t f b (pass_lines (a_record.Class c)) (if_there (meta c) (λ m. pass_lines (a_record.Class m))) (lines_passed (a_record.Class c))
+        ∙ ap (λ (y : Bool). y || uses (if_there (meta c) (λ m. pass_lines (a_record.Class m)))) (sym (lines_uses (a_record.Class c)))
+        ∙ ap (λ (y : Bool). lined (a_record.Class c) || y)
+        (has_if t f b (meta c) (λ m. pass_lines (a_record.Class m))
+        ∙ ap (λ (y : Bool). uses (meta c) || y) (hit_same (run t (meta c)) (λ m. sym (lines_uses (a_record.Class m)))))
 
-    class_each : (a : ℕ) → uses (pass_class a)
-        ≡ (uses (of_value (decode_class a false) decode_with_meta) || hit (run t (of_value (decode_class a false) decode_with_meta)) (any (λ r. lined (a_record.Class r))))
+    class_each : (a : ℕ) → uses (pass_class a) ≡ (uses (of_value (decode_class a false) decode_with_meta) || hit (run t (of_value (decode_class a false) decode_with_meta)) (any (λ r. lined (a_record.Class r))))
     unfolding pass_class
     class_each a =
-        has_of t f b (decode_class a false) (λ c. joined (decode_lines_of (a_record.Class c)) (pass_meta c))
+        has_if t f b (decode_class a false) pass_with_meta
         ∙ go (run t (decode_class a false))
         ∙ ap (λ (y : Bool). y || hit (run t (of_value (decode_class a false) decode_with_meta)) (any (λ r. lined (a_record.Class r)))) (sym (has_of t f b (decode_class a false) decode_with_meta))
       where
-        lines : (c : ObjcClass) → uses (joined (decode_lines_of (a_record.Class c)) (pass_meta c)) ≡ (lined (a_record.Class c) || (uses (meta c) || hit (run t (meta c)) (λ m. lined (a_record.Class m))))
-        lines c =
-            has_joined t f b (decode_lines_of (a_record.Class c)) (pass_meta c) (lines_there (a_record.Class c))
-            ∙ ap (λ (y : Bool). lined (a_record.Class c) || y) (meta_uses c)
-
         go : (z : Outcome ObjcClass)
-            → (uses (decode_class a false) || hit z (λ c. uses (joined (decode_lines_of (a_record.Class c)) (pass_meta c))))
+            → (uses (decode_class a false) || hit z (λ c. uses (pass_with_meta c)))
             ≡ ((uses (decode_class a false) || hit z (λ c. uses (decode_with_meta c))) || hit (and_then (tried_of z) (λ y. run t (or_nothing decode_with_meta y))) (any (λ r. lined (a_record.Class r))))
         go (value c) =
-            ap (λ (y : Bool). uses (decode_class a false) || y) (lines c)
+            ap (λ (y : Bool). uses (decode_class a false) || y) (with_meta_has c)
             ∙ reorder (uses (decode_class a false)) (lined (a_record.Class c)) (uses (meta c)) (hit (run t (meta c)) (λ m. lined (a_record.Class m)))
             ∙ ap (λ (y : Bool). (uses (decode_class a false) || y) || (lined (a_record.Class c) || hit (run t (meta c)) (λ m. lined (a_record.Class m)))) (sym (with_meta_uses c))
             ∙ ap (λ (y : Bool). (uses (decode_class a false) || uses (decode_with_meta c)) || y) (sym (meta_hit c))
@@ -523,11 +750,11 @@ module _ (t : Tables) (o : Opened t) where
         go (refused k) = sym (or_false (uses (decode_class a false) || false))
 
     -- Categories and protocols: present, and their lines.
-    present_each : {A : Type 0} (d : Decode A) (x : A → Record) → uses (of_value d (λ r. decode_lines_of (x r))) ≡ (uses (present d) || hit (run t (present d)) (any (λ r. lined (x r))))
+    present_each : {A : Type 0} (d : Decode A) (x : A → Record) → uses (if_there d (λ r. pass_lines (x r))) ≡ (uses (present d) || hit (run t (present d)) (any (λ r. lined (x r))))
     present_each d x =
-        has_of t f b d (λ r. decode_lines_of (x r))
-        ∙ ap (λ (y : Bool). y || hit (run t d) (λ r. lined (x r))) (sym (has_present t f b d))
-        ∙ ap (λ (y : Bool). uses (present d) || y) (sym (present_hit (λ r. lined (x r)) d))
+        has_if t f b d (λ r. pass_lines (x r))
+        ∙ ap (λ (y : Bool). y || hit (run t d) (λ r. uses (pass_lines (x r)))) (sym (has_present t f b d))
+        ∙ ap (λ (y : Bool). uses (present d) || y) (hit_same (run t d) (λ r. sym (lines_uses (x r))) ∙ sym (present_hit (λ r. lined (x r)) d))
 
     protocol_each : (a : ℕ) → uses (pass_protocol a) ≡ (uses (present (decode_protocol a)) || hit (run t (present (decode_protocol a))) (any (λ r. lined (a_record.Protocol r))))
     unfolding pass_protocol
@@ -540,9 +767,9 @@ module _ (t : Tables) (o : Opened t) where
     protocol_in_there : (s : ℕ) → There (run t (protocol_in s))
     protocol_in_there s = of_there (decode_address s) (λ p. present (decode_protocol p)) (λ p. present_there (decode_protocol p))
 
-    slot_each : (s : ℕ) → uses (of_value (decode_address s) pass_protocol) ≡ (uses (protocol_in s) || hit (run t (protocol_in s)) (any (λ r. lined (a_record.Protocol r))))
+    slot_each : (s : ℕ) → uses (if_there (decode_address s) (pass_record Protocols)) ≡ (uses (protocol_in s) || hit (run t (protocol_in s)) (any (λ r. lined (a_record.Protocol r))))
     slot_each s =
-        has_of t f b (decode_address s) pass_protocol
+        has_if t f b (decode_address s) (pass_record Protocols)
         ∙ go (run t (decode_address s))
         ∙ ap (λ (y : Bool). y || hit (run t (protocol_in s)) (any (λ r. lined (a_record.Protocol r)))) (sym (has_of t f b (decode_address s) (λ p. present (decode_protocol p))))
       where
@@ -555,26 +782,18 @@ module _ (t : Tables) (o : Opened t) where
         go (absent r) = sym (unfold any in or_false (uses (decode_address s) || false))
         go (refused k) = sym (or_false (uses (decode_address s) || false))
 
-    protocol_there : (a : ℕ) → There (run t (pass_protocol a))
-    unfolding pass_protocol
-    protocol_there a = of_there (decode_protocol a) (λ p. decode_lines_of (a_record.Protocol p)) (λ p. lines_there (a_record.Protocol p))
-
-    slots_there_lem : (g : ℕ → Decode (List Line)) → ((a : ℕ) → There (run t (g a))) → (slots : List ℕ) → There (run t (pass_slots g slots))
-    unfolding pass_slots
-    slots_there_lem g h slots = gather_there (λ a. of_value (decode_address a) g) (λ a. of_there (decode_address a) g h) slots
-
     abbrev protocols_in : List ℕ → List ObjcProtocol
     protocols_in ws = all_of protocol_in protocol_in_there (slots_of Protocols ws)
 
-    protocols_have : (ws : List ℕ) → (uses (decode_protocols ws) || any (λ r. lined (a_record.Protocol r)) (protocols_in ws)) ≡ uses (pass_slots pass_protocol (slots_of Protocols ws))
-    unfolding decode_protocols pass_slots
+    protocols_have : (ws : List ℕ) → (uses (decode_protocols ws) || any (λ r. lined (a_record.Protocol r)) (protocols_in ws)) ≡ uses (pass_slots Protocols ws)
+    unfolding decode_protocols
     protocols_have ws =
         let slots = slots_of Protocols ws in
         ap (λ (y : Bool). y || any (λ r. lined (a_record.Protocol r)) (protocols_in ws)) (has_gather t f b protocol_in protocol_in_there slots)
         ∙ ap (λ (y : Bool). any (λ s. uses (protocol_in s)) slots || y) (gather_any protocol_in protocol_in_there (λ r. lined (a_record.Protocol r)) slots)
         ∙ sym (any_or (λ s. uses (protocol_in s)) (λ s. hit (run t (protocol_in s)) (any (λ r. lined (a_record.Protocol r)))) slots)
-        ∙ any_same (λ s. uses (protocol_in s) || hit (run t (protocol_in s)) (any (λ r. lined (a_record.Protocol r)))) (λ s. uses (of_value (decode_address s) pass_protocol)) (λ s. sym (slot_each s)) slots
-        ∙ sym (has_gather t f b (λ a. of_value (decode_address a) pass_protocol) (λ a. of_there (decode_address a) pass_protocol protocol_there) slots)
+        ∙ any_same (λ s. uses (protocol_in s) || hit (run t (protocol_in s)) (any (λ r. lined (a_record.Protocol r)))) (λ s. uses (if_there (decode_address s) (pass_record Protocols))) (λ s. sym (slot_each s)) slots
+        ∙ sym (slots_uses Protocols ws)
 
     -- The three lists of records, and the lines of each.
     class_taken : (a : ℕ) → There (run t (of_value (decode_class a false) decode_with_meta))
@@ -583,31 +802,27 @@ module _ (t : Tables) (o : Opened t) where
     category_taken : (a : ℕ) → There (run t (present (decode_category a)))
     category_taken a = present_there (decode_category a)
 
-    category_there : (a : ℕ) → There (run t (pass_category a))
-    unfolding pass_category
-    category_there a = of_there (decode_category a) (λ c. decode_lines_of (a_record.Category c)) (λ c. lines_there (a_record.Category c))
-
     category_each : (a : ℕ) → uses (pass_category a) ≡ (uses (present (decode_category a)) || hit (run t (present (decode_category a))) (any (λ r. lined (a_record.Category r))))
     unfolding pass_category
     category_each a = present_each (decode_category a) a_record.Category
 
     module _ (ws : List ℕ) where
       abbrev classes_in : List ObjcClass
-      classes_in = found ws Classes (λ a. of_value (decode_class a false) decode_with_meta) class_taken a_record.Class pass_class class_there class_each
+      classes_in = found ws Classes (λ a. of_value (decode_class a false) decode_with_meta) class_taken a_record.Class class_each
 
       abbrev categories_in : List ObjcCategory
-      categories_in = found ws Categories (λ a. present (decode_category a)) category_taken a_record.Category pass_category category_there category_each
+      categories_in = found ws Categories (λ a. present (decode_category a)) category_taken a_record.Category category_each
 
       abbrev records_in : List Record
       records_in = map a_record.Class classes_in ++ (map a_record.Protocol (protocols_in ws) ++ map a_record.Category categories_in)
 
       classes_are : run t (decode_classes ws) ≡ value classes_in
       unfolding decode_classes
-      classes_are = found_is ws Classes (λ a. of_value (decode_class a false) decode_with_meta) class_taken a_record.Class pass_class class_there class_each
+      classes_are = found_is ws Classes (λ a. of_value (decode_class a false) decode_with_meta) class_taken a_record.Class class_each
 
       categories_are : run t (decode_categories ws) ≡ value categories_in
       unfolding decode_categories
-      categories_are = found_is ws Categories (λ a. present (decode_category a)) category_taken a_record.Category pass_category category_there category_each
+      categories_are = found_is ws Categories (λ a. present (decode_category a)) category_taken a_record.Category category_each
 
       protocols_are : run t (decode_protocols ws) ≡ value (protocols_in ws)
       unfolding decode_protocols
@@ -617,25 +832,25 @@ module _ (t : Tables) (o : Opened t) where
       unfolding decode_records
       records_are = rw (classes_are, protocols_are, categories_are) refl
 
-      classes_have : (uses (decode_classes ws) || any (λ r. lined (a_record.Class r)) classes_in) ≡ uses (pass_slots pass_class (slots_of Classes ws))
+      classes_have : (uses (decode_classes ws) || any (λ r. lined (a_record.Class r)) classes_in) ≡ uses (pass_slots Classes ws)
       unfolding decode_classes
-      classes_have = once_have ws Classes (λ a. of_value (decode_class a false) decode_with_meta) class_taken a_record.Class pass_class class_there class_each
+      classes_have = once_have ws Classes (λ a. of_value (decode_class a false) decode_with_meta) class_taken a_record.Class class_each
 
-      categories_have : (uses (decode_categories ws) || any (λ r. lined (a_record.Category r)) categories_in) ≡ uses (pass_slots pass_category (slots_of Categories ws))
+      categories_have : (uses (decode_categories ws) || any (λ r. lined (a_record.Category r)) categories_in) ≡ uses (pass_slots Categories ws)
       unfolding decode_categories
-      categories_have = once_have ws Categories (λ a. present (decode_category a)) category_taken a_record.Category pass_category category_there category_each
+      categories_have = once_have ws Categories (λ a. present (decode_category a)) category_taken a_record.Category category_each
 
       records_have : uses (decode_records ws) ≡ (uses (decode_classes ws) || (uses (decode_protocols ws) || uses (decode_categories ws)))
       unfolding decode_records
       records_have =
           has_joined t f b (as_each a_record.Class (decode_classes ws)) (joined (as_each a_record.Protocol (decode_protocols ws)) (as_each a_record.Category (decode_categories ws)))
           (there_then _ (subst There (sym classes_are) (is_there classes_in)) (λ cs. is_there (map a_record.Class cs)))
-          ∙ ap (λ (y : Bool). y || uses (joined (as_each a_record.Protocol (decode_protocols ws)) (as_each a_record.Category (decode_categories ws)))) (has_each t f b a_record.Class (decode_classes ws))
+          ∙ ap (λ (y : Bool). y || uses (joined (as_each a_record.Protocol (decode_protocols ws)) (as_each a_record.Category (decode_categories ws)))) (has_mapped t f b a_record.Class (decode_classes ws))
           ∙ ap (λ (y : Bool). uses (decode_classes ws) || y)
           (has_joined t f b (as_each a_record.Protocol (decode_protocols ws)) (as_each a_record.Category (decode_categories ws))
           (there_then _ (subst There (sym protocols_are) (is_there (protocols_in ws))) (λ ps. is_there (map a_record.Protocol ps)))
-          ∙ ap (λ (y : Bool). y || uses (as_each a_record.Category (decode_categories ws))) (has_each t f b a_record.Protocol (decode_protocols ws))
-          ∙ ap (λ (y : Bool). uses (decode_protocols ws) || y) (has_each t f b a_record.Category (decode_categories ws)))
+          ∙ ap (λ (y : Bool). y || uses (as_each a_record.Category (decode_categories ws))) (has_mapped t f b a_record.Protocol (decode_protocols ws))
+          ∙ ap (λ (y : Bool). uses (decode_protocols ws) || y) (has_mapped t f b a_record.Category (decode_categories ws)))
 
       lines_have : any lined records_in ≡ (any (λ r. lined (a_record.Class r)) classes_in || (any (λ r. lined (a_record.Protocol r)) (protocols_in ws) || any (λ r. lined (a_record.Category r)) categories_in))
       lines_have =
@@ -646,12 +861,11 @@ module _ (t : Tables) (o : Opened t) where
           ∙ ap (λ (y : Bool). y || any lined (map a_record.Category categories_in)) (any_map lined a_record.Protocol (protocols_in ws))
           ∙ ap (λ (y : Bool). any (λ r. lined (a_record.Protocol r)) (protocols_in ws) || y) (any_map lined a_record.Category categories_in))
 
-      pass_has : uses (decode_pass ws) ≡ (uses (pass_slots pass_class (slots_of Classes ws)) || (uses (pass_slots pass_protocol (slots_of Protocols ws)) || uses (pass_slots pass_category (slots_of Categories ws))))
+      pass_has : uses (decode_pass ws) ≡ (uses (pass_slots Classes ws) || (uses (pass_slots Protocols ws) || uses (pass_slots Categories ws)))
       unfolding decode_pass
       pass_has =
-          has_joined t f b (pass_slots pass_class (slots_of Classes ws)) (joined (pass_slots pass_protocol (slots_of Protocols ws)) (pass_slots pass_category (slots_of Categories ws))) (slots_there_lem pass_class class_there (slots_of Classes ws))
-          ∙ ap (λ (y : Bool). uses (pass_slots pass_class (slots_of Classes ws)) || y)
-          (has_joined t f b (pass_slots pass_protocol (slots_of Protocols ws)) (pass_slots pass_category (slots_of Categories ws)) (slots_there_lem pass_protocol protocol_there (slots_of Protocols ws)))
+          has_both t f b (pass_slots Classes ws) (both (pass_slots Protocols ws) (pass_slots Categories ws)) (slots_passed Classes ws)
+          ∙ ap (λ (y : Bool). uses (pass_slots Classes ws) || y) (has_both t f b (pass_slots Protocols ws) (pass_slots Categories ws) (slots_passed Protocols ws))
 
       listing_has : uses (decode_listing ws) ≡ (uses (decode_records ws) || any lined records_in)
       unfolding decode_listing
@@ -669,8 +883,8 @@ module _ (t : Tables) (o : Opened t) where
       pass_listing : uses (decode_pass ws) ≡ uses (decode_listing ws)
       pass_listing =
           pass_has
-          ∙ ap (λ (y : Bool). y || (uses (pass_slots pass_protocol (slots_of Protocols ws)) || uses (pass_slots pass_category (slots_of Categories ws)))) (sym classes_have)
-          ∙ ap (λ (y : Bool). (uses (decode_classes ws) || any (λ r. lined (a_record.Class r)) classes_in) || (y || uses (pass_slots pass_category (slots_of Categories ws)))) (sym (protocols_have ws))
+          ∙ ap (λ (y : Bool). y || (uses (pass_slots Protocols ws) || uses (pass_slots Categories ws))) (sym classes_have)
+          ∙ ap (λ (y : Bool). (uses (decode_classes ws) || any (λ r. lined (a_record.Class r)) classes_in) || (y || uses (pass_slots Categories ws))) (sym (protocols_have ws))
           ∙ ap (λ (y : Bool). (uses (decode_classes ws) || any (λ r. lined (a_record.Class r)) classes_in) || ((uses (decode_protocols ws) || any (λ r. lined (a_record.Protocol r)) (protocols_in ws)) || y)) (sym categories_have)
           ∙ ap (λ (y : Bool). (uses (decode_classes ws) || any (λ r. lined (a_record.Class r)) classes_in) || y)
           (swap (uses (decode_protocols ws)) (any (λ r. lined (a_record.Protocol r)) (protocols_in ws)) (uses (decode_categories ws)) (any (λ r. lined (a_record.Category r)) categories_in))
@@ -683,3 +897,10 @@ module _ (t : Tables) (o : Opened t) where
   pub pass_same : merged (file_lengths t.files) (used t (decode_pass t.sections)) ≡ ranges_used t
   unfolding ranges_used used_by
   pass_same = merged_same (file_lengths t.files) (used t (decode_pass t.sections)) (used t (decode_listing t.sections)) (λ f b. pass_listing f b t.sections)
+
+  -- No question refuses the pass.
+  pub pass_there : There (run t (decode_pass t.sections))
+  unfolding decode_pass
+  pass_there =
+      both_there (pass_slots Classes t.sections) (both (pass_slots Protocols t.sections) (pass_slots Categories t.sections)) (slots_passed 0 0 Classes t.sections)
+      (both_there (pass_slots Protocols t.sections) (pass_slots Categories t.sections) (slots_passed 0 0 Protocols t.sections) (slots_passed 0 0 Categories t.sections))

@@ -2,5 +2,4 @@
 pub mod Noting
 pub mod Entries
 pub mod Pass
-pub mod ListUses
-pub mod NamesUse
+pub mod UsedRanges

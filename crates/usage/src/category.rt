@@ -1,21 +1,32 @@
-// Categories, noted on a sheet: the reads of category_t, in the order of its definition (records/specs/Category.antt).
+// Categories, noted on a sheet. Made by tools/usage/tracing.py of crates/records/src/category.rt.
 ghost use Rattle.std.specs.Prelude.{◌≡◌};
 ghost use Rattle.reads.specs.Answer.{outcome};
-ghost use Rattle.records.specs.Category.{decode_category_lists, decode_category_properties, decode_category_of, decode_category};
-ghost use Rattle.records.specs.Decode.{then, done};
+ghost use Rattle.records.specs.Category.{decode_category, decode_category_lists, decode_category_of, decode_category_properties};
 ghost use Rattle.usage.specs.Noting.{noting, traced, trace};
+ghost use Rattle.usage.specs.Pass.{reads};
 
 use crate::noting::Noting;
 use pointers::imageinfo::ImageInfo;
 use reads::answer::Missing;
 use reads::place::readable;
-use records::category::ObjcCategory;
+use records::category::{ObjcCategory, category_at};
 
 impl Noting<'_> {
-    // The lists of a category_t but its class properties, if all fields are there.
+    // _classProperties where the image has the field; or 0.
+    #[tactic(auto, using(crate::proofs::NotedBy::notes), unfolding(records::specs::Category::decode_category_properties, reads::specs::Outcome::choose))]
+    fn note_category_properties(&mut self, va: u64, wide: bool) -> Result<u64, Missing>
+        ensures { traced (outcome result) self.new ≡ trace (decode_category_properties va wide) self.old }
+    {
+        if wide {
+            return self.note_pointer_or_0(va, ObjcCategory::CLASS_PROPERTIES);
+        }
+        Ok(0)
+    }
+
+    // The lists of a category_t but its class properties; each or 0.
     #[tactic(auto, using(crate::proofs::NotedBy::notes), unfolding(records::specs::Category::decode_category_lists))]
     fn note_category_lists(&mut self, va: u64) -> Result<(), Missing>
-        ensures { traced (outcome result) self.new ≡ trace (then (decode_category_lists va) (λ lists. done tt)) self.old }
+        ensures { traced (outcome result) self.new ≡ trace (reads (decode_category_lists va)) self.old }
     {
         self.note_pointer_or_0(va, ObjcCategory::INSTANCE_METHODS)?;
         self.note_pointer_or_0(va, ObjcCategory::CLASS_METHODS)?;
@@ -24,21 +35,10 @@ impl Noting<'_> {
         Ok(())
     }
 
-    // _classProperties where the image has the field.
-    #[tactic(auto, using(crate::proofs::NotedBy::notes), unfolding(records::specs::Category::decode_category_properties, reads::specs::Outcome::choose))]
-    fn note_category_properties(&mut self, va: u64, wide: bool) -> Result<(), Missing>
-        ensures { traced (outcome result) self.new ≡ trace (then (decode_category_properties va wide) (λ list. done tt)) self.old }
-    {
-        if wide {
-            self.note_pointer_or_0(va, ObjcCategory::CLASS_PROPERTIES)?;
-        }
-        Ok(())
-    }
-
-    // category_t, wider where it has the field for class properties: the slots, the name's text last.
+    // category_t, wider where it has the field for class properties: its fields in the order of category.rs, the name's text last.
     #[tactic(auto, using(crate::proofs::NotedBy::notes), unfolding(records::specs::Category::decode_category_of, reads::specs::Outcome::choose))]
-    fn category(&mut self, va: u64, wide: bool) -> Result<(), Missing>
-        ensures { self.new ≡ noting (decode_category_of va wide) self.old }
+    fn note_category_of(&mut self, va: u64, wide: bool) -> Result<(), Missing>
+        ensures { traced (outcome result) self.new ≡ trace (reads (decode_category_of va wide)) self.old }
     {
         let size = if wide {
             ObjcCategory::SIZE_WITH_CLASS_PROPERTIES
@@ -46,21 +46,30 @@ impl Noting<'_> {
             ObjcCategory::SIZE
         };
         readable(self.tables.image(), va, size)?;
-        let name = self.note_slot(va)?;
+        let name_va = self.note_slot(va)?;
         self.note_pointer_or_0(va, ObjcCategory::CLS)?;
         self.note_category_lists(va)?;
         self.note_category_properties(va, wide)?;
-        self.note_text(name);
+        self.note_string(name_va)?;
         Ok(())
     }
 
-    // Bit 6 of the image info's flags says whether categories have the field.
+    // The category at an address, by bit 6 of the image info's flags.
     #[tactic(auto, using(crate::proofs::NotedBy::notes), unfolding(records::specs::Category::decode_category))]
-    pub fn note_category(&mut self, va: u64)
+    fn category(&mut self, va: u64) -> Result<(), Missing>
         ensures { self.new ≡ noting (decode_category va) self.old }
     {
-        if let Ok(info) = ImageInfo::parse(self.tables.info()) {
-            let _ = self.category(va, info.has_category_class_properties());
-        }
+        let image_info = ImageInfo::parse(self.tables.info())?;
+        let wide = image_info.has_category_class_properties();
+        self.note_category_of(va, wide)
+    }
+
+    // The same, and the record, which the plain decoder makes. Two functions, so that `?` ends the reads and not the answer.
+    #[tactic(auto, using(crate::proofs::NotedBy::notes))]
+    pub fn note_category(&mut self, va: u64) -> Result<ObjcCategory, Missing>
+        ensures { traced (outcome result) self.new ≡ trace (decode_category va) self.old }
+    {
+        let _ = self.category(va);
+        category_at(self.tables, va)
     }
 }

@@ -1,13 +1,13 @@
 // Reads that are noted on a sheet: each notes the bytes that the question of the same name uses (used/specs/Used.antt), and some answer it.
 ghost use Rattle.std.specs.Prelude.{◌≡◌};
-ghost use Rattle.pointers.specs.Tables.{image_in};
 ghost use Rattle.reads.specs.Answer.{outcome};
 ghost use Rattle.records.specs.Decode as asks;
-ghost use Rattle.used.specs.Used.{uses_field, uses_text};
+ghost use Rattle.used.specs.Used.{uses_field};
 ghost use Rattle.usage.specs.Noting.{noted_on, noting, traced, trace};
 
 use crate::noting::Noting;
 use pointers::slot::{bind_at, rebase_at, resolve_pointer};
+use pointers::symbol::strip_objc_symbol_prefix;
 use reads::answer::{Missing, checked_add, or_zero};
 use reads::files::file_len;
 use reads::place::{Place, lies_in, readable};
@@ -92,21 +92,13 @@ impl Noting<'_> {
         r.text
     }
 
-    // The same, whatever the text is.
-    #[tactic(auto, using(crate::proofs::NotedBy::notes))]
-    pub(crate) fn note_text(&mut self, va: u64)
-        ensures { self.new ≡ noted_on (uses_text (image_in self.old.tables.now) va) self.old }
+    // The name of a slot's bind, and the same less its prefix.
+    #[tactic(auto, using(crate::proofs::NotedBy::notes), unfolding(used::specs::Used::uses_symbol_in, pointers::specs::Slot::symbol_of))]
+    pub(crate) fn note_symbol(&mut self, slot: u64) -> Result<Text, Missing>
+        ensures { traced (outcome result) self.new ≡ trace (asks.symbol slot) self.old }
     {
-        let _ = self.note_string(va);
-    }
-
-    // The name of a slot's bind.
-    #[tactic(auto, using(crate::proofs::NotedBy::notes), unfolding(used::specs::Used::uses_symbol_in))]
-    pub(crate) fn note_symbol(&mut self, slot: u64)
-        ensures { self.new ≡ noting (asks.symbol slot) self.old }
-    {
-        if let Ok(name) = bind_at(self.tables, slot) {
-            self.sheet.note(name.file, name.offset, name.len);
-        }
+        let name = bind_at(self.tables, slot)?;
+        self.sheet.note(name.file, name.offset, name.len);
+        Ok(strip_objc_symbol_prefix(self.tables.files(), name))
     }
 }

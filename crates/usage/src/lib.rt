@@ -1,4 +1,4 @@
-// The reads of a listing noted on a sheet, record by record and row by row (document 02, note 13): what the ranges of the bytes used are made from.
+// The ranges of the bytes that a listing uses (document 02, note 13): its reads noted on a sheet, record by record and row by row.
 #![tactic(auto)]
 
 mod category;
@@ -9,7 +9,9 @@ mod leaf;
 mod list;
 mod names;
 pub mod noting;
+mod pass;
 mod protocol;
 mod protocol_name;
 mod row;
 mod rows;
+pub mod used_ranges;

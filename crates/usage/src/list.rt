@@ -1,17 +1,18 @@
-// Headers of lists, noted on a sheet: their reads in the order of their definitions (records/specs/List.antt, walks/specs/ProtocolNames.antt).
+// Headers of lists, noted on a sheet. Made by tools/usage/tracing.py of crates/records/src/list.rt and crates/walks/src/protocol_names.rt.
 ghost use Rattle.std.specs.Prelude.{◌≡◌};
+ghost use Rattle.reads.specs.Answer.{outcome};
 ghost use Rattle.records.specs.List.{decode_list};
 ghost use Rattle.walks.specs.ProtocolNames.{decode_protocol_list};
-ghost use Rattle.usage.specs.Noting.{noting};
+ghost use Rattle.usage.specs.Noting.{noting, traced, trace};
 
 use crate::noting::Noting;
 use reads::answer::{Missing, nonzero};
 use reads::place::readable;
-use records::list::{Layout, ListKind, even_list, list_address};
-use walks::protocol_names::ProtocolList;
+use records::list::{Layout, ListKind, even_list, list_address, list_at};
+use walks::protocol_names::{ProtocolList, protocol_list_at};
 
 impl Noting<'_> {
-    // A list of rows: entry size and count.
+    // The list at an address: an 8-byte header of entry size and count, then the entries.
     #[tactic(auto, using(crate::proofs::NotedBy::notes), unfolding(records::specs::List::decode_list))]
     fn list(&mut self, kind: ListKind, va: u64) -> Result<(), Missing>
         ensures { self.new ≡ noting (decode_list kind va) self.old }
@@ -24,14 +25,16 @@ impl Noting<'_> {
         Ok(())
     }
 
-    // The same, whatever ends it.
-    pub fn note_list(&mut self, kind: ListKind, va: u64)
-        ensures { self.new ≡ noting (decode_list kind va) self.old }
+    // The same, and the record, which the plain decoder makes. Two functions, so that `?` ends the reads and not the answer.
+    #[tactic(auto, using(crate::proofs::NotedBy::notes))]
+    pub fn note_list(&mut self, kind: ListKind, va: u64) -> Result<Layout, Missing>
+        ensures { traced (outcome result) self.new ≡ trace (decode_list kind va) self.old }
     {
         let _ = self.list(kind, va);
+        list_at(self.tables, kind, va)
     }
 
-    // A protocol list: its count.
+    // protocol_list_t: a u64 count, then the slots.
     #[tactic(auto, using(crate::proofs::NotedBy::notes), unfolding(walks::specs::ProtocolNames::decode_protocol_list))]
     fn protocol_list(&mut self, va: u64) -> Result<(), Missing>
         ensures { self.new ≡ noting (decode_protocol_list va) self.old }
@@ -43,10 +46,12 @@ impl Noting<'_> {
         Ok(())
     }
 
-    // The same, whatever ends it.
-    pub fn note_protocol_list(&mut self, va: u64)
-        ensures { self.new ≡ noting (decode_protocol_list va) self.old }
+    // The same, and the record, which the plain decoder makes. Two functions, so that `?` ends the reads and not the answer.
+    #[tactic(auto, using(crate::proofs::NotedBy::notes))]
+    pub fn note_protocol_list(&mut self, va: u64) -> Result<ProtocolList, Missing>
+        ensures { traced (outcome result) self.new ≡ trace (decode_protocol_list va) self.old }
     {
         let _ = self.protocol_list(va);
+        protocol_list_at(self.tables, va)
     }
 }

@@ -1,46 +1,45 @@
-// Protocols, noted on a sheet: the reads of protocol_t, in the order of its definition (records/specs/Protocol.antt).
+// Protocols, noted on a sheet. Made by tools/usage/tracing.py of crates/records/src/protocol.rt.
 ghost use Rattle.std.specs.Prelude.{◌≡◌};
 ghost use Rattle.reads.specs.Answer.{outcome};
-ghost use Rattle.records.specs.Decode.{then, done};
-ghost use Rattle.records.specs.Protocol.{decode_trailing, decode_class_properties, decode_protocol_lists, decode_protocol};
-ghost use Rattle.usage.specs.Noting.{noting, traced, trace};
+ghost use Rattle.records.specs.Protocol.{decode_class_properties, decode_protocol, decode_protocol_lists, decode_trailing};
+ghost use Rattle.records.specs.Decode.{done, then};
+ghost use Rattle.usage.specs.Noting.{traced, trace};
+ghost use Rattle.usage.specs.Pass.{reads};
 
 use crate::noting::Noting;
 use reads::answer::{Missing, checked_add};
 use reads::place::{Place, readable, u32_in};
 use reads::text::Text;
-use records::protocol::ObjcProtocol;
+use records::protocol::{ObjcProtocol, protocol_at};
 
 impl Noting<'_> {
-    // _classProperties, where its 8 bytes can be read.
+    // _classProperties: its 8 bytes must be readable, even where a rebase fills the slot; or 0.
     #[tactic(auto, using(crate::proofs::NotedBy::notes), unfolding(records::specs::Protocol::decode_trailing))]
-    fn note_trailing(&mut self, va: u64) -> Result<(), Missing>
-        ensures { traced (outcome result) self.new ≡ trace (then (decode_trailing va) (λ list. done tt)) self.old }
+    fn note_trailing(&mut self, va: u64) -> Result<u64, Missing>
+        ensures { traced (outcome result) self.new ≡ trace (decode_trailing va) self.old }
     {
         let slot = checked_add(va, ObjcProtocol::CLASS_PROPERTIES)?;
         readable(self.tables.image(), slot, 8)?;
-        self.note_slot_or_0(slot)?;
-        Ok(())
+        self.note_slot_or_0(slot)
     }
 
-    // The same where the protocol's own size says so.
+    // The class properties, 0 where the protocol is too short to have them.
     #[tactic(auto, using(crate::proofs::NotedBy::notes, std::proofs::lemmas::Bool::Decides::nat_tests), unfolding(records::specs::Protocol::decode_class_properties, reads::specs::Outcome::choose))]
-    fn note_class_properties(&mut self, va: u64, p: Place) -> Result<(), Missing>
-        ensures { traced (outcome result) self.new ≡ trace (then (decode_class_properties va p) (λ list. done tt)) self.old }
+    fn note_class_properties(&mut self, va: u64, p: Place) -> Result<u64, Missing>
+        ensures { traced (outcome result) self.new ≡ trace (decode_class_properties va p) self.old }
     {
         self.note_field(p, ObjcProtocol::OWN_SIZE, 4);
-        if ObjcProtocol::SIZE_WITH_CLASS_PROPERTIES
-            <= u32_in(self.tables.files(), p, ObjcProtocol::OWN_SIZE)
-        {
-            self.note_trailing(va)?;
+        let size = u32_in(self.tables.files(), p, ObjcProtocol::OWN_SIZE);
+        if ObjcProtocol::SIZE_WITH_CLASS_PROPERTIES <= size {
+            return self.note_trailing(va);
         }
-        Ok(())
+        Ok(0)
     }
 
-    // The lists of a protocol_t but its class properties, if all fields are there.
+    // The lists of a protocol_t but its class properties; each or 0.
     #[tactic(auto, using(crate::proofs::NotedBy::notes), unfolding(records::specs::Protocol::decode_protocol_lists))]
     fn note_protocol_lists(&mut self, va: u64) -> Result<(), Missing>
-        ensures { traced (outcome result) self.new ≡ trace (then (decode_protocol_lists va) (λ lists. done tt)) self.old }
+        ensures { traced (outcome result) self.new ≡ trace (reads (decode_protocol_lists va)) self.old }
     {
         self.note_pointer_or_0(va, ObjcProtocol::PROTOCOLS)?;
         self.note_pointer_or_0(va, ObjcProtocol::INSTANCE_METHODS)?;
@@ -51,7 +50,7 @@ impl Noting<'_> {
         Ok(())
     }
 
-    // protocol_t, and its name, whose text is read before _classProperties.
+    // protocol_t: the name's text is read before _classProperties.
     #[tactic(auto, using(crate::proofs::NotedBy::notes), unfolding(records::specs::Protocol::decode_protocol))]
     pub(crate) fn protocol(&mut self, va: u64) -> Result<Text, Missing>
         ensures { traced (outcome result) self.new ≡ trace (then (decode_protocol va) (λ p. done p.name)) self.old }
@@ -66,11 +65,12 @@ impl Noting<'_> {
         Ok(name)
     }
 
-    // The same, whatever ends it.
+    // The same, and the record, which the plain decoder makes. Two functions, so that `?` ends the reads and not the answer.
     #[tactic(auto, using(crate::proofs::NotedBy::notes))]
-    pub fn note_protocol(&mut self, va: u64)
-        ensures { self.new ≡ noting (decode_protocol va) self.old }
+    pub fn note_protocol(&mut self, va: u64) -> Result<ObjcProtocol, Missing>
+        ensures { traced (outcome result) self.new ≡ trace (decode_protocol va) self.old }
     {
         let _ = self.protocol(va);
+        protocol_at(self.tables, va)
     }
 }

@@ -1,15 +1,19 @@
 // The rows of a list, noted on a sheet: its header, and every entry that can be read.
 ghost use Rattle.std.specs.Iterator.{YieldsFirst, item_count};
-ghost use Rattle.std.specs.Prelude.{◌≡◌};
+ghost use Rattle.std.specs.Prelude.{◌≡◌, map};
 ghost use Rattle.pointers.specs.Tables.{image_in};
 ghost use Rattle.records.specs.Search.{readables};
 ghost use Rattle.usage.specs.Entries.{entries_left};
-ghost use Rattle.usage.specs.ListUses.{rows_use, list_uses};
-ghost use Rattle.usage.specs.Noting.{noted_on};
+ghost use Rattle.reads.specs.Answer.{answered};
+ghost use Rattle.records.specs.List.{entry_address};
+ghost use Rattle.records.specs.Row.{decode_row};
+ghost use Rattle.usage.specs.Noting.{traced, trace};
+ghost use Rattle.usage.specs.Pass.{only, each_row, pass_rows};
 
 use crate::noting::Noting;
+use reads::answer::{Question, optional};
 use reads::place::Image;
-use records::list::{Layout, ListKind, first_readable, list_at};
+use records::list::{Layout, ListKind, RowKind, first_readable};
 
 // The entries of a list from one on that can be read, as where each stands.
 #[derive(Clone, Copy)]
@@ -36,11 +40,20 @@ impl Iterator for Entries<'_> {
 }
 
 impl Noting<'_> {
+    // A row, whether or not it is there.
+    #[tactic(auto, using(crate::proofs::NotedBy::notes))]
+    fn pass_row(&mut self, kind: RowKind, va: u64) -> Result<(), Question>
+        ensures { traced (answered result) self.new ≡ trace (only (decode_row kind va)) self.old }
+    {
+        optional(self.note_row(kind, va))?;
+        Ok(())
+    }
+
     // Every entry that can be read.
-    #[tactic(auto, using(crate::proofs::NotedBy::notes, crate::proofs::RowsNoted::rows))]
-    fn note_rows(&mut self, h: Layout)
+    #[tactic(auto, using(crate::proofs::NotedBy::notes), unfolding(crate::specs::Pass::each))]
+    fn note_entries(&mut self, h: Layout) -> Result<(), Question>
         ensures { let t = self.old.tables.now in
-            self.new ≡ noted_on (rows_use t h (readables (image_in t) h)) self.old }
+            traced (answered result) self.new ≡ trace (each_row h.kind (map (entry_address h) (readables (image_in t) h))) self.old }
     {
         let entries = Entries {
             image: self.tables.image(),
@@ -48,18 +61,19 @@ impl Noting<'_> {
             from: 0,
         };
         for va in entries {
-            self.note_row(h.kind, va);
+            self.pass_row(h.kind, va)?;
         }
+        Ok(())
     }
 
     // The list at an address.
-    #[tactic(auto, using(crate::proofs::NotedBy::notes, crate::proofs::RowsNoted::list_noted))]
-    pub fn note_list_rows(&mut self, kind: ListKind, va: u64)
-        ensures { self.new ≡ noted_on (list_uses self.old.tables.now kind va) self.old }
+    #[tactic(auto, using(crate::proofs::NotedBy::notes), unfolding(crate::specs::Pass::pass_rows))]
+    pub fn note_rows(&mut self, kind: ListKind, va: u64) -> Result<(), Question>
+        ensures { traced (answered result) self.new ≡ trace (pass_rows kind va) self.old }
     {
-        self.note_list(kind, va);
-        if let Ok(h) = list_at(self.tables, kind, va) {
-            self.note_rows(h);
+        match optional(self.note_list(kind, va))? {
+            Some(h) => self.note_entries(h),
+            None => Ok(()),
         }
     }
 }

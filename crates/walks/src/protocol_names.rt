@@ -71,10 +71,11 @@ pub fn protocol_list_at(tables: &Tables, va: u64) -> Result<ProtocolList, Missin
     nonzero(va)?;
     even_list(va)?;
     let p = readable(tables.image(), va, ProtocolList::HEADER_SIZE)?;
+    let count = u64_in(tables.files(), p, ProtocolList::COUNT);
     let base = checked_add(va, ProtocolList::HEADER_SIZE)?;
     Ok(ProtocolList {
         base,
-        count: capped(u64_in(tables.files(), p, ProtocolList::COUNT)),
+        count: capped(count),
     })
 }
 

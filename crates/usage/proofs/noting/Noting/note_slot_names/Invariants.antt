@@ -1,11 +1,10 @@
 use mathlib.Core.Path.{◌≡◌}
-use Prim.Native.Nat.{◌-◌}
-use lib.ListN.{length}
-use Rattle.usage.specs.NamesUse.{slots_use}
-use Rattle.usage.specs.Noting.{noted_on}
+use Rattle.usage.specs.Entries.{slots_left}
+use Rattle.usage.specs.Noting.{trace}
+use Rattle.usage.specs.Pass.{list_slots, each_name}
 use Rattle.usage.proofs.noting.Noting.note_slot_names.Given as goal
 
-abbrev pub invariant-loop-i : goal.invariant-loop-i
-invariant-loop-i l =
-    noted_on (slots_use l.self.tables.now l.fn.list (length l.yielded) (l.fn.list.count - length l.yielded)) l.self
-    ≡ noted_on (slots_use l.initial.self.tables.now l.fn.list 0 l.fn.list.count) l.initial.self
+-- The slots that are left, noted on the sheet so far, are all of them noted on the first.
+abbrev pub invariant-loop-slot : goal.invariant-loop-slot
+invariant-loop-slot l =
+    trace (each_name (slots_left l.slot-iterator)) l.self ≡ trace (each_name (list_slots l.fn.list 0 l.fn.list.count)) l.initial.self

@@ -1,0 +1,8 @@
+use Rattle.std.proofs.Common.{arith}
+use Rattle.records.specs.Row.{decode_small_method}
+use Rattle.usage.proofs.NotedBy.{notes}
+use Rattle.usage.proofs.noting.Noting.note_small_method.Goals as goal
+
+pub returns-in_err-note_types : goal.returns-in_err-note_types
+unfolding decode_small_method
+returns-in_err-note_types c = grind (arith, notes)
