@@ -20,6 +20,7 @@ pub mod Rows
 pub mod Grammar
 pub mod Passes
 pub mod Texts
+pub mod PlainBytes
 pub mod Endings
 pub mod OneImage
 pub mod OneFile

@@ -114,7 +114,7 @@ above_zero_inside (lo to hi) b a i z = omega (arith, ltb-true 0 lo a, leb-true l
 pub stands_inside : (s : List ℕ) (i : ℕ) → (get_or s i 0 ≡ 0 → ⊥) → i < length s
 stands_inside s i n = elim (dec_le (length s) i) [ yes h ↦ absurd (n (get_or-eq_default s 0 h)) | no f ↦ omega arith ]
 
-counts : (z : Bool) (b : ℕ) → (b ≡ 0 → ⊥) → Counts z b
+pub counts : (z : Bool) (b : ℕ) → (b ≡ 0 → ⊥) → Counts z b
 counts true b n = n
 counts false b n = tt
 

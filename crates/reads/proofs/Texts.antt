@@ -1,7 +1,8 @@
 -- The text in front of a list: where a pass over it ends, and what the answers come to.
 use Rattle.std.specs.Prelude.{Ok, Err}
-use Rattle.std.proofs.Common.{◌≡◌, ℕ, suc, ◌+◌, ◌<◌, ◌≤◌, min, Bool, true, false, eqb, leb, List, [], ◌∷◌, length, get_or, drop, sym, refl, ap, ◌∙◌, subst, arith, length-drop, drop_of_length-le, drop-cons, leb-true}
+use Rattle.std.proofs.Common.{◌≡◌, ℕ, suc, ◌+◌, ◌-◌, ◌<◌, ◌≤◌, min, Bool, true, false, eqb, leb, List, [], ◌∷◌, length, get_or, take, drop, sym, refl, ap, ◌∙◌, subst, arith, length-drop, drop_of_length-le, drop-cons, leb-true, le-leb}
 use native.Mathlib.Decide.{dec_le}
+use lib.Seq.{take_all}
 use borrow.Author.Tests.{lt-leb}
 use Rattle.reads.specs.Outcome.{Outcome, value, absent, refused, and_then, choose, nonzero, text_of}
 use Rattle.reads.specs.Files.{file_of}
@@ -9,7 +10,7 @@ use Rattle.reads.specs.Segment.{rows, lookup}
 use Rattle.reads.specs.Place.{Image}
 use Rattle.reads.specs.declared.place.Place.{Place}
 use Rattle.reads.specs.Utf8.{Verdict, judge, verdict}
-use Rattle.reads.specs.Text.{text, scanned, scan_of, if_good, good_text, ended, if_ended, text_from, text_at, text_in}
+use Rattle.reads.specs.Text.{text, scanned, scan_of, if_good, good_text, ended, if_ended, text_of_scan, text_from, read_from, text_at, text_in}
 use Rattle.reads.specs.Pass.{byte_after, broken_at}
 use Rattle.reads.specs.declared.text.ByteRead.{ByteRead}
 use Rattle.reads.specs.declared.text.Reading.{Reading}
@@ -72,11 +73,24 @@ scan_good {s} {i} {b} l q z =
 pub scan_broken : {s : List ℕ} {k : ℕ} → FoundBad true s k → broken_at s k ≡ scan_of s
 scan_broken {s} {k} b = rw (b.long, b.judged)
 
--- Past its file's end a text is absent.
-module _ (r : Reading) (bytes : List ℕ) (p : Place) (h : length bytes < p.offset) where
-  pub text_beyond : absent PastEnd ≡ text_from r bytes p
+-- The bytes from an offset on, as the code cuts them.
+part_from : (bytes : List ℕ) (offset : ℕ) → take (length bytes - offset) (drop offset bytes) ≡ drop offset bytes
+part_from bytes offset = take_all (length bytes - offset) (drop offset bytes) (omega (arith, length-drop offset bytes))
+
+pub read_found : (bytes : List ℕ) (offset : ℕ) → (scan_of (take (length bytes - offset) (drop offset bytes))).read ≡ read_from bytes offset
+unfolding read_from
+read_found bytes offset = ap (λ (s : List ℕ). (scan_of s).read) (part_from bytes offset)
+
+-- The text there, and past its file's end none.
+module _ (r : Reading) (bytes : List ℕ) (p : Place) where
+  pub text_found : p.offset ≤ length bytes
+      → text_of_scan r p (scan_of (take (length bytes - p.offset) (drop p.offset bytes))) ≡ text_from r bytes p
   unfolding text_from choose
-  text_beyond = simp (lt-leb p.offset (length bytes) h)
+  text_found h = ap (λ (s : List ℕ). text_of_scan r p (scan_of s)) (part_from bytes p.offset) ∙ simp (le-leb p.offset (length bytes) h)
+
+  pub text_beyond : length bytes < p.offset → absent PastEnd ≡ text_from r bytes p
+  unfolding text_from choose
+  text_beyond h = simp (lt-leb p.offset (length bytes) h)
 
 -- A text lies in its file
 

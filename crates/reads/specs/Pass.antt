@@ -1,5 +1,5 @@
 -- One pass over bytes (document 02, note 4), a byte at a time: what its steps read. proofs/Passes.antt has what they say of a text.
-use Rattle.std.specs.Prelude.{ℕ, suc, ◌+◌, List, [], ◌∷◌, length, drop, nat_lt, slice_index, Option, None, Some, Result, Ok, Err}
+use Rattle.std.specs.Prelude.{◌≡◌, ℕ, suc, ◌+◌, ◌<◌, ◌≤◌, Bool, true, ◌&&◌, List, [], ◌∷◌, length, drop, nat_lt, slice_index, Option, None, Some, Result, Ok, Err}
 use Rattle.reads.specs.Outcome.{choose}
 use Rattle.reads.specs.Utf8.{Range, inside, multi, begun}
 use Rattle.reads.specs.Text.{text, scanned}
@@ -36,3 +36,30 @@ character s first = follow_row s first (begun multi first.byte)
 -- What a pass over s finds that met the first bad byte at k.
 abbrev pub broken_at : List ℕ → ℕ → Scan
 broken_at s k = scanned s (k + length (text (drop k s))) (Err k)
+
+-- An ASCII byte that does not end a text.
+abbrev pub plain : ByteRead → Bool
+plain b = nat_lt 0 b.byte && nat_lt b.byte 0x80
+
+-- The byte behind b where b is plain, else b.
+abbrev pub onward : List ℕ → ByteRead → ByteRead
+onward s b = choose (plain b) (byte_after s b.read) b
+
+-- The first of eight bytes that is not plain, or the eighth.
+abbrev pub of_eight : List ℕ → ByteRead
+of_eight s = onward s (onward s (onward s (onward s (onward s (onward s (onward s (byte_after s 0)))))))
+
+-- What a pass found that came to the byte that ends the text, all of it well-formed.
+abbrev pub good_scan : ByteRead → Scan
+good_scan b = record { len = b.at; read = b.read; verdict = Ok tt }
+
+-- The bytes of s from one on up to the n-th are plain.
+pub record PlainTo (s : List ℕ) (from n : ℕ) : Type 0 where
+  pub ahead : from ≤ n
+  pub within : n ≤ length s
+  pub each : (k : ℕ) → from ≤ k → k < n → plain (byte_after s k) ≡ true
+
+-- A pass over s that went on over plain bytes has come to the byte b.
+pub record Skipped (s : List ℕ) (from : ℕ) (b : ByteRead) : Type 0 where
+  pub is : b ≡ byte_after s b.at
+  pub run : PlainTo s from b.at

@@ -1,9 +1,10 @@
 // The segment table, lent as words, and the translation between addresses and places.
-ghost use Rattle.std.specs.Prelude.{◌≡◌, ◌<◌, ◌≤◌};
+ghost use Rattle.std.specs.Prelude.{◌≡◌, ◌<◌, ◌≤◌, false};
 ghost use Rattle.std.specs.Iterator.{YieldsFirst, item_count};
 ghost use Rattle.reads.specs.Reference.{before};
 ghost use Rattle.reads.specs.Table.{records};
 ghost use Rattle.reads.specs.Segment.{segment_words, segment_at, rows, rows_left, ends, holds, placed, lookup, ends_in_file, mapped_size, carries, address_of};
+ghost use Rattle.reads.specs.Spot.{distance};
 ghost use Rattle.reads.specs.Answer.{outcome};
 
 use crate::answer::{Missing, Reason, because, checked_add};
@@ -64,6 +65,27 @@ impl Segment {
             return false;
         }
         va - self.vmaddr < self.vmsize
+    }
+
+    // How far an address lies past the segment's first one, modulo 2^64.
+    #[tactic(auto, using(std::proofs::lemmas::Bool::Decides::nat_tests), unfolding(crate::specs::Spot::distance, crate::specs::Outcome::choose))]
+    pub(crate) fn distance(self, va: u64) -> u64
+        ensures { result ≡ distance self va }
+    {
+        va.wrapping_sub(self.vmaddr)
+    }
+
+    // The segment holds an address at this distance, where it does not end a lookup: one compare for both of its ends.
+    #[tactic(auto, using(std::proofs::lemmas::Bool::Decides::nat_tests), unfolding(crate::specs::Segment::ends, crate::specs::Segment::holds, crate::specs::Spot::distance, crate::specs::Outcome::choose))]
+    pub(crate) fn holds_at(self, va: u64, d: u64) -> bool
+        requires self_value { ends self ≡ false }
+        requires d_value { d ≡ distance self va }
+        ensures { result ≡ holds self va }
+    {
+        if self.vmsize <= d {
+            return false;
+        }
+        0 < self.filesize
     }
 
     // The place of an address that the segment holds.
@@ -128,7 +150,8 @@ pub fn vm_to_file_offset_in(segments: &[u64], va: u64) -> Result<Place, Missing>
         if s.ends() {
             return Err(Missing::Absent(Reason::Unmapped));
         }
-        if s.holds(va) {
+        let d = s.distance(va);
+        if s.holds_at(va, d) {
             return s.place(va);
         }
     }

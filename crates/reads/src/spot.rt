@@ -1,7 +1,7 @@
 // Spots: the place of an address together with its room, so that what lies near it is read without another lookup.
-ghost use Rattle.std.specs.Prelude.{◌≡◌, true, false};
+ghost use Rattle.std.specs.Prelude.{◌≡◌, true};
 ghost use Rattle.reads.specs.Reference.{before};
-ghost use Rattle.reads.specs.Segment.{ends, holds};
+ghost use Rattle.reads.specs.Segment.{holds};
 ghost use Rattle.reads.specs.Spot.{distance, spot_at, spot_in, readable_spot};
 ghost use Rattle.reads.specs.Answer.{outcome};
 
@@ -15,27 +15,6 @@ use crate::segment::Segment;
 pub struct Spot {
     pub place: Place,
     pub room: u64,
-}
-
-// How far an address lies past the segment's first one, modulo 2^64.
-#[tactic(auto, using(std::proofs::lemmas::Bool::Decides::nat_tests), unfolding(crate::specs::Spot::distance, crate::specs::Outcome::choose))]
-fn distance(s: Segment, va: u64) -> u64
-    ensures { result ≡ distance s va }
-{
-    va.wrapping_sub(s.vmaddr)
-}
-
-// The segment holds an address at this distance, where it does not end a lookup.
-#[tactic(auto, using(std::proofs::lemmas::Bool::Decides::nat_tests), unfolding(crate::specs::Segment::ends, crate::specs::Segment::holds, crate::specs::Spot::distance, crate::specs::Outcome::choose))]
-fn holds_at(s: Segment, va: u64, d: u64) -> bool
-    requires s_value { ends s ≡ false }
-    requires d_value { d ≡ distance s va }
-    ensures { result ≡ holds s va }
-{
-    if s.vmsize <= d {
-        return false;
-    }
-    0 < s.filesize
 }
 
 // The spot of an address that the segment holds, at this distance; the segments before it lie at most `far` behind the address.
@@ -70,8 +49,8 @@ fn spot_in(segments: &[u64], va: u64) -> Option<Spot>
         if s.ends() {
             return None;
         }
-        let d = distance(s, va);
-        if holds_at(s, va, d) {
+        let d = s.distance(va);
+        if s.holds_at(va, d) {
             return spot_at(s, far, va, d);
         }
         far = far.max(d);

@@ -4,7 +4,7 @@ ghost use Rattle.std.specs.Prelude.{◌≡◌, ◌≤◌, length};
 ghost use Rattle.reads.specs.Reference.{before};
 ghost use Rattle.reads.specs.Outcome.{and_then, nonzero, or_empty};
 ghost use Rattle.reads.specs.Utf8.{◌to◌, tail, verdict, utf8};
-ghost use Rattle.reads.specs.Pass.{byte_after, due, follow, character, broken_at};
+ghost use Rattle.reads.specs.Pass.{byte_after, due, follow, character, broken_at, plain, onward, of_eight, good_scan, Skipped};
 ghost use Rattle.reads.specs.Files.{files_of};
 ghost use Rattle.reads.specs.Segment.{rows, lookup, place_at};
 ghost use Rattle.reads.specs.declared.text.Reading.TheVariants.{Old};
@@ -47,11 +47,11 @@ pub struct CstrRead {
 }
 
 // A byte, its offset, and the count of the bytes read with it. Where no byte is left 0 stands for it, and the count is not raised:
-// not an Option, as both end a text, and the pass tests them by one compare.
+// not an Option, as both end a text, and the pass tests them by one compare. The byte is a word: a struct with a hole is copied through memory.
 #[derive(Clone, Copy)]
 struct ByteRead {
     at: usize,
-    byte: u8,
+    byte: u64,
     read: usize,
 }
 
@@ -69,14 +69,67 @@ fn read_byte(s: &[u8], read: usize) -> ByteRead
     }
     ByteRead {
         at: read,
-        byte: s[read],
+        byte: s[read] as u64,
         read: read + 1,
     }
 }
 
+// An ASCII byte that does not end a text. One compare: neither test waits for the other.
+#[inline(always)]
+fn plain(b: ByteRead) -> bool
+    ensures { result ≡ plain b }
+{
+    (0 < b.byte) & (b.byte < 0x80)
+}
+
+// The byte behind b where b is plain, else b.
+#[inline(always)]
+#[tactic(auto, unfolding(crate::specs::Outcome::choose))]
+fn onward(s: &[u8], b: ByteRead) -> ByteRead
+    ensures { result ≡ onward (before s) b }
+{
+    if plain(b) {
+        return read_byte(s, b.read);
+    }
+    b
+}
+
+// The first byte of eight that is not plain, or the eighth: that eight are there is known at each, and no test for the end is left.
+#[inline(always)]
+fn of_eight(s: &[u8]) -> ByteRead
+    ensures { result ≡ of_eight (before s) }
+{
+    let b = onward(s, onward(s, onward(s, read_byte(s, 0))));
+    onward(s, onward(s, onward(s, onward(s, b))))
+}
+
+// The byte that a pass over s comes to over plain ones, eight by eight: the first that is not plain, or one of the last eight.
+#[inline(always)]
+fn skip_plain(s: &[u8], from: usize) -> ByteRead
+    requires { from ≤ length s.now }
+    ensures { Skipped (before s) from result }
+{
+    let mut read = from;
+    if 8 <= s.len() {
+        let last = s.len() - 8;
+        while read <= last {
+            let b = of_eight(&s[read..read + 8]);
+            if !plain(b) {
+                return ByteRead {
+                    at: read + b.at,
+                    byte: b.byte,
+                    read: read + b.read,
+                };
+            }
+            read += b.read;
+        }
+    }
+    read_byte(s, read)
+}
+
 // The count behind the next byte, if that lies between lo and hi and so continues a character; else that byte, a bad one.
 #[tactic(auto, using(std::proofs::lemmas::Bool::Decides::nat_tests), unfolding(crate::specs::Outcome::choose))]
-fn due(s: &[u8], read: usize, lo: u8, hi: u8) -> Result<usize, ByteRead>
+fn due(s: &[u8], read: usize, lo: u64, hi: u64) -> Result<usize, ByteRead>
     ensures { result ≡ due (before s) read (lo to hi) }
 {
     let b = read_byte(s, read);
@@ -94,6 +147,7 @@ fn tail(s: &[u8], so_far: Result<usize, ByteRead>) -> Result<usize, ByteRead>
 }
 
 // The count behind the character of more than one byte that begins with `first`, or its first bad byte: a line for each row of the grammar.
+#[inline(always)]
 fn character(s: &[u8], first: ByteRead) -> Result<usize, ByteRead>
     ensures { result ≡ character (before s) first }
 {
@@ -112,6 +166,14 @@ fn character(s: &[u8], first: ByteRead) -> Result<usize, ByteRead>
     }
 }
 
+// The same as a call, where few bytes come to it.
+#[inline(never)]
+fn character_apart(s: &[u8], first: ByteRead) -> Result<usize, ByteRead>
+    ensures { result ≡ character (before s) first }
+{
+    character(s, first)
+}
+
 // Whether the bytes are UTF-8, and where not: the offset of the first byte that no well-formed text can continue, or their count
 // where they end inside a character.
 pub fn utf8_verdict(s: &[u8]) -> Result<(), u64>
@@ -127,7 +189,7 @@ pub fn utf8_verdict(s: &[u8]) -> Result<(), u64>
         }
         // A copy: what is handed to a call lies in memory, and b is to stay in registers.
         let first = b;
-        match character(s, first) {
+        match character_apart(s, first) {
             Ok(behind) => read = behind,
             Err(bad) => return Err(bad.at as u64),
         }
@@ -161,34 +223,45 @@ fn broken(s: &[u8], bad: ByteRead) -> Scan
     }
 }
 
-// The text in front of s, in one pass. A zero byte inside a character, or the end there, is no UTF8-tail.
-pub fn scan_text(s: &[u8]) -> Scan
+// What a pass found that came to the byte that ends the text, all of it well-formed.
+fn good_scan(end: ByteRead) -> Scan
+    ensures { result ≡ good_scan end }
+{
+    Scan {
+        len: end.at as u64,
+        read: end.read as u64,
+        verdict: Ok(()),
+    }
+}
+
+// The text in front of s, by a pass that has come to `first`. A zero byte inside a character, or the end there, is no UTF8-tail.
+fn scan_on(s: &[u8], first: ByteRead) -> Scan
+    requires { Skipped s.now 0 first }
     ensures { result ≡ scan_of (before s) }
 {
-    // Not a `for`: `read` moves by the bytes of a character.
-    let mut read = 0;
+    let mut b = first;
     loop {
-        let b = read_byte(s, read);
-        // Both tests are one signed compare of the byte, which is all that most names cost.
-        if 0 < b.byte {
-            if b.byte < 0x80 {
-                read = b.read;
-                continue;
-            }
+        if plain(b) {
+            b = skip_plain(s, b.read);
+            continue;
         }
         if b.byte == 0 {
-            return Scan {
-                len: b.at as u64,
-                read: b.read as u64,
-                verdict: Ok(()),
-            };
+            return good_scan(b);
         }
-        let first = b;
-        match character(s, first) {
-            Ok(behind) => read = behind,
+        // A copy: what is handed to a call lies in memory, and b is to stay in registers.
+        let high = b;
+        match character(s, high) {
+            Ok(behind) => b = read_byte(s, behind),
             Err(bad) => return broken(s, bad),
         }
     }
+}
+
+// The text in front of s, in one pass.
+pub fn scan_text(s: &[u8]) -> Scan
+    ensures { result ≡ scan_of (before s) }
+{
+    scan_on(s, skip_plain(s, 0))
 }
 
 // The zero byte that ends a text was read too.
@@ -226,6 +299,25 @@ fn text_of_scan(reading: Reading, p: Place, scan: Scan) -> Result<Text, Missing>
     }
 }
 
+// The text of a scan from a place, and the count of the bytes read.
+fn read_of_scan(reading: Reading, p: Place, scan: Scan) -> CstrRead
+    ensures { (outcome result.text ≡ text_of_scan reading p scan) × (result.read ≡ scan.read) }
+{
+    CstrRead {
+        text: text_of_scan(reading, p, scan),
+        read: scan.read,
+    }
+}
+
+// The same of what a pass over s finds that has come to `first`: apart, for few texts are not ASCII.
+#[inline(never)]
+fn read_on(s: &[u8], first: ByteRead, reading: Reading, p: Place) -> CstrRead
+    requires { Skipped s.now 0 first }
+    ensures { (outcome result.text ≡ text_of_scan reading p (scan_of (before s))) × (result.read ≡ (scan_of (before s)).read) }
+{
+    read_of_scan(reading, p, scan_on(s, first))
+}
+
 // The text at a place whose file has these bytes, and how many bytes were read.
 #[tactic(auto, using(std::proofs::lemmas::Bool::Decides::nat_tests), unfolding(crate::specs::Text::text_from, crate::specs::Text::read_from, crate::specs::Outcome::choose))]
 fn read_cstr_in(bytes: &[u8], reading: Reading, p: Place) -> CstrRead
@@ -237,11 +329,13 @@ fn read_cstr_in(bytes: &[u8], reading: Reading, p: Place) -> CstrRead
             read: 0,
         };
     }
-    let scan = scan_text(&bytes[p.offset as usize..]);
-    CstrRead {
-        text: text_of_scan(reading, p, scan),
-        read: scan.read,
+    let s = &bytes[p.offset as usize..];
+    let b = skip_plain(s, 0);
+    if b.byte == 0 {
+        return read_of_scan(reading, p, good_scan(b));
     }
+    let first = b;
+    read_on(s, first, reading, p)
 }
 
 // The text at a place, and how many bytes were read: a file that is not lent has no bytes.

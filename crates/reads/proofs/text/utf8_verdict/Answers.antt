@@ -14,16 +14,16 @@ loop-read-preserved-then-b-lt128 c = left_ascii c.loop-read.invariant c.read_byt
 -- Behind the tests stands a character of more than one byte.
 pub returns-in-Err : goal.returns-in-Err
 returns-in-Err c =
-    (bad_character c.loop-read.invariant c.read_byte-b.ensures c.if-b-lt128.false c.character.ensures c.in-Err.is).bad.judged
+    (bad_character c.loop-read.invariant c.read_byte-b.ensures c.if-b-lt128.false c.character_apart.ensures c.in-Err.is).bad.judged
 
 pub loop-read-smaller : goal.loop-read-smaller
 loop-read-smaller c =
-    let t = good_character c.loop-read.invariant c.read_byte-b.ensures c.if-b-lt128.false c.character.ensures c.in-Ok.is in
+    let t = good_character c.loop-read.invariant c.read_byte-b.ensures c.if-b-lt128.false c.character_apart.ensures c.in-Ok.is in
     omega (arith, t.ahead, t.on.within)
 
 pub loop-read-preserved : goal.loop-read-preserved
 loop-read-preserved c =
-    (good_character c.loop-read.invariant c.read_byte-b.ensures c.if-b-lt128.false c.character.ensures c.in-Ok.is).on
+    (good_character c.loop-read.invariant c.read_byte-b.ensures c.if-b-lt128.false c.character_apart.ensures c.in-Ok.is).on
 
 pub returns : goal.returns
 unfolding judge
