@@ -7,12 +7,12 @@ Each tracing decoder is the text of a plain one, its leaf calls replaced by thos
     resolve_pointer, slot_or_0, pointer,  note_slot, note_slot_or_0, note_pointer, note_pointer_or_0, note_string, note_symbol
     pointer_or_0, string, symbol_at
     string_or_empty                       or_empty of note_string
-    read_u64                              note_word of the address, then the same call
+    read_u64, row.word(K, A)              note_word of the address, then the same call
     u32_in, i32_in, u64_in                note_field of the place, then the same call
     row: &Near                            va: u64, and where the row's size is promised the test that so many bytes can be read
     Near::at                              readable
-    row.first_slot(), row.field(K),       note_slot(va), note_pointer(va, K), note_pointer_or_0(va, K)
-    row.field_or_0(K)
+    row.first_slot(), row.field(K),       note_slot(va), note_pointer(va, K), note_pointer_or_0(va, K), note_slot_or_0(A)
+    row.field_or_0(K), row.slot_or_0(K, A)
     another decoder                       its tracing one
 
 A value that is only made into a record is dropped: the record that is answered becomes (), a case of an enum around a decoder's value is left out, a
@@ -57,6 +57,12 @@ ANSWERS = {
     "offset_there": NOTHING, "offset_at": NOTHING,
 }
 
+# What puts a decoder's value into a case of the answer's enum, and is left out where the value is dropped.
+CASES = {"method_row", "ivar_row", "property_row"}
+
+# Calls that stand last in a decoder and are read as the text that they call, of the same names.
+TAILS = {"layout_near"}
+
 # The field that a record's first decoder answers instead of nothing: a caller that wants no more needs no second one.
 FIELDS = {"protocol_at": "name"}
 
@@ -70,6 +76,9 @@ LEAVES = {
 FIELD_READS = {"u32_in": 4, "i32_in": 4, "u64_in": 8}
 NEAR_READS = {"first_slot": "note_slot", "field": "note_pointer", "field_or_0": "note_pointer_or_0"}
 SIZES = {"method_size": "Method::SIZE", "small_method_size": "Method::SMALL_SIZE", "ivar_size": "Ivar::SIZE", "property_size": "Property::SIZE"}
+
+# What makes an answer a case of a row: the answer is told as it is.
+CASES = {"method_row", "ivar_row", "property_row"}
 
 # What uses no byte: tests, what is made of an answer, and of numbers.
 SILENT = {
@@ -94,13 +103,16 @@ def source(module):
 
 
 FUNCTION = re.compile(
-    r"(?P<comment>(?:^// [^\n]*\n)*)(?P<attribute>^#\[tactic\([^\n]*\)\]\n)?"
+    r"(?P<comment>(?:^// [^\n]*\n)*)(?P<attribute>^#\[tactic\([^\n]*\)\]\n)?(?:^#\[inline[^\n]*\]\n)?"
     r"^(?:pub(?:\(crate\))? )?fn (?P<name>\w+)\((?P<parameters>[^)]*)\) -> (?P<answer>[^\n]*)\n(?P<clauses>(?:^    [^\n]*\n)*)^\{\n(?P<body>.*?)^\}\n",
     re.MULTILINE | re.DOTALL)
 
 
 def functions(module):
-    return {m["name"]: m.groupdict() for m in FUNCTION.finditer(source(module))}
+    found = {m["name"]: m.groupdict() for m in FUNCTION.finditer(source(module))}
+    for function in found.values():
+        function["body"] = re.sub(rf"^    ({'|'.join(TAILS)})\([^\n]*\)\n\Z", lambda m: found[m[1]]["body"], function["body"], flags=re.MULTILINE)
+    return found
 
 
 def imports(module):
@@ -265,6 +277,13 @@ class Rewrite:
             return f"{name}({', '.join(given)})", False
         if name == "Near::at":
             return f"readable(self.tables.image(), {given[1]}, {given[2]})", False
+        if self.near and name == f"{self.near}.slot_or_0":
+            return f"self.note_slot_or_0({given[1]})", True
+        if self.near and name == f"{self.near}.word":
+            before.append(("note", f"self.note_word({given[1]})"))
+            return f"read_u64(self.tables.image(), {given[1]})", False
+        if name in CASES:
+            return given[0], False
         if self.near and name.startswith(self.near + "."):
             return f"self.{NEAR_READS[name.split('.')[1]]}({', '.join(['va'] + given)})", True
         if name in DECODERS:
@@ -350,17 +369,14 @@ class Rewrite:
         if answer == VALUE:
             told, notes = self.value(v, before)
             return [(b, True) for b in before] + [((kind, told), notes)]
-        if isinstance(v, str) and re.match(r"Ok\(match ", v):
-            # A case of the answer's enum around a decoder's value, which is dropped: the decoder's own answer.
-            of, arms = value(v[3:-1])[1:]
-            bare = [(pattern, re.fullmatch(r"[\w:]+\((.*)\?\)", told)[1]) for pattern, told in arms]
-            told, notes = self.value(("match", of, bare), before)
-            return [((kind, told), notes)]
         if isinstance(v, str) and v.startswith("Ok("):
             told, notes = self.text(v[3:-1], before)
             field = FIELDS.get(self.name)
             kept = [(("do", told), True)] if notes else []
             return [(b, True) for b in before] + kept + [((kind, f"Ok({field or '()'})"), False)]
+        if not isinstance(v, str) and v[0] == "match":
+            # A case of the answer's enum around a decoder's value, which is dropped: the decoder's own answer.
+            v = ("match", v[1], [(pattern, re.sub(rf"^({'|'.join(CASES)})\((.*)\)$", r"\2", told)) for pattern, told in v[2]])
         told, notes = self.value(v, before)
         return [(b, True) for b in before] + [((kind, told), notes)]
 

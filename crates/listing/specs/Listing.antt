@@ -1,6 +1,6 @@
 -- The listing, step by step (document 01, "The program's listing" and Steps): its state, and what a step says, hands back and leaves in the
 -- ledger.
-use Rattle.std.specs.Prelude.{ℕ, zero, suc, ◌+◌, ◌%◌, ◌^◌, List, [], ◌∷◌, drop, Option}
+use Rattle.std.specs.Prelude.{ℕ, zero, suc, ◌+◌, ◌%◌, ◌^◌, List, [], ◌∷◌, drop, Option, None, Some}
 use Rattle.reads.specs.Outcome.{Outcome, value, absent, refused}
 use Rattle.reads.specs.declared.answer.Reason.{Reason}
 use Rattle.pointers.specs.Question.{asked, guarded}
@@ -44,6 +44,11 @@ owner_fields (an_owner.Category c) = category_fields c
 -- In list n of a record, with a walk over it.
 abbrev pub in_list : Owner → ℕ → FieldWalk → At
 in_list o n w = place.List n (record { walk = w; owner = o })
+
+-- In list n of a record where there is a walk over it; the section goes on where there is none.
+abbrev pub in_walk : Owner → ℕ → Option FieldWalk → At
+in_walk o n None = place.Section
+in_walk o n (Some w) = in_list o n w
 
 -- The field that the code finds.
 abbrev pub field_of : declared.Field → Field

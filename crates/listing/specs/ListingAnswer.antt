@@ -54,6 +54,9 @@ abbrev pub said_of : Result Said Question → Outcome Answer
 said_of (Ok s) = value (answer_of s)
 said_of (Err k) = refused k
 
--- The answer, with the listing that it hands back and a ledger.
+-- The answer of a step, with the listing then and a ledger.
+abbrev pub left_in : Listing → Result Said Question → List ℕ → Left
+left_in s r l = leaves (said_of r) (state_of s) l
+
 abbrev pub left_of : Listed → List ℕ → Left
-left_of r l = leaves (said_of r.said) (state_of r.listing) l
+left_of r l = left_in r.listing r.said l

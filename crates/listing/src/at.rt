@@ -1,8 +1,10 @@
 // Where a listing stands: before a line that is due, in a section, in a list of a record, or at its end.
-ghost use Rattle.std.specs.Prelude.{◌≡◌, suc, map, slice_get};
+ghost use Rattle.std.specs.Prelude.{◌≡◌, ℕ, suc, map, slice_get};
 ghost use Rattle.std.specs.Option.{option_map};
 ghost use Rattle.listing.specs.PlainListing.{ro_fields, protocol_fields, category_fields};
-ghost use Rattle.listing.specs.Listing.{owner_fields, field_of, started, enter};
+ghost use Rattle.listing.specs.Listing.{owner_fields, field_of, started, in_list, in_walk, enter};
+ghost use Rattle.listing.specs.declared.at.FieldWalk.{FieldWalk as SpecFieldWalk};
+ghost use Rattle.listing.specs.declared.at.Owner.{Owner as SpecOwner};
 
 use pointers::setting::Setting;
 use records::category::ObjcCategory;
@@ -118,36 +120,64 @@ pub fn category_lists(category: ObjcCategory) -> [Field; 5]
 
 impl Owner {
     // List n, if the record has so many.
-    fn list(self, n: usize) -> Option<Field>
-        ensures { option_map field_of result ≡ slice_get (owner_fields self) n }
+    fn list(&self, n: usize) -> Option<Field>
+        ensures { option_map field_of result ≡ slice_get (owner_fields self.now) n }
     {
         match self {
-            Owner::Class(ro) => class_lists(ro).get(n).copied(),
-            Owner::Protocol(protocol) => protocol_lists(protocol).get(n).copied(),
-            Owner::Category(category) => category_lists(category).get(n).copied(),
+            Owner::Class(ro) => class_lists(*ro).get(n).copied(),
+            Owner::Protocol(protocol) => protocol_lists(*protocol).get(n).copied(),
+            Owner::Category(category) => category_lists(*category).get(n).copied(),
         }
     }
 
-    // The start of list n; the section goes on where the record has no such list.
-    pub(crate) fn enter(self, setting: Setting, n: u16) -> At
-        ensures { result ≡ enter setting self n }
+    // The walk over list n, before its first entry; the section goes on where the record has no such list.
+    fn start(&self, setting: Setting, n: u16) -> Option<FieldWalk>
+        ensures { in_walk self.now n result ≡ enter setting self.now n }
     {
-        match self.list(n as usize) {
-            Some(list) => At::List(
-                n,
-                ListAt {
-                    walk: list.start(setting),
-                    owner: self,
-                },
-            ),
+        Some(self.list(n as usize)?.start(setting))
+    }
+
+    // The number of the list after list n. No record has 65,536 lists.
+    fn after(&self, n: u16) -> u16
+        ensures { (u : _) → enter u self.now result ≡ enter u self.now (suc n) }
+    {
+        n.saturating_add(1)
+    }
+
+    // The start of the first list.
+    pub(crate) fn enter(self, setting: Setting) -> At
+        ensures { result ≡ enter setting self 0 }
+    {
+        match self.start(setting, 0) {
+            Some(walk) => At::List(0, ListAt { walk, owner: self }),
             None => At::Section,
         }
     }
+}
 
-    // The start of the list after list n.
-    pub(crate) fn enter_after(self, setting: Setting, n: u16) -> At
-        ensures { result ≡ enter setting self (suc n) }
+impl At {
+    // The list that is walked, with another walk over it.
+    pub(crate) fn walk_on(&mut self, walk: FieldWalk)
+        ensures { (o : SpecOwner) (n : ℕ) (w : SpecFieldWalk) → self.old ≡ in_list o n w → self.new ≡ in_list o n walk }
     {
-        self.enter(setting, n.saturating_add(1))
+        if let At::List(_, list) = self {
+            list.walk = walk;
+        }
+    }
+
+    // The start of the list after the one that is walked, in place: the record stays where it is.
+    pub(crate) fn next_list(&mut self, setting: Setting)
+        ensures { (o : SpecOwner) (n : ℕ) (w : SpecFieldWalk) → self.old ≡ in_list o n w → self.new ≡ enter setting o (suc n) }
+    {
+        if let At::List(n, list) = self {
+            let after = list.owner.after(*n);
+            match list.owner.start(setting, after) {
+                Some(walk) => {
+                    *n = after;
+                    list.walk = walk;
+                }
+                None => *self = At::Section,
+            }
+        }
     }
 }

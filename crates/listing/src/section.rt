@@ -6,8 +6,8 @@ ghost use Rattle.listing.specs.Listing.{stage_start, with_classes, with_protocol
 ghost use Rattle.listing.specs.ListingAnswer.{stage_number, class_begun, protocol_begun, category_begun, section_walk_of, section_left_of};
 
 use crate::at::Record;
+use pointers::asked::Asked;
 use pointers::setting::Setting;
-use pointers::tables::Tables;
 use reads::answer::Question;
 use walks::sections::{CategoryWalk, ClassWalk, ProtocolWalk, RecordStep};
 
@@ -88,11 +88,11 @@ impl Section {
 
     // A step of the class walk. Not one function with the next two: each names its walk, its case of `Record` and its `with_`, and says no more; a function
     // over closures would be handed all three.
-    fn class_step(self, tables: &Tables, ledger: &mut [u64]) -> SectionStepped
-        ensures { let t = tables.now in
+    fn class_step(self, asked: &Asked, ledger: &mut [u64]) -> SectionStepped
+        ensures { let t = asked.now.tables in
             section_left_of result ledger.new ≡ classes_step t ledger.old (section_walk_of self) }
     {
-        let stepped = self.classes.next(tables, ledger);
+        let stepped = self.classes.next_over(asked, ledger);
         SectionStepped {
             taken: taken(stepped.step, |class| Record::Class(class)),
             section: self.with_classes(stepped.walk),
@@ -100,11 +100,11 @@ impl Section {
     }
 
     // A step of the protocol walk.
-    fn protocol_step(self, tables: &Tables) -> SectionStepped
-        ensures { let t = tables.now in
+    fn protocol_step(self, asked: &Asked) -> SectionStepped
+        ensures { let t = asked.now.tables in
             ((l : List ℕ) → section_left_of result l ≡ protocols_step t l (section_walk_of self)) }
     {
-        let stepped = self.protocols.next_protocol(tables);
+        let stepped = self.protocols.next_protocol_over(asked);
         SectionStepped {
             taken: taken(stepped.step, |protocol| Record::Protocol(protocol)),
             section: self.with_protocols(stepped.walk),
@@ -112,11 +112,11 @@ impl Section {
     }
 
     // A step of the category walk.
-    fn category_step(self, tables: &Tables, ledger: &mut [u64]) -> SectionStepped
-        ensures { let t = tables.now in
+    fn category_step(self, asked: &Asked, ledger: &mut [u64]) -> SectionStepped
+        ensures { let t = asked.now.tables in
             section_left_of result ledger.new ≡ categories_step t ledger.old (section_walk_of self) }
     {
-        let stepped = self.categories.next(tables, ledger);
+        let stepped = self.categories.next_over(asked, ledger);
         SectionStepped {
             taken: taken(stepped.step, |category| Record::Category(category)),
             section: self.with_categories(stepped.walk),
@@ -124,15 +124,15 @@ impl Section {
     }
 
     // A step of the section walk under way. The protocol walk looks at no ledger.
-    pub(crate) fn next(self, tables: &Tables, ledger: &mut [u64]) -> SectionStepped
-        ensures { let t = tables.now in
+    pub(crate) fn next(self, asked: &Asked, ledger: &mut [u64]) -> SectionStepped
+        ensures { let t = asked.now.tables in
             section_left_of result ledger.new ≡ section_step t ledger.old (section_walk_of self) }
     {
         let stage = self.stage;
         match stage {
-            Stage::Classes => self.class_step(tables, ledger),
-            Stage::Protocols => self.protocol_step(tables),
-            Stage::Categories => self.category_step(tables, ledger),
+            Stage::Classes => self.class_step(asked, ledger),
+            Stage::Protocols => self.protocol_step(asked),
+            Stage::Categories => self.category_step(asked, ledger),
         }
     }
 }

@@ -1,5 +1,4 @@
 -- Laws that the proofs of marking share, and what is claimed of a marked listing.
-pub mod Passes
 pub mod StepKeeps
 pub mod Folds
 pub mod StepsLeft

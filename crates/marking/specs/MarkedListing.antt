@@ -1,12 +1,14 @@
 -- A listing with marks, step by step (document 02, note 11): first the steps of one listing find the starts and say nothing, then those of
 -- another, from its start under the same setting, say its lines with their marks. Without a possible pair the second is all.
-use Rattle.std.specs.Prelude.{ℕ, Bool, true, false, List, Option, is_some}
+use Rattle.std.specs.Prelude.{ℕ, Bool, true, false, List, Option, Result, is_some}
 use Rattle.reads.specs.Outcome.{Outcome, value, absent, refused}
+use Rattle.reads.specs.declared.answer.Question.{Question}
 use Rattle.pointers.specs.Tables.{Tables}
 use Rattle.pointers.specs.declared.setting.Setting.{Setting}
 use Rattle.frames.specs.declared.frames.Frames.{Frames}
 use Rattle.listing.specs.Listing.{State, start, Answer, says, lacks, nothing, ended, Left, listing_step}
 use Rattle.listing.specs.ListingAnswer.{state_of, said_of}
+use Rattle.listing.specs.declared.listing.Said.{Said}
 use Rattle.marking.specs.Marked.{met_line, marked}
 use Rattle.marking.specs.declared.marked_listing.MarkedListed.{MarkedListed}
 use Rattle.marking.specs.declared.marked_listing.MarkedListing.{MarkedListing}
@@ -68,5 +70,9 @@ marked_step t m l = in_pass m.finding m.frames (listing_step t m.state l)
 abbrev pub marking_of : MarkedListing → Marking
 marking_of m = marking m.finding m.frames (state_of m.listing)
 
+-- The answer of a step, with the listing then and a ledger.
+abbrev pub marked_left_in : MarkedListing → Result Said Question → List ℕ → MarkedLeft
+marked_left_in m r l = marked_leaves (said_of r) (marking_of m) l
+
 abbrev pub marked_left_of : MarkedListed → List ℕ → MarkedLeft
-marked_left_of r l = marked_leaves (said_of r.said) (marking_of r.listing) l
+marked_left_of r l = marked_left_in r.listing r.said l

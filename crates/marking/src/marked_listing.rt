@@ -1,13 +1,14 @@
 // A listing with marks (note 11), one step at a time: it is gone over twice, first to meet the starts, of which nothing is said, and then to say
 // its lines, each m row with its mark. Without a possible pair nothing is marked, and once is enough.
-ghost use Rattle.std.specs.Prelude.{ℕ, ◌≡◌, List};
+ghost use Rattle.std.specs.Prelude.{ℕ, ◌≡◌, List, true};
 ghost use Rattle.pointers.specs.Tables.{reading_new, reading_under};
-ghost use Rattle.listing.specs.ListingAnswer.{said_of, left_of};
-ghost use Rattle.marking.specs.MarkedListing.{marked_start, marking_of, marked_left_of, finds, marked_answer, marked_step};
+ghost use Rattle.listing.specs.ListingAnswer.{said_of, left_in};
+ghost use Rattle.marking.specs.MarkedListing.{marked_start, marking_of, marked_left_in, marked_left_of, finds, marked_answer, marked_step};
 
-use crate::marks::{marked, meet_line};
+use crate::marks::{mark, meet};
 use frames::frames::Frames;
-use listing::listing::{Listed, Listing, Said};
+use listing::listing::{Listing, Said};
+use pointers::asked::Asked;
 use pointers::setting::Setting;
 use pointers::tables::Tables;
 use reads::answer::Question;
@@ -30,52 +31,12 @@ pub struct MarkedListed {
     pub listing: MarkedListing,
 }
 
-// A step of the first pass, by what the listing said. After its last line it begins anew.
-fn finds(frames: Option<Frames>, listed: Listed) -> MarkedListed
-    ensures { (l : List ℕ) → marked_left_of result l ≡ finds frames (left_of listed l) }
+// What a step of the second pass says: a line gets its mark.
+fn mark_said(frames: Option<Frames>, said: &mut Result<Said, Question>)
+    ensures { said_of said.new ≡ marked_answer frames (said_of said.old) }
 {
-    let listing = listed.listing;
-    let said = listed.said;
-    let on = MarkedListing {
-        finding: true,
-        frames,
-        listing,
-    };
-    match said {
-        Ok(Said::Line(line)) => MarkedListed {
-            said: Ok(Said::Nothing),
-            listing: MarkedListing {
-                finding: true,
-                frames: meet_line(frames, line),
-                listing,
-            },
-        },
-        Ok(Said::Ended) => MarkedListed {
-            said: Ok(Said::Nothing),
-            listing: MarkedListing {
-                finding: false,
-                frames,
-                listing: listing.again(),
-            },
-        },
-        Ok(_) => MarkedListed {
-            said: Ok(Said::Nothing),
-            listing: on,
-        },
-        Err(k) => MarkedListed {
-            said: Err(k),
-            listing: on,
-        },
-    }
-}
-
-// What a step of the second pass says: a line with its mark.
-fn marked_said(frames: Option<Frames>, said: Result<Said, Question>) -> Result<Said, Question>
-    ensures { said_of result ≡ marked_answer frames (said_of said) }
-{
-    match said {
-        Ok(Said::Line(line)) => Ok(Said::Line(marked(frames, line))),
-        said => said,
+    if let Ok(Said::Line(line)) = said {
+        mark(frames, line);
     }
 }
 
@@ -105,27 +66,44 @@ impl MarkedListing {
         }
     }
 
-    // The next step; inlined as the listing's is.
+    // What the first pass says after a step of the listing: a line's start is met, and after the last line the listing begins anew.
+    fn finds(&mut self, said: &Result<Said, Question>) -> Result<Said, Question>
+        ensures { self.old.finding ≡ true → (l : List ℕ) → marked_left_in self.new result l ≡ finds self.old.frames (left_in self.old.listing said.now l) }
+    {
+        match said {
+            Ok(Said::Line(line)) => self.frames = meet(self.frames, line),
+            Ok(Said::Ended) => {
+                self.finding = false;
+                self.listing = self.listing.again();
+            }
+            Ok(_) => {}
+            Err(k) => return Err(*k),
+        }
+        Ok(Said::Nothing)
+    }
+
+    // The next step, in place; inlined as the listing's is.
+    #[inline(always)]
+    pub fn step(&mut self, asked: &Asked, ledger: &mut [u64]) -> Result<Said, Question>
+        ensures { let t = asked.now.tables in
+            marked_left_in self.new result ledger.new ≡ marked_step t (marking_of self.old) ledger.old }
+    {
+        let mut said = self.listing.step(asked, ledger);
+        if self.finding {
+            return self.finds(&said);
+        }
+        mark_said(self.frames, &mut said);
+        said
+    }
+
+    // The next step by value, over tables that are asked for it.
     #[inline(always)]
     pub fn next(self, tables: &Tables, ledger: &mut [u64]) -> MarkedListed
         ensures { let t = tables.now in
             marked_left_of result ledger.new ≡ marked_step t (marking_of self) ledger.old }
     {
-        let frames = self.frames;
-        let listing = self.listing;
-        let listed = listing.next(tables, ledger);
-        if self.finding {
-            return finds(frames, listed);
-        }
-        let said = listed.said;
-        let next = listed.listing;
-        MarkedListed {
-            said: marked_said(frames, said),
-            listing: MarkedListing {
-                finding: false,
-                frames,
-                listing: next,
-            },
-        }
+        let mut listing = self;
+        let said = listing.step(&Asked::of(tables), ledger);
+        MarkedListed { said, listing }
     }
 }

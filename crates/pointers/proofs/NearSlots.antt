@@ -1,5 +1,5 @@
 -- The pointer in a slot beside the spot of bytes that can be read is the one that a lookup gives.
-use Prim.Native.Nat.{ℕ, ◌+◌, ◌*◌, ◌^◌, ◌≤◌, ◌<◌}
+use Prim.Native.Nat.{ℕ, ◌+◌, ◌*◌, ◌≤◌, ◌<◌}
 use mathlib.Core.Path.{◌≡◌, refl, sym, ap, ◌∙◌}
 use mathlib.Core.Bool.{true}
 use mathlib.Core.List.{List}
@@ -50,11 +50,11 @@ unrebased_stored : (m : Image) (rebases index : List ℕ) (setting : Setting) (s
 unfolding resolve rebase_at
 unrebased_stored m rebases index setting slot e = rw (no_record rebases index slot setting.lookup e)
 
-pub near_resolved : (m : Image) (rebases index : List ℕ) (setting : Setting) (va size : ℕ) → va < 2 ^ 64 → (s : Spot) → readable_spot m va size ≡ value s
+pub near_resolved : (m : Image) (rebases index : List ℕ) (setting : Setting) (va size : ℕ) (s : Spot) → readable_spot m va size ≡ value s
     → (i : ℕ) → i + 8 ≤ size → resolve_near m rebases index setting s i (va + i) ≡ resolve m rebases index setting (va + i)
 unfolding resolve_near is_near word_there stored
-near_resolved m rebases index setting va size w s is i h =
+near_resolved m rebases index setting va size s is i h =
     by_choose (λ (o : Outcome ℕ). o ≡ resolve m rebases index setting (va + i))
     (λ e. let u = both_true (ltb i s.room) (unrebased setting.lookup index (va + i)) e in
-    sym (unrebased_stored m rebases index setting (va + i) u.1 ∙ rw (← near_word_in m va size w s is i h (ltb-true i s.room u.0))))
+    sym (unrebased_stored m rebases index setting (va + i) u.1 ∙ rw (← near_word_in m va size s is i h (ltb-true i s.room u.0))))
     (λ e. refl)

@@ -1,6 +1,7 @@
 // Tables, questions, the index, opening and pointer slots: mod.rs, section.rs and imageinfo.rs of the Rust.
 #![tactic(auto)]
 
+pub mod asked;
 pub mod imageinfo;
 pub mod index;
 pub mod name;

@@ -1,4 +1,4 @@
--- What the code's progress means: at the start, after a step, and by what was said.
+-- What the code's progress means: at the start, and by what was said.
 use Prim.Native.Nat.{ℕ, ◌+◌, ◌-◌, ◌^◌, ◌<◌}
 use mathlib.Core.Path.{◌≡◌, ap}
 use mathlib.Core.Bool.{true, false}
@@ -16,14 +16,11 @@ use Rattle.pointers.specs.Question.{image_fits}
 use Rattle.pointers.specs.Tables.{Tables}
 use Rattle.frames.specs.declared.frames.Frames.{Frames}
 use Rattle.listing.specs.Listing.{nothing, ended}
-use Rattle.listing.specs.ListingAnswer.{said_of}
-use Rattle.listing.specs.declared.listing.Said.{Said}
 use Rattle.pointers.specs.declared.setting.Setting.{Setting}
-use Rattle.marking.specs.MarkedListing.{marked_start, MarkedLeft, marked_step, marking_of, marked_left_of}
+use Rattle.marking.specs.MarkedListing.{marked_start, marking_of}
 use Rattle.marking.specs.declared.framed.Framed.{Framed}
-use Rattle.marking.specs.declared.marked_listing.MarkedListed.{MarkedListed}
 use Rattle.marking.specs.declared.marked_listing.MarkedListing.{MarkedListing}
-use Rattle.printing.specs.Pieces.{Standing, standing, stepped, begun, further, with_files, listable}
+use Rattle.printing.specs.Pieces.{Standing, standing, begun, further, with_files, listable}
 use Rattle.printing.specs.declared.pieces.Piece.{Piece}
 use Rattle.printing.specs.declared.pieces.Progress.{Progress}
 use Rattle.std.specs.Prelude.{Result, Ok, Err, Option, None}
@@ -44,11 +41,6 @@ module _ {u : Setting} (s : MarkedListing) (w : Option Frames) (e : marking_of s
 
   pub begun_refused : (k : Question) → m ≡ Refused k → (λ (l : List ℕ). standing (refused k) 0 (marking_of s) l) ≡ begun u (missed m)
   begun_refused k h = rw (h, e, none)
-
--- A step of the code's listing.
-pub stepped_by : (t : Tables) (s : MarkedListing) (l m : List ℕ) (r : MarkedListed) (o : Result Said Question) (n : ℕ) → marked_left_of r m ≡ marked_step t (marking_of s) l
-    → standing (said_of r.said) 0 (marking_of r.listing) m ≡ stepped t (standing (said_of o) n (marking_of s) l)
-stepped_by t s l m r o n e = ap (λ (x : MarkedLeft). standing x.answer 0 x.state x.ledger) e
 
 -- As many bytes more are out as the buffer took.
 pub further_by : (p : Progress) (at len k : ℕ) → len ≡ at + k

@@ -131,12 +131,16 @@ standing_of p l = standing (said_of p.said) p.out (marking_of p.listing) l
 abbrev pub handed_of : Piece → List ℕ → List ℕ → Handed
 handed_of r l bytes = handing (standing_of r.progress l) r.len bytes
 
+-- A piece by its parts.
+abbrev pub piece : ℕ → Progress → Piece
+piece len p = record { len = len; progress = p }
+
 -- How many bytes of what waits go into a buffer after its first `at`, and the answer then.
 abbrev pub fits : List (List ℕ) → Progress → List ℕ → ℕ → ℕ
 fits files p bytes at = fitting (held bytes p.out at) (said_text files (said_of p.said))
 
 abbrev pub further : Progress → ℕ → ℕ → Piece
-further p at k = record { len = at + k; progress = record { said = p.said; out = p.out + k; listing = p.listing } }
+further p at k = piece (at + k) (record { said = p.said; out = p.out + k; listing = p.listing })
 
 -- Tables with other files.
 abbrev pub with_files : Tables → List (List ℕ) → Tables

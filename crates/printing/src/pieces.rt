@@ -7,12 +7,13 @@ ghost use Rattle.pointers.specs.Tables.{reading_new, reading_under};
 ghost use Rattle.listing.specs.ListingAnswer.{said_of};
 ghost use Rattle.listing.proofs.Remaining.{goes_on};
 ghost use Rattle.printing.specs.Buffer.{Puts};
-ghost use Rattle.printing.specs.Pieces.{said_text, standing_of, stepped, begun, refusing, to_come, handed_of, piece_of, fits, further, listable};
+ghost use Rattle.printing.specs.Pieces.{said_text, standing_of, stepped, begun, refusing, to_come, handed_of, piece, piece_of, fits, further, listable};
 
 use crate::buffer::Out;
 use listing::listing::Said;
 use marking::framed::Framed;
 use marking::marked_listing::MarkedListing;
+use pointers::asked::Asked;
 use pointers::question::image_fits;
 use pointers::setting::Setting;
 use pointers::tables::Tables;
@@ -117,41 +118,29 @@ impl Progress {
 
     // The next step of the listing; inlined as that is.
     #[inline(always)]
-    fn step(self, tables: &Tables, ledger: &mut [u64]) -> Progress
-        ensures { let t = tables.now in
-            standing_of result ledger.new ≡ stepped t (standing_of self ledger.old) }
+    fn step(&mut self, asked: &Asked, ledger: &mut [u64])
+        ensures { let t = asked.now.tables in
+            standing_of self.new ledger.new ≡ stepped t (standing_of self.old ledger.old) }
     {
-        let listing = self.listing;
-        let listed = listing.next(tables, ledger);
-        let said = listed.said;
-        let next = listed.listing;
-        Progress {
-            said,
-            out: 0,
-            listing: next,
-        }
+        self.said = self.listing.step(asked, ledger);
+        self.out = 0;
     }
 
-    // What waits, as far as the buffer has room after its first `at` bytes.
-    fn hand_out(self, tables: &Tables, out: &mut [u8], at: usize) -> Piece
+    // What waits, as far as the buffer has room after its first `at` bytes; how many of its bytes are taken then.
+    fn hand_out(&mut self, tables: &Tables, out: &mut [u8], at: usize) -> usize
         requires { longest tables.now.files < 2 ^ 32 }
-        ensures piece { result ≡ further self at (fits tables.now.files self out.old at) }
-        ensures bytes { out.new ≡ paste out.old at (drop self.out (said_text tables.now.files (said_of self.said))) (fits tables.now.files self out.old at) }
+        ensures piece { piece result self.new ≡ further self.old at (fits tables.now.files self.old out.old at) }
+        ensures bytes { out.new ≡ paste out.old at (drop self.old.out (said_text tables.now.files (said_of self.old.said))) (fits tables.now.files self.old out.old at) }
     {
-        let said = self.said;
-        let skip = self.out;
-        let listing = self.listing;
-        let mut taker = Out { to: out, skip, at };
-        said_text(tables.files(), said, &mut taker);
+        let mut taker = Out {
+            to: out,
+            skip: self.out,
+            at,
+        };
+        said_text(tables.files(), self.said, &mut taker);
         let len = taker.at;
-        Piece {
-            len,
-            progress: Progress {
-                said,
-                out: skip + (len - at),
-                listing,
-            },
-        }
+        self.out += len - at;
+        len
     }
 
     // What waits and then what the next steps say, until the buffer is full or the listing is over.
@@ -162,21 +151,19 @@ impl Progress {
         ensures rest { let t = tables.now in
             to_come t (standing_of result.progress ledger.new) ≡ drop (length out.old) (to_come t (standing_of self ledger.old)) }
     {
+        let asked = Asked::of(tables);
         let mut progress = self;
-        let mut at = 0;
+        let mut len = 0;
         // Not a `for`: what a step said tells whether another comes.
         loop {
-            let piece = progress.hand_out(tables, out, at);
-            let next = piece.progress;
-            at = piece.len;
-            if out.len() <= at {
-                return piece;
+            len = progress.hand_out(tables, out, len);
+            if out.len() <= len {
+                return Piece { len, progress };
             }
-            let said = next.said;
-            if !goes_on(said) {
-                return piece;
+            if !goes_on(progress.said) {
+                return Piece { len, progress };
             }
-            progress = next.step(tables, ledger);
+            progress.step(&asked, ledger);
         }
     }
 

@@ -1,5 +1,5 @@
 -- What a segment answers, by the tests that the code makes, and lookups by the first segment.
-use Rattle.std.proofs.Common.{◌≡◌, ℕ, ◌+◌, ◌-◌, ◌^◌, ◌<◌, ◌≤◌, true, false, ◌&&◌, eqb, ltb, leb, List, [], ◌∷◌, refl, ◌∙◌, arith, ltb-true, le-ltb, le-leb, leb-false, leb-true}
+use Rattle.std.proofs.Common.{◌≡◌, ℕ, ◌+◌, ◌-◌, ◌^◌, ◌<◌, ◌≤◌, true, false, ◌&&◌, eqb, ltb, leb, List, [], ◌∷◌, refl, ◌∙◌, ltb-true, le-ltb, le-leb, leb-false, leb-true}
 use mathlib.Core.Bool.{and-false}
 use borrow.Author.Tests.{lt-leb}
 use Rattle.reads.specs.Outcome.{value, absent, because, choose, sum64}
@@ -14,11 +14,11 @@ module _ (s : Segment) where
   unfolding ends
   ends_not e = leb-false (2 ^ 64) (s.vmaddr + s.vmsize) e
 
-  pub holds_none : (va : ℕ) → s.filesize ≡ 0 → false ≡ holds s va
+  pub holds_none : (va : ℕ) → s.filesize ≤ 0 → holds s va ≡ false
   unfolding holds
-  holds_none va e = rw (le-ltb 0 s.filesize (omega arith))
+  holds_none va e = rw (le-ltb 0 s.filesize e)
 
-  pub holds_before : (va : ℕ) → va < s.vmaddr → false ≡ holds s va
+  pub holds_before : (va : ℕ) → va < s.vmaddr → holds s va ≡ false
   unfolding holds
   holds_before va l = simp (lt-leb s.vmaddr va l, and-false)
 

@@ -1,5 +1,5 @@
 -- Spots, by the tests that the code makes; and what is read near one is what a lookup gives.
-use Rattle.std.proofs.Common.{◌≡◌, ℕ, ◌+◌, ◌-◌, ◌^◌, ◌<◌, ◌≤◌, min, max, Bool, true, false, ◌&&◌, ◌||◌, ltb, leb, List, [], ◌∷◌, length, sym, refl, ap, ◌∙◌, subst, true≢false, arith, ltb-false, lt-ltb, le-leb, leb-false, leb-true}
+use Rattle.std.proofs.Common.{◌≡◌, ℕ, ◌+◌, ◌-◌, ◌^◌, ◌<◌, ◌≤◌, min, max, Bool, true, false, ◌&&◌, ltb, leb, List, [], ◌∷◌, length, sym, refl, ap, ◌∙◌, subst, true≢false, arith, ltb-false, lt-ltb, le-leb, leb-false, leb-true}
 use mathlib.Core.Bool.{and-true, or-true}
 use borrow.Author.Tests.{lt-leb}
 use Rattle.reads.specs.Outcome.{Outcome, value, absent, and_then, because, choose}
@@ -7,13 +7,13 @@ use Rattle.reads.specs.declared.answer.Reason.TheVariants.{Unmapped, Unreadable}
 use Rattle.reads.specs.Files.{file_of}
 use Rattle.reads.specs.Segment.{rows, ends, holds, mapped_size, place_at, placed, lookup}
 use Rattle.reads.specs.Place.{Image, readable_at, readable, word, word_in}
-use Rattle.reads.specs.Spot.{spot, distance, spot_at, spot_from, spot_in, if_readable, readable_spot}
+use Rattle.reads.specs.Spot.{spot, distance, spot_at, spot_from, spot_in, if_readable, readable_spot, moved, spot_behind}
 use Rattle.std.specs.Prelude.{Option, None, Some}
 use Rattle.reads.specs.declared.place.Place.{Place}
 use Rattle.reads.specs.declared.segment.Segment.{Segment}
 use Rattle.reads.specs.declared.spot.Spot.{Spot}
 use native.Mathlib.Decide.{dec_le}
-use Rattle.reads.proofs.Lookups.{ends_not, holds_none, holds_before, holds_is, placed_past, placed_over, placed_at, lookup_ends, lookup_holds, lookup_on}
+use Rattle.reads.proofs.Lookups.{ends_not, holds_none, holds_before, holds_is, placed_past, placed_over, placed_at, lookup_out, lookup_ends, lookup_holds, lookup_on}
 use Rattle.reads.proofs.Breakpoints.{holds_not_past}
 use Rattle.reads.proofs.Numbers.{readable_in, readable_out, le_inside}
 use Rattle.reads.proofs.Outcomes.{then_then}
@@ -28,6 +28,16 @@ module _ (s : Segment) (va : ℕ) where
   unfolding distance
   distance_before h = choose_false _ _ (lt-leb s.vmaddr va h)
 
+  pub unreached : s.vmsize ≤ distance s va → holds s va ≡ false
+  unreached h = go (leb s.vmaddr va) refl
+    where
+      go : (b : Bool) → leb s.vmaddr va ≡ b → holds s va ≡ false
+      go true p = let q = leb-true s.vmaddr va p in holds_not_past s va (omega (arith, distance_past q))
+      go false p = holds_before s va (leb-false s.vmaddr va p)
+
+  pub placed_far : holds s va ≡ true → s.filesize ≤ distance s va → placed s va ≡ absent Unmapped
+  placed_far h l = sym (placed_past s va (omega (arith, distance_past (holds_is s va h).1)))
+
 -- A segment that does not end a lookup holds an address exactly below its vmsize, if it has bytes in the file.
 module _ (s : Segment) (va : ℕ) (e : ends s ≡ false) where
   pub held_by : distance s va < s.vmsize → ltb 0 s.filesize ≡ holds s va
@@ -40,46 +50,34 @@ module _ (s : Segment) (va : ℕ) (e : ends s ≡ false) where
           rw (lt-ltb va (s.vmaddr + s.vmsize) (omega (arith, distance_past s va q))) (sym (and-true (ltb 0 s.filesize)))
       go false p = let q = leb-false s.vmaddr va p in absurd (omega (arith, distance_before s va q, ends_not s e))
 
-  -- Further on it holds none either, until it begins again.
-  still_not : (k : ℕ) → va < 2 ^ 64 → va + k < 2 ^ 64 → k < 2 ^ 64 - distance s va → holds s va ≡ false → holds s (va + k) ≡ false
-  still_not k f g h n = go (ltb 0 s.filesize) refl
+  pub reached : distance s va < s.vmsize → 0 < s.filesize → holds s va ≡ true
+  reached h n = sym (held_by h) ∙ lt-ltb 0 s.filesize n
+
+  -- Further on the distance grows as much, until the segment begins again.
+  further : (k : ℕ) → k < 2 ^ 64 - distance s va → distance s (va + k) ≡ distance s va + k
+  further k n = by (leb s.vmaddr va) refl (leb s.vmaddr (va + k)) refl
     where
-      further : distance s (va + k) ≡ distance s va + k
-      further = by (leb s.vmaddr va) refl (leb s.vmaddr (va + k)) refl
-        where
-          by : (b : Bool) → leb s.vmaddr va ≡ b → (c : Bool) → leb s.vmaddr (va + k) ≡ c → distance s (va + k) ≡ distance s va + k
-          by true p c q = let u = leb-true s.vmaddr va p in rw (distance_past s va u, distance_past s (va + k) (omega arith)) (omega arith)
-          by false p true q =
-              let u = leb-false s.vmaddr va p in
-              let v = leb-true s.vmaddr (va + k) q in
-              absurd (omega (arith, distance_before s va u))
-          by false p false q =
-              let u = leb-false s.vmaddr va p in
-              let v = leb-false s.vmaddr (va + k) q in
-              rw (distance_before s va u, distance_before s (va + k) v) (omega (arith, ends_not s e))
+      by : (b : Bool) → leb s.vmaddr va ≡ b → (c : Bool) → leb s.vmaddr (va + k) ≡ c → distance s (va + k) ≡ distance s va + k
+      by true p c q = let u = leb-true s.vmaddr va p in rw (distance_past s va u, distance_past s (va + k) (omega arith)) (omega arith)
+      by false p true q =
+          let u = leb-false s.vmaddr va p in
+          let v = leb-true s.vmaddr (va + k) q in
+          absurd (omega (arith, distance_before s va u))
+      by false p false q =
+          let u = leb-false s.vmaddr va p in
+          let v = leb-false s.vmaddr (va + k) q in
+          rw (distance_before s va u, distance_before s (va + k) v) (omega (arith, ends_not s e))
 
-      none : (o : Bool) → ltb 0 s.filesize ≡ o → s.filesize ≡ 0 → holds s (va + k) ≡ false
-      none o q z = sym (holds_none s (va + k) z)
-
+  -- Nor does it hold an address until then.
+  still_not : (k : ℕ) → k < 2 ^ 64 - distance s va → holds s va ≡ false → holds s (va + k) ≡ false
+  still_not k n h = go (ltb 0 s.filesize) refl
+    where
       go : (b : Bool) → ltb 0 s.filesize ≡ b → holds s (va + k) ≡ false
-      go true p = sym (held_far (le_of (held_by_not p)))
+      go true p = unreached s (va + k) (omega (arith, further k n, le_of))
         where
-          held_by_not : ltb 0 s.filesize ≡ true → distance s va < s.vmsize → ⊥
-          held_by_not q d = true≢false (sym q ∙ held_by d ∙ n)
-
-          le_of : (distance s va < s.vmsize → ⊥) → s.vmsize ≤ distance s va
-          le_of f = elim (dec_le s.vmsize (distance s va)) [ yes u ↦ u | no w ↦ absurd (f (omega arith)) ]
-
-          held_far : s.vmsize ≤ distance s va → false ≡ holds s (va + k)
-          held_far u = past (omega (arith, further))
-            where
-              past : s.vmsize ≤ distance s (va + k) → false ≡ holds s (va + k)
-              past w = ask (leb s.vmaddr (va + k)) refl
-                where
-                  ask : (b : Bool) → leb s.vmaddr (va + k) ≡ b → false ≡ holds s (va + k)
-                  ask true p = let q = leb-true s.vmaddr (va + k) p in sym (holds_not_past s (va + k) (omega (arith, distance_past s (va + k) q)))
-                  ask false p = holds_before s (va + k) (leb-false s.vmaddr (va + k) p)
-      go false p = none false p (omega (arith, ltb-false 0 s.filesize p))
+          le_of : s.vmsize ≤ distance s va
+          le_of = elim (dec_le s.vmsize (distance s va)) [ yes u ↦ u | no w ↦ absurd (true≢false (sym p ∙ held_by (omega arith) ∙ h)) ]
+      go false p = holds_none s (va + k) (ltb-false 0 s.filesize p)
 
 one_less : (x y : ℕ) → 0 < x → 0 < y → min (x - 1) (y - 1) + 1 ≡ min x y
 one_less x y p q = omega arith
@@ -106,15 +104,37 @@ module _ (s : Segment) (far va d : ℕ) (h : holds s va ≡ true) (e : d ≡ dis
   unfolding spot_at
   spot_over l o = sym (choose_true _ _ (rw (← held_distance, le-leb (2 ^ 64) (s.fileoff + d) o) (or-true (leb s.filesize d))))
 
+  abbrev there : Spot
+  there = spot s.file (s.fileoff + d) (min (mapped_size s - d) (2 ^ 64 - max far (s.fileoff + d)))
+
+  spot_held : d < s.filesize → s.fileoff + d < 2 ^ 64 → Some there ≡ spot_at s far va
+  unfolding spot_at
+  spot_held l o = sym (rw (← held_distance) (choose_false _ _ (rw (lt-leb s.filesize d l, lt-leb (2 ^ 64) (s.fileoff + d) o))))
+
   pub spot_there : (last most : ℕ) → d < s.filesize → s.fileoff + d < 2 ^ 64 → far < 2 ^ 64 → last ≡ min s.filesize s.vmsize - d - 1
       → most ≡ max far (s.fileoff + d) → Some (spot s.file (s.fileoff + d) (min last (2 ^ 64 - 1 - most) + 1)) ≡ spot_at s far va
-  unfolding spot_at mapped_size
+  unfolding mapped_size
   spot_there last most l o f q r =
       let left = min s.filesize s.vmsize - d in
       let some : 0 < left = omega (arith, held_inside) in
       let farther = max far (s.fileoff + d) in
-      rw (q, r, one_off (2 ^ 64) farther, one_less left (2 ^ 64 - farther) some (left_of (2 ^ 64) far (s.fileoff + d) f o))
-      (sym (rw (← held_distance) (choose_false _ _ (rw (lt-leb s.filesize d l, lt-leb (2 ^ 64) (s.fileoff + d) o)))))
+      rw (q, r, one_off (2 ^ 64) farther, one_less left (2 ^ 64 - farther) some (left_of (2 ^ 64) far (s.fileoff + d) f o)) (spot_held l o)
+
+  -- One of three cases.
+  by_spot : (P : Option Spot → Type 0) → (s.filesize ≤ d → P None) → (d < s.filesize → 2 ^ 64 ≤ s.fileoff + d → P None)
+      → (d < s.filesize → s.fileoff + d < 2 ^ 64 → P (Some there)) → P (spot_at s far va)
+  by_spot P past over held = go (leb s.filesize d) refl (leb (2 ^ 64) (s.fileoff + d)) refl
+    where
+      go : (a : Bool) → leb s.filesize d ≡ a → (b : Bool) → leb (2 ^ 64) (s.fileoff + d) ≡ b → P (spot_at s far va)
+      go true p b q = let l = leb-true s.filesize d p in subst P (spot_past l) (past l)
+      go false p true q =
+          let l = leb-false s.filesize d p in
+          let o = leb-true (2 ^ 64) (s.fileoff + d) q in
+          subst P (spot_over l o) (over l o)
+      go false p false q =
+          let l = leb-false s.filesize d p in
+          let o = leb-false (2 ^ 64) (s.fileoff + d) q in
+          subst P (spot_held l o) (held l o)
 
 pub spot_out : (far va : ℕ) → spot_from far [] va ≡ None
 unfolding spot_from
@@ -134,21 +154,10 @@ module _ (s : Segment) (ss : List Segment) (far va : ℕ) where
   unfolding spot_from
   spot_on e h = choose_false _ _ e ∙ choose_false _ _ h
 
--- A spot is where a lookup leads, and for as many bytes as its room the place moves with the address.
-pub record LeadsTo (ss : List Segment) (va : ℕ) (s : Spot) : Type 0 where
-  pub there : lookup ss va ≡ value s.place
-  pub in_words : (k : ℕ) → k < s.room → va + k < 2 ^ 64
-  pub moves : (k : ℕ) → k < s.room → lookup ss (va + k) ≡ value (place_at s.place.file (s.place.offset + k))
-
--- No spot is where a lookup is absent.
-abbrev pub Leads : List Segment → ℕ → Option Spot → Type 0
-Leads ss va None = lookup ss va ≡ absent Unmapped
-Leads ss va (Some s) = LeadsTo ss va s
-
-distance_fits : (s : Segment) (va : ℕ) → va < 2 ^ 64 → distance s va < 2 ^ 64
-unfolding distance
-distance_fits s va h =
-    by_choose (λ (d : ℕ). d < 2 ^ 64) (λ e. omega arith) (λ e. let q = leb-false s.vmaddr va e in omega arith)
+-- Where a lookup leads.
+abbrev place_in : Option Spot → Outcome Place
+place_in None = absent Unmapped
+place_in (Some s) = value s.place
 
 -- A room does not reach a segment that was passed.
 abbrev Reaches : ℕ → Option Spot → Type 0
@@ -172,91 +181,110 @@ room_far (s ∷ ss) far va =
     (λ e. by_choose (Reaches far) (λ h. spot_at_far s far va) (λ h. later))
 
 -- In the segment that holds the address.
-module _ (s : Segment) (ss : List Segment) (far va : ℕ) (f : far < 2 ^ 64) (e : ends s ≡ false) (h : holds s va ≡ true) where
+module _ (s : Segment) (far va : ℕ) (h : holds s va ≡ true) where
   abbrev d : ℕ
-  d = va - s.vmaddr
+  d = distance s va
 
-  holds_further : (k : ℕ) → d + k < s.vmsize → holds s (va + k) ≡ true
-  unfolding holds
-  holds_further k l =
-      let u = holds_is s va h in
-      rw (lt-ltb 0 s.filesize u.0, le-leb s.vmaddr (va + k) (omega (arith, u.1)), lt-ltb (va + k) (s.vmaddr + s.vmsize) (omega (arith, u.1)))
+  held_place : placed s va ≡ place_in (spot_at s far va)
+  held_place =
+      let z = distance_past s va (holds_is s va h).1 in
+      by_spot s far va d h refl (λ o. placed s va ≡ place_in o) (λ l. sym (placed_past s va (omega arith))) (λ l o. sym (placed_over s va (omega arith) (omega arith)))
+      (λ l o. sym (placed_at s va (omega arith) (omega arith)) ∙ ap (λ (x : ℕ). value (place_at s.file (s.fileoff + x))) (sym z))
 
-  placed_further : (k : ℕ) → d + k < s.filesize → s.fileoff + d + k < 2 ^ 64 → placed s (va + k) ≡ value (place_at s.file (s.fileoff + d + k))
-  placed_further k l o =
-      let u = holds_is s va h in
-      let q : va + k - s.vmaddr ≡ d + k = omega (arith, u.1) in
-      let z : s.fileoff + (va + k - s.vmaddr) ≡ s.fileoff + d + k = omega arith in
-      sym (placed_at s (va + k) (omega arith) (omega arith)) ∙ ap (λ (x : ℕ). value (place_at s.file x)) z
+  -- Its spot, if there is one, moves with the address.
+  module _ (t : Spot) (is : spot_at s far va ≡ Some t) (k : ℕ) (inside : k < t.room) where
+    held_is : (d < s.filesize) × (s.fileoff + d < 2 ^ 64) × (there s far va d h refl ≡ t)
+    held_is =
+        by_spot s far va d h refl (λ o. o ≡ Some t → (d < s.filesize) × (s.fileoff + d < 2 ^ 64) × (there s far va d h refl ≡ t)) (λ l e. cc) (λ l o e. cc) (λ l o e. (l, o, cc)) is
 
-  there_leads : d < s.filesize → s.fileoff + d < 2 ^ 64 → LeadsTo (s ∷ ss) va (spot s.file (s.fileoff + d) (min (mapped_size s - d) (2 ^ 64 - max far (s.fileoff + d))))
-  unfolding mapped_size
-  there_leads l o =
-      let u = holds_is s va h in
-      let inside : d < s.vmsize = omega (arith, u.1, u.2) in
-      record {
-        there = lookup_holds s ss va e h ∙ sym (placed_at s va l o);
-        in_words = λ k g. let w = ends_not s e in omega (arith, u.1);
-        moves = λ k g. lookup_holds s ss (va + k) e (holds_further k (omega arith)) ∙ placed_further k (omega arith) (omega arith);
-      }
+    held_room : (d + k < s.filesize) × (d + k < s.vmsize) × (s.fileoff + d + k < 2 ^ 64)
+    unfolding mapped_size
+    held_room =
+        let r : min (mapped_size s - d) (2 ^ 64 - max far (s.fileoff + d)) ≡ t.room = ap (λ (x : Spot). x.room) held_is.2 in
+        (omega arith, omega arith, omega arith)
 
-  held_leads : Leads (s ∷ ss) va (spot_at s far va)
-  unfolding spot_at
-  held_leads = go (leb s.filesize d) refl (leb (2 ^ 64) (s.fileoff + d)) refl
-    where
-      missed : placed s va ≡ absent Unmapped → lookup (s ∷ ss) va ≡ absent Unmapped
-      missed p = lookup_holds s ss va e h ∙ p
+    holds_further : holds s (va + k) ≡ true
+    unfolding holds
+    holds_further =
+        let u = holds_is s va h in
+        let z = distance_past s va u.1 in
+        let r = held_room.1 in
+        rw (lt-ltb 0 s.filesize u.0, le-leb s.vmaddr (va + k) (omega (arith, u.1)), lt-ltb (va + k) (s.vmaddr + s.vmsize) (omega (arith, u.1)))
 
-      go : (a : Bool) → leb s.filesize d ≡ a → (b : Bool) → leb (2 ^ 64) (s.fileoff + d) ≡ b
-          → Leads (s ∷ ss) va (choose (a || b) None (Some (spot s.file (s.fileoff + d) (min (mapped_size s - d) (2 ^ 64 - max far (s.fileoff + d))))))
-      go true p b q = unfold choose in missed (sym (placed_past s va (leb-true s.filesize d p)))
-      go false p true q = unfold choose in missed (sym (placed_over s va (leb-false s.filesize d p) (leb-true (2 ^ 64) (s.fileoff + d) q)))
-      go false p false q = unfold choose in there_leads (leb-false s.filesize d p) (leb-false (2 ^ 64) (s.fileoff + d) q)
+    held_moves : (far' : ℕ) → max far' (s.fileoff + d + k) ≡ max far (s.fileoff + d) + k → spot_at s far' (va + k) ≡ Some (moved t k)
+    held_moves far' e =
+        let u = holds_is s va h in
+        let far_on : d + k ≡ distance s (va + k) = omega (arith, u.1, distance_past s va u.1, distance_past s (va + k) (omega (arith, u.1))) in
+        let offset : s.fileoff + (d + k) ≡ s.fileoff + d + k = omega arith in
+        let room : min (mapped_size s - (d + k)) (2 ^ 64 - max far' (s.fileoff + (d + k))) ≡ min (mapped_size s - d) (2 ^ 64 - max far (s.fileoff + d)) - k = omega (arith, e, offset) in
+        sym (spot_held s far' (va + k) (d + k) holds_further far_on held_room.0 (omega (arith, held_room.2)))
+        ∙ cc (offset, room) ∙ ap (λ (x : Spot). Some (moved x k)) held_is.2
 
--- What leads behind a segment that was passed leads from it.
-passed_leads : (s : Segment) (ss : List Segment) (far va : ℕ) → va < 2 ^ 64 → ends s ≡ false → holds s va ≡ false → (o : Option Spot)
-    → Reaches (max far (distance s va)) o → Leads ss va o → Leads (s ∷ ss) va o
-passed_leads s ss far va w e h None near l = lookup_on s ss va e h ∙ l
-passed_leads s ss far va w e h (Some x) near l =
-    record {
-      there = lookup_on s ss va e h ∙ l.there;
-      in_words = l.in_words;
-      moves =
-          λ k g. lookup_on s ss (va + k) e (still_not s va e k w (l.in_words k g) (omega arith) h) ∙ l.moves k g;
-    }
-
-spot_leads : (ss : List Segment) (far va : ℕ) → far < 2 ^ 64 → va < 2 ^ 64 → Leads ss va (spot_from far ss va)
-unfolding spot_from lookup
-spot_leads [] far va f w = refl
-spot_leads (s ∷ ss) far va f w = go (ends s) refl (holds s va) refl (spot_leads ss (max far (distance s va)) va (omega (arith, distance_fits s va w)) w)
+-- A spot moves with its address, and the addresses in its room are of 64 bits. What was passed lies further behind by as much, but `far` is 0 at either
+-- address where nothing was: so it is a maximum of `far` that moves.
+spot_moves : (ss : List Segment) (far far' va k : ℕ) (t : Spot) → ((x : ℕ) → max far' (x + k) ≡ max far x + k) → spot_from far ss va ≡ Some t
+    → k < t.room → (va + k < 2 ^ 64) × (spot_from far' ss (va + k) ≡ Some (moved t k))
+spot_moves [] far far' va k t rel is inside = let e = sym (spot_out far va) ∙ is in absurd cc
+spot_moves (s ∷ ss) far far' va k t rel is inside =
+    go (ends s) refl (holds s va) refl (spot_moves ss (max far (distance s va)) (max far' (distance s (va + k))) va k t)
   where
-    go : (a : Bool) → ends s ≡ a → (b : Bool) → holds s va ≡ b → Leads ss va (spot_from (max far (distance s va)) ss va)
-        → Leads (s ∷ ss) va (spot_from far (s ∷ ss) va)
-    go true e b h ih = subst (Leads (s ∷ ss) va) (sym (spot_ends s ss far va e)) (lookup_ends s ss va e)
-    go false e true h ih = subst (Leads (s ∷ ss) va) (sym (spot_holds s ss far va e h)) (held_leads s ss far va f e h)
-    go false e false h ih =
-        subst (Leads (s ∷ ss) va) (sym (spot_on s ss far va e h))
-        (passed_leads s ss far va w e h (spot_from (max far (distance s va)) ss va) (room_far ss (max far (distance s va)) va) ih)
+    Moves : Type 0
+    Moves = (va + k < 2 ^ 64) × (spot_from far' (s ∷ ss) (va + k) ≡ Some (moved t k))
+
+    -- The same of the segments after this one.
+    Later : Type 0
+    Later = ((x : ℕ) → max (max far' (distance s (va + k))) (x + k) ≡ max (max far (distance s va)) x + k) → spot_from (max far (distance s va)) ss va ≡ Some t
+        → k < t.room → (va + k < 2 ^ 64) × (spot_from (max far' (distance s (va + k))) ss (va + k) ≡ Some (moved t k))
+
+    held : ends s ≡ false → holds s va ≡ true → Moves
+    held e h =
+        let at : spot_at s far va ≡ Some t = sym (spot_holds s ss far va e h) ∙ is in
+        let u = holds_is s va h in
+        let room = held_room s far va h t at k inside in (
+          omega (arith, u.1, distance_past s va u.1, room.1, ends_not s e),
+          spot_holds s ss far' (va + k) e (holds_further s far va h t at k inside) ∙ held_moves s far va h t at k inside far' (rel (s.fileoff + distance s va)),
+        )
+
+    passed : ends s ≡ false → holds s va ≡ false → Later → Moves
+    passed e h ih =
+        let on : spot_from (max far (distance s va)) ss va ≡ Some t = sym (spot_on s ss far va e h) ∙ is in
+        let reach : t.room ≤ 2 ^ 64 - max far (distance s va) = subst (Reaches (max far (distance s va))) on (room_far ss (max far (distance s va)) va) in
+        let near : k < 2 ^ 64 - distance s va = omega arith in
+        let later = ih (λ x. omega (arith, rel x, rel (distance s va), further s va e k near)) on inside in
+        (later.0, spot_on s ss far' (va + k) e (still_not s va e k near h) ∙ later.1)
+
+    go : (a : Bool) → ends s ≡ a → (b : Bool) → holds s va ≡ b → Later → Moves
+    go true e b h ih = let n = sym (spot_ends s ss far va e) ∙ is in absurd cc
+    go false e true h ih = held e h
+    go false e false h ih = passed e h ih
+
+-- A spot is where a lookup leads.
+spot_lookup : (ss : List Segment) (far va : ℕ) → lookup ss va ≡ place_in (spot_from far ss va)
+spot_lookup [] far va = lookup_out va ∙ ap place_in (sym (spot_out far va))
+spot_lookup (s ∷ ss) far va = go (ends s) refl (holds s va) refl (spot_lookup ss (max far (distance s va)) va)
+  where
+    go : (a : Bool) → ends s ≡ a → (b : Bool) → holds s va ≡ b → lookup ss va ≡ place_in (spot_from (max far (distance s va)) ss va)
+        → lookup (s ∷ ss) va ≡ place_in (spot_from far (s ∷ ss) va)
+    go true e b h ih = lookup_ends s ss va e ∙ ap place_in (sym (spot_ends s ss far va e))
+    go false e true h ih = lookup_holds s ss va e h ∙ held_place s far va h ∙ ap place_in (sym (spot_holds s ss far va e h))
+    go false e false h ih = lookup_on s ss va e h ∙ ih ∙ ap place_in (sym (spot_on s ss far va e h))
 
 readable_same : (n : ℕ) (p : Place) (k : ℕ) → and_then (readable_at n p k) (λ q. value p) ≡ readable_at n p k
 unfolding readable_at
 readable_same n p k = by_choose (λ (o : Outcome Place). and_then o (λ q. value p) ≡ o) (λ e. refl) (λ e. refl)
 
 -- The spot of bytes that can be read: none where they cannot be, else their place.
-module _ (m : Image) (va size : ℕ) (w : va < 2 ^ 64) where
-  leads : Leads (rows m.words) va (spot_in m.words va)
-  leads = spot_leads (rows m.words) 0 va (omega arith) w
-
+module _ (m : Image) (va size : ℕ) where
   -- What can be read at an address is what can be read at its spot.
   pub spot_place_readable : and_then (readable_spot m va size) (λ s. value s.place) ≡ readable m va size
   unfolding readable_spot readable
-  spot_place_readable = go (spot_in m.words va) leads
+  spot_place_readable = go (spot_in m.words va) (spot_lookup (rows m.words) 0 va)
     where
-      go : (o : Option Spot) → Leads (rows m.words) va o
+      go : (o : Option Spot) → lookup (rows m.words) va ≡ place_in o
           → and_then (if_readable m size o) (λ s. value s.place)
           ≡ and_then (because Unreadable (lookup (rows m.words) va)) (λ p. readable_at (length (file_of m.files p.file)) p size)
       go None l = rw l
-      go (Some s) l = rw (l.there, then_then (readable_at (length (file_of m.files s.place.file)) s.place size) (λ p. value s) (λ s. value s.place))
+      go (Some s) l = rw (l, then_then (readable_at (length (file_of m.files s.place.file)) s.place size) (λ p. value s) (λ s. value s.place))
           (readable_same (length (file_of m.files s.place.file)) s.place size)
 
   module _ (s : Spot) (is : readable_spot m va size ≡ value s) where
@@ -281,8 +309,9 @@ module _ (m : Image) (va size : ℕ) (w : va < 2 ^ 64) where
                 let r = readable_out (length (file_of m.files x.place.file)) x.place size h in
                 let z : ◌≡◌ {A = ℕ} 0 1 = cc in absurd (omega arith)
 
-    led : LeadsTo (rows m.words) va s
-    led = subst (Leads (rows m.words) va) seen.0 leads
+    -- In its room it moves with the address.
+    in_room : (k : ℕ) → k < s.room → (va + k < 2 ^ 64) × (spot_in m.words (va + k) ≡ Some (moved s k))
+    in_room k l = spot_moves (rows m.words) 0 0 va k s (λ x. omega arith) seen.0 l
 
     -- A word near it is the word that a lookup gives.
     module _ (i : ℕ) (h : i + 8 ≤ size) where
@@ -291,4 +320,20 @@ module _ (m : Image) (va size : ℕ) (w : va < 2 ^ 64) where
       near_word_in l =
           let bytes = file_of m.files s.place.file in
           let inside : s.place.offset + i + 8 ≤ length bytes = omega (arith, seen.1) in
-          rw (led.moves i l, ← readable_in (length bytes) (place_at s.place.file (s.place.offset + i)) 8 inside, ← le_inside bytes 8 (s.place.offset + i) inside)
+          let leads : lookup (rows m.words) (va + i) ≡ value (moved s i).place = spot_lookup (rows m.words) 0 (va + i) ∙ ap place_in (in_room i l).1 in
+          rw (leads, ← readable_in (length bytes) (place_at s.place.file (s.place.offset + i)) 8 inside, ← le_inside bytes 8 (s.place.offset + i) inside)
+
+    -- The spot behind it is that of the address so far on.
+    module _ (k n : ℕ) (t : Spot) (there : spot_behind m s k n ≡ Some t) where
+      pub spot_behind_is : (va + k < 2 ^ 64) × (readable_spot m (va + k) n ≡ value t)
+      unfolding spot_behind readable_spot choose
+      spot_behind_is = go (leb s.room k) refl (leb (s.place.offset + k + n) (length (file_of m.files s.place.file))) refl there
+        where
+          go : (a : Bool) → leb s.room k ≡ a → (b : Bool) → leb (s.place.offset + k + n) (length (file_of m.files s.place.file)) ≡ b
+              → choose a None (choose b (Some (moved s k)) None) ≡ Some t → (va + k < 2 ^ 64) × (readable_spot m (va + k) n ≡ value t)
+          go true p b q e = absurd cc
+          go false p false q e = absurd cc
+          go false p true q e =
+              let in_it = in_room k (leb-false s.room k p) in
+              let same : moved s k ≡ t = cc in
+              (in_it.0, rw (in_it.1, ← readable_in (length (file_of m.files s.place.file)) (place_at s.place.file (s.place.offset + k)) n (leb-true _ _ q)) (ap value same))

@@ -40,3 +40,12 @@ if_readable m k (Some s) = and_then (readable_at (length (file_of m.files s.plac
 -- The spot of an address, if k bytes can be read there: its place is theirs (proofs/Spots.antt).
 unfoldable pub readable_spot : Image → ℕ → ℕ → Outcome Spot
 readable_spot m va k = if_readable m k (spot_in m.words va)
+
+-- The spot d bytes on.
+abbrev pub moved : Spot → ℕ → Spot
+moved s d = spot s.place.file (s.place.offset + d) (s.room - d)
+
+-- The spot d bytes behind one, if it lies in its room and k bytes can be read there: it is that of the address d bytes on (proofs/Spots.antt).
+unfoldable pub spot_behind : Image → Spot → ℕ → ℕ → Option Spot
+spot_behind m s d k =
+    choose (nat_le s.room d) None (choose (nat_le (s.place.offset + d + k) (length (file_of m.files s.place.file))) (Some (moved s d)) None)

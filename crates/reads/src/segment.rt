@@ -1,5 +1,5 @@
 // The segment table, lent as words, and the translation between addresses and places.
-ghost use Rattle.std.specs.Prelude.{◌≡◌, ◌<◌, ◌≤◌, false};
+ghost use Rattle.std.specs.Prelude.{◌≡◌, ◌<◌, ◌≤◌};
 ghost use Rattle.std.specs.Iterator.{YieldsFirst, item_count};
 ghost use Rattle.reads.specs.Reference.{before};
 ghost use Rattle.reads.specs.Table.{records};
@@ -67,25 +67,13 @@ impl Segment {
         va - self.vmaddr < self.vmsize
     }
 
-    // How far an address lies past the segment's first one, modulo 2^64.
+    // How far an address lies past the segment's first one, modulo 2^64. Where the segment does not end a lookup, that is below vmsize just for
+    // the addresses in it: one compare for both of its ends.
     #[tactic(auto, using(std::proofs::lemmas::Bool::Decides::nat_tests), unfolding(crate::specs::Spot::distance, crate::specs::Outcome::choose))]
     pub(crate) fn distance(self, va: u64) -> u64
         ensures { result ≡ distance self va }
     {
         va.wrapping_sub(self.vmaddr)
-    }
-
-    // The segment holds an address at this distance, where it does not end a lookup: one compare for both of its ends.
-    #[tactic(auto, using(std::proofs::lemmas::Bool::Decides::nat_tests), unfolding(crate::specs::Segment::ends, crate::specs::Segment::holds, crate::specs::Spot::distance, crate::specs::Outcome::choose))]
-    pub(crate) fn holds_at(self, va: u64, d: u64) -> bool
-        requires self_value { ends self ≡ false }
-        requires d_value { d ≡ distance self va }
-        ensures { result ≡ holds self va }
-    {
-        if self.vmsize <= d {
-            return false;
-        }
-        0 < self.filesize
     }
 
     // The place of an address that the segment holds.
@@ -142,7 +130,7 @@ impl Iterator for Rows<'_> {
 
 // The place of an address. Segments count in order: one that exceeds 64 bits ends the lookup, the first that holds the
 // address decides. What is absent is Unmapped, whatever ends the lookup.
-#[tactic(auto, using(crate::proofs::Lookups::holds_is, crate::proofs::Lookups::lookup_ends, crate::proofs::Lookups::lookup_holds, crate::proofs::Lookups::lookup_on, crate::proofs::Lookups::lookup_out))]
+#[tactic(auto, using(crate::proofs::Spots::reached, crate::proofs::Spots::unreached, crate::proofs::Spots::placed_far, crate::proofs::Lookups::holds_is, crate::proofs::Lookups::holds_none, crate::proofs::Lookups::lookup_ends, crate::proofs::Lookups::lookup_holds, crate::proofs::Lookups::lookup_on, crate::proofs::Lookups::lookup_out))]
 pub fn vm_to_file_offset_in(segments: &[u64], va: u64) -> Result<Place, Missing>
     ensures { outcome result ≡ lookup (rows (before segments)) va }
 {
@@ -151,8 +139,13 @@ pub fn vm_to_file_offset_in(segments: &[u64], va: u64) -> Result<Place, Missing>
             return Err(Missing::Absent(Reason::Unmapped));
         }
         let d = s.distance(va);
-        if s.holds_at(va, d) {
-            return s.place(va);
+        if d < s.vmsize {
+            if d < s.filesize {
+                return s.place(va);
+            }
+            if 0 < s.filesize {
+                return Err(Missing::Absent(Reason::Unmapped));
+            }
         }
     }
     Err(Missing::Absent(Reason::Unmapped))

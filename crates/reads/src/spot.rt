@@ -2,12 +2,12 @@
 ghost use Rattle.std.specs.Prelude.{◌≡◌, true};
 ghost use Rattle.reads.specs.Reference.{before};
 ghost use Rattle.reads.specs.Segment.{holds};
-ghost use Rattle.reads.specs.Spot.{distance, spot_at, spot_in, readable_spot};
+ghost use Rattle.reads.specs.Spot.{distance, spot_at, spot_in, readable_spot, spot_behind};
 ghost use Rattle.reads.specs.Answer.{outcome};
 
 use crate::answer::{Missing, Reason};
 use crate::files::file_len;
-use crate::place::{Image, Place, readable_at};
+use crate::place::{Image, Place, lies_in, readable_at};
 use crate::segment::Segment;
 
 // Where an address looks up, and its room: for how many bytes from it on the place moves with the address.
@@ -40,7 +40,7 @@ fn spot_at(s: Segment, far: u64, va: u64, d: u64) -> Option<Spot>
 }
 
 // The spot of an address. Segments count in order: one that exceeds 64 bits ends the lookup, the first that holds the address decides.
-#[tactic(auto, using(crate::proofs::Spots::spot_ends, crate::proofs::Spots::spot_holds, crate::proofs::Spots::spot_on, crate::proofs::Spots::spot_out))]
+#[tactic(auto, using(crate::proofs::Spots::reached, crate::proofs::Spots::unreached, crate::proofs::Lookups::holds_none, crate::proofs::Spots::spot_past, crate::proofs::Spots::spot_ends, crate::proofs::Spots::spot_holds, crate::proofs::Spots::spot_on, crate::proofs::Spots::spot_out))]
 fn spot_in(segments: &[u64], va: u64) -> Option<Spot>
     ensures { result ≡ spot_in (before segments) va }
 {
@@ -50,8 +50,13 @@ fn spot_in(segments: &[u64], va: u64) -> Option<Spot>
             return None;
         }
         let d = s.distance(va);
-        if s.holds_at(va, d) {
-            return spot_at(s, far, va, d);
+        if d < s.vmsize {
+            if d < s.filesize {
+                return spot_at(s, far, va, d);
+            }
+            if 0 < s.filesize {
+                return None;
+            }
         }
         far = far.max(d);
     }
@@ -68,4 +73,25 @@ pub fn readable_spot(image: &Image, va: u64, k: u64) -> Result<Spot, Missing>
     };
     readable_at(file_len(image.files, s.place.file), s.place, k)?;
     Ok(s)
+}
+
+// The spot d bytes behind one, if it lies in its room and k bytes can be read there: it is that of the address d bytes on, without another lookup.
+#[tactic(auto, using(std::proofs::lemmas::Bool::Decides::nat_tests), unfolding(crate::specs::Spot::spot_behind, crate::specs::Outcome::choose))]
+pub fn spot_behind(image: &Image, s: Spot, d: u64, k: u64) -> Option<Spot>
+    ensures { result ≡ spot_behind image.now s d k }
+{
+    if s.room <= d {
+        return None;
+    }
+    let place = s.place;
+    if !lies_in(file_len(image.files, place.file), place.offset, d, k) {
+        return None;
+    }
+    Some(Spot {
+        place: Place {
+            file: place.file,
+            offset: place.offset + d,
+        },
+        room: s.room - d,
+    })
 }

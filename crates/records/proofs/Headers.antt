@@ -1,5 +1,5 @@
 -- A list's header as the code reads it, and what holds of every list that is there.
-use Prim.Native.Nat.{ℕ, ◌-◌, ◌%◌, ◌^◌, ◌≤◌}
+use Prim.Native.Nat.{ℕ, ◌+◌, ◌-◌, ◌%◌, ◌^◌, ◌≤◌}
 use mathlib.Core.Path.{◌≡◌, ap, sym, ◌∙◌}
 use mathlib.Core.Bool.{true, false, not}
 use native.Mathlib.Omega.{arith}
@@ -18,11 +18,12 @@ use Rattle.pointers.specs.Tables.{Tables, image_in}
 use Rattle.pointers.specs.Bytes.{u32_in}
 use Rattle.pointers.proofs.Flags.{bit_by}
 use Rattle.records.specs.Ask.{even_list, entry_size}
-use Rattle.records.specs.List.{least, rows_of, size_of, layout, must_be_even, list_at, decode_list}
+use Rattle.records.specs.List.{least, rows_of, size_of, layout, must_be_even, layout_at, list_at, decode_list}
 use Rattle.records.specs.declared.list.Layout.{Layout}
 use Rattle.records.specs.declared.list.ListKind.{ListKind}
 use Rattle.records.specs.declared.list.RowKind.{RowKind}
 use Rattle.records.specs.declared.list.RowKind.TheVariants as row
+use Rattle.records.proofs.NearFields.{sum_is}
 
 pub bit_clear : (k flags : ℕ) → bit_and flags (2 ^ k) ≡ 0 → bit k flags ≡ false
 bit_clear k flags e = sym (bit_by k flags) ∙ ap (λ (n : ℕ). not (eqb n 0)) e
@@ -47,19 +48,24 @@ module _ (t : Tables) (k : ListKind) (va : ℕ) where
   abbrev sized : Place → Outcome Layout
   sized p = and_then (entry_size (least (rows_of k (u32_in t p 0))) (size_of k (u32_in t p 0))) (λ _. based p (u32_in t p 0))
 
-  -- The entries of a list that is there are no smaller than their least size.
+  -- The entries are no smaller than their least size, and begin behind the header.
+  pub layout_is : (h : Layout) → layout_at t k va ≡ value h → (least h.kind ≤ h.size) × (h.base ≡ va + 8)
+  layout_is h e =
+      let p = then_came (readable (image_in t) va 8) sized h e in
+      let s = then_came (entry_size (least (rows_of k (u32_in t p.0 0))) (size_of k (u32_in t p.0 0))) (λ _. based p.0 (u32_in t p.0 0)) h p.2 in
+      let base = then_came (sum64 va 8) (λ base. value (layout k base (u32_in t p.0 0) (u32_in t p.0 4))) h s.2 in
+      of_layout base.0 (u32_in t p.0 0) (u32_in t p.0 4) (size_least _ _ _ s.1) (sum_is va 8 base.0 (sym base.1)) base.2
+    where
+      of_layout : (base w count : ℕ) → least (rows_of k w) ≤ size_of k w → base ≡ va + 8 → value (layout k base w count) ≡ value h
+          → (least h.kind ≤ h.size) × (h.base ≡ va + 8)
+      of_layout base w count l b e = let same : layout k base w count ≡ h = cc in rw (← same) (l, b)
+
   pub list_least : (h : Layout) → list_at t k va ≡ value h → least h.kind ≤ h.size
   unfolding decode_list
   list_least h e =
       let a = then_came (nonzero va) (λ _. and_then (choose (must_be_even k) (even_list va) (value va)) (λ _. and_then (readable (image_in t) va 8) sized)) h e in
       let b = then_came (choose (must_be_even k) (even_list va) (value va)) (λ _. and_then (readable (image_in t) va 8) sized) h a.2 in
-      let p = then_came (readable (image_in t) va 8) sized h b.2 in
-      let s = then_came (entry_size (least (rows_of k (u32_in t p.0 0))) (size_of k (u32_in t p.0 0))) (λ _. based p.0 (u32_in t p.0 0)) h p.2 in
-      let base = then_came (sum64 va 8) (λ base. value (layout k base (u32_in t p.0 0) (u32_in t p.0 4))) h s.2 in
-      of_layout base.0 (u32_in t p.0 0) (u32_in t p.0 4) (size_least _ _ _ s.1) base.2
-    where
-      of_layout : (base w count : ℕ) → least (rows_of k w) ≤ size_of k w → value (layout k base w count) ≡ value h → least h.kind ≤ h.size
-      of_layout base w count l e = let same : layout k base w count ≡ h = cc in rw (← same) l
+      (layout_is h b.2).0
 
 -- No question is asked of a list.
 pub even_unrefused : (va : ℕ) → Unrefused (even_list va)

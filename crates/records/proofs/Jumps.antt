@@ -1,28 +1,30 @@
 -- Why the search may go from one breakpoint to the next, and why its budget suffices. Nothing is assumed of the segments' order.
 use Prim.Native.Nat.{ℕ, ◌+◌, ◌-◌, ◌*◌, ◌/◌, ◌^◌, ◌≤◌, ◌<◌}
-use mathlib.Core.Path.{◌≡◌, sym, ◌∙◌}
+use mathlib.Core.Path.{◌≡◌, refl, sym, ◌∙◌}
 use mathlib.Core.Bool.{true, false, and-false}
 use native.Mathlib.Nat.{mul-zero, mul-le-mul, le_dest, mul-le-mul_right, div-mul-le_self, lt-div-mul-add}
 use native.Mathlib.Omega.{arith}
 use borrow.Author.Tests.{lt-ltb, le-ltb}
 use Rattle.reads.specs.Breaks.{can_read, breaks_of, next_break}
 use Rattle.reads.specs.Answer.{outcome}
+use Rattle.reads.specs.Outcome.{value}
 use Rattle.reads.specs.Place.{Image}
-use Rattle.reads.specs.Spot.{readable_spot}
+use Rattle.reads.specs.Spot.{readable_spot, spot_behind}
 use Rattle.reads.specs.declared.answer.Missing.{Missing}
 use Rattle.reads.specs.declared.spot.Spot.{Spot}
 use Rattle.reads.proofs.CanRead.{can_read_value, can_read_missing}
+use Rattle.reads.proofs.Spots.{spot_behind_is}
 use Rattle.reads.proofs.Breakpoints.{can_read_until_break, unreadable_past_breaks, above_few}
 use Rattle.reads.proofs.LeastAbove.{next_break_above, above_falls}
 use Rattle.records.specs.List.{least, entry_address, entry}
 use Rattle.records.specs.Search.{first_readable, search_budget}
-use Rattle.records.specs.Tries.{Finds, ahead, Leads}
+use Rattle.records.specs.Tries.{Entry, Finds, ahead, Leads}
 use Rattle.records.specs.declared.list.Found.{Found}
 use Rattle.records.specs.declared.list.Layout.{Layout}
 use Rattle.std.specs.Prelude.{Option}
 use Rattle.std.specs.declared.ops.ControlFlow.{ControlFlow}
 use Rattle.std.specs.declared.ops.ControlFlow.TheVariants.{Break, Continue}
-use Rattle.records.proofs.NearFields.{place_found, place_unreadable}
+use Rattle.records.proofs.NearFields.{place_found, place_unreadable, near_readable}
 use Rattle.records.proofs.Firsts.{first_skip, first_past, first_here, first_none}
 use Rattle.std.specs.Prelude.{Some, None, Result, Ok, Err}
 
@@ -119,12 +121,26 @@ module _ (m : Image) (h : Layout) (i : ℕ) where
   ahead_few = omega (arith, above_few m (least h.kind) (entry_address h i))
 
 -- Whether bytes can be read, by what the lookup of their spot gave.
-module _ (m : Image) (k va : ℕ) (w : va < 2 ^ 64) (r : Result Spot Missing) (e : outcome r ≡ readable_spot m va k) where
+module _ (m : Image) (k va : ℕ) (r : Result Spot Missing) (e : outcome r ≡ readable_spot m va k) where
   pub can_read_found : (s : Spot) → r ≡ Ok s → can_read m k va ≡ true
-  can_read_found s o = can_read_value m k va s.place (sym (place_found m va k w r e s o))
+  can_read_found s o = can_read_value m k va s.place (sym (place_found m va k r e s o))
 
   pub can_read_not : (x : Missing) → r ≡ Err x → can_read m k va ≡ false
-  can_read_not x o = can_read_missing m k va x (place_unreadable m va k w r e x o)
+  can_read_not x o = can_read_missing m k va x (place_unreadable m va k r e x o)
+
+-- The entry whose bytes lie in the room of the header's spot.
+module _ (m : Image) (h : Layout) (va size : ℕ) (s : Spot) (is : readable_spot m va size ≡ value s) (base : h.base ≡ va + 8) (i : ℕ) (t : Spot)
+    (there : spot_behind m s (8 + i * h.size) (least h.kind) ≡ Some t) where
+  behind_is : (entry_address h i < 2 ^ 64) × (readable_spot m (entry_address h i) (least h.kind) ≡ value t)
+  behind_is = let at : va + (8 + i * h.size) ≡ entry_address h i = omega arith in rw (← at) (spot_behind_is m va size s is (8 + i * h.size) (least h.kind) t there)
+
+  pub behind_fits : entry_address h i < 2 ^ 64
+  behind_fits = behind_is.0
+
+  pub behind_found : i < h.count → Entry m h i (record { index = i; va = entry_address h i; spot = t })
+  behind_found l =
+      let reads = can_read_value m (least h.kind) (entry_address h i) t.place (sym (near_readable m (entry_address h i) (least h.kind) t behind_is.1)) in
+      record { first = search_here m h i l behind_fits reads; address = refl; spot = behind_is.1 }
 
 -- What is found from one index on is found from another with the same answer.
 pub finds_from : (m : Image) (h : Layout) (i j : ℕ) (o : Option Found) → first_readable m h i ≡ first_readable m h j → Finds m h i o → Finds m h j o

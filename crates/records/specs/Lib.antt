@@ -11,4 +11,5 @@ pub mod Category
 pub mod List
 pub mod Search
 pub mod Tries
+pub mod OpenList
 pub mod Row

@@ -46,17 +46,25 @@ must_be_even list.Methods = true
 must_be_even list.Ivars = false
 must_be_even list.Properties = true
 
--- The list at an address: absent at 0, odd (except ivars), its 8-byte header unreadable, size below the least, address + 8 over 64 bits.
-unfoldable pub decode_list : ListKind → ℕ → Decode Layout
-decode_list k va =
-    then (nonzero va) (λ _.
-    then (when (must_be_even k) (even va) (done va)) (λ _.
+-- What the header at an address says: absent where its 8 bytes cannot be read, where the size is below the least, where address + 8 is over 64 bits.
+abbrev pub decode_layout : ListKind → ℕ → Decode Layout
+decode_layout k va =
     then (readable va list_size) (λ p.
     then (u32_in p list_entsize_and_flags) (λ w.
     then (u32_in p list_count) (λ count.
     then (at_least (least (rows_of k w)) (size_of k w)) (λ _.
     then (sum64 va list_size) (λ base.
-    done (layout k base w count))))))))
+    done (layout k base w count))))))
+
+abbrev pub layout_at : Tables → ListKind → ℕ → Outcome Layout
+layout_at t k va = run t (decode_layout k va)
+
+-- The list at an address: absent at 0, odd (except ivars), and as its header is.
+unfoldable pub decode_list : ListKind → ℕ → Decode Layout
+decode_list k va =
+    then (nonzero va) (λ _.
+    then (when (must_be_even k) (even va) (done va)) (λ _.
+    decode_layout k va))
 
 abbrev pub list_at : Tables → ListKind → ℕ → Outcome Layout
 list_at t k va = run t (decode_list k va)

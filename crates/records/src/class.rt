@@ -8,7 +8,7 @@ ghost use Rattle.reads.specs.Answer.{outcome};
 
 use crate::near::Near;
 use crate::text::string;
-use pointers::slot::{pointer, rebase_at, slot_or_0, symbol_at};
+use pointers::slot::{pointer, rebase_at, symbol_at};
 use pointers::tables::Tables;
 use reads::address::Address;
 use reads::answer::{Missing, because, checked_add, nonzero, or_zero};
@@ -71,17 +71,18 @@ fn data_at(tables: &Tables, slot: u64, raw: u64) -> Result<u64, Missing>
 }
 
 // class_t: both field addresses are tested before the first lookup.
-#[tactic(auto, using(reads::proofs::Outcomes::missed_then), unfolding(crate::specs::Class::decode_class))]
+#[tactic(auto, using(reads::proofs::Outcomes::missed_then, crate::proofs::NearFields::sum_is), unfolding(crate::specs::Class::decode_class))]
+#[inline(always)]
 pub fn class_at(tables: &Tables, va: u64, is_meta: bool) -> Result<ObjcClass, Missing>
     ensures { let t = tables.now in
         outcome result ≡ class_at t va is_meta }
 {
-    readable(tables.image(), va, ObjcClass::SIZE)?;
+    let class = Near::at(tables, va, ObjcClass::SIZE)?;
     let super_slot = checked_add(va, ObjcClass::SUPERCLASS)?;
     let bits_slot = checked_add(va, ObjcClass::BITS)?;
-    let isa = slot_or_0(tables, va)?;
-    let superclass = slot_or_0(tables, super_slot)?;
-    let raw = read_u64(tables.image(), bits_slot)?;
+    let isa = class.slot_or_0(0, va)?;
+    let superclass = class.slot_or_0(ObjcClass::SUPERCLASS, super_slot)?;
+    let raw = class.word(ObjcClass::BITS, bits_slot)?;
     let target = or_zero(data_at(tables, bits_slot, raw))?;
     Ok(ObjcClass {
         address: va,

@@ -8,6 +8,7 @@ pub mod ivar;
 pub mod list;
 pub mod method;
 mod near;
+pub mod open_list;
 pub mod property;
 pub mod protocol;
 pub mod row;

@@ -3,18 +3,21 @@ ghost use Rattle.std.specs.Prelude.{◌≡◌, ◌<◌, ◌%◌, ◌^◌};
 ghost use Rattle.reads.specs.Reference.{before};
 ghost use Rattle.reads.specs.Outcome.{value, choose};
 ghost use Rattle.records.specs.Ask.{even_list, entry_size};
-ghost use Rattle.records.specs.List.{least, method_rows, rows_of, size_of, must_be_even, list_at, entry_address};
+ghost use Rattle.records.specs.List.{least, method_rows, rows_of, size_of, must_be_even, layout_at, list_at, entry_address};
+ghost use Rattle.records.specs.Header.{list_size};
+ghost use Rattle.records.specs.Near.{OfSize};
 ghost use Rattle.records.specs.Search.{first_readable, search_budget};
 ghost use Rattle.records.specs.Tries.{Finds, ahead, Leads};
 ghost use Rattle.reads.specs.Answer.{outcome};
 
 use crate::ivar::Ivar;
 use crate::method::Method;
+use crate::near::Near;
 use crate::property::Property;
 use pointers::tables::Tables;
 use reads::answer::{Missing, Reason, checked_add, nonzero};
 use reads::breaks::next_break;
-use reads::place::{Image, readable, u32_in};
+use reads::place::{Image, u32_in};
 use reads::segment::Segment;
 use reads::spot::{Spot, readable_spot};
 use std::ops::ControlFlow;
@@ -151,15 +154,15 @@ pub fn list_address(kind: ListKind, va: u64) -> Result<u64, Missing>
     }
 }
 
-// The list at an address: an 8-byte header of entry size and count, then the entries.
-#[tactic(auto, using(reads::proofs::Outcomes::missed_then), unfolding(crate::specs::List::decode_list))]
-pub fn list_at(tables: &Tables, kind: ListKind, va: u64) -> Result<Layout, Missing>
-    ensures { let t = tables.now in
-        outcome result ≡ list_at t kind va }
+// What a header says: the entry size, the count, and the entries behind.
+#[tactic(auto, using(reads::proofs::Outcomes::missed_then))]
+pub(crate) fn layout_near(header: &Near, kind: ListKind) -> Result<Layout, Missing>
+    requires { OfSize header.now list_size }
+    ensures { outcome result ≡ layout_at header.now.tables.now kind header.now.va }
 {
-    nonzero(va)?;
-    list_address(kind, va)?;
-    let p = readable(tables.image(), va, Layout::HEADER_SIZE)?;
+    let tables = header.tables();
+    let va = header.va();
+    let p = header.place();
     let w = u32_in(tables.files(), p, Layout::ENTSIZE_AND_FLAGS);
     let count = u32_in(tables.files(), p, Layout::COUNT);
     let rows = rows_of(kind, w);
@@ -172,6 +175,18 @@ pub fn list_at(tables: &Tables, kind: ListKind, va: u64) -> Result<Layout, Missi
         count,
         kind: rows,
     })
+}
+
+// The list at an address: an 8-byte header of entry size and count, then the entries.
+#[tactic(auto, using(reads::proofs::Outcomes::missed_then), unfolding(crate::specs::List::decode_list))]
+pub fn list_at(tables: &Tables, kind: ListKind, va: u64) -> Result<Layout, Missing>
+    ensures { let t = tables.now in
+        outcome result ≡ list_at t kind va }
+{
+    nonzero(va)?;
+    list_address(kind, va)?;
+    let header = Near::at(tables, va, Layout::HEADER_SIZE)?;
+    layout_near(&header, kind)
 }
 
 // An entry that can be read: its index, its address, and the spot of its bytes.

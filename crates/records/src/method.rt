@@ -153,6 +153,7 @@ fn types_at(tables: &Tables, field: u64, offset: i32) -> Result<Text, Missing>
 
 // method_t::small: the three offsets, each counted from its own field; both field addresses are tested before the first lookup.
 #[tactic(auto, using(reads::proofs::Outcomes::missed_then), unfolding(crate::specs::Row::decode_small_method))]
+#[inline(always)]
 pub(crate) fn small_method_near(row: &Near, selectors: Selectors) -> Result<Method, Missing>
     requires { OfSize row.now small_method_size }
     ensures { outcome result ≡ small_method_at row.now.tables.now row.now.va selectors }

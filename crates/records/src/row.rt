@@ -7,11 +7,14 @@ ghost use Rattle.records.specs.Near.{OfSize};
 ghost use Rattle.records.specs.Search.{first_readable};
 ghost use Rattle.records.specs.Row.{row_at};
 ghost use Rattle.reads.specs.Answer.{outcome};
+ghost use Rattle.reads.specs.Outcome.{value, and_then};
+ghost use Rattle.records.specs.declared.row.Row.TheVariants as a_row;
 
 use crate::ivar::{Ivar, ivar_near};
-use crate::list::{Layout, RowKind, first_found, least};
+use crate::list::{RowKind, least};
 use crate::method::{Method, Selectors, legacy_method_near, small_method_near};
 use crate::near::Near;
+use crate::open_list::OpenList;
 use crate::property::{Property, property_near};
 use pointers::tables::Tables;
 use reads::answer::Missing;
@@ -23,19 +26,42 @@ pub enum Row {
     Property(Property),
 }
 
+// A method as a row; an ivar; a property. Three functions, not `map` over the case: the compiler makes room for each case of a row where one function has
+// all of them.
+#[tactic(auto, using(reads::proofs::Outcomes::missed_then))]
+fn method_row(method: Result<Method, Missing>) -> Result<Row, Missing>
+    ensures { outcome result ≡ and_then (outcome method) (λ m. value (a_row.Method m)) }
+{
+    Ok(Row::Method(method?))
+}
+
+#[tactic(auto, using(reads::proofs::Outcomes::missed_then))]
+fn ivar_row(ivar: Result<Ivar, Missing>) -> Result<Row, Missing>
+    ensures { outcome result ≡ and_then (outcome ivar) (λ v. value (a_row.Ivar v)) }
+{
+    Ok(Row::Ivar(ivar?))
+}
+
+#[tactic(auto, using(reads::proofs::Outcomes::missed_then))]
+fn property_row(property: Result<Property, Missing>) -> Result<Row, Missing>
+    ensures { outcome result ≡ and_then (outcome property) (λ p. value (a_row.Property p)) }
+{
+    Ok(Row::Property(property?))
+}
+
 // The row of bytes that can be read, by what the entries are.
 #[tactic(auto, using(reads::proofs::Outcomes::missed_then), unfolding(crate::specs::Row::decode_row))]
 fn row_near(kind: RowKind, near: &Near) -> Result<Row, Missing>
     requires { OfSize near.now (least kind) }
     ensures { outcome result ≡ row_at near.now.tables.now kind near.now.va }
 {
-    Ok(match kind {
-        RowKind::Legacy => Row::Method(legacy_method_near(near)?),
-        RowKind::SmallIndirect => Row::Method(small_method_near(near, Selectors::Indirect)?),
-        RowKind::SmallDirect => Row::Method(small_method_near(near, Selectors::Direct)?),
-        RowKind::Ivar => Row::Ivar(ivar_near(near)?),
-        RowKind::Property => Row::Property(property_near(near)?),
-    })
+    match kind {
+        RowKind::Legacy => method_row(legacy_method_near(near)),
+        RowKind::SmallIndirect => method_row(small_method_near(near, Selectors::Indirect)),
+        RowKind::SmallDirect => method_row(small_method_near(near, Selectors::Direct)),
+        RowKind::Ivar => ivar_row(ivar_near(near)),
+        RowKind::Property => property_row(property_near(near)),
+    }
 }
 
 // The row at an entry's address.
@@ -59,16 +85,16 @@ pub struct Entry<'a> {
 
 impl<'a> Entry<'a> {
     // The first from an index on, below the count, that can be read.
-    pub fn first(tables: &'a Tables<'a>, h: Layout, from: u32) -> Option<Entry<'a>>
-        ensures search { option_map (λ e. e.index) result ≡ first_readable (image_in tables.now) h from }
-        ensures entry { IfSome result (λ e. (e.near.tables.now ≡ tables.now) × (e.kind ≡ h.kind) × (e.near.va ≡ entry_address h e.index)) }
+    pub fn first(list: &OpenList<'a>, from: u32) -> Option<Entry<'a>>
+        ensures search { option_map (λ e. e.index) result ≡ first_readable (image_in list.now.header.tables.now) list.now.layout from }
+        ensures entry { IfSome result (λ e. (e.near.tables.now ≡ list.now.header.tables.now) × (e.kind ≡ list.now.layout.kind) × (e.near.va ≡ entry_address list.now.layout e.index)) }
     {
-        let found = first_found(tables.image(), h, from)?;
-        let kind = h.kind;
+        let found = list.first_found(from)?;
+        let kind = list.layout().kind;
         Some(Entry {
             index: found.index,
             kind,
-            near: Near::of(tables, found.va, least(kind), found.spot),
+            near: Near::of(list.tables(), found.va, least(kind), found.spot),
         })
     }
 

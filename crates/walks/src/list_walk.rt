@@ -8,12 +8,13 @@ ghost use Rattle.records.specs.List.{list_at};
 ghost use Rattle.records.specs.Row.{row_at};
 
 use crate::stepped::Stepped;
-use pointers::question::ask;
+use pointers::asked::Asked;
 use pointers::setting::Setting;
 use pointers::tables::Tables;
 use reads::answer::{Missing, Question, Reason};
 use reads::text::Reading;
-use records::list::{Layout, ListKind, list_at};
+use records::list::ListKind;
+use records::open_list::OpenList;
 use records::row::{Entry, Row};
 
 // A walk: list address, kind and cursor, and the setting that it began with.
@@ -92,15 +93,16 @@ impl ListWalk {
 
     // A step over a list: 10, then the next entry that can be read.
     #[tactic(auto, unfolding(crate::specs::Walk::over_rows), using(crate::proofs::Steps::list_past, crate::proofs::Steps::list_on))]
-    fn over_list(self, tables: &Tables, h: Layout) -> ListStepped
-        ensures { let t = tables.now in
-            row_left result ≡ over_rows t self (value h) }
+    fn over_list(self, list: &OpenList) -> ListStepped
+        ensures { let t = list.now.header.tables.now in
+            row_left result ≡ over_rows t self (value list.now.layout) }
     {
+        let h = list.layout();
         if h.count < self.cursor {
             return Stepped::refused(self, Question::WalkState);
         }
         let cursor = self.cursor;
-        match Entry::first(tables, h, cursor) {
+        match Entry::first(list, cursor) {
             Some(entry) => self.settle(&entry),
             None => self.at(ListStep::Finished, h.count),
         }
@@ -115,8 +117,8 @@ impl ListWalk {
         let tables = &tables.under(self.setting);
         let kind = self.kind;
         let list = self.list;
-        match list_at(tables, kind, list) {
-            Ok(h) => self.over_list(tables, h),
+        match OpenList::at(tables, kind, list) {
+            Ok(list) => self.over_list(&list),
             Err(m) => {
                 if 0 < self.cursor {
                     return Stepped::refused(self, Question::WalkState);
@@ -126,15 +128,23 @@ impl ListWalk {
         }
     }
 
-    // The next step: 1 to 6 and 8 are asked, then 10; then the next entry that can be read is settled.
+    // The next step: by what 1 to 6 and 8 answered, then 10; then the next entry that can be read is settled.
     #[tactic(auto, unfolding(crate::specs::Walk::next_under))]
+    pub fn next_over(self, asked: &Asked) -> ListStepped
+        ensures { let t = asked.now.tables in
+            row_left result ≡ next_of t self }
+    {
+        match asked.ask() {
+            Ok(()) => self.walked_list(asked.tables()),
+            Err(k) => Stepped::refused(self, k),
+        }
+    }
+
+    // The same over tables that are asked for this step.
     pub fn next(self, tables: &Tables) -> ListStepped
         ensures { let t = tables.now in
             row_left result ≡ next_of t self }
     {
-        match ask(tables) {
-            Ok(()) => self.walked_list(tables),
-            Err(k) => Stepped::refused(self, k),
-        }
+        self.next_over(&Asked::of(tables))
     }
 }

@@ -7,7 +7,7 @@ ghost use Rattle.walks.specs.Handed.{hands};
 ghost use Rattle.walks.specs.ProtocolNames.{protocol_list_at, has_slot, protocol_name_at, protocol_name_in, name_in, walk_at, named, step_in, over_names, next_name, name_step, name_left};
 
 use crate::stepped::Stepped;
-use pointers::question::ask;
+use pointers::asked::Asked;
 use pointers::setting::Setting;
 use pointers::slot::{resolve_pointer, symbol_at};
 use pointers::tables::Tables;
@@ -217,15 +217,23 @@ impl ProtocolNameWalk {
         }
     }
 
-    // The name in the next slot.
+    // The name in the next slot, by what 1 to 6 and 8 answered.
     #[tactic(auto, unfolding(crate::specs::ProtocolNames::next_name_under))]
+    pub fn next_over(self, asked: &Asked) -> ProtocolNameStepped
+        ensures { let t = asked.now.tables in
+            name_left result ≡ next_name t self }
+    {
+        match asked.ask() {
+            Ok(()) => self.walked_list(asked.tables()),
+            Err(k) => Stepped::refused(self, k),
+        }
+    }
+
+    // The same over tables that are asked for this step.
     pub fn next(self, tables: &Tables) -> ProtocolNameStepped
         ensures { let t = tables.now in
             name_left result ≡ next_name t self }
     {
-        match ask(tables) {
-            Ok(()) => self.walked_list(tables),
-            Err(k) => Stepped::refused(self, k),
-        }
+        self.next_over(&Asked::of(tables))
     }
 }

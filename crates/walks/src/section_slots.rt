@@ -9,6 +9,7 @@ ghost use Rattle.walks.specs.Sections.{meta_of, Walk, walk, at_start, Left, Kind
 
 use crate::sections::RecordStep;
 use crate::slots::{Lists, SlotStep, SlotWalk, next_slot};
+use pointers::asked::Asked;
 use pointers::tables::Tables;
 use reads::answer::{Missing, Question};
 use records::category::{ObjcCategory, category_at};
@@ -56,8 +57,8 @@ pub trait RecordSlots: Copy {
         ensures { state result ≡ at_start };
 
     // One step, with the ledger of the addresses met before.
-    fn next(self, tables: &Tables, ledger: &mut [u64]) -> RecordTaken<Self::Record, Self>
-        ensures { let t = tables.now in
+    fn next(self, asked: &Asked, ledger: &mut [u64]) -> RecordTaken<Self::Record, Self>
+        ensures { let t = asked.now.tables in
             record_taken state result ledger.new ≡ step t (state self) ledger.old };
 }
 
@@ -182,13 +183,13 @@ impl SlotWalk {
 
     // Takes the next slot.
     #[tactic(auto, using(crate::proofs::SectionLaws::step_slot, crate::proofs::SlotLaws::new_room))]
-    fn take_slot<R: Listed>(self, tables: &Tables, ledger: &mut [u64]) -> RecordTaken<R, ClassSlots>
-        ensures { let t = tables.now in
+    fn take_slot<R: Listed>(self, asked: &Asked, ledger: &mut [u64]) -> RecordTaken<R, ClassSlots>
+        ensures { let t = asked.now.tables in
             record_taken class_slots result ledger.new ≡ step_of R.kind t (walk self.slot self.used self.highest 0) ledger.old }
     {
         let lists = R::lists();
-        match self.next_new(tables, lists, ledger) {
-            Ok(SlotStep::Address(va)) => self.take_new(tables, va, ledger),
+        match self.next_new(asked, lists, ledger) {
+            Ok(SlotStep::Address(va)) => self.take_new(asked.tables(), va, ledger),
             Ok(SlotStep::Dropped) => RecordTaken {
                 step: Ok(RecordStep::Dropped),
                 slots: self.past().alone(),
@@ -242,13 +243,13 @@ impl ClassSlots {
 
     // The waiting metaclass, where no question refuses the step over a ledger of `len` words.
     #[tactic(auto, using(crate::proofs::SectionLaws::waiting_on, crate::proofs::SectionLaws::waiting_no))]
-    fn next_meta(self, tables: &Tables, len: usize) -> RecordTaken<ObjcClass, ClassSlots>
-        ensures { let t = tables.now in
+    fn next_meta(self, asked: &Asked, len: usize) -> RecordTaken<ObjcClass, ClassSlots>
+        ensures { let t = asked.now.tables in
             ((l : List ℕ) → length l ≡ len → record_taken class_slots result l ≡ next_waiting classes t (class_slots self) l) }
     {
         let lists = Lists::Classes;
-        match self.slots.ask_ledger(tables, lists, len) {
-            Ok(()) => self.take_meta(tables),
+        match self.slots.ask_ledger(asked, lists, len) {
+            Ok(()) => self.take_meta(asked.tables()),
             Err(k) => RecordTaken::refused(self, k),
         }
     }
@@ -266,12 +267,12 @@ impl RecordSlots for ClassSlots {
     }
 
     // The waiting metaclass, or else the next slot.
-    fn next(self, tables: &Tables, ledger: &mut [u64]) -> RecordTaken<ObjcClass, ClassSlots> {
+    fn next(self, asked: &Asked, ledger: &mut [u64]) -> RecordTaken<ObjcClass, ClassSlots> {
         if self.meta != 0 {
             let len = ledger.len();
-            return self.next_meta(tables, len);
+            return self.next_meta(asked, len);
         }
-        self.slots.take_slot(tables, ledger)
+        self.slots.take_slot(asked, ledger)
     }
 }
 
@@ -289,8 +290,8 @@ impl RecordSlots for CategorySlots {
     }
 
     // The next slot; nothing waits after it.
-    fn next(self, tables: &Tables, ledger: &mut [u64]) -> RecordTaken<ObjcCategory, CategorySlots> {
-        let taken = self.slots.take_slot(tables, ledger);
+    fn next(self, asked: &Asked, ledger: &mut [u64]) -> RecordTaken<ObjcCategory, CategorySlots> {
+        let taken = self.slots.take_slot(asked, ledger);
         RecordTaken {
             step: taken.step,
             slots: CategorySlots {
@@ -335,15 +336,11 @@ impl RecordSlots for ProtocolSlots {
     }
 
     // The next slot; the ledger stays as it is.
-    fn next(
-        self,
-        tables: &Tables,
-        _ledger: &mut [u64],
-    ) -> RecordTaken<ObjcProtocol, ProtocolSlots> {
+    fn next(self, asked: &Asked, _ledger: &mut [u64]) -> RecordTaken<ObjcProtocol, ProtocolSlots> {
         let lists = Lists::Protocols;
         let slot = self.slot;
-        match next_slot(tables, lists, slot) {
-            Ok(SlotStep::Address(va)) => self.take(tables, va),
+        match next_slot(asked, lists, slot) {
+            Ok(SlotStep::Address(va)) => self.take(asked.tables(), va),
             Ok(SlotStep::Dropped) => RecordTaken {
                 step: Ok(RecordStep::Dropped),
                 slots: self.past(),

@@ -4,6 +4,7 @@ ghost use Rattle.pointers.specs.Tables.{under, reading_new, reading_under};
 ghost use Rattle.walks.specs.Sections.{at_start, class_walk, protocol_slots, protocol_step_of, protocol_walk, record_left};
 
 use crate::section_slots::{CategorySlots, ClassSlots, ProtocolSlots, RecordSlots};
+use pointers::asked::Asked;
 use pointers::setting::Setting;
 use pointers::tables::Tables;
 use reads::answer::{Question, Reason};
@@ -65,14 +66,13 @@ impl<S: RecordSlots> RecordWalk<S> {
         }
     }
 
-    // One step, under the setting that the walk began with. The walk over protocols looks at no ledger.
-    pub fn next(self, tables: &Tables, ledger: &mut [u64]) -> RecordStepped<S::Record, S>
-        ensures { let t = under self.setting tables.now in
+    // One step, under the setting that the walk began with, by what 1 to 6 and 8 answered. The walk over protocols looks at no ledger.
+    pub fn next_over(self, asked: &Asked, ledger: &mut [u64]) -> RecordStepped<S::Record, S>
+        ensures { let t = under self.setting asked.now.tables in
             (record_left S.state result ledger.new ≡ S.step t (S.state self.slots) ledger.old) × (result.walk.setting ≡ self.setting) }
     {
-        let tables = &tables.under(self.setting);
         let setting = self.setting;
-        let taken = self.slots.next(tables, ledger);
+        let taken = self.slots.next(&asked.under(setting), ledger);
         RecordStepped {
             step: taken.step,
             walk: RecordWalk {
@@ -80,6 +80,14 @@ impl<S: RecordSlots> RecordWalk<S> {
                 setting,
             },
         }
+    }
+
+    // The same over tables that are asked for this step.
+    pub fn next(self, tables: &Tables, ledger: &mut [u64]) -> RecordStepped<S::Record, S>
+        ensures { let t = under self.setting tables.now in
+            (record_left S.state result ledger.new ≡ S.step t (S.state self.slots) ledger.old) × (result.walk.setting ≡ self.setting) }
+    {
+        self.next_over(&Asked::of(tables), ledger)
     }
 }
 
@@ -94,10 +102,18 @@ impl RecordWalk<ClassSlots> {
 
 impl RecordWalk<ProtocolSlots> {
     // One step over the protocol list, where no ledger is lent.
+    pub fn next_protocol_over(self, asked: &Asked) -> RecordStepped<ObjcProtocol, ProtocolSlots>
+        ensures { let t = under self.setting asked.now.tables in
+            (record_left protocol_slots result [] ≡ protocol_step_of t (protocol_walk self) []) × (result.walk.setting ≡ self.setting) }
+    {
+        self.next_over(asked, &mut [])
+    }
+
+    // The same over tables that are asked for this step.
     pub fn next_protocol(self, tables: &Tables) -> RecordStepped<ObjcProtocol, ProtocolSlots>
         ensures { let t = under self.setting tables.now in
             (record_left protocol_slots result [] ≡ protocol_step_of t (protocol_walk self) []) × (result.walk.setting ≡ self.setting) }
     {
-        self.next(tables, &mut [])
+        self.next_protocol_over(&Asked::of(tables))
     }
 }

@@ -4,7 +4,7 @@ ghost use Rattle.reads.specs.Reference.{before};
 ghost use Rattle.walks.specs.Slots.{section_slots, slots_of, address_in, among, slot_fits, ledger_fits, asked_ledger, slot_taken, met_below, first_met, next_slot, next_new, slot_step, slot_outcome, slot_walk, Room};
 ghost use Rattle.reads.specs.Answer.{outcome, answered};
 
-use pointers::question::ask;
+use pointers::asked::Asked;
 use pointers::section::ObjcSection;
 use pointers::slot::slot_or_0;
 use pointers::tables::Tables;
@@ -183,17 +183,17 @@ fn slot_taken(tables: &Tables, lists: Lists, k: u64) -> Result<SlotStep, Questio
 // number of the slot after it fits 64 bits. Tried without, with `slots_few` in the caller: it holds no section table, whose words bound the
 // slots, and the proof did not close.
 #[tactic(auto, using(crate::proofs::SlotLaws::slots_few, crate::proofs::SlotLaws::slot_within, crate::proofs::SlotLaws::next_on, crate::proofs::SlotLaws::next_10, crate::proofs::SlotLaws::next_no))]
-pub(crate) fn next_slot(tables: &Tables, lists: Lists, slot: u64) -> Result<SlotStep, Question>
-    ensures step { let t = tables.now in
-        slot_outcome result ≡ next_slot t (slots_of lists tables.now.sections) slot }
-    ensures few { length (slots_of lists tables.now.sections) < 2 ^ 62 }
+pub(crate) fn next_slot(asked: &Asked, lists: Lists, slot: u64) -> Result<SlotStep, Question>
+    ensures step { let t = asked.now.tables in
+        slot_outcome result ≡ next_slot t (slots_of lists asked.now.tables.sections) slot }
+    ensures few { length (slots_of lists asked.now.tables.sections) < 2 ^ 62 }
 {
-    let sections = tables.sections();
-    ask(tables)?;
+    let sections = asked.tables().sections();
+    asked.ask()?;
     if !slot_fits(sections, lists, slot, 0) {
         return Err(Question::WalkState);
     }
-    slot_taken(tables, lists, slot)
+    slot_taken(asked.tables(), lists, slot)
 }
 
 impl SlotWalk {
@@ -201,16 +201,16 @@ impl SlotWalk {
     #[tactic(auto, using(crate::proofs::SlotLaws::slots_few, crate::proofs::SlotLaws::ask_10, crate::proofs::SlotLaws::ask_11, crate::proofs::SlotLaws::ask_yes, crate::proofs::SlotLaws::ask_no))]
     pub(crate) fn ask_ledger(
         self,
-        tables: &Tables,
+        asked: &Asked,
         lists: Lists,
         words: usize,
     ) -> Result<(), Question>
-        ensures asked { let t = tables.now in
-            answered result ≡ asked_ledger t (slots_of lists tables.now.sections) self.slot self.used words }
-        ensures few { length (slots_of lists tables.now.sections) < 2 ^ 62 }
+        ensures asked { let t = asked.now.tables in
+            answered result ≡ asked_ledger t (slots_of lists asked.now.tables.sections) self.slot self.used words }
+        ensures few { length (slots_of lists asked.now.tables.sections) < 2 ^ 62 }
     {
-        let sections = tables.sections();
-        ask(tables)?;
+        let sections = asked.tables().sections();
+        asked.ask()?;
         if !slot_fits(sections, lists, self.slot, self.used) {
             return Err(Question::WalkState);
         }
@@ -224,16 +224,16 @@ impl SlotWalk {
     #[tactic(auto, using(crate::proofs::SlotLaws::ledger_room, crate::proofs::SlotLaws::new_on, crate::proofs::SlotLaws::new_no))]
     pub(crate) fn next_new(
         self,
-        tables: &Tables,
+        asked: &Asked,
         lists: Lists,
         ledger: &[u64],
     ) -> Result<SlotStep, Question>
-        ensures step { let t = tables.now in
-            slot_outcome result ≡ next_new t (slots_of lists tables.now.sections) self.slot self.used self.highest (before ledger) }
-        ensures few { length (slots_of lists tables.now.sections) < 2 ^ 62 }
+        ensures step { let t = asked.now.tables in
+            slot_outcome result ≡ next_new t (slots_of lists asked.now.tables.sections) self.slot self.used self.highest (before ledger) }
+        ensures few { length (slots_of lists asked.now.tables.sections) < 2 ^ 62 }
     {
-        self.ask_ledger(tables, lists, ledger.len())?;
-        let step = slot_taken(tables, lists, self.slot)?;
+        self.ask_ledger(asked, lists, ledger.len())?;
+        let step = slot_taken(asked.tables(), lists, self.slot)?;
         Ok(first_met(step, &ledger[..self.used as usize], self.highest))
     }
 

@@ -18,7 +18,7 @@ pub returns-in-Ok : goal.returns-in-Ok
 returns-in-Ok c =
     let at = c.in-Some.ensures in
     let found = sym c.readable_spot.ensures in
-    let reads = laws.can_read_found _ _ _ (omega (arith, at.0, at.1)) c.readable_spot.result c.readable_spot.ensures c.in-Ok.spot c.in-Ok.is in
+    let reads = laws.can_read_found _ _ _ c.readable_spot.result c.readable_spot.ensures c.in-Ok.spot c.in-Ok.is in
     record {
       first = laws.search_here _ _ _ (omega arith) at.0 (rw (at.1, c.least-k.ensures) at reads);
       address = at.1;
@@ -32,7 +32,7 @@ returns-in_default-next_break c =
 pub returns-then-size-eq0 : goal.returns-then-size-eq0
 returns-then-size-eq0 c =
     let at = c.in-Some.ensures in
-    let unread = laws.can_read_not _ _ _ (omega (arith, at.0, at.1)) c.readable_spot.result c.readable_spot.ensures _ c.in_default-readable_spot.is in
+    let unread = laws.can_read_not _ _ _ c.readable_spot.result c.readable_spot.ensures _ c.in_default-readable_spot.is in
     laws.search_flat _ _ _ (omega arith) (rw (at.1, c.least-k.ensures) at unread) (search rules)
 
 pub overflow_sub-gap : goal.overflow_sub-gap
@@ -44,7 +44,7 @@ overflow_sub-gap-2 c = omega (arith, next_break_above _ _ _ (sym c.next_break.en
 pub returns-then-count-i-2 : goal.returns-then-count-i-2
 returns-then-count-i-2 c =
     let at = c.in-Some.ensures in
-    let unread = laws.can_read_not _ _ _ (omega (arith, at.0, at.1)) c.readable_spot.result c.readable_spot.ensures _ c.in_default-readable_spot.is in
+    let unread = laws.can_read_not _ _ _ c.readable_spot.result c.readable_spot.ensures _ c.in_default-readable_spot.is in
     laws.jump_out _ _ _ (omega arith) (rw (at.1, c.least-k.ensures) at unread) (search rules) c.in-Some-next_break.b
     (rw (at.1, c.least-k.ensures) at (sym c.next_break.ensures ∙ c.in-Some-next_break.is)) (rw (← at.1) c.if-count-i-2.true)
 
@@ -52,7 +52,7 @@ pub returns : goal.returns
 returns c =
     let at = c.in-Some.ensures in
     let is = at.1 in
-    let missing = laws.can_read_not _ _ _ (omega (arith, at.0, at.1)) c.readable_spot.result c.readable_spot.ensures _ c.in_default-readable_spot.is in
+    let missing = laws.can_read_not _ _ _ c.readable_spot.result c.readable_spot.ensures _ c.in_default-readable_spot.is in
     let unread = rw (is, c.least-k.ensures) at missing in
     let next = rw (is, c.least-k.ensures) at (sym c.next_break.ensures ∙ c.in-Some-next_break.is) in
     rw is

@@ -1,17 +1,8 @@
 use borrow.Author.Rules.{rules}
 use Rattle.listing.proofs.listing.Listing.row_said.Goals as goal
 
-pub returns-in-Ok-Row : goal.returns-in-Ok-Row
-returns-in-Ok-Row c = λ l. let said = c.says.ensures l in search rules
-
-pub returns-in-Ok-Skipped : goal.returns-in-Ok-Skipped
-returns-in-Ok-Skipped c = λ l. let said = c.lacks.ensures l in search rules
-
 pub returns-in-Ok-Finished : goal.returns-in-Ok-Finished
-returns-in-Ok-Finished c = λ l. let said = c.next_list.ensures l in search rules
+returns-in-Ok-Finished c = λ o w e l. let said = c.next_list.ensures o _ w e l in search rules
 
 pub returns-in-Err-Absent : goal.returns-in-Err-Absent
-returns-in-Err-Absent c = λ l. let said = c.next_list-in-Err-Absent.ensures l in search rules
-
-pub returns-in-Err-Refused : goal.returns-in-Err-Refused
-returns-in-Err-Refused c = λ l. let said = c.refused.ensures l in search rules
+returns-in-Err-Absent c = λ o w e l. let said = c.next_list-in-Err-Absent.ensures o _ w e l in search rules

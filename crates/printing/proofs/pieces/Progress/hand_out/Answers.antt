@@ -8,21 +8,21 @@ use Prim.Native.Nat.{◌^◌, ◌<◌}
 use Rattle.reads.specs.Files.{files_lent, longest}
 use Rattle.printing.proofs.pieces.Progress.hand_out.Goals as goal
 
-pub overflow_sub-result : goal.overflow_sub-result
-overflow_sub-result c = omega (arith, put_at _ _ _ c.said_text.ensures.put)
+pub overflow_sub-self : goal.overflow_sub-self
+overflow_sub-self c = omega (arith, put_at _ _ _ c.said_text.ensures.put)
 
-pub overflow_add-result : goal.overflow_add-result
-overflow_add-result c =
+pub overflow_add-self : goal.overflow_add-self
+overflow_add-self c =
     let short : longest (files_lent c.files.result.now) < 2 ^ 32 = rw c.files.ensures c.requires in
     omega (
       arith,
       put_at _ _ _ c.said_text.ensures.put,
-      said_length_lem (files_lent c.files.result.now) (said_of c.args.self.said),
+      said_length_lem (files_lent c.files.result.now) (said_of c.args.self.now.said),
       short,
     )
 
 pub returns-clause-piece : goal.returns-clause-piece
-returns-clause-piece c = rw (← c.files.ensures) (further_by c.args.self _ _ _ (put_at _ _ _ c.said_text.ensures.put))
+returns-clause-piece c = rw (← c.files.ensures) (further_by c.args.self.now _ _ _ (put_at _ _ _ c.said_text.ensures.put))
 
 pub returns-clause-bytes : goal.returns-clause-bytes
 returns-clause-bytes c =

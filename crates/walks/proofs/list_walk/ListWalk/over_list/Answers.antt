@@ -1,13 +1,16 @@
 use Rattle.records.proofs.Readables.{found_below_count}
-use mathlib.Core.Path.{refl, sym}
+use mathlib.Core.Path.{◌≡◌, refl, sym, ap}
 use native.Mathlib.Omega.{arith}
+use Rattle.records.specs.declared.list.Layout.{Layout}
 use Rattle.walks.specs.Walk.{over_rows}
 use Rattle.walks.proofs.Steps.{list_on}
 use borrow.Author.Rules.{rules}
 use Rattle.walks.proofs.list_walk.ListWalk.over_list.Goals as goal
 
 pub settle-requires : goal.settle-requires
-settle-requires c = omega (arith, found_below_count _ _ _ _ (sym c.in-Some.ensures.search))
+settle-requires c =
+    let same : c.layout-h.result.count ≡ c.args.list.now.layout.count = ap (λ (h : Layout). h.count) c.layout-h.ensures in
+    omega (arith, found_below_count _ _ _ _ (sym c.in-Some.ensures.search))
 
 pub returns-in-Some : goal.returns-in-Some
 unfolding over_rows
@@ -17,4 +20,4 @@ returns-in-Some c =
 
 pub returns-in-None : goal.returns-in-None
 unfolding over_rows
-returns-in-None c = list_on _ _ _ _ _ refl (search rules) (rw (← c.in-None.ensures.search) c.at.ensures)
+returns-in-None c = list_on _ _ _ _ _ refl (search rules) (rw (← c.in-None.ensures.search, ← c.layout-h.ensures) c.at.ensures)

@@ -16,7 +16,7 @@ past-requires c =
     next_room _ Protocols _ c.next_slot.ensures.step (o.is ∙ ap (λ s. Ok s) o.field-0-is) refl c.next_slot.ensures.few
 
 pub returns-in-Ok-Address : goal.returns-in-Ok-Address
-returns-in-Ok-Address c = protocol_step_lem _ _ _ (rw (← c.next_slot.ensures.step, c.in-Ok-Address.is, c.in-Ok-Address.field-0-is) (c.take.ensures _))
+returns-in-Ok-Address c = protocol_step_lem _ _ _ (rw (← c.next_slot.ensures.step, c.in-Ok-Address.is, c.in-Ok-Address.field-0-is) (rw c.tables.ensures at c.take.ensures _))
 
 pub returns-in-Ok-Dropped : goal.returns-in-Ok-Dropped
 returns-in-Ok-Dropped c = protocol_step_lem _ _ _ (rw (← c.next_slot.ensures.step, c.in-Ok-Dropped.is, c.in-Ok-Dropped.field-0-is, c.past.ensures))
