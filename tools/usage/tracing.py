@@ -6,13 +6,15 @@ Each tracing decoder is the text of a plain one, its leaf calls replaced by thos
     tables: &Tables                       &mut self; `tables` is then self.tables
     resolve_pointer, slot_or_0, pointer,  note_slot, note_slot_or_0, note_pointer, note_pointer_or_0, note_string, note_symbol
     pointer_or_0, string, symbol_at
-    string_or_empty                       or_empty of note_string
+    string_pair, then .first and .second  note_string of its first and its second address
     read_u64, row.word(K, A)              note_word of the address, then the same call
     u32_in, i32_in, u64_in                note_field of the place, then the same call
     row: &Near                            va: u64, and where the row's size is promised the test that so many bytes can be read
     Near::at                              readable
     row.first_slot(), row.field(K),       note_slot(va), note_pointer(va, K), note_pointer_or_0(va, K), note_slot_or_0(A)
     row.field_or_0(K), row.slot_or_0(K, A)
+    row.u32(K), row.i32(K)                note_field of the row's place, then u32_in, i32_in there
+    row.place()                           the row's place
     another decoder                       its tracing one
 
 A value that is only made into a record is dropped: the record that is answered becomes (), a case of an enum around a decoder's value is left out, a
@@ -42,7 +44,7 @@ FILES = {
     "protocol_name": ("Names of protocols", [("walks::protocol_names", ["protocol_name_at", "protocol_name_in", "name_in"])]),
     "list": ("Headers of lists", [("records::list", ["list_at"]), ("walks::protocol_names", ["protocol_list_at"])]),
     "row": ("Rows", [
-        ("records::method", ["legacy_method_near", "selector_from", "selector_at", "types_at", "small_method_near"]),
+        ("records::method", ["legacy_method_near", "selector_from", "small_texts_at", "small_method_near"]),
         ("records::ivar", ["offset_there", "offset_at", "ivar_near"]),
         ("records::property", ["property_near"]),
         ("records::row", ["row_near"]),
@@ -54,7 +56,7 @@ ANSWERS = {
     "class_at": RECORD, "class_ro_at": RECORD, "category_at": RECORD, "protocol_at": RECORD, "list_at": RECORD, "protocol_list_at": RECORD,
     "ro_lists_at": NOTHING, "category_lists_at": NOTHING, "category_of": NOTHING, "protocol_lists_at": NOTHING,
     "legacy_method_near": NOTHING, "small_method_near": NOTHING, "ivar_near": NOTHING, "property_near": NOTHING, "row_near": NOTHING,
-    "offset_there": NOTHING, "offset_at": NOTHING,
+    "offset_there": NOTHING, "offset_at": NOTHING, "small_texts_at": NOTHING,
 }
 
 # What puts a decoder's value into a case of the answer's enum, and is left out where the value is dropped.
@@ -74,6 +76,7 @@ LEAVES = {
     "string": "note_string", "symbol_at": "note_symbol",
 }
 FIELD_READS = {"u32_in": 4, "i32_in": 4, "u64_in": 8}
+NEAR_NUMBERS = {"u32": "u32_in", "i32": "i32_in"}
 NEAR_READS = {"first_slot": "note_slot", "field": "note_pointer", "field_or_0": "note_pointer_or_0"}
 SIZES = {"method_size": "Method::SIZE", "small_method_size": "Method::SMALL_SIZE", "ivar_size": "Ivar::SIZE", "property_size": "Property::SIZE"}
 
@@ -87,7 +90,7 @@ SILENT = {
     "because", "optional", "or_zero", "or_empty", "relative_pointer", "bits_of", "capped", "least", "rows_of", "size_of", "legacy_imp", "small_imp",
     "small_kind", "alignment_of", "aligned_of", "Ok", "Err", "Some", "Missing::Absent", "Row::Method", "Row::Ivar", "Row::Property",
 }
-MORE_IMPORTS = {"or_empty": "reads::text", "readable": "reads::place"}
+MORE_IMPORTS = {"or_empty": "reads::text", "readable": "reads::place", "u32_in": "reads::place", "i32_in": "reads::relative"}
 NOTES = "crate::proofs::NotedBy::notes"
 
 
@@ -262,13 +265,12 @@ class Rewrite:
         self.name = function["name"]
         self.near = next((p.split(":")[0] for p in split(function["parameters"]) if p.endswith("&Near")), None)
         self.fields = {}
+        self.pairs = {}
 
     def call(self, name, given, before):
         """A call with its arguments rewritten; what is noted in front of it goes to `before`. The second answer: whether the call itself notes."""
         if name in LEAVES:
             return f"self.{LEAVES[name]}({', '.join(given[1:])})", True
-        if name == "string_or_empty":
-            return f"or_empty(self.note_string({', '.join(given[1:])}))", True
         if name == "read_u64":
             before.append(("note", f"self.note_word({given[1]})"))
             return f"read_u64({', '.join(given)})", False
@@ -282,6 +284,10 @@ class Rewrite:
         if self.near and name == f"{self.near}.word":
             before.append(("note", f"self.note_word({given[1]})"))
             return f"read_u64(self.tables.image(), {given[1]})", False
+        if self.near and name in [f"{self.near}.{n}" for n in NEAR_NUMBERS]:
+            return self.call(NEAR_NUMBERS[name.split(".")[1]], ["self.tables.files()", "p", given[0]], before)
+        if self.near and name == f"{self.near}.place":
+            return "p", False
         if name in CASES:
             return given[0], False
         if self.near and name.startswith(self.near + "."):
@@ -318,9 +324,16 @@ class Rewrite:
             text = re.sub(rf"\b{name}\.{field}\b", name, text)
         return text
 
+    def unpaired(self, text):
+        """A text of a pair, read by itself."""
+        for name, addresses in self.pairs.items():
+            for part, address in zip(("first", "second"), addresses):
+                text = re.sub(rf"\b{name}\.{part}\b", f"string(tables, {address})", text)
+        return text
+
     def value(self, v, before):
         if isinstance(v, str):
-            return self.text(v, before)
+            return self.text(self.unpaired(v), before)
         if v[0] == "either":
             parts = [self.text(x, before) for x in v[1:]]
             return ("either", *(told for told, _ in parts)), any(noted for _, noted in parts)
@@ -342,6 +355,10 @@ class Rewrite:
             before = []
             if s[0] == "let":
                 if self.near and re.fullmatch(rf"{self.near}\.(tables|va|place)\(\)", str(s[2])):
+                    continue
+                pair = re.fullmatch(r"string_pair\(tables, (\w+), (\w+)\)", str(s[2]))
+                if pair:
+                    self.pairs[s[1]] = pair.groups()
                     continue
                 if re.match(r"Near::at\(", str(s[2])):
                     self.near, name = s[1], "p"

@@ -1,25 +1,26 @@
 -- The pointer in a slot beside the spot of bytes that can be read is the one that a lookup gives.
 use Prim.Native.Nat.{ℕ, ◌+◌, ◌*◌, ◌≤◌, ◌<◌}
-use mathlib.Core.Path.{◌≡◌, refl, sym, ap, ◌∙◌}
+use mathlib.Core.Path.{◌≡◌, sym, ap, ◌∙◌}
 use mathlib.Core.Bool.{true}
 use mathlib.Core.List.{List}
 use native.Mathlib.Omega.{arith}
 use lib.Dec.{ltb}
 use lib.ListN.{get_or}
 use borrow.Author.Tests.{ltb-true, eqb-true}
-use Rattle.reads.specs.Outcome.{Outcome, value, absent, because}
+use Rattle.reads.specs.Outcome.{value, absent, because}
 use Rattle.reads.specs.declared.answer.Reason.TheVariants.{Unresolved, NoRecord}
 use Rattle.reads.specs.Table.{records}
-use Rattle.reads.specs.Place.{Image}
+use Rattle.reads.specs.Address.{stripped}
+use Rattle.reads.specs.Place.{Image, word_in}
 use Rattle.reads.specs.Spot.{readable_spot}
 use Rattle.reads.specs.declared.spot.Spot.{Spot}
 use Rattle.reads.proofs.Spots.{near_word_in}
-use Rattle.reads.proofs.Tests.{by_choose, both_true}
+use Rattle.reads.proofs.Tests.{both_true}
 use Rattle.pointers.specs.Tables.{rebase_words, chains}
 use Rattle.pointers.specs.Chain.{no_rebase, follow, row_of}
 use Rattle.pointers.specs.Sorted.{sorted_record}
 use Rattle.pointers.specs.Index.{chain_of}
-use Rattle.pointers.specs.Slot.{rebase_number, rebase_at, stored, resolve, unrebased, is_near, word_there, resolve_near}
+use Rattle.pointers.specs.Slot.{rebase_number, rebase_at, stored, resolve, unrebased, is_near}
 use Rattle.pointers.specs.declared.setting.Lookup.{Lookup}
 use Rattle.pointers.specs.declared.setting.Lookup.TheVariants.{Chained, Sorted}
 use Rattle.pointers.specs.declared.setting.Setting.{Setting}
@@ -51,10 +52,9 @@ unfolding resolve rebase_at
 unrebased_stored m rebases index setting slot e = rw (no_record rebases index slot setting.lookup e)
 
 pub near_resolved : (m : Image) (rebases index : List ℕ) (setting : Setting) (va size : ℕ) (s : Spot) → readable_spot m va size ≡ value s
-    → (i : ℕ) → i + 8 ≤ size → resolve_near m rebases index setting s i (va + i) ≡ resolve m rebases index setting (va + i)
-unfolding resolve_near is_near word_there stored
-near_resolved m rebases index setting va size s is i h =
-    by_choose (λ (o : Outcome ℕ). o ≡ resolve m rebases index setting (va + i))
-    (λ e. let u = both_true (ltb i s.room) (unrebased setting.lookup index (va + i)) e in
-    sym (unrebased_stored m rebases index setting (va + i) u.1 ∙ rw (← near_word_in m va size s is i h (ltb-true i s.room u.0))))
-    (λ e. refl)
+    → (i : ℕ) → i + 8 ≤ size → is_near index setting s i (va + i) ≡ true
+    → value (stripped (word_in m.files 8 s.place i)) ≡ resolve m rebases index setting (va + i)
+unfolding is_near stored
+near_resolved m rebases index setting va size s is i h e =
+    let u = both_true (ltb i s.room) (unrebased setting.lookup index (va + i)) e in
+    sym (unrebased_stored m rebases index setting (va + i) u.1 ∙ rw (← near_word_in m va size s is i h (ltb-true i s.room u.0)))

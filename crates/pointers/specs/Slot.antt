@@ -1,7 +1,7 @@
 -- What the tables say of a slot, and pointer slots (document 01, Reading rules; mod.rs).
 use Rattle.std.specs.Prelude.{ℕ, ◌-◌, ◌*◌, Bool, false, ◌&&◌, List, ltb}
-use Rattle.reads.specs.Outcome.{Outcome, value, refused, Unrefused, and_then, because, or_else, or_zero, choose, sum64}
-use Rattle.reads.specs.Place.{Image, word, word_in}
+use Rattle.reads.specs.Outcome.{Outcome, value, refused, Unrefused, and_then, because, or_else, or_zero, sum64}
+use Rattle.reads.specs.Place.{Image, word}
 use Rattle.reads.specs.declared.spot.Spot.{Spot}
 use Rattle.reads.specs.Address.{stripped}
 use Rattle.reads.specs.declared.answer.Reason.TheVariants.{Unresolved}
@@ -70,17 +70,10 @@ abbrev pub unrebased : Lookup → List ℕ → ℕ → Bool
 unrebased Chained index slot = no_rebase index slot
 unrebased Sorted index slot = false
 
--- A slot that lies i bytes past a spot's address: where it lies in the spot's room and no rebase stands in its chain, the word there is read
--- without a lookup. Beside the spot of readable bytes this is the slot's pointer (proofs/NearSlots.antt).
+-- A slot that lies i bytes past a spot's address, in the spot's room, with no rebase in its chain: beside the spot of readable bytes its pointer is
+-- the word there, without a lookup (proofs/NearSlots.antt).
 unfoldable pub is_near : List ℕ → Setting → Spot → ℕ → ℕ → Bool
 is_near index setting s i slot = ltb i s.room && unrebased setting.lookup index slot
-
-unfoldable pub word_there : Image → Spot → ℕ → ℕ
-word_there m s i = stripped (word_in m.files 8 s.place i)
-
-unfoldable pub resolve_near : Image → List ℕ → List ℕ → Setting → Spot → ℕ → ℕ → Outcome ℕ
-resolve_near m rebases index setting s i slot =
-    choose (is_near index setting s i slot) (value (word_there m s i)) (resolve m rebases index setting slot)
 
 -- The same, of all that is lent.
 abbrev pub rebase : Tables → ℕ → Outcome ℕ

@@ -1,14 +1,12 @@
 // Lookups of a slot through the index, and pointer slots (mod.rs, resolve_pointer). All are total for every content of the
 // tables and of the index.
-ghost use Rattle.std.specs.Prelude.{◌≡◌, List, ℕ, ◌<◌};
+ghost use Rattle.std.specs.Prelude.{◌≡◌, ◌<◌};
 ghost use Rattle.reads.specs.Reference.{before};
 ghost use Rattle.reads.specs.Outcome.{or_zero};
 ghost use Rattle.reads.specs.Table.{records};
-ghost use Rattle.reads.specs.Files.{files_of};
-ghost use Rattle.reads.specs.Place.{image_of};
 ghost use Rattle.pointers.specs.Tables.{bind_words, image_in};
 ghost use Rattle.pointers.specs.Chain.{row_of};
-ghost use Rattle.pointers.specs.Slot.{rebase_number, bind_name, bind_at, stored, rebased_or, unrebased, is_near, word_there, resolve_near, rebase, slot as resolved, pointer, pointer_or0, symbol_at};
+ghost use Rattle.pointers.specs.Slot.{rebase_number, bind_name, bind_at, stored, rebased_or, unrebased, is_near, rebase, slot as resolved, pointer, pointer_or0, symbol_at};
 ghost use Rattle.reads.specs.Answer.{outcome};
 
 use crate::index::{Chained, no_rebase};
@@ -21,7 +19,7 @@ use crate::tables::Tables;
 use reads::address::Address;
 use reads::answer::{Missing, Question, Reason, because, checked_add, or_zero};
 use reads::files::is_lent;
-use reads::place::{Image, read_u64, u64_in};
+use reads::place::{Image, read_u64};
 use reads::spot::Spot;
 use reads::text::Text;
 
@@ -139,31 +137,12 @@ fn is_unrebased(index: &[u32], setting: Setting, slot: u64) -> bool
     }
 }
 
-// The slot lies in the spot's room, i bytes past its address, and no rebase stands in the slot's chain.
+// The slot lies in the spot's room, i bytes past its address, and no rebase stands in the slot's chain: then it points to the word there.
 #[tactic(auto, unfolding(crate::specs::Slot::is_near))]
-fn is_near(index: &[u32], setting: Setting, s: Spot, i: u64, slot: u64) -> bool
-    ensures { result ≡ is_near (before index) setting s i slot }
+pub fn is_near(tables: &Tables, s: Spot, i: u64, slot: u64) -> bool
+    ensures { result ≡ is_near tables.now.index tables.now.setting s i slot }
 {
-    i < s.room && is_unrebased(index, setting, slot)
-}
-
-// The word at i bytes from a spot, its low 48 bits.
-#[tactic(auto, unfolding(crate::specs::Slot::word_there))]
-fn word_there(files: &[&[u8]], s: Spot, i: u64) -> u64
-    ensures { (words : List ℕ) → result ≡ word_there (image_of (files_of files) words) s i }
-{
-    Address::strip(u64_in(files, s.place, i))
-}
-
-// The address in a pointer slot that lies i bytes past a spot's address: mostly without a lookup.
-#[tactic(auto, unfolding(crate::specs::Slot::resolve_near, reads::specs::Outcome::choose))]
-pub fn resolve_near(tables: &Tables, s: Spot, i: u64, slot: u64) -> Result<u64, Missing>
-    ensures { outcome result ≡ resolve_near (image_in tables.now) tables.now.rebases tables.now.index tables.now.setting s i slot }
-{
-    if is_near(tables.index(), tables.setting(), s, i, slot) {
-        return Ok(word_there(tables.files(), s, i));
-    }
-    resolve_pointer(tables, slot)
+    i < s.room && is_unrebased(tables.index(), tables.setting(), slot)
 }
 
 // The name of a slot's bind less its prefix.

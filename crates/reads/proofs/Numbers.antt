@@ -1,5 +1,5 @@
 -- Numbers in files, over the width: a number of k bytes as the code reads it, and where k bytes can be read.
-use Rattle.std.proofs.Common.{◌≡◌, ℕ, zero, suc, ◌+◌, ◌-◌, ◌*◌, ◌^◌, ◌<◌, ◌≤◌, Bool, true, false, leb, List, [], ◌∷◌, ◌++◌, reverse, length, get_or, take, drop, refl, ap, ◌∙◌, subst, arith, length-append, length-drop, length-take, drop-drop, take-add, drop-cons, get_or-drop, pow-suc, Bor, Fits, w8, w64, le-leb, leb-true}
+use Rattle.std.proofs.Common.{◌≡◌, ℕ, zero, suc, ◌+◌, ◌-◌, ◌*◌, ◌^◌, ◌<◌, ◌≤◌, Bool, true, false, leb, List, [], ◌∷◌, ◌++◌, reverse, length, get_or, take, drop, refl, sym, ap, ◌∙◌, subst, arith, length-append, length-drop, length-take, drop-drop, take-add, drop-cons, get_or-drop, pow-suc, Bor, Fits, w8, w64, le-leb, leb-true}
 use Rattle.std.proofs.lemmas.List.{append-nil, get_or-reverse}
 use borrow.Rule.Slice.PartMut.{put_mid, Post-is}
 use Rattle.std.specs.Int.{from_le_bytes, from_be_bytes}
@@ -13,6 +13,7 @@ use Rattle.reads.specs.Files.{files_lent, file_of}
 use Rattle.reads.specs.Place.{Image, image_of, le, be, part, readable_at, readable, word_in, le_in}
 use Rattle.reads.specs.declared.place.Place.{Place}
 use Rattle.reads.proofs.LentFiles.{lent_below, lent_by_bytes, file_lent}
+use Rattle.reads.proofs.Parts.{part_length, part_of_part}
 use Rattle.std.specs.Prelude.{Result, Ok}
 use Rattle.reads.specs.Answer.{outcome}
 use Rattle.reads.specs.declared.answer.Missing.{Missing}
@@ -211,6 +212,12 @@ module _ (bs : List ℕ) (k offset : ℕ) where
   pub le_outside : length bs < offset + k → 0 ≡ le_in bs k offset
   unfolding le_in choose
   le_outside h = simp (lt-leb _ _ h)
+
+-- A number within a part is the one of the whole.
+pub le_in_part : (bs : List ℕ) (offset len k i : ℕ) → i + k ≤ len → offset + len ≤ length bs → le_in (part bs offset len) k i ≡ le_in bs k (offset + i)
+le_in_part bs offset len k i h l =
+    sym (le_inside (part bs offset len) k i (omega (arith, part_length bs offset len l, h)))
+    ∙ ap le (part_of_part bs offset len i k h) ∙ le_inside bs k (offset + i) (omega arith)
 
 -- The number at i bytes from a place is the one at the place i bytes on.
 pub word_in_on : (files : List (List ℕ)) (k file offset i : ℕ) → word_in files k (place_at file offset) i ≡ word_in files k (place_at file (offset + i)) 0

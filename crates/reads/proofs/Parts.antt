@@ -1,11 +1,12 @@
 -- The bytes of a part that are there, as the code cuts them; and parts written one behind the other.
-use Prim.Native.Nat.{ℕ, suc, ◌+◌, ◌-◌, min}
+use Prim.Native.Nat.{ℕ, suc, ◌+◌, ◌-◌, ◌≤◌, min}
 use mathlib.Core.Path.{◌≡◌, sym, ap, ◌∙◌}
 use mathlib.Core.List.{List, [], ◌∷◌, ◌++◌}
 use native.Mathlib.Omega.{arith}
 use native.Mathlib.Decide.{dec_le}
 use lib.ListN.{length, set, take, drop, drop_of_length-le, length-take, length-drop}
-use lib.Seq.{sets, take_all, take-take}
+use lib.Seq.{sets, take_all, take-take, drop-drop, length-take-le}
+use Rattle.std.proofs.lemmas.List.{drop-take}
 use Rattle.reads.specs.Place.{part}
 
 pub take_there : (k n : ℕ) (l : List ℕ) → k ≡ min n (length l) → take k l ≡ take n l
@@ -23,6 +24,19 @@ pub part_by : (bytes : List ℕ) (offset len from k : ℕ) → from ≡ min offs
     → part bytes offset len ≡ take k (drop from bytes)
 part_by bytes offset len from k e h =
     sym (take_there k len (drop from bytes) (simp length-drop h) ∙ ap (take len) (drop_there from offset bytes e))
+
+-- A part that lies in the bytes is as long as it says.
+pub part_length : (bytes : List ℕ) (offset len : ℕ) → offset + len ≤ length bytes → length (part bytes offset len) ≡ len
+part_length bytes offset len h = length-take-le len (drop offset bytes) (omega (arith, length-drop offset bytes))
+
+-- A part within a part.
+pub part_of_part : (bytes : List ℕ) (offset len i k : ℕ) → i + k ≤ len → part (part bytes offset len) i k ≡ part bytes (offset + i) k
+part_of_part bytes offset len i k h =
+    let whole : len ≡ i + (len - i) = omega arith in
+    ap (λ (n : ℕ). part (part bytes offset n) i k) whole
+    ∙ ap (take k) (drop-take i (len - i) (drop offset bytes))
+    ∙ take-take k (len - i) (drop i (drop offset bytes)) (omega arith)
+    ∙ ap (take k) (drop-drop i offset bytes)
 
 pub sets_append : (l a b : List ℕ) (i : ℕ) → sets l i (a ++ b) ≡ sets (sets l i a) (i + length a) b
 sets_append l [] b i = let same : i + 0 ≡ i = omega arith in rw same

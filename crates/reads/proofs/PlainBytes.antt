@@ -83,6 +83,27 @@ module _ (s : List ℕ) {b : ByteRead} (e : b ≡ byte_after s b.at) (p : plain 
   pub plain_behind : {z : Bool} → Left z s [] b.at → Left z s [] b.read
   plain_behind {z} l = subst (Left z s []) (sym plain_read) (plain_left s b.at here l)
 
+-- A pass that has come to a plain byte goes on behind it, and so does one over what is left there.
+pub run_behind : {s : List ℕ} {from : ℕ} {b : ByteRead} → Skipped s from b → plain b ≡ true → PlainTo s from b.read
+run_behind {s} {from} {b} k p = subst (PlainTo s from) (sym (plain_read s k.is p)) (plain_on s b.at (here s k.is p) k.run)
+
+pub skipped_on : {s : List ℕ} {from i : ℕ} {b : ByteRead} → PlainTo s from i → Skipped s i b → Skipped s from b
+skipped_on {s} {from} {i} r k =
+    record {
+      is = k.is;
+      run = record {
+        ahead = omega (arith, r.ahead, k.run.ahead);
+        within = k.run.within;
+        each = λ j a h. elim (dec_le i j) [ yes b ↦ k.run.each j b h | no f ↦ r.each j a (omega arith) ];
+      };
+    }
+
+-- One that was begun has come to its first byte.
+pub first_skipped : {s : List ℕ} {b : ByteRead} → b ≡ byte_after s 0 → Skipped s 0 b
+first_skipped {s} e =
+    subst (Skipped s 0) (sym e)
+    record { is = refl; run = record { ahead = omega arith; within = omega arith; each = λ k a h. absurd (omega arith) } }
+
 -- Where only plain bytes came before the end, they are the text.
 pub scan_ends : {s : List ℕ} {b : ByteRead} → Skipped s 0 b → b.byte ≡ 0 → good_scan b ≡ scan_of s
 scan_ends {s} k z = scan_good (left_skipped (left_none true s) k) k.is z
@@ -127,7 +148,7 @@ module _ (s : List ℕ) (n : ℕ) (h : n + 8 ≤ length s) where
         record {
           low = omega (arith, r, w.low);
           is = part_byte b.read (omega (arith, r, w.low));
-          run = subst (PlainTo s from) (sym r) (plain_on s (n + b.at) (sym (ap plain w.is) ∙ p) w.run);
+          run = run_behind record { is = w.is; run = w.run } p;
         })
         (λ p. record { low = omega (arith, w.low); is = w.is; run = w.run })
 
@@ -151,9 +172,7 @@ module _ (s : List ℕ) (n : ℕ) (h : n + 8 ≤ length s) where
       eight_read = omega (arith, ap (λ (x : ByteRead). x.read) went.is ∙ read_of_all s (n + b.at) went.run.within)
 
       pub eight_on : plain b ≡ true → PlainTo s from (n + b.read)
-      eight_on p =
-          let r : n + b.read ≡ suc (n + b.at) = plain_read s went.is p in
-          subst (PlainTo s from) (sym r) (plain_on s (n + b.at) (sym (ap plain went.is) ∙ p) went.run)
+      eight_on p = run_behind eight_skipped p
 
       pub eight_ahead : plain b ≡ true → n < n + b.read
       eight_ahead p = let r : n + b.read ≡ suc (n + b.at) = plain_read s went.is p in omega arith

@@ -13,6 +13,7 @@ pub mod Utf8
 pub mod Text
 pub mod Endings
 pub mod Pass
+pub mod Begun
 pub mod Signed
 pub mod Relative
 pub mod Address

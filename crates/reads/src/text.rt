@@ -46,6 +46,13 @@ pub struct CstrRead {
     pub read: u64,
 }
 
+// Two texts of a row; each may be missing.
+#[derive(Clone, Copy)]
+pub struct CstrPair {
+    pub first: Result<Text, Missing>,
+    pub second: Result<Text, Missing>,
+}
+
 // A byte, its offset, and the count of the bytes read with it. Where no byte is left 0 stands for it, and the count is not raised:
 // not an Option, as both end a text, and the pass tests them by one compare. The byte is a word: a struct with a hole is copied through memory.
 #[derive(Clone, Copy)]
@@ -318,24 +325,85 @@ fn read_on(s: &[u8], first: ByteRead, reading: Reading, p: Place) -> CstrRead
     read_of_scan(reading, p, scan_on(s, first))
 }
 
+// A text that is begun: its place, the bytes of its file from there on, and the first of them, which is read.
+#[derive(Clone, Copy)]
+struct Begun<'a> {
+    place: Place,
+    bytes: &'a [u8],
+    first: ByteRead,
+    ghost read: { first ≡ byte_after bytes.now 0 },
+}
+
+impl<'a> Begun<'a> {
+    ghost use Rattle.reads.specs.Begun.{text_begun, read_begun};
+
+    // The text at a place whose file has these bytes, begun.
+    #[inline(always)]
+    #[tactic(auto, using(crate::proofs::Texts::text_found, crate::proofs::Texts::text_beyond, crate::proofs::Texts::read_found), unfolding(crate::specs::Text::read_from))]
+    fn of(bytes: &'a [u8], p: Place) -> Result<Begun<'a>, Missing>
+        ensures text { (r : Reading) → text_begun r result ≡ text_from r (before bytes) p }
+        ensures count { read_begun result ≡ read_from (before bytes) p.offset }
+    {
+        if (bytes.len() as u64) < p.offset {
+            return Err(Missing::Absent(Reason::PastEnd));
+        }
+        let s = &bytes[p.offset as usize..];
+        Ok(Begun {
+            place: p,
+            bytes: s,
+            first: read_byte(s, 0),
+        })
+    }
+
+    // The text at an address, begun: absent at 0 and where nothing is mapped.
+    #[inline(always)]
+    #[tactic(auto, unfolding(crate::specs::Text::text_in, crate::specs::Text::read_in))]
+    fn at(image: &Image<'a>, va: u64) -> Result<Begun<'a>, Missing>
+        ensures text { (r : Reading) → text_begun r result ≡ text_in r image.now va }
+        ensures count { read_begun result ≡ read_in image.now va }
+    {
+        let p = text_place(image, va)?;
+        Begun::of(bytes_of(image.files, p.file), p)
+    }
+
+    // The byte that a pass over the text comes to over plain ones.
+    #[inline(always)]
+    fn past_plain(self) -> ByteRead
+        ensures { Skipped self.entry.bytes.now 0 result }
+    {
+        if plain(self.first) {
+            return skip_plain(self.bytes, self.first.read);
+        }
+        self.first
+    }
+
+    // A begun text by the rest of its pass, and how many bytes were read; where none was begun, why not, and 0.
+    #[inline(always)]
+    fn finish(reading: Reading, text: Result<Begun, Missing>) -> CstrRead
+        ensures { (outcome result.text ≡ text_begun reading text.entry) × (result.read ≡ read_begun text.entry) }
+    {
+        match text {
+            Ok(t) => {
+                let b = t.past_plain();
+                if b.byte == 0 {
+                    return read_of_scan(reading, t.place, good_scan(b));
+                }
+                let first = b;
+                read_on(t.bytes, first, reading, t.place)
+            }
+            Err(m) => CstrRead {
+                text: Err(m),
+                read: 0,
+            },
+        }
+    }
+}
+
 // The text at a place whose file has these bytes, and how many bytes were read.
-#[tactic(auto, using(std::proofs::lemmas::Bool::Decides::nat_tests), unfolding(crate::specs::Text::text_from, crate::specs::Text::read_from, crate::specs::Outcome::choose))]
 fn read_cstr_in(bytes: &[u8], reading: Reading, p: Place) -> CstrRead
     ensures { (outcome result.text ≡ text_from reading (before bytes) p) × (result.read ≡ read_from (before bytes) p.offset) }
 {
-    if (bytes.len() as u64) < p.offset {
-        return CstrRead {
-            text: Err(Missing::Absent(Reason::PastEnd)),
-            read: 0,
-        };
-    }
-    let s = &bytes[p.offset as usize..];
-    let b = skip_plain(s, 0);
-    if b.byte == 0 {
-        return read_of_scan(reading, p, good_scan(b));
-    }
-    let first = b;
-    read_on(s, first, reading, p)
+    Begun::finish(reading, Begun::of(bytes, p))
 }
 
 // The text at a place, and how many bytes were read: a file that is not lent has no bytes.
@@ -355,18 +423,11 @@ pub fn text_place(image: &Image, va: u64) -> Result<Place, Missing>
 }
 
 // The text at an address, and how many bytes were read: absent at 0 and where nothing is mapped, and then none. Image, reading and address come one by
-// one, here and in the two below: the address is a call's own, and a struct of the other two would be made for one call each time (records' `string`).
-#[tactic(auto, using(crate::proofs::Outcomes::outcomes, crate::proofs::Outcomes::then_then), unfolding(crate::specs::Text::text_in, crate::specs::Text::read_in))]
+// one, here and in the three below: the address is a call's own, and a struct of the other two would be made for one call each time (records' `string`).
 pub fn read_cstr_counted(image: &Image, reading: Reading, va: u64) -> CstrRead
     ensures { (outcome result.text ≡ text_in reading image.now va) × (result.read ≡ read_in image.now va) }
 {
-    match text_place(image, va) {
-        Ok(p) => read_cstr_at(image.files, reading, p),
-        Err(m) => CstrRead {
-            text: Err(m),
-            read: 0,
-        },
-    }
+    Begun::finish(reading, Begun::at(image, va))
 }
 
 // The same without the count.
@@ -375,6 +436,18 @@ pub fn read_cstr(image: &Image, reading: Reading, va: u64) -> Result<Text, Missi
 {
     let r = read_cstr_counted(image, reading, va);
     r.text
+}
+
+// The texts at two addresses, each as `read_cstr` reads it. The first bytes of both are read before the rest of either: so the processor waits for both
+// at once; and the second, mostly short and in the cache, is finished while the first one's bytes are on their way.
+pub fn read_cstr_pair(image: &Image, reading: Reading, first: u64, second: u64) -> CstrPair
+    ensures { (outcome result.first ≡ text_in reading image.now first) × (outcome result.second ≡ text_in reading image.now second) }
+{
+    let one = Begun::at(image, first);
+    let other = Begun::at(image, second);
+    let second = Begun::finish(reading, other).text;
+    let first = Begun::finish(reading, one).text;
+    CstrPair { first, second }
 }
 
 // An absent text counts as the empty one, in file 0 at offset 0.

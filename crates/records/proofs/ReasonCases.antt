@@ -26,7 +26,7 @@ use Rattle.records.specs.Category.{category_at, decode_category_properties, deco
 use Rattle.records.specs.List.{method_rows, list_at, decode_list}
 use Rattle.records.specs.Protocol.{protocol_at, decode_trailing, decode_class_properties, decode_protocol_lists, decode_protocol}
 use Rattle.records.specs.declared.method.Selectors.TheVariants.{Indirect, Direct}
-use Rattle.records.specs.Row.{legacy_method_at, small_method_at, ivar_at, property_at, decode_legacy_method, decode_selector, decode_types, decode_small_method, decode_offset, decode_ivar, decode_property}
+use Rattle.records.specs.Row.{legacy_method_at, small_method_at, ivar_at, property_at, decode_legacy_method, decode_small_texts, decode_small_method, decode_offset, decode_ivar, decode_property}
 use Rattle.records.specs.declared.list.ListKind.TheVariants.{Methods, Ivars, Properties}
 
 -- Bytes whose first `size` are mapped at va: of a record that begins there only the first byte is looked up, so a later field may lie outside.
@@ -147,7 +147,7 @@ small_reasons : small_method_at (zeros 11 0x1000 11) 0x1000 Direct
     ∷ small_method_at (mapped_at (small_bytes 12 0 ++ (0x61 ∷ 0xE2 ∷ 0x28 ∷ 0 ∷ [])) 0x1000 16) 0x1000 Direct
     ∷ []
     ≡ absent Unreadable ∷ absent FieldOverflow ∷ absent FieldOverflow ∷ absent Unresolved ∷ absent Unmapped ∷ absent (NotUtf8 2) ∷ []
-unfolding file_of decode_small_method decode_selector decode_types signed_in signed32 twos modulo64 relative readable readable_at lookup rows tabulate ends holds placed sum64 resolve rebase_at follow follow_from stored stripped word word_in le_in le text_in text_from text judge nonzero choose
+unfolding file_of decode_small_method decode_small_texts signed_in signed32 twos modulo64 relative readable readable_at lookup rows tabulate ends holds placed sum64 resolve rebase_at follow follow_from stored stripped word word_in le_in le text_in text_from text judge nonzero choose
 small_reasons = refl
 
 -- 32 bytes; +8; the name slot; +16, before the name's string; the string's.

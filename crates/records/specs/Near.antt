@@ -1,5 +1,5 @@
--- A record or row whose bytes can be read, with the spot of its address: its fields are then read near the spot.
-use Rattle.std.specs.Prelude.{ℕ, ◌≡◌, Result, Ok, Err}
+-- A record or row whose bytes can be read, with the spot of its address and the bytes: its fields are then read from them.
+use Rattle.std.specs.Prelude.{ℕ, ◌≡◌, length, Result, Ok, Err}
 use Rattle.reads.specs.Answer.{missed}
 use Rattle.reads.specs.Outcome.{Outcome, value}
 use Rattle.reads.specs.Place.{readable}
@@ -15,4 +15,4 @@ place_of (Err m) = missed m
 
 -- It is of so many bytes, and they stand at its spot.
 abbrev pub OfSize : Near → ℕ → Type 0
-OfSize n size = (n.size ≡ size) × (value n.spot.place ≡ readable (image_in n.tables.now) n.va size)
+OfSize n size = (length n.bytes.now ≡ size) × (value n.spot.place ≡ readable (image_in n.tables.now) n.va size)

@@ -1,6 +1,6 @@
 -- Rows of method, ivar and property lists (objc-runtime-new.h, method_t, ivar_t, property_t; document 01, Rows; method.rs, ivar.rs,
 -- property.rs; alignments: note 8).
-use Rattle.std.specs.Prelude.{ℕ, Bool, true, false, ◌||◌, eqb, leb, Option, Some, None, ℤ}
+use Rattle.std.specs.Prelude.{ℕ, Bool, true, false, ◌||◌, eqb, leb, Option, Some, None}
 use Rattle.std.specs.Int.Count.{count_trailing_zeros}
 use Rattle.reads.specs.Outcome.{Outcome, choose}
 use Rattle.reads.specs.Address.{stripped}
@@ -17,6 +17,7 @@ use Rattle.records.specs.declared.method.Method.{Method}
 use Rattle.records.specs.declared.method.MethodKind.{MethodKind}
 use Rattle.records.specs.declared.method.MethodKind.TheVariants as kind
 use Rattle.records.specs.declared.method.Selectors.{Selectors}
+use Rattle.records.specs.declared.method.SmallTexts.{SmallTexts}
 use Rattle.records.specs.declared.method.Selectors.TheVariants.{Indirect, Direct}
 use Rattle.records.specs.declared.ivar.Ivar.{Ivar}
 use Rattle.records.specs.declared.property.Property.{Property}
@@ -51,20 +52,6 @@ abbrev pub selector_from : Selectors → ℕ → Decode ℕ
 selector_from Indirect target = slot target
 selector_from Direct target = done target
 
--- The selector: the text there.
-unfoldable pub decode_selector : Selectors → ℕ → ℤ → Decode Text
-decode_selector selectors va offset = then (selector_from selectors (relative va offset)) string
-
-abbrev pub selector_at : Tables → Selectors → ℕ → ℤ → Outcome Text
-selector_at t selectors va offset = run t (decode_selector selectors va offset)
-
--- Its types: the text at its offset's target.
-unfoldable pub decode_types : ℕ → ℤ → Decode Text
-decode_types va offset = or_empty (string (relative va offset))
-
-abbrev pub types_at : Tables → ℕ → ℤ → Outcome Text
-types_at t va offset = run t (decode_types va offset)
-
 abbrev pub small_kind : Selectors → MethodKind
 small_kind Indirect = kind.SmallIndirect
 small_kind Direct = kind.SmallDirect
@@ -74,7 +61,21 @@ is_small kind.Legacy = false
 is_small kind.SmallIndirect = true
 is_small kind.SmallDirect = true
 
--- method_t::small: three offsets, each counted from its own field, which the Rust reads first; the selector, and the types' text.
+-- Its texts: the selector's, and the types' at their offset's target.
+abbrev pub small_texts : Text → Text → SmallTexts
+small_texts s t = record { selector = s; types = t }
+
+unfoldable pub decode_small_texts : Selectors → ℕ → ℕ → Decode SmallTexts
+decode_small_texts selectors target types_va =
+    then (selector_from selectors target) (λ name_va.
+    then (string name_va) (λ selector.
+    then (or_empty (string types_va)) (λ types.
+    done (small_texts selector types))))
+
+abbrev pub small_texts_at : Tables → Selectors → ℕ → ℕ → Outcome SmallTexts
+small_texts_at t selectors target types_va = run t (decode_small_texts selectors target types_va)
+
+-- method_t::small: three offsets, each counted from its own field, which the Rust reads first; then the texts.
 unfoldable pub decode_small_method : ℕ → Selectors → Decode Method
 decode_small_method va selectors =
     then (readable va small_method_size) (λ p.
@@ -83,9 +84,8 @@ decode_small_method va selectors =
     then (u32_in p small_method_imp) (λ raw.
     then (sum64 va small_method_types) (λ types_field.
     then (sum64 va small_method_imp) (λ imp_field.
-    then (decode_selector selectors va name_offset) (λ selector.
-    then (decode_types types_field types_offset) (λ types.
-    done (method_of selector types (small_imp raw imp_field) (small_kind selectors))))))))))
+    then (decode_small_texts selectors (relative va name_offset) (relative types_field types_offset)) (λ texts.
+    done (method_of texts.selector texts.types (small_imp raw imp_field) (small_kind selectors)))))))))
 
 abbrev pub small_method_at : Tables → ℕ → Selectors → Outcome Method
 small_method_at t va selectors = run t (decode_small_method va selectors)

@@ -1,14 +1,15 @@
 // Categories (objc-runtime-new.h, category_t).
-ghost use Rattle.std.specs.Prelude.{◌≡◌};
+ghost use Rattle.std.specs.Prelude.{◌≡◌, ◌≤◌, length};
 ghost use Rattle.records.specs.Category.{category_lists_at, category_properties_at, category_of, category_at};
+ghost use Rattle.records.specs.Header.{category_size};
 ghost use Rattle.reads.specs.Answer.{outcome};
 
+use crate::near::Near;
 use crate::text::string;
 use pointers::imageinfo::ImageInfo;
-use pointers::slot::{pointer_or_0, resolve_pointer};
+use pointers::slot::pointer_or_0;
 use pointers::tables::Tables;
 use reads::answer::Missing;
-use reads::place::readable;
 use reads::text::Text;
 
 // A category: name, host class, and the addresses of its lists; class_properties is 0, the field's own word for no
@@ -66,14 +67,14 @@ fn category_properties_at(tables: &Tables, va: u64, wide: bool) -> Result<u64, M
 
 // The lists of a category_t but its class properties; each or 0.
 #[tactic(auto, using(reads::proofs::Outcomes::missed_then), unfolding(crate::specs::Category::decode_category_lists))]
-fn category_lists_at(tables: &Tables, va: u64) -> Result<CategoryLists, Missing>
-    ensures { let t = tables.now in
-        outcome result ≡ category_lists_at t va }
+fn category_lists_at(category: &Near) -> Result<CategoryLists, Missing>
+    requires { category_size ≤ length category.now.bytes.now }
+    ensures { outcome result ≡ category_lists_at category.now.tables.now category.now.va }
 {
-    let instance_methods = pointer_or_0(tables, va, ObjcCategory::INSTANCE_METHODS)?;
-    let class_methods = pointer_or_0(tables, va, ObjcCategory::CLASS_METHODS)?;
-    let protocols = pointer_or_0(tables, va, ObjcCategory::PROTOCOLS)?;
-    let instance_properties = pointer_or_0(tables, va, ObjcCategory::INSTANCE_PROPERTIES)?;
+    let instance_methods = category.field_or_0(ObjcCategory::INSTANCE_METHODS)?;
+    let class_methods = category.field_or_0(ObjcCategory::CLASS_METHODS)?;
+    let protocols = category.field_or_0(ObjcCategory::PROTOCOLS)?;
+    let instance_properties = category.field_or_0(ObjcCategory::INSTANCE_PROPERTIES)?;
     Ok(CategoryLists {
         instance_methods,
         class_methods,
@@ -93,10 +94,10 @@ fn category_of(tables: &Tables, va: u64, wide: bool) -> Result<ObjcCategory, Mis
     } else {
         ObjcCategory::SIZE
     };
-    readable(tables.image(), va, size)?;
-    let name_va = resolve_pointer(tables, va)?;
-    let class_address = pointer_or_0(tables, va, ObjcCategory::CLS)?;
-    let lists = category_lists_at(tables, va)?;
+    let category = Near::at(tables, va, size)?;
+    let name_va = category.first_slot()?;
+    let class_address = category.field_or_0(ObjcCategory::CLS)?;
+    let lists = category_lists_at(&category)?;
     let class_properties = category_properties_at(tables, va, wide)?;
     let name = string(tables, name_va)?;
     Ok(ObjcCategory {

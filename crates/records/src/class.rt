@@ -1,5 +1,5 @@
 // Classes and their read-only records (objc-runtime-new.h, class_t and class_ro_t).
-ghost use Rattle.std.specs.Prelude.{◌≡◌, ◌≤◌};
+ghost use Rattle.std.specs.Prelude.{◌≡◌, ◌≤◌, length};
 ghost use Rattle.pointers.specs.ImageInfo.{bit};
 ghost use Rattle.records.specs.Class.{bits_of, data_at, class_at, ro_lists_at, class_ro_at, ro_of, ro_data_at, class_name_at, bound_name, decoded_name, class_name_of, fast_flags, is_swift};
 ghost use Rattle.records.specs.Decode.{run, picked_at};
@@ -12,7 +12,7 @@ use pointers::slot::{pointer, rebase_at, symbol_at};
 use pointers::tables::Tables;
 use reads::address::Address;
 use reads::answer::{Missing, because, checked_add, nonzero, or_zero};
-use reads::place::{read_u64, readable, u32_in};
+use reads::place::{read_u64, readable};
 use reads::text::Text;
 
 // A class or metaclass.
@@ -96,7 +96,7 @@ pub fn class_at(tables: &Tables, va: u64, is_meta: bool) -> Result<ObjcClass, Mi
 // What stands behind the name of a class_ro_t: its lists, and the weak ivar layout among them; each or 0.
 #[tactic(auto, using(reads::proofs::Outcomes::missed_then), unfolding(crate::specs::Class::decode_ro_lists))]
 fn ro_lists_at(ro: &Near) -> Result<RoLists, Missing>
-    requires { ro_size ≤ ro.now.size }
+    requires { ro_size ≤ length ro.now.bytes.now }
     ensures { outcome result ≡ ro_lists_at ro.now.tables.now ro.now.va }
 {
     let methods = ro.field_or_0(ClassRo::BASE_METHODS)?;
@@ -120,10 +120,9 @@ pub fn class_ro_at(tables: &Tables, va: u64) -> Result<ClassRo, Missing>
         outcome result ≡ class_ro_at t va }
 {
     let ro = Near::at(tables, va, ClassRo::SIZE)?;
-    let p = ro.place();
-    let flags = u32_in(tables.files(), p, ClassRo::FLAGS);
-    let instance_start = u32_in(tables.files(), p, ClassRo::INSTANCE_START);
-    let instance_size = u32_in(tables.files(), p, ClassRo::INSTANCE_SIZE);
+    let flags = ro.u32(ClassRo::FLAGS);
+    let instance_start = ro.u32(ClassRo::INSTANCE_START);
+    let instance_size = ro.u32(ClassRo::INSTANCE_SIZE);
     let ivar_layout = ro.field_or_0(ClassRo::IVAR_LAYOUT)?;
     let name_va = ro.field(ClassRo::NAME)?;
     let lists = ro_lists_at(&ro)?;

@@ -8,11 +8,11 @@ ghost use Rattle.records.specs.Near.{OfSize};
 ghost use Rattle.records.specs.Header.{ivar_size};
 
 use crate::near::Near;
-use crate::text::{string, string_or_empty};
+use crate::text::string_pair;
 use pointers::tables::Tables;
 use reads::answer::{Missing, nonzero, optional, or_zero};
 use reads::place::{readable, u32_in};
-use reads::text::Text;
+use reads::text::{Text, or_empty};
 
 // A row of an ivar list.
 #[derive(Clone, Copy)]
@@ -89,14 +89,14 @@ pub(crate) fn ivar_near(row: &Near) -> Result<Ivar, Missing>
     ensures { outcome result ≡ ivar_at row.now.tables.now row.now.va }
 {
     let tables = row.tables();
-    let p = row.place();
     let offset_va = or_zero(row.first_slot())?;
     let name_va = row.field(Ivar::NAME)?;
     let type_va = row.field_or_0(Ivar::TYPE)?;
-    let raw_alignment = u32_in(tables.files(), p, Ivar::ALIGNMENT_RAW);
-    let size = u32_in(tables.files(), p, Ivar::OWN_SIZE);
-    let name = string(tables, name_va)?;
-    let type_encoding = string_or_empty(tables, type_va)?;
+    let raw_alignment = row.u32(Ivar::ALIGNMENT_RAW);
+    let size = row.u32(Ivar::OWN_SIZE);
+    let texts = string_pair(tables, name_va, type_va);
+    let name = texts.first?;
+    let type_encoding = or_empty(texts.second)?;
     let offset = offset_at(tables, offset_va)?;
     let log2_alignment = alignment_of(raw_alignment);
     Ok(Ivar {

@@ -17,7 +17,7 @@ use crate::property::Property;
 use pointers::tables::Tables;
 use reads::answer::{Missing, Reason, checked_add, nonzero};
 use reads::breaks::next_break;
-use reads::place::{Image, u32_in};
+use reads::place::Image;
 use reads::segment::Segment;
 use reads::spot::{Spot, readable_spot};
 use std::ops::ControlFlow;
@@ -160,11 +160,9 @@ pub(crate) fn layout_near(header: &Near, kind: ListKind) -> Result<Layout, Missi
     requires { OfSize header.now list_size }
     ensures { outcome result ≡ layout_at header.now.tables.now kind header.now.va }
 {
-    let tables = header.tables();
     let va = header.va();
-    let p = header.place();
-    let w = u32_in(tables.files(), p, Layout::ENTSIZE_AND_FLAGS);
-    let count = u32_in(tables.files(), p, Layout::COUNT);
+    let w = header.u32(Layout::ENTSIZE_AND_FLAGS);
+    let count = header.u32(Layout::COUNT);
     let rows = rows_of(kind, w);
     let size = size_of(kind, w);
     entry_size(least(rows), size)?;

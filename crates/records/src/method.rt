@@ -1,20 +1,19 @@
 // Rows of method lists (objc-runtime-new.h, method_t and method_t::small).
 ghost use Rattle.std.specs.Prelude.{◌≡◌};
-ghost use Rattle.records.specs.Row.{legacy_imp, legacy_method_at, small_imp, selector_from, selector_at, types_at, small_kind, small_method_at, is_small};
+ghost use Rattle.records.specs.Row.{legacy_imp, legacy_method_at, small_imp, selector_from, small_texts_at, small_kind, small_method_at, is_small};
 ghost use Rattle.records.specs.Decode.{run};
 ghost use Rattle.records.specs.Near.{OfSize};
 ghost use Rattle.records.specs.Header.{method_size, small_method_size};
 ghost use Rattle.reads.specs.Answer.{outcome};
 
 use crate::near::Near;
-use crate::text::{string, string_or_empty};
+use crate::text::string_pair;
 use pointers::slot::resolve_pointer;
 use pointers::tables::Tables;
 use reads::address::Address;
 use reads::answer::{Missing, checked_add};
-use reads::place::u32_in;
-use reads::relative::{i32_in, relative_pointer, signed};
-use reads::text::Text;
+use reads::relative::{relative_pointer, signed};
+use reads::text::{Text, or_empty};
 
 // Which form of method_t a row came from.
 #[derive(Clone, Copy)]
@@ -38,6 +37,13 @@ pub struct Method {
     pub types: Text,
     pub implementation: Option<u64>,
     pub kind: MethodKind,
+}
+
+// The texts of a small method.
+#[derive(Clone, Copy)]
+struct SmallTexts {
+    selector: Text,
+    types: Text,
 }
 
 impl Method {
@@ -86,8 +92,9 @@ pub(crate) fn legacy_method_near(row: &Near) -> Result<Method, Missing>
     let name_va = row.first_slot()?;
     let types_va = row.field(Method::TYPES)?;
     let imp_va = row.field_or_0(Method::IMP)?;
-    let selector = string(tables, name_va)?;
-    let types = string_or_empty(tables, types_va)?;
+    let texts = string_pair(tables, name_va, types_va);
+    let selector = texts.first?;
+    let types = or_empty(texts.second)?;
     Ok(Method {
         selector,
         types,
@@ -127,28 +134,22 @@ fn selector_from(tables: &Tables, selectors: Selectors, target: u64) -> Result<u
     }
 }
 
-// The selector: the text there.
-#[tactic(auto, using(reads::proofs::Outcomes::missed_then), unfolding(crate::specs::Row::decode_selector))]
-fn selector_at(
+// A small method's texts: the selector's, and the types' at their offset's target.
+#[tactic(auto, using(reads::proofs::Outcomes::missed_then), unfolding(crate::specs::Row::decode_small_texts))]
+fn small_texts_at(
     tables: &Tables,
     selectors: Selectors,
-    field: u64,
-    offset: i32,
-) -> Result<Text, Missing>
+    target: u64,
+    types_va: u64,
+) -> Result<SmallTexts, Missing>
     ensures { let t = tables.now in
-        outcome result ≡ selector_at t selectors field offset }
+        outcome result ≡ small_texts_at t selectors target types_va }
 {
-    let name_va = selector_from(tables, selectors, relative_pointer(field, offset))?;
-    string(tables, name_va)
-}
-
-// A small method's types: the text at its offset's target.
-#[tactic(auto, unfolding(crate::specs::Row::decode_types))]
-fn types_at(tables: &Tables, field: u64, offset: i32) -> Result<Text, Missing>
-    ensures { let t = tables.now in
-        outcome result ≡ types_at t field offset }
-{
-    string_or_empty(tables, relative_pointer(field, offset))
+    let name_va = selector_from(tables, selectors, target)?;
+    let texts = string_pair(tables, name_va, types_va);
+    let selector = texts.first?;
+    let types = or_empty(texts.second)?;
+    Ok(SmallTexts { selector, types })
 }
 
 // method_t::small: the three offsets, each counted from its own field; both field addresses are tested before the first lookup.
@@ -160,17 +161,17 @@ pub(crate) fn small_method_near(row: &Near, selectors: Selectors) -> Result<Meth
 {
     let tables = row.tables();
     let va = row.va();
-    let p = row.place();
-    let name_offset = i32_in(tables.files(), p, Method::SMALL_NAME);
-    let types_offset = i32_in(tables.files(), p, Method::SMALL_TYPES);
-    let raw = u32_in(tables.files(), p, Method::SMALL_IMP);
+    let name_offset = row.i32(Method::SMALL_NAME);
+    let types_offset = row.i32(Method::SMALL_TYPES);
+    let raw = row.u32(Method::SMALL_IMP);
     let types_field = checked_add(va, Method::SMALL_TYPES)?;
     let imp_field = checked_add(va, Method::SMALL_IMP)?;
-    let selector = selector_at(tables, selectors, va, name_offset)?;
-    let types = types_at(tables, types_field, types_offset)?;
+    let target = relative_pointer(va, name_offset);
+    let types_va = relative_pointer(types_field, types_offset);
+    let texts = small_texts_at(tables, selectors, target, types_va)?;
     Ok(Method {
-        selector,
-        types,
+        selector: texts.selector,
+        types: texts.types,
         implementation: small_imp(raw, imp_field),
         kind: small_kind(selectors),
     })

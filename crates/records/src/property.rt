@@ -6,9 +6,9 @@ ghost use Rattle.records.specs.Header.{property_size};
 ghost use Rattle.reads.specs.Answer.{outcome};
 
 use crate::near::Near;
-use crate::text::{string, string_or_empty};
+use crate::text::string_pair;
 use reads::answer::Missing;
-use reads::text::Text;
+use reads::text::{Text, or_empty};
 
 // A row of a property list; `parse_attributes` takes its attributes apart.
 #[derive(Clone, Copy)]
@@ -33,7 +33,8 @@ pub(crate) fn property_near(row: &Near) -> Result<Property, Missing>
     let tables = row.tables();
     let name_va = row.first_slot()?;
     let attributes_va = row.field_or_0(Property::ATTRIBUTES)?;
-    let name = string(tables, name_va)?;
-    let attributes = string_or_empty(tables, attributes_va)?;
+    let texts = string_pair(tables, name_va, attributes_va);
+    let name = texts.first?;
+    let attributes = or_empty(texts.second)?;
     Ok(Property { name, attributes })
 }

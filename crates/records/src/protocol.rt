@@ -1,10 +1,12 @@
 // Protocols (objc-runtime-new.h, protocol_t).
-ghost use Rattle.std.specs.Prelude.{◌≡◌};
+ghost use Rattle.std.specs.Prelude.{◌≡◌, ◌≤◌, length};
 ghost use Rattle.records.specs.Protocol.{protocol_lists_at, class_properties_at, trailing_at, protocol_at};
+ghost use Rattle.records.specs.Header.{protocol_size};
 ghost use Rattle.reads.specs.Answer.{outcome};
 
+use crate::near::Near;
 use crate::text::string;
-use pointers::slot::{pointer, pointer_or_0, slot_or_0};
+use pointers::slot::slot_or_0;
 use pointers::tables::Tables;
 use reads::answer::{Missing, checked_add};
 use reads::place::{Place, readable, u32_in};
@@ -90,20 +92,16 @@ fn class_properties_at(tables: &Tables, va: u64, p: Place) -> Result<u64, Missin
 
 // The lists of a protocol_t but its class properties; each or 0.
 #[tactic(auto, using(reads::proofs::Outcomes::missed_then), unfolding(crate::specs::Protocol::decode_protocol_lists))]
-fn protocol_lists_at(tables: &Tables, va: u64) -> Result<ProtocolLists, Missing>
-    ensures { let t = tables.now in
-        outcome result ≡ protocol_lists_at t va }
+fn protocol_lists_at(protocol: &Near) -> Result<ProtocolLists, Missing>
+    requires { protocol_size ≤ length protocol.now.bytes.now }
+    ensures { outcome result ≡ protocol_lists_at protocol.now.tables.now protocol.now.va }
 {
-    let protocols = pointer_or_0(tables, va, ObjcProtocol::PROTOCOLS)?;
-    let instance_methods = pointer_or_0(tables, va, ObjcProtocol::INSTANCE_METHODS)?;
-    let class_methods = pointer_or_0(tables, va, ObjcProtocol::CLASS_METHODS)?;
-    let optional_instance_methods = pointer_or_0(
-        tables,
-        va,
-        ObjcProtocol::OPTIONAL_INSTANCE_METHODS,
-    )?;
-    let optional_class_methods = pointer_or_0(tables, va, ObjcProtocol::OPTIONAL_CLASS_METHODS)?;
-    let instance_properties = pointer_or_0(tables, va, ObjcProtocol::INSTANCE_PROPERTIES)?;
+    let protocols = protocol.field_or_0(ObjcProtocol::PROTOCOLS)?;
+    let instance_methods = protocol.field_or_0(ObjcProtocol::INSTANCE_METHODS)?;
+    let class_methods = protocol.field_or_0(ObjcProtocol::CLASS_METHODS)?;
+    let optional_instance_methods = protocol.field_or_0(ObjcProtocol::OPTIONAL_INSTANCE_METHODS)?;
+    let optional_class_methods = protocol.field_or_0(ObjcProtocol::OPTIONAL_CLASS_METHODS)?;
+    let instance_properties = protocol.field_or_0(ObjcProtocol::INSTANCE_PROPERTIES)?;
     Ok(ProtocolLists {
         protocols,
         instance_methods,
@@ -120,13 +118,13 @@ pub fn protocol_at(tables: &Tables, va: u64) -> Result<ObjcProtocol, Missing>
     ensures { let t = tables.now in
         outcome result ≡ protocol_at t va }
 {
-    let p = readable(tables.image(), va, ObjcProtocol::SIZE)?;
-    let name_va = pointer(tables, va, ObjcProtocol::MANGLED_NAME)?;
-    let lists = protocol_lists_at(tables, va)?;
-    let size = u32_in(tables.files(), p, ObjcProtocol::OWN_SIZE);
-    let flags = u32_in(tables.files(), p, ObjcProtocol::FLAGS);
+    let protocol = Near::at(tables, va, ObjcProtocol::SIZE)?;
+    let name_va = protocol.field(ObjcProtocol::MANGLED_NAME)?;
+    let lists = protocol_lists_at(&protocol)?;
+    let size = protocol.u32(ObjcProtocol::OWN_SIZE);
+    let flags = protocol.u32(ObjcProtocol::FLAGS);
     let name = string(tables, name_va)?;
-    let class_properties = class_properties_at(tables, va, p)?;
+    let class_properties = class_properties_at(tables, va, protocol.place())?;
     Ok(ObjcProtocol {
         address: va,
         name,

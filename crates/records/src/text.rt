@@ -1,12 +1,11 @@
 // Texts at addresses, under the reading of the setting.
 ghost use Rattle.std.specs.Prelude.{◌≡◌};
 ghost use Rattle.reads.specs.Answer.{outcome};
-ghost use Rattle.reads.specs.Outcome.{or_empty};
 ghost use Rattle.pointers.specs.Bytes.{string};
 
 use pointers::tables::Tables;
 use reads::answer::Missing;
-use reads::text::{Text, read_cstr, read_cstr_or_empty};
+use reads::text::{CstrPair, Text, read_cstr, read_cstr_pair};
 
 // The text at an address.
 pub(crate) fn string(tables: &Tables, va: u64) -> Result<Text, Missing>
@@ -16,10 +15,10 @@ pub(crate) fn string(tables: &Tables, va: u64) -> Result<Text, Missing>
     read_cstr(tables.image(), tables.setting().reading, va)
 }
 
-// The same, an absent text counting as the empty one.
-pub(crate) fn string_or_empty(tables: &Tables, va: u64) -> Result<Text, Missing>
+// The texts at two addresses of a row, read together.
+pub(crate) fn string_pair(tables: &Tables, first: u64, second: u64) -> CstrPair
     ensures { let t = tables.now in
-        outcome result ≡ or_empty (string t va) }
+        (outcome result.first ≡ string t first) × (outcome result.second ≡ string t second) }
 {
-    read_cstr_or_empty(tables.image(), tables.setting().reading, va)
+    read_cstr_pair(tables.image(), tables.setting().reading, first, second)
 }

@@ -1,7 +1,7 @@
 // Rows, noted on a sheet. Made by tools/usage/tracing.py of crates/records/src/{method,ivar,property,row}.rt.
 ghost use Rattle.std.specs.Prelude.{◌≡◌};
 ghost use Rattle.reads.specs.Answer.{outcome};
-ghost use Rattle.records.specs.Row.{decode_ivar, decode_legacy_method, decode_offset, decode_offset_there, decode_property, decode_row, decode_selector, decode_small_method, decode_types, selector_from};
+ghost use Rattle.records.specs.Row.{decode_ivar, decode_legacy_method, decode_offset, decode_offset_there, decode_property, decode_row, decode_small_method, decode_small_texts, selector_from};
 ghost use Rattle.usage.specs.Noting.{traced, trace};
 ghost use Rattle.usage.specs.Pass.{reads};
 
@@ -9,7 +9,7 @@ use crate::noting::Noting;
 use reads::answer::{Missing, checked_add, nonzero, optional, or_zero};
 use reads::place::readable;
 use reads::relative::{i32_in, relative_pointer};
-use reads::text::{Text, or_empty};
+use reads::text::or_empty;
 use records::ivar::Ivar;
 use records::list::RowKind;
 use records::method::{Method, Selectors};
@@ -41,26 +41,20 @@ impl Noting<'_> {
         }
     }
 
-    // The selector: the text there.
-    #[tactic(auto, using(crate::proofs::NotedBy::notes), unfolding(records::specs::Row::decode_selector))]
-    fn note_selector(
+    // A small method's texts: the selector's, and the types' at their offset's target.
+    #[tactic(auto, using(crate::proofs::NotedBy::notes), unfolding(records::specs::Row::decode_small_texts))]
+    fn note_small_texts(
         &mut self,
         selectors: Selectors,
-        field: u64,
-        offset: i32,
-    ) -> Result<Text, Missing>
-        ensures { traced (outcome result) self.new ≡ trace (decode_selector selectors field offset) self.old }
+        target: u64,
+        types_va: u64,
+    ) -> Result<(), Missing>
+        ensures { traced (outcome result) self.new ≡ trace (reads (decode_small_texts selectors target types_va)) self.old }
     {
-        let name_va = self.note_selector_from(selectors, relative_pointer(field, offset))?;
-        self.note_string(name_va)
-    }
-
-    // A small method's types: the text at its offset's target.
-    #[tactic(auto, using(crate::proofs::NotedBy::notes), unfolding(records::specs::Row::decode_types))]
-    fn note_types(&mut self, field: u64, offset: i32) -> Result<Text, Missing>
-        ensures { traced (outcome result) self.new ≡ trace (decode_types field offset) self.old }
-    {
-        or_empty(self.note_string(relative_pointer(field, offset)))
+        let name_va = self.note_selector_from(selectors, target)?;
+        self.note_string(name_va)?;
+        or_empty(self.note_string(types_va))?;
+        Ok(())
     }
 
     // method_t::small: the three offsets, each counted from its own field; both field addresses are tested before the first lookup.
@@ -76,8 +70,9 @@ impl Noting<'_> {
         self.note_field(p, Method::SMALL_IMP, 4);
         let types_field = checked_add(va, Method::SMALL_TYPES)?;
         checked_add(va, Method::SMALL_IMP)?;
-        self.note_selector(selectors, va, name_offset)?;
-        self.note_types(types_field, types_offset)?;
+        let target = relative_pointer(va, name_offset);
+        let types_va = relative_pointer(types_field, types_offset);
+        self.note_small_texts(selectors, target, types_va)?;
         Ok(())
     }
 

@@ -31,7 +31,7 @@ use Rattle.records.specs.Category.{decode_category_of, decode_category}
 use Rattle.records.specs.Class.{decode_class_ro, decode_ro_of, decode_class_name, decode_nonzero_class_name, decode_bound_name, decode_class_name_of}
 use Rattle.records.specs.Decode.{Decode, string, symbol, or_empty}
 use Rattle.records.specs.Protocol.{decode_protocol}
-use Rattle.records.specs.Row.{decode_legacy_method, decode_selector, decode_types, decode_small_method, decode_ivar, decode_property, decode_row}
+use Rattle.records.specs.Row.{decode_legacy_method, decode_small_texts, decode_small_method, decode_ivar, decode_property, decode_row}
 use Rattle.records.specs.declared.class.ObjcClass.{ObjcClass}
 use Rattle.records.specs.declared.list.RowKind.{RowKind}
 use Rattle.records.specs.declared.list.RowKind.TheVariants as kind
@@ -212,8 +212,17 @@ module _ (t : Tables) (others : List (List ℕ)) where
       yields_then t _ (text_or_empty_gives typed) (λ types alike.
       yields_done t _ (same, alike)))))))
 
+  small_texts_gives : (selectors : Selectors) (target typed : ℕ)
+      → Gives (λ x. SameText x.selector × SameText x.types) (decode_small_texts selectors target typed)
+  unfolding decode_small_texts
+  small_texts_gives selectors target typed =
+      yields_next t _ (λ named.
+      yields_then t _ (string_gives named) (λ selector same.
+      yields_then t _ (text_or_empty_gives typed) (λ types alike.
+      yields_done t _ (same, alike))))
+
   small_gives : (va : ℕ) (selectors : Selectors) → Gives SameMethod (decode_small_method va selectors)
-  unfolding decode_small_method decode_selector decode_types
+  unfolding decode_small_method
   small_gives va selectors =
       yields_next t _ (λ p.
       yields_next t _ (λ _.
@@ -221,9 +230,8 @@ module _ (t : Tables) (others : List (List ℕ)) where
       yields_next t _ (λ raw.
       yields_next t _ (λ types_field.
       yields_next t _ (λ imp_field.
-      yields_then t _ (yields_next t _ string_gives) (λ selector same.
-      yields_then t _ (text_or_empty_gives _) (λ types alike.
-      yields_done t _ (same, alike)))))))))
+      yields_then t _ (small_texts_gives selectors _ _) (λ texts same.
+      yields_done t _ same)))))))
 
   ivar_gives : (va : ℕ) → Gives SameIvar (decode_ivar va)
   unfolding decode_ivar
