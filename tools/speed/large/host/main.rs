@@ -32,7 +32,7 @@ type FaceOpen = unsafe extern "C" fn(
 ) -> u64;
 type FaceList = unsafe extern "C" fn(
     *const u8, usize, *const u64, usize, *const u64, usize, *const u8, usize, *const u64, usize, *const u64, usize, *const u32, usize,
-    *mut u64, usize, u64, *mut [u64; 16],
+    *mut u64, usize, u64, *mut [u64; 16], u64,
 ) -> u64;
 
 /// The face of one build of the library (libface.so).
@@ -41,6 +41,8 @@ struct Face {
     open: FaceOpen,
     list: FaceList,
     walk: Option<FaceList>,
+    /// Rebases are found by halves.
+    halves: u64,
 }
 
 impl Face {
@@ -59,6 +61,7 @@ impl Face {
                 open: std::mem::transmute::<*mut u8, FaceOpen>(get(c"face_open")),
                 list: std::mem::transmute::<*mut u8, FaceList>(get(c"face_list")),
                 walk: (!walk.is_null()).then(|| std::mem::transmute::<*mut u8, FaceList>(walk)),
+                halves: std::env::args().any(|w| w == "halves") as u64,
             }
         }
     }
@@ -87,7 +90,7 @@ fn ours_list(f: &Face, t: &Tables, index: &[u32], ledger: &mut [u64], walks: boo
         (if walks { f.walk.unwrap() } else { f.list })(
             t.image.as_ptr(), t.image.len(), t.segments.as_ptr(), t.segments.len(), t.sections.as_ptr(), t.sections.len(),
             t.info.as_ptr(), t.info.len(), t.rebases.as_ptr(), t.rebases.len(), t.binds.as_ptr(), t.binds.len(),
-            index.as_ptr(), index.len(), ledger.as_mut_ptr(), ledger.len(), u64::MAX, out,
+            index.as_ptr(), index.len(), ledger.as_mut_ptr(), ledger.len(), u64::MAX, out, f.halves,
         )
     }
 }
@@ -287,7 +290,7 @@ fn fuzz(libs: &[Face], rounds: u64, seed: u64) {
                 (f.list)(
                     t.image.as_ptr(), t.image.len(), t.segments.as_ptr(), t.segments.len(), t.sections.as_ptr(), t.sections.len(),
                     t.info.as_ptr(), t.info.len(), t.rebases.as_ptr(), t.rebases.len(), t.binds.as_ptr(), t.binds.len(),
-                    index.as_ptr(), index.len(), ledger.as_mut_ptr(), ledger.len(), 20_000, &mut out,
+                    index.as_ptr(), index.len(), ledger.as_mut_ptr(), ledger.len(), 20_000, &mut out, f.halves,
                 )
             };
             (o, again, a, out, ledger)
