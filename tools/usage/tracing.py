@@ -6,7 +6,7 @@ Each tracing decoder is the text of a plain one, its leaf calls replaced by thos
     tables: &Tables                       &mut self; `tables` is then self.tables
     resolve_pointer, slot_or_0, pointer,  note_slot, note_slot_or_0, note_pointer, note_pointer_or_0, note_string, note_symbol
     pointer_or_0, string, symbol_at
-    string_pair, then .first and .second  note_string of its first and its second address
+    string_pair, then .first and .second  note_string of its first address, and or_empty of that of its second
     read_u64, row.word(K, A)              note_word of the address, then the same call
     u32_in, i32_in, u64_in                note_field of the place, then the same call
     row: &Near                            va: u64, and where the row's size is promised the test that so many bytes can be read
@@ -326,9 +326,9 @@ class Rewrite:
 
     def unpaired(self, text):
         """A text of a pair, read by itself."""
-        for name, addresses in self.pairs.items():
-            for part, address in zip(("first", "second"), addresses):
-                text = re.sub(rf"\b{name}\.{part}\b", f"string(tables, {address})", text)
+        for name, (first, second) in self.pairs.items():
+            text = re.sub(rf"\b{name}\.first\b", f"string(tables, {first})", text)
+            text = re.sub(rf"\b{name}\.second\b", f"or_empty(string(tables, {second}))", text)
         return text
 
     def value(self, v, before):

@@ -75,7 +75,7 @@ unrebased Sorted index slot = false
 unfoldable pub is_near : List ℕ → Setting → Spot → ℕ → ℕ → Bool
 is_near index setting s i slot = ltb i s.room && unrebased setting.lookup index slot
 
--- The same, of all that is lent.
+-- The lookups of all that is lent.
 abbrev pub rebase : Tables → ℕ → Outcome ℕ
 rebase t a = rebase_at t.rebases t.index t.setting a
 

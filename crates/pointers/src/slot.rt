@@ -137,7 +137,8 @@ fn is_unrebased(index: &[u32], setting: Setting, slot: u64) -> bool
     }
 }
 
-// The slot lies in the spot's room, i bytes past its address, and no rebase stands in the slot's chain: then it points to the word there.
+// The slot lies in the spot's room, i bytes past its address, and no rebase stands in the slot's chain: where the spot is that of bytes that can be
+// read, the slot's eight among them, the address in it is then the word there, its low 48 bits (`near_resolved`).
 #[tactic(auto, unfolding(crate::specs::Slot::is_near))]
 pub fn is_near(tables: &Tables, s: Spot, i: u64, slot: u64) -> bool
     ensures { result ≡ is_near tables.now.index tables.now.setting s i slot }

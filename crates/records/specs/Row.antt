@@ -17,8 +17,8 @@ use Rattle.records.specs.declared.method.Method.{Method}
 use Rattle.records.specs.declared.method.MethodKind.{MethodKind}
 use Rattle.records.specs.declared.method.MethodKind.TheVariants as kind
 use Rattle.records.specs.declared.method.Selectors.{Selectors}
-use Rattle.records.specs.declared.method.SmallTexts.{SmallTexts}
 use Rattle.records.specs.declared.method.Selectors.TheVariants.{Indirect, Direct}
+use Rattle.records.specs.declared.method.SmallTexts.{SmallTexts}
 use Rattle.records.specs.declared.ivar.Ivar.{Ivar}
 use Rattle.records.specs.declared.property.Property.{Property}
 
@@ -61,7 +61,7 @@ is_small kind.Legacy = false
 is_small kind.SmallIndirect = true
 is_small kind.SmallDirect = true
 
--- Its texts: the selector's, and the types' at their offset's target.
+-- A small method's texts: the selector's, and the types' at their offset's target.
 abbrev pub small_texts : Text → Text → SmallTexts
 small_texts s t = record { selector = s; types = t }
 

@@ -12,7 +12,7 @@ use crate::text::string_pair;
 use pointers::tables::Tables;
 use reads::answer::{Missing, nonzero, optional, or_zero};
 use reads::place::{readable, u32_in};
-use reads::text::{Text, or_empty};
+use reads::text::Text;
 
 // A row of an ivar list.
 #[derive(Clone, Copy)]
@@ -96,7 +96,7 @@ pub(crate) fn ivar_near(row: &Near) -> Result<Ivar, Missing>
     let size = row.u32(Ivar::OWN_SIZE);
     let texts = string_pair(tables, name_va, type_va);
     let name = texts.first?;
-    let type_encoding = or_empty(texts.second)?;
+    let type_encoding = texts.second?;
     let offset = offset_at(tables, offset_va)?;
     let log2_alignment = alignment_of(raw_alignment);
     Ok(Ivar {

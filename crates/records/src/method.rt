@@ -13,7 +13,7 @@ use pointers::tables::Tables;
 use reads::address::Address;
 use reads::answer::{Missing, checked_add};
 use reads::relative::{relative_pointer, signed};
-use reads::text::{Text, or_empty};
+use reads::text::Text;
 
 // Which form of method_t a row came from.
 #[derive(Clone, Copy)]
@@ -94,7 +94,7 @@ pub(crate) fn legacy_method_near(row: &Near) -> Result<Method, Missing>
     let imp_va = row.field_or_0(Method::IMP)?;
     let texts = string_pair(tables, name_va, types_va);
     let selector = texts.first?;
-    let types = or_empty(texts.second)?;
+    let types = texts.second?;
     Ok(Method {
         selector,
         types,
@@ -148,7 +148,7 @@ fn small_texts_at(
     let name_va = selector_from(tables, selectors, target)?;
     let texts = string_pair(tables, name_va, types_va);
     let selector = texts.first?;
-    let types = or_empty(texts.second)?;
+    let types = texts.second?;
     Ok(SmallTexts { selector, types })
 }
 

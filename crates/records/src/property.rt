@@ -8,7 +8,7 @@ ghost use Rattle.reads.specs.Answer.{outcome};
 use crate::near::Near;
 use crate::text::string_pair;
 use reads::answer::Missing;
-use reads::text::{Text, or_empty};
+use reads::text::Text;
 
 // A row of a property list; `parse_attributes` takes its attributes apart.
 #[derive(Clone, Copy)]
@@ -35,6 +35,6 @@ pub(crate) fn property_near(row: &Near) -> Result<Property, Missing>
     let attributes_va = row.field_or_0(Property::ATTRIBUTES)?;
     let texts = string_pair(tables, name_va, attributes_va);
     let name = texts.first?;
-    let attributes = or_empty(texts.second)?;
+    let attributes = texts.second?;
     Ok(Property { name, attributes })
 }
