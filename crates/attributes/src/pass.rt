@@ -30,6 +30,7 @@ pub enum Which {
 }
 
 // Where the value that starts at `start` ends: at the first comma outside double quotes, or with the text.
+#[inline(always)]
 fn value_end(text: &[u8], start: usize) -> usize
     requires { start ≤ length text.now }
     ensures { result ≡ start + value_length (drop start (before text)) }
@@ -69,6 +70,7 @@ impl<'a> Iterator for Items<'a> {
 
     ghost remaining = { item_count items_left_of };
 
+    #[inline(always)]
     fn next(&mut self) -> Option<Item> {
         let key = *self.text.get(self.at)?;
         let start = self.at + 1;
@@ -119,6 +121,7 @@ impl<'a> Iterator for Chosen<'a> {
 
     ghost remaining = { item_count chosen_left_of };
 
+    #[inline(always)]
     fn next(&mut self) -> Option<Item> {
         let which = self.which;
         self.items.find(|item| wanted(which, item.key))

@@ -114,9 +114,11 @@ impl Iterator for CommandsOfKind<'_> {
     ghost remaining = { item_count offsets };
 
     fn next(&mut self) -> Option<u64> {
-        // `at` is moved by hand, as in `fit`.
+        // `at` is moved by hand, as in `fit`. Unless one is found none is left, so that a call after the last looks at no command again.
         let mut at = self.at;
-        for left in (0..self.left).rev() {
+        let count = self.left;
+        self.left = 0;
+        for left in (0..count).rev() {
             if !command_fits(self.bytes, at) {
                 break;
             }

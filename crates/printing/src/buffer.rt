@@ -1,5 +1,5 @@
 // Text into a buffer that the caller lends, which takes a part of it.
-ghost use Rattle.std.specs.Prelude.{ℕ, min, max, [], ◌∷◌};
+ghost use Rattle.std.specs.Prelude.{◌≡◌, ℕ, min, max, [], ◌∷◌, length};
 ghost use Rattle.io.specs.Digits.{last_digits, IsDigitCount};
 ghost use Rattle.reads.specs.Reference.{before};
 ghost use Rattle.printing.specs.Buffer.{Puts, hex_text, hex_word, decimal_text};
@@ -11,6 +11,16 @@ pub(crate) struct Out<'a> {
     pub(crate) to: &'a mut [u8],
     pub(crate) skip: usize,
     pub(crate) at: usize,
+}
+
+// Bytes into a part of a buffer, which has as many. Not `copy_from_slice`, which calls memmove: the library for C wants memcpy and memset alone.
+fn copy(to: &mut [u8], from: &[u8])
+    requires { length to.old ≡ length from.now }
+    ensures { to.new ≡ from.now }
+{
+    for i in 0..from.len() {
+        to[i] = from[i];
+    }
 }
 
 impl Out<'_> {
@@ -28,7 +38,7 @@ impl Out<'_> {
             return;
         }
         let n = left.len().min(self.to.len() - self.at);
-        self.to[self.at..self.at + n].copy_from_slice(&left[..n]);
+        copy(&mut self.to[self.at..self.at + n], &left[..n]);
         self.at += n;
     }
 

@@ -1,5 +1,5 @@
 // A sheet: which bytes of a window of a file are used. The caller lends it: fixed memory, no heap.
-ghost use Rattle.std.specs.Prelude.{◌≡◌, ◌-◌, ◌<◌, ◌≤◌, ℕ, List, ◌∷◌};
+ghost use Rattle.std.specs.Prelude.{◌≡◌, ◌-◌, ◌<◌, ◌≤◌, ℕ, List, ◌∷◌, slice_index, drop};
 ghost use Rattle.ranges.specs.Range.{range};
 ghost use Rattle.ranges.specs.Sheet.{window, marked_at, with_bit, with_bits, lowered_to, noted_from, noted};
 
@@ -10,7 +10,7 @@ pub const WORDS: usize = 32768;
 
 pub const WINDOW: u64 = 2097152;
 
-#[derive(Drop)]
+#[derive(Clone, Copy)]
 pub struct Sheet {
     // the file, the window's first byte, and how far from there the least byte past the window is that is known to be used
     pub file: u64,
@@ -25,6 +25,8 @@ impl Model for Sheet {
     ghost Value = { List ℕ };
 
     ghost view = { λ s. s.file ∷ s.from ∷ s.next ∷ s.bits };
+
+    ghost inverse = { λ ws. record { file = slice_index ws 0; from = slice_index ws 1; next = slice_index ws 2; bits = drop 3 ws } };
 }
 
 impl Sheet {

@@ -98,11 +98,27 @@ skipped_on {s} {from} {i} r k =
       };
     }
 
--- One that was begun has come to its first byte.
+-- A pass has come to the byte at which it begins; one over a text that is begun, to the first.
+pub skipped_here : {s : List ℕ} {i : ℕ} {b : ByteRead} → i ≤ length s → b ≡ byte_after s i → Skipped s i b
+skipped_here {s} {i} h e =
+    subst (Skipped s i) (sym e)
+    record { is = refl; run = record { ahead = omega arith; within = h; each = λ k a l. absurd (omega arith) } }
+
 pub first_skipped : {s : List ℕ} {b : ByteRead} → b ≡ byte_after s 0 → Skipped s 0 b
-first_skipped {s} e =
-    subst (Skipped s 0) (sym e)
-    record { is = refl; run = record { ahead = omega arith; within = omega arith; each = λ k a h. absurd (omega arith) } }
+first_skipped e = skipped_here (omega arith) e
+
+-- A pass goes on over a plain byte and stays at another.
+onward_skipped : {s : List ℕ} {from : ℕ} {b c : ByteRead} → c ≡ onward s b → Skipped s from b → Skipped s from c
+unfolding choose
+onward_skipped {s} {from} {b} e k = subst (Skipped s from) (sym e) (go (plain b) refl)
+  where
+    go : (x : Bool) → plain b ≡ x → Skipped s from (choose x (byte_after s b.read) b)
+    go true p = let r = run_behind k p in skipped_on r (skipped_here r.within refl)
+    go false p = k
+
+pub few_skipped : {s : List ℕ} {from : ℕ} {b c d e : ByteRead} → from ≤ length s → b ≡ byte_after s from → c ≡ onward s b → d ≡ onward s c
+    → e ≡ onward s d → Skipped s from e
+few_skipped h first second third fourth = onward_skipped fourth (onward_skipped third (onward_skipped second (skipped_here h first)))
 
 -- Where only plain bytes came before the end, they are the text.
 pub scan_ends : {s : List ℕ} {b : ByteRead} → Skipped s 0 b → b.byte ≡ 0 → good_scan b ≡ scan_of s

@@ -10,10 +10,11 @@ use Rattle.reads.specs.Segment.{rows, lookup}
 use Rattle.reads.specs.Place.{Image}
 use Rattle.reads.specs.declared.place.Place.{Place}
 use Rattle.reads.specs.Utf8.{Verdict, judge, verdict}
-use Rattle.reads.specs.Text.{text, scanned, scan_of, if_good, good_text, ended, if_ended, text_of_scan, text_from, read_from, text_at, text_in}
-use Rattle.reads.specs.Pass.{byte_after, broken_at}
+use Rattle.reads.specs.Text.{text, scanned, scan_of, if_good, good_text, ended, if_ended, text_of_scan, text_from, read_from, text_at, text_in, length_plus_one}
+use Rattle.reads.specs.Pass.{byte_after, broken_at, PassedOn, to_end, to_bad}
 use Rattle.reads.specs.declared.text.ByteRead.{ByteRead}
 use Rattle.reads.specs.declared.text.Reading.{Reading}
+use Rattle.reads.specs.declared.text.Scan.{Scan}
 use Rattle.reads.specs.declared.text.Reading.TheVariants.{Old, New}
 use Rattle.reads.specs.declared.text.Text.{Text}
 use Rattle.reads.specs.declared.answer.Reason.TheVariants.{PastEnd}
@@ -130,6 +131,19 @@ text_inside r bytes p t e =
         )
     go true h (Err k) q = let z : ◌≡◌ {A = ℕ} 0 1 = unfold choose in cc in absurd (omega arith)
     go false h v q = let z : ◌≡◌ {A = ℕ} 0 1 = unfold choose in cc in absurd (omega arith)
+
+-- What a pass came to tells the length of the text under the old reading, in one number.
+module _ (p : Place) {s : List ℕ} {b : ByteRead} where
+  pub end_length : PassedOn s (Ok b) → b.at + 1 ≡ length_plus_one (text_of_scan Old p (scan_of s))
+  unfolding length_plus_one
+  end_length (to_end e) = ap (λ (c : Scan). length_plus_one (good_text p c)) e
+
+  pub bad_length : PassedOn s (Err b) → 0 ≡ length_plus_one (text_of_scan Old p (scan_of s))
+  unfolding length_plus_one
+  bad_length (to_bad within is e) = ap (λ (c : Scan). length_plus_one (good_text p c)) e
+
+pub end_within : {s : List ℕ} {b : ByteRead} → PassedOn s (Ok b) → b.at ≤ length s
+end_within {s} (to_end e) = omega (arith, ap (λ (c : Scan). c.len) e, text_short s)
 
 -- A text handed out at an address lies inside its file too.
 abbrev Inside : List (List ℕ) → Text → Type 0

@@ -2,7 +2,7 @@
 use Rattle.std.specs.Prelude.{◌≡◌, ℕ, suc, ◌+◌, ◌<◌, ◌≤◌, Bool, true, ◌&&◌, List, [], ◌∷◌, length, drop, nat_lt, slice_index, Option, None, Some, Result, Ok, Err}
 use Rattle.reads.specs.Outcome.{choose}
 use Rattle.reads.specs.Utf8.{Range, inside, multi, begun}
-use Rattle.reads.specs.Text.{text, scanned}
+use Rattle.reads.specs.Text.{text, scanned, scan_of}
 use Rattle.reads.specs.declared.text.ByteRead.{ByteRead}
 use Rattle.reads.specs.declared.text.Scan.{Scan}
 
@@ -63,3 +63,8 @@ pub record PlainTo (s : List ℕ) (from n : ℕ) : Type 0 where
 pub record Skipped (s : List ℕ) (from : ℕ) (b : ByteRead) : Type 0 where
   pub is : b ≡ byte_after s b.at
   pub run : PlainTo s from b.at
+
+-- A pass over s came to the byte that ends its text, all of it well-formed; or to the first byte that no well-formed text continues with.
+pub data PassedOn (s : List ℕ) : Result ByteRead ByteRead → Type 0 where
+  to_end : {b : ByteRead} → good_scan b ≡ scan_of s → PassedOn s (Ok b)
+  to_bad : {b : ByteRead} → b.at ≤ length s → b ≡ byte_after s b.at → broken_at s b.at ≡ scan_of s → PassedOn s (Err b)

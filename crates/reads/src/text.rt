@@ -1,10 +1,10 @@
 // Texts in the files of an image: UTF-8 up to a zero byte, or to the end. A text is read in one pass: every byte of it is read by `read_byte`, once,
 // which raises the count of the bytes read.
-ghost use Rattle.std.specs.Prelude.{◌≡◌, ◌≤◌, length};
+ghost use Rattle.std.specs.Prelude.{◌≡◌, ◌≤◌, length, Ok};
 ghost use Rattle.reads.specs.Reference.{before};
 ghost use Rattle.reads.specs.Outcome.{and_then, nonzero, or_empty};
 ghost use Rattle.reads.specs.Utf8.{◌to◌, tail, verdict, utf8};
-ghost use Rattle.reads.specs.Pass.{byte_after, due, follow, character, broken_at, plain, onward, of_eight, good_scan, Skipped};
+ghost use Rattle.reads.specs.Pass.{byte_after, due, follow, character, broken_at, plain, onward, of_eight, good_scan, Skipped, PassedOn};
 ghost use Rattle.reads.specs.Files.{files_of};
 ghost use Rattle.reads.specs.Segment.{rows, lookup, place_at};
 ghost use Rattle.reads.specs.declared.text.Reading.TheVariants.{Old};
@@ -134,6 +134,19 @@ fn skip_plain(s: &[u8], from: usize) -> ByteRead
     read_byte(s, read)
 }
 
+// The same where few plain bytes come, as between characters of more bytes: the first ones are passed one by one.
+#[inline(always)]
+fn skip_few(s: &[u8], from: usize) -> ByteRead
+    requires { from ≤ length s.now }
+    ensures { Skipped (before s) from result }
+{
+    let b = onward(s, onward(s, onward(s, read_byte(s, from))));
+    if plain(b) {
+        return skip_plain(s, b.read);
+    }
+    b
+}
+
 // The count behind the next byte, if that lies between lo and hi and so continues a character; else that byte, a bad one.
 #[tactic(auto, using(std::proofs::lemmas::Bool::Decides::nat_tests), unfolding(crate::specs::Outcome::choose))]
 fn due(s: &[u8], read: usize, lo: u64, hi: u64) -> Result<usize, ByteRead>
@@ -241,26 +254,38 @@ fn good_scan(end: ByteRead) -> Scan
     }
 }
 
-// The text in front of s, by a pass that has come to `first`. A zero byte inside a character, or the end there, is no UTF8-tail.
-fn scan_on(s: &[u8], first: ByteRead) -> Scan
+// The byte that ends the text in front of s, all of it well-formed, by a pass that has come to `first`; or the first byte that no well-formed text
+// continues with, behind which none is read. A zero byte inside a character, or the end there, is no UTF8-tail.
+fn pass_on(s: &[u8], first: ByteRead) -> Result<ByteRead, ByteRead>
     requires { Skipped s.now 0 first }
-    ensures { result ≡ scan_of (before s) }
+    ensures { PassedOn (before s) result }
 {
     let mut b = first;
     loop {
         if plain(b) {
-            b = skip_plain(s, b.read);
+            b = skip_few(s, b.read);
             continue;
         }
         if b.byte == 0 {
-            return good_scan(b);
+            return Ok(b);
         }
         // A copy: what is handed to a call lies in memory, and b is to stay in registers.
         let high = b;
         match character(s, high) {
             Ok(behind) => b = read_byte(s, behind),
-            Err(bad) => return broken(s, bad),
+            Err(bad) => return Err(bad),
         }
+    }
+}
+
+// The text in front of s, by a pass that has come to `first`.
+fn scan_on(s: &[u8], first: ByteRead) -> Scan
+    requires { Skipped s.now 0 first }
+    ensures { result ≡ scan_of (before s) }
+{
+    match pass_on(s, first) {
+        Ok(end) => good_scan(end),
+        Err(bad) => broken(s, bad),
     }
 }
 
@@ -377,6 +402,17 @@ impl<'a> Begun<'a> {
         self.first
     }
 
+    // One more than its length under the old reading, 0 where it is not UTF-8: no byte behind the first bad one is read, for nothing is counted.
+    #[tactic(auto, using(crate::proofs::Texts::end_length, crate::proofs::Texts::bad_length, crate::proofs::Texts::end_within))]
+    fn length_plus_one(self) -> u64
+        ensures { result ≡ length_plus_one (text_begun Old (Ok self.entry)) }
+    {
+        match pass_on(self.bytes, self.past_plain()) {
+            Ok(end) => end.at as u64 + 1,
+            Err(_) => 0,
+        }
+    }
+
     // A begun text by the rest of its pass, and how many bytes were read; where none was begun, why not, and 0.
     #[inline(always)]
     fn finish(reading: Reading, text: Result<Begun, Missing>) -> CstrRead
@@ -450,6 +486,23 @@ pub fn read_cstr_pair(image: &Image, reading: Reading, first: u64, second: u64) 
     CstrPair { first, second }
 }
 
+// The same of a row, whose second text counts only where the first is there: it is begun beside the first, and read on after it, so that of a row
+// without its first text no more than a byte of the second is read.
+pub fn read_cstr_row(image: &Image, reading: Reading, first: u64, second: u64) -> CstrPair
+    ensures { (outcome result.first ≡ text_in reading image.now first) × (outcome result.second ≡ and_then (text_in reading image.now first) (λ _. text_in reading image.now second)) }
+{
+    let one = Begun::at(image, first);
+    let other = Begun::at(image, second);
+    let named = Begun::finish(reading, one).text;
+    CstrPair {
+        first: named,
+        second: match named {
+            Ok(_) => Begun::finish(reading, other).text,
+            Err(m) => Err(m),
+        },
+    }
+}
+
 // An absent text counts as the empty one, in file 0 at offset 0.
 pub fn or_empty(t: Result<Text, Missing>) -> Result<Text, Missing>
     ensures { outcome result ≡ or_empty (outcome t) }
@@ -484,10 +537,8 @@ pub fn cstr_from_fixed(bytes: &[u8; 16]) -> u64
 pub extern "C" fn reads_cstr_length_plus_one(bytes: &[u8], offset: u64) -> u64
     ensures { result ≡ length_plus_one (text_from Old (before bytes) (place_at 0 offset)) }
 {
-    let r = read_cstr_in(bytes, Reading::Old, Place { file: 0, offset });
-    let t = r.text;
-    match t {
-        Ok(t) => t.len + 1,
+    match Begun::of(bytes, Place { file: 0, offset }) {
+        Ok(t) => t.length_plus_one(),
         Err(_) => 0,
     }
 }

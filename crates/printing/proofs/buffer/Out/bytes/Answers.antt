@@ -16,5 +16,5 @@ returns c =
       same = refl;
       put =
           put_copied _ c.args.s.now _ _ _ _ (omega arith) (omega arith) (search rules)
-          c.copy_from_slice.ensures.after;
+          c.copy.ensures;
     }
