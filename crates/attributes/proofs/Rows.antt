@@ -3,11 +3,31 @@ use Prim.Native.Nat.{ℕ, zero, suc, ◌+◌, ◌*◌, ◌/◌, ◌<◌, min}
 use mathlib.Core.Path.{◌≡◌, refl, ap, ◌∙◌}
 use mathlib.Core.List.{List, [], ◌∷◌, ◌++◌}
 use native.Mathlib.Omega.{arith}
-use lib.ListN.{length, take}
+use lib.ListN.{length, get_or, drop, take}
 use Rattle.std.proofs.lemmas.List.{length-take-le}
 use Rattle.attributes.specs.Written.{items_in}
 use Rattle.attributes.specs.Puts.{item_at}
 use Rattle.attributes.specs.declared.items.Item.{Item}
+
+-- How many items n rows at most say, and which item is number k.
+pub length_items_in : (n : ℕ) (rows : List ℕ) → length (items_in n rows) ≡ min n (length rows / 3)
+unfolding items_in
+length_items_in zero rows = omega arith
+length_items_in (suc n) [] = omega arith
+length_items_in (suc n) (a ∷ []) = omega arith
+length_items_in (suc n) (a ∷ b ∷ []) = omega arith
+length_items_in (suc n) (a ∷ b ∷ c ∷ rows) = omega (arith, length_items_in n rows)
+
+pub item_in_row : (n k : ℕ) (rows : List ℕ) (d : Item) → k < length (items_in n rows) → item_at (drop (3 * k) rows) ≡ get_or (items_in n rows) k d
+unfolding items_in
+item_in_row zero k rows d h = absurd (omega arith)
+item_in_row (suc n) k [] d h = absurd (omega arith)
+item_in_row (suc n) k (a ∷ []) d h = absurd (omega arith)
+item_in_row (suc n) k (a ∷ b ∷ []) d h = absurd (omega arith)
+item_in_row (suc n) zero (a ∷ b ∷ c ∷ rows) d h = refl
+item_in_row (suc n) (suc k) (a ∷ b ∷ c ∷ rows) d h =
+    let three : 3 * suc k ≡ suc (suc (suc (3 * k))) = omega arith in
+    rw three (item_in_row n k rows d (omega arith))
 
 -- A count of all whole rows or more is enough.
 rows_enough : (n m : ℕ) (rows : List ℕ) → length rows < 3 * n + 3 → length rows < 3 * m + 3 → items_in n rows ≡ items_in m rows

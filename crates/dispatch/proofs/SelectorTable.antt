@@ -31,6 +31,11 @@ unfolding marks
 length_marks [] = refl
 length_marks (a ∷ more) = omega (arith, length_marks more)
 
+pub length_words : (rows : List Appearance) → length (words rows) ≡ 4 * length rows
+unfolding words
+length_words [] = refl
+length_words (a ∷ more) = omega (arith, length_words more)
+
 four : (j i : ℕ) → 4 * suc j + i ≡ suc (suc (suc (suc (4 * j + i))))
 four j i = omega arith
 

@@ -13,7 +13,8 @@ pub(crate) struct Out<'a> {
     pub(crate) at: usize,
 }
 
-// Bytes into a part of a buffer, which has as many. Not `copy_from_slice`, which calls memmove: the library for C wants memcpy and memset alone.
+// Bytes into a part of a buffer, which has as many. Not `copy_from_slice`: it calls memmove, and the library for C wants memcpy, memset
+// and write alone.
 fn copy(to: &mut [u8], from: &[u8])
     requires { length to.old ≡ length from.now }
     ensures { to.new ≡ from.now }

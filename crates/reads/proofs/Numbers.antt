@@ -34,16 +34,30 @@ length_part bs at k h = simp (length-take, length-drop) (omega arith)
 part_more : (bs : List ℕ) (at j k : ℕ) → part bs at (j + k) ≡ part bs at j ++ part bs (at + j) k
 part_more bs at j k = take-add j k (drop at bs) ∙ ap (λ (l : List ℕ). part bs at j ++ take k l) (drop-drop j at bs)
 
--- Two parts side by side.
+-- Two parts side by side, in little-endian and in big-endian order.
 pub le_part : (bs : List ℕ) (at j k : ℕ) → at + j ≤ length bs → le (part bs at (j + k)) ≡ le (part bs at j) + scaled j (le (part bs (at + j) k))
 le_part bs at j k h =
     ap le (part_more bs at j k)
     ∙ le_append (part bs at j) (part bs (at + j) k)
     ∙ ap (λ (n : ℕ). le (part bs at j) + scaled n (le (part bs (at + j) k))) (length_part bs at j h)
 
+pub be_part : (bs : List ℕ) (at j k : ℕ) → at + j + k ≤ length bs → be (part bs at (j + k)) ≡ be (part bs (at + j) k) + scaled k (be (part bs at j))
+be_part bs at j k h =
+    ap be (part_more bs at j k)
+    ∙ ap le (reverse-append (part bs at j) (part bs (at + j) k))
+    ∙ le_append (reverse (part bs (at + j) k)) (reverse (part bs at j))
+    ∙ ap (λ (n : ℕ). be (part bs (at + j) k) + scaled n (be (part bs at j))) (length-reverse (part bs (at + j) k) ∙ length_part bs (at + j) k h)
+
+part_one : (bs : List ℕ) (at : ℕ) → at + 1 ≤ length bs → part bs at 1 ≡ get_or bs at 0 ∷ []
+part_one bs at h = ap (λ (l : List ℕ). take 1 l) (drop-cons bs at 0 (omega arith))
+
 pub le_one : (bs : List ℕ) (at : ℕ) → at + 1 ≤ length bs → le (part bs at 1) ≡ get_or bs at 0
 unfolding le
-le_one bs at h = ap le (ap (λ (l : List ℕ). take 1 l) (drop-cons bs at 0 (omega arith))) ∙ omega arith
+le_one bs at h = ap le (part_one bs at h) ∙ omega arith
+
+pub be_one : (bs : List ℕ) (at : ℕ) → at + 1 ≤ length bs → be (part bs at 1) ≡ get_or bs at 0
+unfolding le
+be_one bs at h = ap be (part_one bs at h) ∙ omega arith
 
 -- The number of the bytes from j on is byte j and the number of those after it.
 le_step : (xs : List ℕ) (j : ℕ) → le (drop j xs) ≡ get_or xs j 0 + 256 * le (drop (suc j) xs)

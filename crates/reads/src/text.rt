@@ -1,5 +1,5 @@
-// Texts in the files of an image: UTF-8 up to a zero byte, or to the end. A text is read in one pass: every byte of it is read by `read_byte`, once,
-// which raises the count of the bytes read.
+// Texts in the files of an image: UTF-8 up to a zero byte, or to the end. A text is read in one pass: a byte of it is read
+// by `read_byte` alone, and once, which raises the count of the bytes read.
 ghost use Rattle.std.specs.Prelude.{◌≡◌, ◌≤◌, length, Ok};
 ghost use Rattle.reads.specs.Reference.{before};
 ghost use Rattle.reads.specs.Outcome.{and_then, nonzero, or_empty};
