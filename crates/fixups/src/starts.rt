@@ -57,7 +57,7 @@ impl Data<'_> {
     }
 
     // The starts of a seg_info_offset, of the segment whose command stands at `command`. Not inlined: beside the walk over the segments, the one
-    // over its slots would have its offset and its step in memory.
+    // over its slots would have its offset and its page's size in memory.
     #[inline(never)]
     fn segment_starts(self, info: u32, command: u64, lists: &mut Lists) -> Result<(), Question>
         ensures { Walks (segment_starts_in self.entry info command) result lists.old lists.new }
